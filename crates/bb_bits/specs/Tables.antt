@@ -1,0 +1,32 @@
+-- A table of bits: what a combinational block with some input and output pins gives for each list of input bits. A row is
+-- the list of output bits, first pin first. Input bits choose the row whose
+-- number they spell in binary, the first pin as the most significant bit. The rows stand one after another, row 0 first.
+use Rattle.std.specs.Prelude.{◌≡◌, ℕ, ◌+◌, ◌*◌, ◌≤◌, ◌^◌, Bool, false, List, length, map, take, drop, replicate}
+use Rattle.std.specs.List.{range_with_len, slice_index_or}
+
+-- a table: its numbers of pins, and its rows one after another
+pub record TableBits : Type 0 where
+  pub inputs : ℕ
+  pub outputs : ℕ
+  pub rows : List Bool
+
+-- every table has a row for each list of input bits, and has at most 2^24 bits
+pub record IsTable (t : TableBits) : Type 0 where
+  pub whole : length t.rows ≡ t.outputs * 2 ^ t.inputs
+  pub small : t.outputs * 2 ^ t.inputs ≤ 2 ^ 24
+
+-- the row with a number
+abbrev pub row_of : TableBits → ℕ → List Bool
+row_of t row = take t.outputs (drop (row * t.outputs) t.rows)
+
+-- the bit of a row at an output pin
+abbrev pub table_bit : TableBits → ℕ → ℕ → Bool
+table_bit t row pin = slice_index_or t.rows (row * t.outputs + pin) false
+
+-- the table whose bits are all 0
+abbrev pub zero_table : ℕ → ℕ → TableBits
+zero_table inputs outputs = record { inputs = inputs; outputs = outputs; rows = replicate (outputs * 2 ^ inputs) false }
+
+-- all rows, in the order of their numbers
+abbrev pub rows_of : TableBits → List (List Bool)
+rows_of t = map (row_of t) (range_with_len 0 (2 ^ t.inputs))

@@ -1,0 +1,15 @@
+//! Bits: names as lists of bytes, tables of bits, and the definitions that speak of bits and numbers alone.
+#![tactic(auto)]
+
+mod name;
+mod number;
+mod table;
+pub mod truth;
+
+pub use name::{Name, same_name_is_equality};
+pub use number::{number_is_below, number_spelled, number_spelled_once};
+pub use std::alloc::AllocError as NoMemory;
+pub use table::{Table, rows_have_bits, rows_have_shape};
+
+#[cfg(test)]
+mod tests;

@@ -1,0 +1,129 @@
+ghost use Rattle.std.specs.Prelude.{◌≡◌, ℕ, ◌+◌, ◌*◌, ◌<◌, ◌≤◌, ◌^◌, Bool, List, length, take, drop, slice_set, IfOk};
+ghost use Rattle.bb_bits.specs.Numbers.{number_of};
+ghost use Rattle.bb_bits.specs.Tables.{TableBits, IsTable, row_of, table_bit, zero_table, rows_of};
+ghost use Rattle.bb_bits.specs.Contents.{HasShape, output_bit};
+
+use crate::NoMemory;
+use crate::number::number;
+use std::alloc::Global;
+use std::marker::Model;
+
+/// A table of bits with a row of `outputs` bits for each list of `inputs` bits.
+///
+/// Input bits choose the row whose number they spell in binary, the first pin as the most significant bit.
+#[derive(Debug, Drop)]
+pub struct Table {
+    inputs: u32,
+    outputs: u32,
+    rows: Vec<bool>,
+}
+
+impl Model for Table {
+    ghost use Rattle.bb_bits.specs.Tables.{TableBits, IsTable};
+
+    ghost Value = { TableBits };
+
+    ghost view = { λ t. record { inputs = t.inputs; outputs = t.outputs; rows = t.rows.items } };
+
+    ghost invariant = { λ t. IsTable (record { inputs = t.inputs; outputs = t.outputs; rows = t.rows.items }) };
+}
+
+impl Table {
+    /// The table whose bits are all 0. It has at most 2^24 bits; without outputs there may be any number of inputs.
+    pub fn zeros(alloc: Global, inputs: u32, outputs: u32) -> Result<Table, NoMemory>
+        requires { outputs * 2 ^ inputs ≤ 2 ^ 24 }
+        ensures ok { IfOk result (λ table. table ≡ zero_table inputs outputs) }
+    {
+        let rows = vec![in alloc; false; bit_count(inputs, outputs)]?;
+        Ok(Table {
+            inputs,
+            outputs,
+            rows,
+        })
+    }
+
+    /// The number of input pins.
+    pub fn inputs(&self) -> u32
+        ensures inputs { result ≡ self.now.inputs }
+        ensures kept { IsTable self.now }
+    {
+        self.inputs
+    }
+
+    /// The number of output pins.
+    pub fn outputs(&self) -> u32
+        ensures outputs { result ≡ self.now.outputs }
+        ensures kept { IsTable self.now }
+    {
+        self.outputs
+    }
+
+    /// Writes the row of the input bits `ins`.
+    pub fn row(&self, ins: &[bool], out: &mut [bool])
+        requires inputs { length ins.now ≡ self.now.inputs }
+        requires outputs { length out.old ≡ self.now.outputs }
+        ensures row { out.new ≡ row_of self.now (number_of ins.now) }
+    {
+        if self.outputs > 0 {
+            copy_row(&self.rows, number(ins), out);
+        }
+    }
+
+    /// Sets the bit of a row at an output pin.
+    pub fn set(&mut self, row: u32, pin: u32, bit: bool)
+        requires row { row < 2 ^ self.old.inputs }
+        requires pin { pin < self.old.outputs }
+        ensures set { self.new ≡ record self.old { rows = slice_set self.old.rows (row * self.old.outputs + pin) bit } }
+    {
+        let place = place_of(self.outputs, row, pin);
+        self.rows[place] = bit;
+    }
+
+    /// The bit of a row at an output pin.
+    pub fn bit(&self, row: u32, pin: u32) -> bool
+        requires row { row < 2 ^ self.now.inputs }
+        requires pin { pin < self.now.outputs }
+        ensures bit { result ≡ table_bit self.now row pin }
+    {
+        self.rows[place_of(self.outputs, row, pin)]
+    }
+}
+
+// Copies the row with a number out of the rows.
+fn copy_row(rows: &[bool], row: usize, out: &mut [bool])
+    requires { row * length out.old + length out.old ≤ length rows.now }
+    ensures { out.new ≡ take (length out.old) (drop (row * length out.old) rows.now) }
+{
+    let start = row * out.len();
+    out.copy_from_slice(&rows[start..start + out.len()]);
+}
+
+// Where a bit stands among the rows.
+fn place_of(outputs: u32, row: u32, pin: u32) -> usize
+    ensures { result ≡ row * outputs + pin }
+{
+    row as usize * outputs as usize + pin as usize
+}
+
+// How many bits a table has.
+fn bit_count(inputs: u32, outputs: u32) -> usize
+    requires { outputs * 2 ^ inputs ≤ 2 ^ 24 }
+    ensures { result ≡ outputs * 2 ^ inputs }
+{
+    if outputs == 0 {
+        0
+    } else {
+        (outputs as usize) << inputs
+    }
+}
+
+/// The rows of a table fit a box with its numbers of pins.
+pub fn rows_have_shape()
+    ensures { (t : TableBits) → IsTable t → HasShape t.inputs t.outputs (rows_of t) }
+{}
+
+/// What the rows of a table give at an output pin is the bit of the row with the input bits' number.
+pub fn rows_have_bits()
+    ensures { (t : TableBits) (ins : List Bool) (pin : ℕ) → IsTable t → length ins ≡ t.inputs → pin < t.outputs
+        → output_bit (rows_of t) ins pin ≡ table_bit t (number_of ins) pin }
+{}
