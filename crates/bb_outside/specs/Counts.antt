@@ -1,0 +1,20 @@
+-- Counts that are kept in a 64-bit number. A count goes up by one at a time and stays at its last value,
+-- 2^64 - 1. So a count that stands there at the end of a call may have been raised in it.
+use Rattle.std.specs.Prelude.{◌≡◌, ◌⊎◌, ◌↔◌, ℕ, ◌+◌, ◌-◌, ◌^◌, ◌<◌, ◌≤◌, min}
+
+-- the count after one more
+abbrev pub next_count : ℕ → ℕ
+next_count n = min (n + 1) (2 ^ 64 - 1)
+
+-- from before to now the count rose, or it stands at its last value
+abbrev pub Rose : ℕ → ℕ → Type 0
+Rose before now = next_count before ≤ now
+
+-- the law of it: between two moments a count rose exactly where it is greater, or stands at its last value
+abbrev pub RoseIsGrowth : Type 0
+RoseIsGrowth = (before now : ℕ) → before ≤ now → now < 2 ^ 64 → Rose before now ↔ ((before < now) ⊎ (now ≡ 2 ^ 64 - 1))
+
+-- what is known of files that tell nothing of their content
+pub record ReadCounts : Type 0 where
+  pub reads : ℕ
+  pub faults : ℕ

@@ -1,0 +1,3 @@
+pub mod Counts
+pub mod MemFiles
+pub mod MemSink

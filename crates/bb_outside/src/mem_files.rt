@@ -1,0 +1,84 @@
+// Files in memory, which fail by a list.
+ghost use Rattle.std.specs.Prelude.{◌≡◌, ◌≤◌, ◌↔◌, ℕ, List, Option, Some, take, map, length, Contains, IfOk, IfSome, IsErrOf, vec_len, string_bytes};
+ghost use Rattle.bb_outside.specs.Counts.{Rose, next_count};
+ghost use Rattle.bb_outside.specs.MemFiles.{text_under, is_failing, after_read, entries};
+
+use crate::{FileFault, Files};
+use std::alloc::Global;
+use std::marker::Model;
+
+/// Files in memory. A name that is not in the list holds the empty text, and of two equal names the first counts.
+#[derive(Debug, Drop)]
+pub struct MemFiles {
+    files: Vec<(String, Vec<u8>)>,
+    failing: Vec<u64>,
+    reads: u64,
+    faults: u64,
+}
+
+impl Model for MemFiles {
+    ghost use Rattle.bb_outside.specs.MemFiles.{HeldFiles, entries};
+
+    ghost Value = { HeldFiles };
+
+    ghost view = { λ m. record { files = entries m.files.items; failing = m.failing.items; reads = m.reads; faults = m.faults } };
+}
+
+impl MemFiles {
+    /// Files by name, and the numbers of the reads that fail. The first read has number 0.
+    pub fn new(files: Vec<(String, Vec<u8>)>, failing: Vec<u64>) -> MemFiles
+        ensures { result ≡ record { files = entries files.items; failing = failing.items; reads = 0; faults = 0 } }
+    {
+        MemFiles {
+            files,
+            failing,
+            reads: 0,
+            faults: 0,
+        }
+    }
+}
+
+// The bytes of the first file of this name.
+fn text<'a>(files: &'a [(String, Vec<u8>)], name: &str) -> &'a [u8]
+    ensures { result.now ≡ text_under (entries files.now) name.now }
+{
+    for (known, bytes) in files {
+        if known.as_str() == name {
+            return bytes;
+        }
+    }
+    &[]
+}
+
+impl Files for MemFiles {
+    ghost holds = { λ m name. Some (text_under m.files name) };
+
+    ghost faults = { λ m. m.faults };
+
+    ghost reads = { λ m. m.reads };
+
+    fn read(&mut self, alloc: Global, name: &str, limit: u64) -> Result<Vec<u8>, FileFault>
+        ensures within { IfOk result (λ bytes. vec_len bytes ≤ limit) }
+        ensures bytes { IfOk result (λ bytes. bytes.items ≡ take limit (text_under self.old.files name.now)) }
+
+        // It fails exactly where the number of the call is in the list. Only the counts change.
+        ensures fails { IsErrOf result FileFault.Failed ↔ Contains self.old.failing self.old.reads }
+        ensures after { self.new ≡ after_read self.old }
+
+        // What a caller over any files sees.
+        ensures holds { (n : List ℕ) → Some (text_under self.new.files n) ≡ Some (text_under self.old.files n) }
+        ensures reads { self.new.reads ≡ next_count self.old.reads }
+        ensures never_falls { self.old.faults ≤ self.new.faults }
+        ensures failed { IsErrOf result FileFault.Failed → Rose self.old.faults self.new.faults }
+    {
+        let number = self.reads;
+        self.reads = number.saturating_add(1);
+        if self.failing.contains(&number) {
+            self.faults = self.faults.saturating_add(1);
+            return Err(FileFault::Failed);
+        }
+        let text = text(&self.files, name);
+        let end = text.len().min(limit as usize);
+        Ok(text[..end].to_vec(alloc)?)
+    }
+}
