@@ -1,0 +1,116 @@
+-- The laws of cuts, token lists and numbers.
+use Rattle.std.proofs.Common.{◌≡◌, ◌⊎◌, ℕ, zero, suc, ◌+◌, ◌*◌, ◌/◌, ◌%◌, ◌^◌, true, false, List, [], ◌∷◌, ◌++◌, length, length-append, map, sym, refl, ap, ◌∙◌, arith, ⊎_elim, inl, inr, eqb-true, eq-eqb, Ok, Err, Result}
+use Rattle.std.specs.Prelude.{◌==◌, ◌&&◌, Vec, IfErr, IsErrAnd}
+use Rattle.std.specs.Global.{Global}
+use Rattle.bb_lex.specs.declared.token.Token.{Token}
+use Rattle.bb_lex.specs.declared.fault.LexFault.{LexFault}
+use Rattle.bb_lex.specs.declared.fault.LexFault.TheVariants.{Bad, NoMemory}
+use Rattle.bb_lex.specs.Answers.{IsAnswer}
+use Rattle.std.proofs.lemmas.Nat.{mod-pow-add}
+use Rattle.std.proofs.lemmas.List.{length-map}
+use Rattle.bb_lex.specs.Numbers.{spelled, low_bits, bit_value}
+use Rattle.bb_lex.specs.Cut.{AreTokens, IsBadOn, tokens_behind, line_behind}
+use Rattle.bb_lex.specs.Laws.{CutsAreOne, TokensAreOne, BadPlacesAreOne, BadLinesAreOne, CutOrBad, NotBoth, TokensOrBadLine, NotTokensAndBadLine, TokensStandInText, TokensRise, LowBitsSpell, EndsAtFirstPlace}
+use Rattle.bb_lex.specs.Skips.{EndsAtFirst}
+use Rattle.bb_lex.proofs.Choices.{cases_of, from_match, left_true, right_true, both_true}
+use Rattle.bb_lex.proofs.TokenLists as lists
+
+pub cuts_are_one : CutsAreOne
+cuts_are_one = lists.one_cut
+
+pub tokens_are_one : TokensAreOne
+tokens_are_one = lists.one_list
+
+pub bad_places_are_one : BadPlacesAreOne
+bad_places_are_one = lists.one_place
+
+pub bad_lines_are_one : BadLinesAreOne
+bad_lines_are_one text line other bad worse = bad.on ∙ ap line_behind (lists.one_place text bad.front worse.front bad.bad worse.bad) ∙ sym worse.on
+
+pub cut_or_bad : CutOrBad
+cut_or_bad = lists.cut_or_bad
+
+pub not_both : NotBoth
+not_both = lists.not_both
+
+pub tokens_or_bad_line : TokensOrBadLine
+tokens_or_bad_line text =
+    ⊎_elim
+    (λ cut. inl (tokens_behind [] cut.0, record { pieces = cut.0; cut = cut.1; are = refl }))
+    (λ bad. inr (line_behind bad.0, record { front = bad.0; bad = bad.1; on = refl }))
+    (lists.cut_or_bad text)
+
+pub not_tokens_and_bad_line : NotTokensAndBadLine
+not_tokens_and_bad_line text tokens line are bad = lists.not_both text bad.front are.pieces are.cut bad.bad
+
+pub tokens_stand_in_text : TokensStandInText
+tokens_stand_in_text = lists.tokens_of_text
+
+pub tokens_rise : TokensRise
+tokens_rise = lists.tokens_in_order
+
+length-low_bits : (n value : ℕ) → length (low_bits n value) ≡ n
+length-low_bits zero value = refl
+length-low_bits (suc n) value = ap suc (length-low_bits n value)
+
+bit_is_rest : (n : ℕ) → bit_value (n % 2 == 1) ≡ n % 2
+bit_is_rest n =
+    ⊎_elim
+    (λ yes. ap bit_value yes ∙ sym (eqb-true (n % 2) 1 yes))
+    (λ other. ap bit_value other ∙ (let not_one : n % 2 ≡ 1 → ⊥ = λ e. let same : (n % 2 == 1) ≡ true = eq-eqb (n % 2) 1 e in cc in omega arith))
+    (cases_of (n % 2 == 1))
+
+spelled-low_bits : (n value : ℕ) → spelled 2 (map bit_value (low_bits n value)) ≡ value % 2 ^ n
+spelled-low_bits zero value = omega arith
+spelled-low_bits (suc n) value =
+    let count : length (map bit_value (low_bits n value)) ≡ n = length-map (low_bits n value) bit_value ∙ length-low_bits n value in
+    let one : 1 + n ≡ suc n = omega arith in
+    ap (λ b. b * 2 ^ length (map bit_value (low_bits n value)) + spelled 2 (map bit_value (low_bits n value))) (bit_is_rest (value / 2 ^ n))
+    ∙ ap (λ k. value / 2 ^ n % 2 * 2 ^ k + spelled 2 (map bit_value (low_bits n value))) count
+    ∙ ap (λ x. value / 2 ^ n % 2 * 2 ^ n + x) (spelled-low_bits n value)
+    ∙ sym (mod-pow-add value 1 n)
+    ∙ ap (λ k. value % 2 ^ k) one
+
+pub low_bits_spell : LowBitsSpell
+low_bits_spell n value = (length-low_bits n value, spelled-low_bits n value)
+
+-- a text with tokens is answered by them unless memory runs out, and so is one that goes wrong
+pub answer_ok : (text : List ℕ) (r : Result (Vec Token Global) LexFault) → IsAnswer text r → (tokens : List Token) → AreTokens text tokens → IfErr r (λ fault. fault ≡ NoMemory)
+answer_ok text (Ok found) is tokens are = tt
+answer_ok text (Err (Bad line)) is tokens are = absurd (not_tokens_and_bad_line text tokens line are is)
+answer_ok text (Err NoMemory) is tokens are = refl
+
+pub answer_bad : (text : List ℕ) (r : Result (Vec Token Global) LexFault) → IsAnswer text r → (line : ℕ) → IsBadOn text line → IsErrAnd r (λ fault. (fault ≡ Bad line) ⊎ (fault ≡ NoMemory))
+answer_bad text (Ok found) is line bad = not_tokens_and_bad_line text found.items line is bad
+answer_bad text (Err (Bad other)) is line bad = inl (ap Bad (bad_lines_are_one text other line is bad))
+answer_bad text (Err NoMemory) is line bad = inr refl
+
+ends_with : (x y : ℕ) (bytes : List ℕ) → EndsAtFirst x y bytes → (body : List ℕ) × (bytes ≡ body ++ x ∷ y ∷ [])
+ends_with x y [] ends = absurd ends
+ends_with x y (b ∷ []) ends = absurd ends
+ends_with x y (b ∷ c ∷ bytes) ends =
+    ⊎_elim
+    (λ hit. ([], ap (λ n. n ∷ c ∷ bytes) (eqb-true b x (left_true (b == x) (c == y) hit.0)) ∙ ap (λ n. x ∷ n ∷ bytes) (eqb-true c y (right_true (b == x) (c == y) hit.0)) ∙ ap (λ l. x ∷ y ∷ l) hit.1))
+    (λ miss. let w = ends_with x y (c ∷ bytes) miss.1 in (b ∷ w.0, ap (λ l. b ∷ l) w.1))
+    (from_match (b == x && c == y) (bytes ≡ []) (EndsAtFirst x y (c ∷ bytes)) ends)
+
+ends_only : (x y : ℕ) (bytes front back : List ℕ) → EndsAtFirst x y bytes → bytes ≡ front ++ x ∷ y ∷ back → back ≡ []
+ends_only x y [] front back ends e = absurd ends
+ends_only x y (b ∷ []) front back ends e = absurd ends
+ends_only x y (b ∷ c ∷ bytes) [] back ends e =
+    let b_is : b ≡ x = cc in
+    let c_is : c ≡ y = cc in
+    let same : bytes ≡ back = cc in
+    ⊎_elim
+    (λ hit. sym same ∙ hit.1)
+    (λ miss. absurd (let yes : (b == x && c == y) ≡ true = both_true (b == x) (c == y) (eq-eqb b x b_is) (eq-eqb c y c_is) in cc))
+    (from_match (b == x && c == y) (bytes ≡ []) (EndsAtFirst x y (c ∷ bytes)) ends)
+ends_only x y (b ∷ c ∷ bytes) (f ∷ front) back ends e =
+    let rest : c ∷ bytes ≡ front ++ x ∷ y ∷ back = cc in
+    ⊎_elim
+    (λ hit. absurd (omega (arith, ap length rest, ap length hit.1, length-append front (x ∷ y ∷ back))))
+    (λ miss. ends_only x y (c ∷ bytes) front back miss.1 rest)
+    (from_match (b == x && c == y) (bytes ≡ []) (EndsAtFirst x y (c ∷ bytes)) ends)
+
+pub ends_at_first_place : EndsAtFirstPlace
+ends_at_first_place x y bytes ends = (ends_with x y bytes ends, λ front back e. ends_only x y bytes front back ends e)

@@ -1,0 +1,15 @@
+pub mod Choices
+pub mod Comments
+pub mod CutReading
+pub mod Digits
+pub mod Identifiers
+pub mod LawProofs
+pub mod Marks
+pub mod Meanings
+pub mod NumberReading
+pub mod Numerals
+pub mod PieceReading
+pub mod Runs
+pub mod ShortTexts
+pub mod TokenLists
+pub mod WordTable

@@ -1,0 +1,327 @@
+-- The piece that is read at a place is a piece by the rules, and no longer one begins there.
+use Rattle.std.proofs.Common.{◌≡◌, ℕ, true, false, cond, Option, Some, None, List, [], ◌∷◌, ◌++◌, sym, refl, ap, ◌∙◌, subst, arith, ⊎_elim, append_assoc, append-nil, eqb-true}
+use Rattle.std.specs.Prelude.{◌==◌}
+use Rattle.std.specs.Char.{is_ascii_digit}
+use Rattle.std.proofs.lemmas.Bool.Decides.{nat_tests}
+use Rattle.bb_lex.specs.declared.token.Kind.{Kind}
+use Rattle.bb_lex.specs.declared.token.Kind.TheVariants.{Name, Sized, Plain, Mark as MarkKind}
+use Rattle.bb_lex.specs.declared.mark.Mark.{Mark}
+use Rattle.bb_lex.specs.declared.mark.Mark.TheVariants.{LeftRound, RightRound, LeftSquare, RightSquare, LeftBrace, RightBrace, Comma, Semicolon, Colon, Dot, Equals, At, Amp, Bar, Caret, Tilde, Query, LessEqual, TildeCaret, CaretTilde}
+use Rattle.bb_lex.specs.declared.class.Opening.TheVariants as opening
+use Rattle.bb_lex.specs.Bytes.{is_white, is_in_line, begins_identifier, is_identifier_byte, Each, BeginsNot, run_of, past}
+use Rattle.bb_lex.specs.Words.{keyword_of}
+use Rattle.bb_lex.specs.Skips.{IsDirective, IsSkip}
+use Rattle.bb_lex.specs.Skips.IsSkip.{White, LineComment, BlockComment, Attribute, Directive}
+use Rattle.bb_lex.specs.Pieces.{written, IsIdentifier, IsDecimalRun, kind_of_word, IsSized, IsEscaped, IsToken, Piece, IsPiece}
+use Rattle.bb_lex.specs.Pieces.IsToken.{Identifier, Escaped, SizedNumber, PlainNumber, Symbol}
+use Rattle.bb_lex.specs.Reading.{behind_pair, behind_comment, behind_attribute, behind_directive, behind_escaped, skipped, token_of, number_at, round_at, longer_mark, opening_of, opened_by, piece_at}
+use Rattle.bb_lex.proofs.Choices.{cases_of, chosen, cond_true, cond_false, some_pair}
+use Rattle.bb_lex.proofs.Runs.{run-past, each_of_run, past-each, run-each}
+use Rattle.bb_lex.proofs.Comments.{pair_sound, pair_complete, attribute_sound, attribute_complete}
+use Rattle.bb_lex.proofs.Identifiers.{directive_sound, directive_complete, escaped_sound, escaped_complete, identifier_sound, each_of_identifier}
+use Rattle.bb_lex.proofs.NumberReading.{IsNumber, token_sound, number_sound, plain_complete, sized_complete}
+use Rattle.bb_lex.proofs.Marks.{mark_sound}
+
+-- what a byte opens, and why
+data Opens (b : ℕ) : Type 0 where
+  OpensWhite : opening_of b ≡ opening.White → is_white b ≡ true → Opens b
+  OpensIdentifier : opening_of b ≡ opening.Identifier → begins_identifier b ≡ true → Opens b
+  OpensNumber : opening_of b ≡ opening.Number → is_ascii_digit b ≡ true → Opens b
+  OpensComment : opening_of b ≡ opening.Comment → b ≡ 47 → Opens b
+  OpensRound : opening_of b ≡ opening.Round → b ≡ 40 → Opens b
+  OpensEscaped : opening_of b ≡ opening.Escaped → b ≡ 92 → Opens b
+  OpensDirective : opening_of b ≡ opening.Directive → b ≡ 96 → Opens b
+  OpensMark : opening_of b ≡ opening.Mark → Opens b
+
+opening-white : (b : ℕ) → is_white b ≡ true → opening_of b ≡ opening.White
+opening-white b white = cond_true (is_white b) opening.White _ white
+
+opening-identifier : (b : ℕ) → begins_identifier b ≡ true → opening_of b ≡ opening.Identifier
+opening-identifier b begins =
+    let not_white : is_white b ≡ false = grind (arith, nat_tests) in
+    cond_false (is_white b) opening.White _ not_white ∙ cond_true (begins_identifier b) opening.Identifier _ begins
+
+opening-number : (b : ℕ) → is_ascii_digit b ≡ true → opening_of b ≡ opening.Number
+opening-number b digit =
+    let not_white : is_white b ≡ false = grind (arith, nat_tests) in
+    let not_letter : begins_identifier b ≡ false = grind (arith, nat_tests) in
+    cond_false (is_white b) opening.White _ not_white ∙ cond_false (begins_identifier b) opening.Identifier _ not_letter ∙ cond_true (is_ascii_digit b) opening.Number _ digit
+
+opens_sign : (b : ℕ) → opening_of b ≡ (cond (b == 47) opening.Comment (cond (b == 40) opening.Round (cond (b == 92) opening.Escaped (cond (b == 96) opening.Directive opening.Mark)))) → Opens b
+opens_sign b is =
+    ⊎_elim
+    (λ yes. OpensComment (is ∙ cond_true (b == 47) _ _ yes) (eqb-true b 47 yes))
+    (λ n1. ⊎_elim
+    (λ yes. OpensRound (is ∙ cond_false (b == 47) _ _ n1 ∙ cond_true (b == 40) _ _ yes) (eqb-true b 40 yes))
+    (λ n2. ⊎_elim
+    (λ yes. OpensEscaped (is ∙ cond_false (b == 47) _ _ n1 ∙ cond_false (b == 40) _ _ n2 ∙ cond_true (b == 92) _ _ yes) (eqb-true b 92 yes))
+    (λ n3. ⊎_elim
+    (λ yes. OpensDirective (is ∙ cond_false (b == 47) _ _ n1 ∙ cond_false (b == 40) _ _ n2 ∙ cond_false (b == 92) _ _ n3 ∙ cond_true (b == 96) _ _ yes) (eqb-true b 96 yes))
+    (λ n4. OpensMark (is ∙ cond_false (b == 47) _ _ n1 ∙ cond_false (b == 40) _ _ n2 ∙ cond_false (b == 92) _ _ n3 ∙ cond_false (b == 96) _ _ n4))
+    (cases_of (b == 96)))
+    (cases_of (b == 92)))
+    (cases_of (b == 40)))
+    (cases_of (b == 47))
+
+opens : (b : ℕ) → Opens b
+opens b =
+    ⊎_elim
+    (λ yes. OpensWhite (opening-white b yes) yes)
+    (λ n1. ⊎_elim
+    (λ yes. OpensIdentifier (opening-identifier b yes) yes)
+    (λ n2. ⊎_elim
+    (λ yes. OpensNumber (opening-number b yes) yes)
+    (λ n3. opens_sign b (cond_false (is_white b) opening.White _ n1 ∙ cond_false (begins_identifier b) opening.Identifier _ n2 ∙ cond_false (is_ascii_digit b) opening.Number _ n3))
+    (cases_of (is_ascii_digit b)))
+    (cases_of (begins_identifier b)))
+    (cases_of (is_white b))
+
+-- a piece at the front of a text, and what is left behind it
+pub record IsAtFront (text : List ℕ) (kind : Option Kind) (r : List ℕ) : Type 0 where
+  pub front : List ℕ
+  pub splits : text ≡ front ++ r
+  pub is : IsPiece (record { kind = kind; bytes = front }) r
+
+skip_front : (text front r : List ℕ) (kind : Option Kind) → kind ≡ None → text ≡ front ++ r → IsSkip front r → IsAtFront text kind r
+skip_front text front r None k e is = record { front = front; splits = e; is = is }
+skip_front text front r (Some kind) k e is = absurd (cc)
+
+token_front : (text front r : List ℕ) (kind : Option Kind) (k : Kind) → kind ≡ Some k → text ≡ front ++ r → IsToken k front r → IsAtFront text kind r
+token_front text front r kind k is e token = record { front = front; splits = e; is = subst (λ o. IsPiece (record { kind = o; bytes = front }) r) (sym is) token }
+
+skipped_sound : (o : Option (List ℕ)) (kind : Option Kind) (r : List ℕ) → skipped o ≡ Some (kind, r) → (kind ≡ None) × (o ≡ Some r)
+skipped_sound None kind r h = absurd (cc)
+skipped_sound (Some after) kind r h = let both = some_pair None kind after r h in (sym both.0, ap Some both.1)
+
+comment_sound : (t r : List ℕ) (kind : Option Kind) → skipped (behind_comment t) ≡ Some (kind, r) → IsAtFront (47 ∷ t) kind r
+comment_sound [] r kind h = absurd (cc)
+comment_sound (b ∷ t) r kind h =
+    let found = skipped_sound (behind_comment (b ∷ t)) kind r h in
+    ⊎_elim
+    (λ line.
+    let b_is : b ≡ 47 = eqb-true b 47 line.0 in
+    let e : past is_in_line t ≡ r = cc in
+    skip_front (47 ∷ b ∷ t) (47 ∷ b ∷ run_of is_in_line t) r kind found.0
+    (ap (λ l. 47 ∷ b ∷ l) (sym (ap (λ l. run_of is_in_line t ++ l) (sym e) ∙ run-past is_in_line t)))
+    (LineComment (record { body = run_of is_in_line t; opens = ap (λ n. 47 ∷ n ∷ run_of is_in_line t) b_is; in_line = each_of_run is_in_line t })))
+    (λ other.
+    ⊎_elim
+    (λ block.
+    let b_is : b ≡ 42 = eqb-true b 42 block.0 in
+    let w = pair_sound 42 47 t r block.1 in
+    skip_front (47 ∷ b ∷ t) (47 ∷ b ∷ w.0) r kind found.0 (ap (λ l. 47 ∷ b ∷ l) w.1)
+    (BlockComment (record { body = w.0; opens = ap (λ n. 47 ∷ n ∷ w.0) b_is; closes = w.2 })))
+    (λ not. absurd (cc))
+    (chosen (b == 42) (behind_pair 42 47 t) None (Some r) other.1))
+    (chosen (b == 47) (Some (past is_in_line t)) (cond (b == 42) (behind_pair 42 47 t) None) (Some r) found.1)
+
+round_front : (t r : List ℕ) (kind : Option Kind) → kind ≡ Some (MarkKind LeftRound) → t ≡ r → BeginsNot (λ b. b == 42) t → IsAtFront (40 ∷ t) kind r
+round_front t r kind is e not =
+    token_front (40 ∷ t) (40 ∷ []) r kind (MarkKind LeftRound) is (ap (λ l. 40 ∷ l) e) (Symbol LeftRound refl (λ _. subst (BeginsNot (λ b. b == 42)) e not) refl)
+
+round_sound : (t r : List ℕ) (kind : Option Kind) → round_at t ≡ Some (kind, r) → IsAtFront (40 ∷ t) kind r
+round_sound [] r kind h = let both = some_pair (Some (MarkKind LeftRound)) kind [] r h in round_front [] r kind (sym both.0) both.1 tt
+round_sound (b ∷ t) r kind h =
+    ⊎_elim
+    (λ star.
+    let b_is : b ≡ 42 = eqb-true b 42 star.0 in
+    let found = skipped_sound (behind_attribute t) kind r star.1 in
+    let w = attribute_sound t r found.1 in
+    skip_front (40 ∷ b ∷ t) (40 ∷ b ∷ w.0) r kind found.0 (ap (λ l. 40 ∷ b ∷ l) w.2)
+    (Attribute (record { body = w.0; parts = w.1; opens = ap (λ n. 40 ∷ n ∷ w.0) b_is; not_at_once = w.3; closes = w.4 })))
+    (λ other.
+    let both = some_pair (Some (MarkKind LeftRound)) kind (b ∷ t) r other.1 in
+    round_front (b ∷ t) r kind (sym both.0) both.1 other.0)
+    (chosen (b == 42) (skipped (behind_attribute t)) (Some (Some (MarkKind LeftRound), b ∷ t)) (Some (kind, r)) h)
+
+number_front : (text front r : List ℕ) (kind : Option Kind) → text ≡ front ++ r → IsNumber kind front r → IsAtFront text kind r
+number_front text front r kind e is =
+    ⊎_elim
+    (λ plain. token_front text front r kind Plain plain.0 e (PlainNumber plain.1 refl))
+    (λ sized. token_front text front r kind Sized sized.0 e (SizedNumber sized.1 refl))
+    is
+
+opened_sound : (b : ℕ) (t r : List ℕ) (kind : Option Kind) → Opens b → opened_by (opening_of b) b t ≡ Some (kind, r) → IsAtFront (b ∷ t) kind r
+opened_sound b t r kind (OpensWhite o white) h =
+    let both = some_pair None kind t r (subst (λ p. opened_by p b t ≡ Some (kind, r)) o h) in
+    skip_front (b ∷ t) (b ∷ []) r kind (sym both.0) (ap (λ l. b ∷ l) both.1) (White b refl white)
+opened_sound b t r kind (OpensIdentifier o begins) h =
+    let run : List ℕ = run_of is_identifier_byte (b ∷ t) in
+    let both = some_pair (Some (kind_of_word (keyword_of run))) kind (past is_identifier_byte (b ∷ t)) r (subst (λ p. opened_by p b t ≡ Some (kind, r)) o h) in
+    token_front (b ∷ t) run r kind (kind_of_word (keyword_of run)) (sym both.0) (sym (run-past is_identifier_byte (b ∷ t)) ∙ ap (λ l. run ++ l) both.1) (Identifier (identifier_sound b t begins) refl)
+opened_sound b t r kind (OpensNumber o digit) h =
+    let w = number_sound b t r kind digit (subst (λ p. opened_by p b t ≡ Some (kind, r)) o h) in
+    number_front (b ∷ t) w.0 r kind w.1 w.2
+opened_sound b t r kind (OpensComment o is) h =
+    subst (λ n. IsAtFront (n ∷ t) kind r) (sym is) (comment_sound t r kind (subst (λ p. opened_by p b t ≡ Some (kind, r)) o h))
+opened_sound b t r kind (OpensRound o is) h =
+    subst (λ n. IsAtFront (n ∷ t) kind r) (sym is) (round_sound t r kind (subst (λ p. opened_by p b t ≡ Some (kind, r)) o h))
+opened_sound b t r kind (OpensEscaped o is) h =
+    let found = token_sound Name (behind_escaped t) kind r (subst (λ p. opened_by p b t ≡ Some (kind, r)) o h) in
+    let w = escaped_sound t r found.1 in
+    subst (λ n. IsAtFront (n ∷ t) kind r) (sym is) (token_front (92 ∷ t) (92 ∷ w.0) r kind Name found.0 (ap (λ l. 92 ∷ l) w.1) (Escaped w.2 refl))
+opened_sound b t r kind (OpensDirective o is) h =
+    let found = skipped_sound (behind_directive t) kind r (subst (λ p. opened_by p b t ≡ Some (kind, r)) o h) in
+    let w = directive_sound t r found.1 in
+    subst (λ n. IsAtFront (n ∷ t) kind r) (sym is) (skip_front (96 ∷ t) (96 ∷ w.0) r kind found.0 (ap (λ l. 96 ∷ l) w.1) (Directive w.2))
+opened_sound b t r kind (OpensMark o) h =
+    let w = mark_sound b t r kind (subst (λ p. opened_by p b t ≡ Some (kind, r)) o h) in
+    token_front (b ∷ t) (written w.mark) r kind (MarkKind w.mark) w.kind_is w.splits (Symbol w.mark refl (λ e. absurd (w.some e)) refl)
+
+pub piece_sound : (text r : List ℕ) (kind : Option Kind) → piece_at text ≡ Some (kind, r) → IsAtFront text kind r
+piece_sound [] r kind h = absurd (cc)
+piece_sound (b ∷ t) r kind h = opened_sound b t r kind (opens b) h
+
+-- the text is read past these bytes, by a piece of the kind where it is read just so far
+pub record Reaches (kind : Option Kind) (bytes after : List ℕ) : Type 0 where
+  pub found : Option Kind
+  pub more : List ℕ
+  pub rest : List ℕ
+  pub splits : after ≡ more ++ rest
+  pub read : piece_at (bytes ++ after) ≡ Some (found, rest)
+  pub same : more ≡ [] → found ≡ kind
+
+exactly : (kind : Option Kind) (bytes after : List ℕ) → piece_at (bytes ++ after) ≡ Some (kind, after) → Reaches kind bytes after
+exactly kind bytes after e = record { found = kind; more = []; rest = after; splits = refl; read = e; same = λ _. refl }
+
+reaches_as : (kind : Option Kind) (bytes made after : List ℕ) → bytes ≡ made → Reaches kind made after → Reaches kind bytes after
+reaches_as kind bytes made after e w = subst (λ l. Reaches kind l after) (sym e) w
+
+white_complete : (b : ℕ) (after : List ℕ) → is_white b ≡ true → Reaches None (b ∷ []) after
+white_complete b after white = exactly None (b ∷ []) after (ap (λ o. opened_by o b after) (opening-white b white))
+
+line_complete : (body after : List ℕ) → Each is_in_line body → Reaches None (47 ∷ 47 ∷ body) after
+line_complete body after each = record {
+  found = None;
+  more = run_of is_in_line after;
+  rest = past is_in_line after;
+  splits = sym (run-past is_in_line after);
+  read = ap (λ l. skipped (Some l)) (past-each is_in_line body after each);
+  same = λ _. refl;
+}
+
+skip_complete : (bytes after : List ℕ) → IsSkip bytes after → Reaches None bytes after
+skip_complete bytes after (White b e white) = reaches_as None bytes (b ∷ []) after e (white_complete b after white)
+skip_complete bytes after (LineComment is) = reaches_as None bytes (47 ∷ 47 ∷ is.body) after is.opens (line_complete is.body after is.in_line)
+skip_complete bytes after (BlockComment is) =
+    reaches_as None bytes (47 ∷ 42 ∷ is.body) after is.opens (exactly None (47 ∷ 42 ∷ is.body) after (ap skipped (pair_complete 42 47 is.body after is.closes)))
+skip_complete bytes after (Attribute is) =
+    reaches_as None bytes (40 ∷ 42 ∷ is.body) after is.opens (exactly None (40 ∷ 42 ∷ is.body) after (ap skipped (attribute_complete is.body after is.parts is.not_at_once is.closes)))
+skip_complete bytes after (Directive is) =
+    let front : List ℕ = is.word ++ is.line in
+    reaches_as None bytes (96 ∷ front) after is.opens (record {
+      found = None;
+      more = run_of is_in_line after;
+      rest = past is_in_line after;
+      splits = sym (run-past is_in_line after);
+      read = ap skipped (directive_complete front after (subst (λ l. IsDirective l after) is.opens is));
+      same = λ _. refl;
+    })
+
+identifier_complete : (bytes after : List ℕ) (kind : Kind) → IsIdentifier bytes → kind ≡ kind_of_word (keyword_of bytes) → Reaches (Some kind) bytes after
+identifier_complete [] after kind is k = absurd is
+identifier_complete (b ∷ bytes) after kind is k =
+    let each : Each is_identifier_byte (b ∷ bytes) = each_of_identifier (b ∷ bytes) is in
+    let more : List ℕ = run_of is_identifier_byte after in
+    let run : run_of is_identifier_byte (b ∷ bytes ++ after) ≡ (b ∷ bytes) ++ more = run-each is_identifier_byte (b ∷ bytes) after each in
+    record {
+      found = Some (kind_of_word (keyword_of ((b ∷ bytes) ++ more)));
+      more = more;
+      rest = past is_identifier_byte after;
+      splits = sym (run-past is_identifier_byte after);
+      read = ap (λ o. opened_by o b (bytes ++ after)) (opening-identifier b is.0)
+          ∙ ap (λ l. Some (Some (kind_of_word (keyword_of l)), past is_identifier_byte (b ∷ bytes ++ after))) run
+          ∙ ap (λ l. Some (Some (kind_of_word (keyword_of ((b ∷ bytes) ++ more))), l)) (past-each is_identifier_byte (b ∷ bytes) after each);
+      same = λ none. ap (λ l. Some (kind_of_word (keyword_of l))) (ap (λ l. (b ∷ bytes) ++ l) none ∙ append-nil (b ∷ bytes)) ∙ ap Some (sym k);
+    }
+
+read_number : (run behind : List ℕ) → IsDecimalRun run → piece_at (run ++ behind) ≡ number_at (run ++ behind)
+read_number [] behind is = absurd is
+read_number (b ∷ run) behind is = ap (λ o. opened_by o b (run ++ behind)) (opening-number b is.0)
+
+sized_read : (bytes after : List ℕ) → IsSized bytes after → piece_at (bytes ++ after) ≡ Some (Some Sized, after)
+sized_read bytes after is =
+    let behind : List ℕ = is.gap ++ 39 ∷ is.letter ∷ (is.space ++ is.digits) in
+    let made : bytes ++ after ≡ is.size ++ (behind ++ after) = ap (λ l. l ++ after) is.made_of ∙ append_assoc is.size behind after in
+    ap piece_at made ∙ read_number is.size (behind ++ after) is.size_run ∙ ap number_at (sym made) ∙ sized_complete bytes after is
+
+-- a mark of one byte before what does not make it longer
+caret_complete : (after : List ℕ) → Reaches (Some (MarkKind Caret)) (94 ∷ []) after
+caret_complete [] = exactly (Some (MarkKind Caret)) (94 ∷ []) [] refl
+caret_complete (c ∷ after) =
+    ⊎_elim
+    (λ tilde. record {
+      found = Some (MarkKind CaretTilde);
+      more = c ∷ [];
+      rest = after;
+      splits = refl;
+      read = ap (λ n. piece_at (94 ∷ n ∷ after)) (eqb-true c 126 tilde);
+      same = λ e. absurd (cc);
+    })
+    (λ other. exactly (Some (MarkKind Caret)) (94 ∷ []) (c ∷ after) (ap (λ t. longer_mark (cond t (Some CaretTilde) None) after (Some Caret) (c ∷ after)) other))
+    (cases_of (c == 126))
+
+tilde_complete : (after : List ℕ) → Reaches (Some (MarkKind Tilde)) (126 ∷ []) after
+tilde_complete [] = exactly (Some (MarkKind Tilde)) (126 ∷ []) [] refl
+tilde_complete (c ∷ after) =
+    ⊎_elim
+    (λ caret. record {
+      found = Some (MarkKind TildeCaret);
+      more = c ∷ [];
+      rest = after;
+      splits = refl;
+      read = ap (λ n. piece_at (126 ∷ n ∷ after)) (eqb-true c 94 caret);
+      same = λ e. absurd (cc);
+    })
+    (λ other. exactly (Some (MarkKind Tilde)) (126 ∷ []) (c ∷ after) (ap (λ t. longer_mark (cond t (Some TildeCaret) None) after (Some Tilde) (c ∷ after)) other))
+    (cases_of (c == 94))
+
+round_complete : (after : List ℕ) → BeginsNot (λ b. b == 42) after → Reaches (Some (MarkKind LeftRound)) (40 ∷ []) after
+round_complete [] not = exactly (Some (MarkKind LeftRound)) (40 ∷ []) [] refl
+round_complete (b ∷ after) not = exactly (Some (MarkKind LeftRound)) (40 ∷ []) (b ∷ after) (cond_false (b == 42) (skipped (behind_attribute after)) (Some (Some (MarkKind LeftRound), b ∷ after)) not)
+
+-- the other marks of one byte make no longer one
+plain_mark : (mark : Mark) (b : ℕ) (after : List ℕ) → piece_at (b ∷ []) ≡ Some (Some (MarkKind mark), []) → ((c : ℕ) (t : List ℕ) → piece_at (b ∷ c ∷ t) ≡ Some (Some (MarkKind mark), c ∷ t)) → Reaches (Some (MarkKind mark)) (b ∷ []) after
+plain_mark mark b [] last more = exactly (Some (MarkKind mark)) (b ∷ []) [] last
+plain_mark mark b (c ∷ after) last more = exactly (Some (MarkKind mark)) (b ∷ []) (c ∷ after) (more c after)
+
+mark_complete : (mark : Mark) (after : List ℕ) → (mark ≡ LeftRound → BeginsNot (λ b. b == 42) after) → Reaches (Some (MarkKind mark)) (written mark) after
+mark_complete LeftRound after open_ = round_complete after (open_ refl)
+mark_complete Caret after open_ = caret_complete after
+mark_complete Tilde after open_ = tilde_complete after
+mark_complete LessEqual after open_ = exactly (Some (MarkKind LessEqual)) (60 ∷ 61 ∷ []) after refl
+mark_complete TildeCaret after open_ = exactly (Some (MarkKind TildeCaret)) (126 ∷ 94 ∷ []) after refl
+mark_complete CaretTilde after open_ = exactly (Some (MarkKind CaretTilde)) (94 ∷ 126 ∷ []) after refl
+mark_complete RightRound after open_ = plain_mark RightRound 41 after refl (λ c t. refl)
+mark_complete LeftSquare after open_ = plain_mark LeftSquare 91 after refl (λ c t. refl)
+mark_complete RightSquare after open_ = plain_mark RightSquare 93 after refl (λ c t. refl)
+mark_complete LeftBrace after open_ = plain_mark LeftBrace 123 after refl (λ c t. refl)
+mark_complete RightBrace after open_ = plain_mark RightBrace 125 after refl (λ c t. refl)
+mark_complete Comma after open_ = plain_mark Comma 44 after refl (λ c t. refl)
+mark_complete Semicolon after open_ = plain_mark Semicolon 59 after refl (λ c t. refl)
+mark_complete Colon after open_ = plain_mark Colon 58 after refl (λ c t. refl)
+mark_complete Dot after open_ = plain_mark Dot 46 after refl (λ c t. refl)
+mark_complete Equals after open_ = plain_mark Equals 61 after refl (λ c t. refl)
+mark_complete At after open_ = plain_mark At 64 after refl (λ c t. refl)
+mark_complete Amp after open_ = plain_mark Amp 38 after refl (λ c t. refl)
+mark_complete Bar after open_ = plain_mark Bar 124 after refl (λ c t. refl)
+mark_complete Query after open_ = plain_mark Query 63 after refl (λ c t. refl)
+
+token_complete : (kind : Kind) (bytes after : List ℕ) → IsToken kind bytes after → Reaches (Some kind) bytes after
+token_complete kind bytes after (Identifier is k) = identifier_complete bytes after kind is k
+token_complete kind bytes after (Escaped is k) =
+    subst (λ o. Reaches (Some o) bytes after) (sym k)
+    (reaches_as (Some Name) bytes (92 ∷ is.name) after is.opens
+    (exactly (Some Name) (92 ∷ is.name) after (ap (token_of Name) (escaped_complete is.name after (subst (λ l. IsEscaped l after) is.opens is)))))
+token_complete kind bytes after (SizedNumber is k) = subst (λ o. Reaches (Some o) bytes after) (sym k) (exactly (Some Sized) bytes after (sized_read bytes after is))
+token_complete kind bytes after (PlainNumber is k) =
+    subst (λ o. Reaches (Some o) bytes after) (sym k) (exactly (Some Plain) bytes after (read_number bytes after is.run ∙ plain_complete bytes after is))
+token_complete kind bytes after (Symbol mark e open_ k) =
+    subst (λ o. Reaches (Some o) bytes after) (sym k) (reaches_as (Some (MarkKind mark)) bytes (written mark) after e (mark_complete mark after open_))
+
+complete_by : (kind : Option Kind) (bytes after : List ℕ) → IsPiece (record { kind = kind; bytes = bytes }) after → Reaches kind bytes after
+complete_by None bytes after is = skip_complete bytes after is
+complete_by (Some kind) bytes after is = token_complete kind bytes after is
+
+pub piece_complete : (piece : Piece) (after : List ℕ) → IsPiece piece after → Reaches piece.kind piece.bytes after
+piece_complete piece after is = complete_by piece.kind piece.bytes after is

@@ -1,0 +1,66 @@
+-- The classes of bytes by which a text is cut into pieces, after IEEE 1364-2005, 3.2 to 3.7. A byte is its ASCII code.
+-- Carriage return counts as white space, which the standard leaves out.
+use Rattle.std.specs.Prelude.{◌≡◌, ℕ, Bool, true, false, not, ◌||◌, ◌==◌, List, [], ◌∷◌, if◌then◌else◌}
+use Rattle.std.specs.List.{AllByRecursion}
+use Rattle.std.specs.Char.{is_ascii_alphabetic, is_ascii_digit, is_ascii_graphic}
+
+-- space, tab, newline, form feed, carriage return
+abbrev pub is_white : ℕ → Bool
+is_white b = b == 32 || b == 9 || b == 10 || b == 12 || b == 13
+
+-- what a simple identifier begins with: a letter or _
+abbrev pub begins_identifier : ℕ → Bool
+begins_identifier b = is_ascii_alphabetic b || b == 95
+
+-- what it goes on with: letters, digits, _ and $
+abbrev pub is_identifier_byte : ℕ → Bool
+is_identifier_byte b = is_ascii_alphabetic b || is_ascii_digit b || b == 95 || b == 36
+
+-- what a run of digits with a base is made of, right or wrong: letters, digits, _, $ and ?
+abbrev pub is_word_byte : ℕ → Bool
+is_word_byte b = is_identifier_byte b || b == 63
+
+-- what a decimal number goes on with: digits and _
+abbrev pub is_decimal_byte : ℕ → Bool
+is_decimal_byte b = is_ascii_digit b || b == 95
+
+-- what an escaped identifier is made of: the bytes 33 to 126
+abbrev pub is_graphic : ℕ → Bool
+is_graphic b = is_ascii_graphic b
+
+-- what stands in one line: every byte but the newline
+abbrev pub is_in_line : ℕ → Bool
+is_in_line b = not (b == 10)
+
+-- what stands before an apostrophe: every byte but that
+abbrev pub is_no_apostrophe : ℕ → Bool
+is_no_apostrophe b = not (b == 39)
+
+-- each byte is of the class
+abbrev pub Each : (ℕ → Bool) → List ℕ → Type 0
+Each is bytes = AllByRecursion (λ b. is b ≡ true) bytes
+
+-- the first byte is of the class
+abbrev pub Begins : (ℕ → Bool) → List ℕ → Type 0
+Begins is [] = ⊥
+Begins is (b ∷ bytes) = is b ≡ true
+
+-- no byte of the class comes first: the list is at its end, or another byte comes
+abbrev pub BeginsNot : (ℕ → Bool) → List ℕ → Type 0
+BeginsNot is [] = Unit {0}
+BeginsNot is (b ∷ bytes) = is b ≡ false
+
+-- the list is at its end, or a byte of the class comes first
+abbrev pub EndsBefore : (ℕ → Bool) → List ℕ → Type 0
+EndsBefore is [] = Unit {0}
+EndsBefore is (b ∷ bytes) = is b ≡ true
+
+-- the longest run of the class at the front
+abbrev pub run_of : (ℕ → Bool) → List ℕ → List ℕ
+run_of is [] = []
+run_of is (b ∷ bytes) = if is b then b ∷ run_of is bytes else []
+
+-- what is left behind the longest run of the class at the front
+abbrev pub past : (ℕ → Bool) → List ℕ → List ℕ
+past is [] = []
+past is (b ∷ bytes) = if is b then past is bytes else (b ∷ bytes)

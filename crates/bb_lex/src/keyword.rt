@@ -1,0 +1,25 @@
+/// The reserved words that the grammar names, one variant each, and `Other` for every other reserved word.
+#[derive(Clone, Copy, Debug, PartialEq, Eq)]
+pub enum Keyword {
+    Module,
+    Endmodule,
+    Input,
+    Output,
+    Wire,
+    Reg,
+    Supply0,
+    Supply1,
+    Assign,
+    Always,
+    Posedge,
+    Negedge,
+    And,
+    Nand,
+    Or,
+    Nor,
+    Xor,
+    Xnor,
+    Buf,
+    Not,
+    Other,
+}

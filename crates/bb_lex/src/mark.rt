@@ -1,0 +1,44 @@
+/// The marks: operators and punctuation of one or two bytes.
+#[derive(Clone, Copy, Debug, PartialEq, Eq)]
+pub enum Mark {
+    /// `(`
+    LeftRound,
+    /// `)`
+    RightRound,
+    /// `[`
+    LeftSquare,
+    /// `]`
+    RightSquare,
+    /// `{`
+    LeftBrace,
+    /// `}`
+    RightBrace,
+    /// `,`
+    Comma,
+    /// `;`
+    Semicolon,
+    /// `:`
+    Colon,
+    /// `.`
+    Dot,
+    /// `=`
+    Equals,
+    /// `@`
+    At,
+    /// `&`
+    Amp,
+    /// `|`
+    Bar,
+    /// `^`
+    Caret,
+    /// `~`
+    Tilde,
+    /// `?`
+    Query,
+    /// `<=`
+    LessEqual,
+    /// `~^`
+    TildeCaret,
+    /// `^~`
+    CaretTilde,
+}
