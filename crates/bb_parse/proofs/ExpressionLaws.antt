@@ -1,0 +1,183 @@
+-- What is read as an expression is one, and what is an expression is read as it.
+use Rattle.std.proofs.Common.{◌≡◌, inl, inr, ℕ, zero, suc, List, [], ◌∷◌, Option, Some, None, Bool, true, false, refl, ap, ◌∙◌, subst, arith, length, IfSome, if◌then◌else◌}
+use Rattle.bb_ast.specs.declared.expr.Op.{Op}
+use Rattle.bb_ast.specs.Syntax.{Expression, Net, Bit, Part, Sized, Plain, Not, Chain, Cond, Concat, Repeat}
+use Rattle.bb_lex.specs.declared.mark.Mark.{Mark}
+use Rattle.bb_lex.specs.declared.mark.Mark.TheVariants.{LeftRound, RightRound, LeftSquare, RightSquare, LeftBrace, RightBrace, Colon, Tilde, Query}
+use Rattle.bb_parse.specs.declared.level.Level.{Level}
+use Rattle.bb_parse.specs.declared.level.Level.TheVariants as levels
+use Rattle.bb_parse.specs.Symbols.{Symbol, Identifier, Reserved, SizedNumber, PlainNumber, Sign}
+use Rattle.bb_parse.specs.Lists.{Rule, IsList}
+use Rattle.bb_parse.specs.Expressions.{IsSelect, IsPrimary, select, sized, plain, round, concat, repeat, IsSigns, IsUnary, IsOperands, IsChain, IsAndx, IsXorx, IsOrx, IsArms, conditional, IsExpr, IsLval}
+use Rattle.bb_parse.specs.Reading.{Read, is_next, behind, read_mark, read_name, read_plain, read_list}
+use Rattle.bb_parse.specs.ReadingExpressions.{read_index, read_select, begins_repeat, read_braces, read_round, bracket_at, read_primary, read_signs, read_unary, next_operator, operands_at, read_operands, read_chain, read_operand, read_level, with_arms, read_arms, read_conditional, read_expr, read_lvals, read_lval}
+use Rattle.bb_parse.proofs.Marks.{next_is, no_square, operator_is}
+use Rattle.bb_parse.proofs.Parts.{and_then, and_so, either_way, behind_front, mark_sound, name_sound, plain_sound}
+use Rattle.bb_parse.proofs.ListLaws.{Sound, Complete, list_sound}
+
+-- selects
+
+index_sound : (name : List ℕ) (all ts : List Symbol) → all ≡ Identifier name ∷ Sign LeftSquare ∷ ts → IfSome (read_index name ts) (λ x. IsSelect all x.0 x.1)
+unfolding read_index
+index_sound name all ts begins =
+    and_then (read_plain ts) _ (λ i. ts ≡ PlainNumber i.0 ∷ i.1) _ (plain_sound ts) (λ i p.
+    either_way (is_next Colon i.1) _ _ _
+    (λ h. and_then (read_plain (behind i.1)) _ (λ j. behind i.1 ≡ PlainNumber j.0 ∷ j.1) _ (plain_sound (behind i.1)) (λ j q.
+    and_then (read_mark RightSquare j.1) _ (λ u. j.1 ≡ Sign RightSquare ∷ u.1) _ (mark_sound RightSquare j.1) (λ u r.
+    begins ∙ ap (λ z. Identifier name ∷ Sign LeftSquare ∷ z) (p ∙ ap (λ z. PlainNumber i.0 ∷ z) (next_is Colon i.1 h ∙ ap (λ z. Sign Colon ∷ z) (q ∙ ap (λ z. PlainNumber j.0 ∷ z) r))))))
+    (λ h. and_then (read_mark RightSquare i.1) _ (λ u. i.1 ≡ Sign RightSquare ∷ u.1) _ (mark_sound RightSquare i.1) (λ u r.
+    begins ∙ ap (λ z. Identifier name ∷ Sign LeftSquare ∷ z) (p ∙ ap (λ z. PlainNumber i.0 ∷ z) r))))
+
+pub select_sound : Sound IsSelect read_select
+unfolding read_select
+select_sound ts =
+    and_then (read_name ts) _ (λ n. ts ≡ Identifier n.0 ∷ n.1) _ (name_sound ts) (λ n p.
+    either_way (is_next LeftSquare n.1) _ _ _
+    (λ h. index_sound n.0 ts (behind n.1) (p ∙ ap (λ z. Identifier n.0 ∷ z) (next_is LeftSquare n.1 h)))
+    (λ h. p))
+
+pub select_complete : Complete 1 IsSelect read_select
+unfolding read_select read_index
+select_complete ts (Net name) rest p h = (rw (p, no_square rest h) refl, omega (arith, ap length p))
+select_complete ts (Bit name i) rest p h = (rw p refl, omega (arith, ap length p))
+select_complete ts (Part name i j) rest p h = (rw p refl, omega (arith, ap length p))
+select_complete ts (Sized bits) rest p h = elim p [ ]
+select_complete ts (Plain n) rest p h = elim p [ ]
+select_complete ts (Not k e) rest p h = elim p [ ]
+select_complete ts (Chain e rest') rest p h = elim p [ ]
+select_complete ts (Cond all last) rest p h = elim p [ ]
+select_complete ts (Concat all) rest p h = elim p [ ]
+select_complete ts (Repeat k all) rest p h = elim p [ ]
+
+-- primaries
+
+repeat_begins : (ts : List Symbol) → begins_repeat ts ≡ true → IfSome (read_plain ts) (λ k. (ts ≡ PlainNumber k.0 ∷ k.1) × (is_next LeftBrace k.1 ≡ true))
+repeat_begins [] h = tt
+repeat_begins (Identifier n ∷ ts) h = tt
+repeat_begins (Reserved w ∷ ts) h = tt
+repeat_begins (SizedNumber b ∷ ts) h = tt
+repeat_begins (PlainNumber n ∷ ts) h = (refl, h)
+repeat_begins (Sign m ∷ ts) h = tt
+
+module _ (inner : Rule Expression) (read : List Symbol → Read Expression) (s : Sound inner read) where
+  round_sound : (all ts : List Symbol) → all ≡ Sign LeftRound ∷ ts → IfSome (read_round read ts) (λ x. IsPrimary inner all x.0 x.1)
+  unfolding read_round
+  round_sound all ts begins =
+      and_then (read ts) _ (λ e. inner ts e.0 e.1) _ (s ts) (λ e p.
+      and_then (read_mark RightRound e.1) _ (λ u. e.1 ≡ Sign RightRound ∷ u.1) _ (mark_sound RightRound e.1) (λ u q.
+      round ts begins (subst (λ z. inner ts e.0 z) q p)))
+
+  braces_sound : (all ts : List Symbol) → all ≡ Sign LeftBrace ∷ ts → IfSome (read_braces read ts) (λ x. IsPrimary inner all x.0 x.1)
+  unfolding read_braces
+  braces_sound all ts begins =
+      either_way (begins_repeat ts) _ _ _
+      (λ h. and_then (read_plain ts) _ (λ k. (ts ≡ PlainNumber k.0 ∷ k.1) × (is_next LeftBrace k.1 ≡ true)) _ (repeat_begins ts h) (λ k p.
+      and_then (read_list read (behind k.1)) _ (λ es. IsList inner (behind k.1) es.0 es.1) _ (list_sound inner read s (behind k.1)) (λ es q.
+      and_then (read_mark RightBrace es.1) _ (λ u. es.1 ≡ Sign RightBrace ∷ u.1) _ (mark_sound RightBrace es.1) (λ u r.
+      and_then (read_mark RightBrace u.1) _ (λ v. u.1 ≡ Sign RightBrace ∷ v.1) _ (mark_sound RightBrace u.1) (λ v t.
+      repeat k.0 es.0 (behind k.1) (begins ∙ ap (λ z. Sign LeftBrace ∷ z) (p.0 ∙ ap (λ z. PlainNumber k.0 ∷ z) (next_is LeftBrace k.1 p.1)))
+      (subst (λ z. IsList inner (behind k.1) es.0 z) (r ∙ ap (λ z. Sign RightBrace ∷ z) t) q) refl)))))
+      (λ h. and_then (read_list read ts) _ (λ es. IsList inner ts es.0 es.1) _ (list_sound inner read s ts) (λ es q.
+      and_then (read_mark RightBrace es.1) _ (λ u. es.1 ≡ Sign RightBrace ∷ u.1) _ (mark_sound RightBrace es.1) (λ u r.
+      concat es.0 ts begins (subst (λ z. IsList inner ts es.0 z) r q) refl)))
+
+  bracket_sound : (m : Mark) (all ts : List Symbol) → all ≡ Sign m ∷ ts → IfSome (bracket_at m read ts) (λ x. IsPrimary inner all x.0 x.1)
+  bracket_sound LeftRound all ts begins = round_sound all ts begins
+  bracket_sound LeftBrace all ts begins = braces_sound all ts begins
+  bracket_sound m all ts begins = tt
+
+  primary_sound : Sound (IsPrimary inner) (read_primary read)
+  unfolding read_primary
+  primary_sound [] = tt
+  primary_sound (Identifier n ∷ ts) = and_so (read_select (Identifier n ∷ ts)) (λ x. IsSelect (Identifier n ∷ ts) x.0 x.1) _ (select_sound (Identifier n ∷ ts)) (λ x p. select p)
+  primary_sound (Reserved w ∷ ts) = tt
+  primary_sound (SizedNumber b ∷ ts) = sized b refl refl
+  primary_sound (PlainNumber n ∷ ts) = plain n refl refl
+  primary_sound (Sign m ∷ ts) = bracket_sound m (Sign m ∷ ts) ts refl
+
+  signs_by : (b : Bool) (r : ℕ × List Symbol) (ts : List Symbol) → (b ≡ true → IsSigns (suc r.0) ts r.1)
+      → (let z : ℕ × List Symbol = if b then (suc r.0, r.1) else (0, ts) in IsSigns z.0 ts z.1)
+  signs_by true r ts h = h refl
+  signs_by false r ts h = refl
+
+  signs_sound : (n : ℕ) (ts : List Symbol) → IsSigns (read_signs n ts).0 ts (read_signs n ts).1
+  signs_sound zero ts = refl
+  signs_sound (suc n) ts = signs_by (is_next Tilde ts) (read_signs n (behind ts)) ts (λ h. (behind ts, next_is Tilde ts h, signs_sound n (behind ts)))
+
+  unary_sound : Sound (IsUnary inner) (read_unary read)
+  unfolding read_unary
+  unary_sound ts =
+      and_then (read_primary read (read_signs (length ts) ts).1) _ (λ e. IsPrimary inner (read_signs (length ts) ts).1 e.0 e.1) _ (primary_sound (read_signs (length ts) ts).1) (λ e p.
+      ((read_signs (length ts) ts).0, (read_signs (length ts) ts).1, e.0, signs_sound (length ts) ts, p, refl))
+
+-- chains
+
+operands_either : (o : Option Op) (ts : List Symbol) (more : Op → Read (List (Op × Expression))) (P : List (Op × Expression) × List Symbol → Type 0)
+    → (o ≡ None → P ([], ts)) → ((op : Op) → o ≡ Some op → IfSome (more op) P) → IfSome (operands_at o ts more) P
+operands_either None ts more P h k = h refl
+operands_either (Some op) ts more P h k = k op refl
+
+module _ (level : Level) (is : Rule Expression) (operand : List Symbol → Read Expression) where
+  operands_sound : Sound is operand → (n : ℕ) → Sound (IsOperands level is) (read_operands level operand n)
+  operands_sound s zero ts = refl
+  operands_sound s (suc n) ts =
+      let P : List (Op × Expression) × List Symbol → Type 0 = λ xs. IsOperands level is ts xs.0 xs.1 in
+      operands_either (next_operator level ts) ts _ P (λ h. refl) (λ op h.
+      let m = operator_is level ts op h in
+      and_then (operand (behind ts)) _ (λ x. is (behind ts) x.0 x.1) P (s (behind ts)) (λ x p.
+      let y : Op × Expression = (op, x.0) in
+      behind_front y (read_operands level operand n x.1) P (and_so (read_operands level operand n x.1) (λ xs. IsOperands level is x.1 xs.0 xs.1) (λ xs. IsOperands level is ts (y ∷ xs.0) xs.1) (operands_sound s n x.1) (λ xs q.
+      (m.0, behind ts, x.1, m.1, m.2, p, q)))))
+
+  chain_sound : Sound is operand → Sound (IsChain level is) (read_chain level operand)
+  unfolding read_chain
+  chain_sound s ts =
+      and_then (operand ts) _ (λ x. is ts x.0 x.1) _ (s ts) (λ x p.
+      and_then (read_operands level operand (length x.1) x.1) _ (λ xs. IsOperands level is x.1 xs.0 xs.1) _ (operands_sound s (length x.1) x.1) (λ xs q.
+      (x.0, xs.0, x.1, p, q, refl)))
+
+module _ (inner : Rule Expression) (read : List Symbol → Read Expression) (s : Sound inner read) where
+  orx_sound : Sound (IsOrx inner) (read_level levels.Or read)
+  orx_sound =
+      chain_sound levels.Or (IsXorx inner) (read_operand levels.Or read)
+      (chain_sound levels.Xor (IsAndx inner) (read_operand levels.Xor read)
+      (chain_sound levels.And (IsUnary inner) (read_operand levels.And read) (unary_sound inner read s)))
+
+  arms_front : (x : Expression × Expression) (r : Read (List (Expression × Expression) × Expression)) (P : (List (Expression × Expression) × Expression) × List Symbol → Type 0)
+      → IfSome r (λ y. P ((x ∷ y.0.0, y.0.1), y.1)) → IfSome (with_arms (x ∷ []) r) P
+  arms_front x None P h = tt
+  arms_front x (Some y) P h = h
+
+  arms_sound : (n : ℕ) (ts : List Symbol) → IfSome (read_arms read n ts) (λ x. IsArms inner ts x.0.0 x.0.1 x.1)
+  arms_sound zero ts = tt
+  arms_sound (suc n) ts =
+      let P : (List (Expression × Expression) × Expression) × List Symbol → Type 0 = λ x. IsArms inner ts x.0.0 x.0.1 x.1 in
+      and_then (read_level levels.Or read ts) _ (λ c. IsOrx inner ts c.0 c.1) P (orx_sound ts) (λ c p.
+      either_way (is_next Query c.1) _ _ P
+      (λ h. and_then (read (behind c.1)) _ (λ v. inner (behind c.1) v.0 v.1) P (s (behind c.1)) (λ v q.
+      and_then (read_mark Colon v.1) _ (λ u. v.1 ≡ Sign Colon ∷ u.1) P (mark_sound Colon v.1) (λ u r.
+      let y : Expression × Expression = (c.0, v.0) in
+      arms_front y (read_arms read n u.1) P (and_so (read_arms read n u.1) (λ x. IsArms inner u.1 x.0.0 x.0.1 x.1) (λ x. IsArms inner ts (y ∷ x.0.0) x.0.1 x.1) (arms_sound n u.1) (λ x t.
+      (behind c.1, u.1, subst (λ z. IsOrx inner ts c.0 z) (next_is Query c.1 h) p, subst (λ z. inner (behind c.1) v.0 z) r q, t))))))
+      (λ h. p))
+
+  conditional_sound : (ts : List Symbol) → IfSome (read_conditional read ts)
+      (λ x. (xs : List (Expression × Expression)) × (last : Expression) × IsArms inner ts xs last x.1 × (x.0 ≡ conditional xs last))
+  unfolding read_conditional
+  conditional_sound ts =
+      and_then (read_arms read (length ts) ts) _ (λ x. IsArms inner ts x.0.0 x.0.1 x.1) _ (arms_sound (length ts) ts) (λ x p. (x.0.0, x.0.1, p, refl))
+
+pub expr_sound : (n : ℕ) → Sound (IsExpr n) (read_expr n)
+unfolding read_expr
+expr_sound zero ts = tt
+expr_sound (suc n) ts = conditional_sound (IsExpr n) (read_expr n) (expr_sound n) ts
+
+pub lval_sound : (n : ℕ) → Sound (IsLval n) (read_lval n)
+unfolding read_lval read_lvals
+lval_sound zero ts = tt
+lval_sound (suc n) ts =
+    either_way (is_next LeftBrace ts) _ _ _
+    (λ h. and_then (read_list (read_lval n) (behind ts)) _ (λ es. IsList (IsLval n) (behind ts) es.0 es.1) _ (list_sound (IsLval n) (read_lval n) (lval_sound n) (behind ts)) (λ es p.
+    and_then (read_mark RightBrace es.1) _ (λ u. es.1 ≡ Sign RightBrace ∷ u.1) _ (mark_sound RightBrace es.1) (λ u q.
+    inr (es.0, behind ts, next_is LeftBrace ts h, subst (λ z. IsList (IsLval n) (behind ts) es.0 z) q p, refl))))
+    (λ h. and_so (read_select ts) (λ x. IsSelect ts x.0 x.1) _ (select_sound ts) (λ x p. inl p))

@@ -1,0 +1,15 @@
+pub mod DeclarationLaws
+pub mod Depth
+pub mod ExpressionLaws
+pub mod ExpressionReads
+pub mod ItemLaws
+pub mod ItemReads
+pub mod LawProofs
+pub mod ListLaws
+pub mod Loops
+pub mod Marks
+pub mod Measures
+pub mod Parts
+pub mod SourceLaws
+pub mod SourceLoop
+pub mod Statements

@@ -1,0 +1,66 @@
+-- Loops over the tokens of a statement.
+use Rattle.std.proofs.Common.{◌≡◌, ℕ, ◌+◌, ◌<◌, ◌≤◌, List, [], ◌∷◌, ◌++◌, Option, Some, None, true, false, refl, arith, length, take, drop, max, append_assoc, slice_index_or, add-one}
+use Rattle.std.proofs.Math.Nat.{le-max_left}
+use Rattle.std.proofs.Math.Seq.{drop-cons}
+use Rattle.std.proofs.lemmas.List.{take_more}
+use Rattle.bb_lex.specs.declared.token.Token.{Token}
+use Rattle.bb_parse.specs.Symbols.{Symbol, Identifier, Reserved, SizedNumber, PlainNumber, Sign}
+use Rattle.bb_parse.specs.Nesting.{mark_count, mark_square, count_behind, square_behind, greatest_from}
+use Rattle.bb_parse.specs.Sources.{ends}
+use Rattle.bb_parse.specs.Reading.{next_kind, behind}
+use Rattle.bb_parse.specs.ReadingSources.{with_token, first_statement, count_at, square_at}
+
+-- with these tokens in front of a statement
+abbrev pub with_tokens : List Token → Option (List Token × List Token) → Option (List Token × List Token)
+with_tokens front None = None
+with_tokens front (Some x) = Some (front ++ x.0, x.1)
+
+pub with_tokens-nil : (o : Option (List Token × List Token)) → with_tokens [] o ≡ o
+with_tokens-nil None = refl
+with_tokens-nil (Some x) = refl
+
+with_tokens-with_token : (front : List Token) (t : Token) (o : Option (List Token × List Token)) → with_tokens front (with_token t o) ≡ with_tokens (front ++ t ∷ []) o
+with_tokens-with_token front t None = refl
+with_tokens-with_token front t (Some x) = rw append_assoc refl
+
+split_at_index : (tokens : List Token) (i : ℕ) (d : Token) → i < length tokens → (drop i tokens ≡ slice_index_or tokens i d ∷ drop (i + 1) tokens) × (take (i + 1) tokens ≡ take i tokens ++ slice_index_or tokens i d ∷ [])
+split_at_index tokens i d h = (rw (add-one, drop-cons tokens i d h) refl, take_more tokens i d h)
+
+pub first_here : (tokens : List Token) (i : ℕ) (d : Token) → i < length tokens → ends (slice_index_or tokens i d).kind ≡ true
+    → with_tokens (take i tokens) (first_statement (drop i tokens)) ≡ Some (take (i + 1) tokens, drop (i + 1) tokens)
+first_here tokens i d h e = let s = split_at_index tokens i d h in rw (s.0, e, s.1) refl
+
+pub first_later : (tokens : List Token) (i : ℕ) (d : Token) → i < length tokens → ends (slice_index_or tokens i d).kind ≡ false
+    → with_tokens (take i tokens) (first_statement (drop i tokens)) ≡ with_tokens (take (i + 1) tokens) (first_statement (drop (i + 1) tokens))
+first_later tokens i d h e = let s = split_at_index tokens i d h in rw (s.0, e, s.1) (with_tokens-with_token (take i tokens) (slice_index_or tokens i d) (first_statement (drop (i + 1) tokens)))
+
+pub ruleset first_looping = (with_tokens-nil, first_here, first_later)
+
+three_max : (g c d a : ℕ) → c ≤ g → d ≤ a → max g (max c a) ≡ max (max g d) a
+three_max g c d a h k = omega arith
+
+pub greatest_least : (square count : ℕ) (ts : List Symbol) → count ≤ greatest_from square count ts
+greatest_least square count [] = omega arith
+greatest_least square count (t ∷ ts) = le-max_left count (greatest_from (square_behind t square) (count_behind t square count) ts)
+
+pub nesting_next : (square count greatest : ℕ) (ts : List Symbol) → count ≤ greatest → 0 < length ts
+    → max greatest (greatest_from square count ts)
+    ≡ max (max greatest (count_at (next_kind ts) square count)) (greatest_from (square_at (next_kind ts) square) (count_at (next_kind ts) square count) (behind ts))
+nesting_next square count greatest [] h l = absurd (omega arith)
+nesting_next square count greatest (Identifier n ∷ ts) h l = three_max greatest count count (greatest_from square count ts) h (greatest_least square count ts)
+nesting_next square count greatest (Reserved w ∷ ts) h l = three_max greatest count count (greatest_from square count ts) h (greatest_least square count ts)
+nesting_next square count greatest (SizedNumber b ∷ ts) h l = three_max greatest count count (greatest_from square count ts) h (greatest_least square count ts)
+nesting_next square count greatest (PlainNumber n ∷ ts) h l = three_max greatest count count (greatest_from square count ts) h (greatest_least square count ts)
+nesting_next square count greatest (Sign m ∷ ts) h l =
+    three_max greatest count (mark_count m square count) (greatest_from (mark_square m square) (mark_count m square count) ts) h
+    (greatest_least (mark_square m square) (mark_count m square count) ts)
+
+pub nesting_done : (square count greatest : ℕ) (ts : List Symbol) → count ≤ greatest → length ts ≡ 0 → max greatest (greatest_from square count ts) ≡ greatest
+nesting_done square count greatest [] h l = omega arith
+nesting_done square count greatest (t ∷ ts) h l = absurd (omega arith)
+
+pub behind_length : (ts : List Symbol) → 0 < length ts → length (behind ts) + 1 ≡ length ts
+behind_length [] h = absurd (omega arith)
+behind_length (t ∷ ts) h = omega arith
+
+pub ruleset nesting_looping = (nesting_next, nesting_done, behind_length)

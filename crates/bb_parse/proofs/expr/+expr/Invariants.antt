@@ -1,0 +1,45 @@
+use Rattle.std.proofs.Common.{◌≡◌, ◌+◌, ◌-◌, ◌*◌, map}
+use Rattle.bb_ast.specs.Views.{expression, operand_view, arm_view}
+use Rattle.bb_parse.specs.Reading.{with_front, read_list, read_more}
+use Rattle.bb_parse.specs.ReadingExpressions.{read_expr, read_level, read_operand, read_operands, read_arms, read_conditional, with_arms, chain_from, conditional_from}
+use Rattle.bb_parse.proofs.Measures.{tightness}
+use Rattle.bb_parse.proofs.expr.+expr.Given as goal
+
+abbrev pub decreases-braces : goal.decreases-braces
+decreases-braces l = 16 * l.inner + 4
+
+abbrev pub decreases-bracket : goal.decreases-bracket
+decreases-bracket l = 16 * l.inner + 5
+
+abbrev pub decreases-chain : goal.decreases-chain
+decreases-chain l = 16 * l.inner + (9 + 2 * tightness l.level)
+
+abbrev pub decreases-conditional : goal.decreases-conditional
+decreases-conditional l = 16 * l.inner + 15
+
+abbrev pub decreases-expr : goal.decreases-expr
+decreases-expr l = 16 * l.depth
+
+abbrev pub decreases-exprs : goal.decreases-exprs
+decreases-exprs l = 16 * l.depth + 3
+
+abbrev pub decreases-operand : goal.decreases-operand
+decreases-operand l = 16 * l.inner + (8 + 2 * tightness l.level)
+
+abbrev pub decreases-primary : goal.decreases-primary
+decreases-primary l = 16 * l.inner + 6
+
+abbrev pub decreases-unary : goal.decreases-unary
+decreases-unary l = 16 * l.inner + 7
+
+abbrev pub invariant-chain-loop-turn : goal.invariant-chain-loop-turn
+invariant-chain-loop-turn l = read_level l.level (read_expr l.inner) l.fn.cursor
+    ≡ chain_from (expression l.first) (with_front (map operand_view l.rest.items) (read_operands l.level (read_operand l.level (read_expr l.inner)) (l.turn-end - l.turn) l.cursor))
+
+abbrev pub invariant-conditional-loop-turn : goal.invariant-conditional-loop-turn
+invariant-conditional-loop-turn l = read_conditional (read_expr l.inner) l.fn.cursor
+    ≡ conditional_from (with_arms (map arm_view l.arms.items) (read_arms (read_expr l.inner) (l.turn-end - l.turn) l.cursor))
+
+abbrev pub invariant-exprs-loop-turn : goal.invariant-exprs-loop-turn
+invariant-exprs-loop-turn l = read_list (read_expr l.depth) l.fn.cursor
+    ≡ with_front (map expression l.parts.items) (read_more (read_expr l.depth) (l.turn-end - l.turn) l.cursor)

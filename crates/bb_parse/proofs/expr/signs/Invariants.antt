@@ -1,0 +1,10 @@
+use Rattle.std.proofs.Common.{◌≡◌, ◌-◌, ◌<◌, ◌^◌, length}
+use Rattle.bb_parse.specs.ReadingExpressions.{read_signs, plus_signs}
+use Rattle.bb_parse.proofs.expr.signs.Given as goal
+
+abbrev pub invariant-loop-turn : goal.invariant-loop-turn
+invariant-loop-turn l = record {
+  counted : l.signs ≡ l.turn;
+  read : read_signs (length l.fn.cursor) l.fn.cursor ≡ plus_signs l.signs (read_signs (l.turn-end - l.turn) l.cursor);
+  small : l.turn-end < 2 ^ 32;
+}

@@ -1,0 +1,5 @@
+use Rattle.bb_parse.proofs.LawProofs.{not_source_and_fault}
+use Rattle.bb_parse.proofs.laws.not_source_and_fault.Goals as goal
+
+pub returns : goal.returns
+returns c = not_source_and_fault

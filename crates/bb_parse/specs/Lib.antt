@@ -1,0 +1,13 @@
+pub mod Symbols
+pub mod Lists
+pub mod Expressions
+pub mod Declarations
+pub mod Items
+pub mod Reading
+pub mod ReadingExpressions
+pub mod ReadingDeclarations
+pub mod ReadingItems
+pub mod Laws
+pub mod Nesting
+pub mod Sources
+pub mod ReadingSources

@@ -1,0 +1,183 @@
+ghost use Rattle.std.specs.Prelude.{◌≡◌, ◌<◌, ◌^◌, ℕ, List, length, true, false};
+ghost use Rattle.std.specs.List.{AllByRecursion};
+ghost use Rattle.bb_lex.specs.Cut.{IsTokenOf};
+ghost use Rattle.bb_parse.specs.Symbols.{Symbol, symbols};
+ghost use Rattle.bb_parse.specs.Expressions.{level_operator};
+ghost use Rattle.bb_parse.specs.Reading.{Gives, is_next, behind, next_kind, read_mark, read_name, read_sized, read_plain};
+ghost use Rattle.bb_parse.specs.ReadingExpressions.{begins_repeat, next_operator};
+
+use crate::level::Level;
+use crate::stop::Stop;
+use bb_ast::Op;
+use bb_bits::Name;
+use bb_lex::{Kind, Mark, Token, name_bytes, plain_value, sized_bits};
+use std::alloc::Global;
+use std::marker::Model;
+
+/// The tokens of a text that are still to be read.
+#[derive(Drop)]
+pub(crate) struct Cursor<'a> {
+    tokens: &'a [Token],
+    text: &'a [u8],
+}
+
+impl<'a> Model for Cursor<'a> {
+    ghost use Rattle.std.specs.Prelude.{List, ◌<◌, ◌^◌, length};
+    ghost use Rattle.std.specs.List.{AllByRecursion};
+    ghost use Rattle.bb_lex.specs.Cut.{IsTokenOf};
+    ghost use Rattle.bb_parse.specs.Symbols.{Symbol, symbols};
+
+    ghost Value = { List Symbol };
+
+    ghost view = { λ c. symbols c.text.now c.tokens.now };
+
+    ghost invariant = { λ c. AllByRecursion (λ token. IsTokenOf token c.text.now) c.tokens.now × (length c.tokens.now < 2 ^ 32) };
+}
+
+impl<'a> Cursor<'a> {
+    /// Before the first of these tokens of the text.
+    pub(crate) fn new(tokens: &'a [Token], text: &'a [u8]) -> Self
+        requires of_text { AllByRecursion (λ token. IsTokenOf token text.now) tokens.now }
+        requires small { length tokens.now < 2 ^ 32 }
+        ensures { result ≡ symbols text.entry.now tokens.entry.now }
+    {
+        Cursor { tokens, text }
+    }
+
+    /// How many tokens are left.
+    pub(crate) fn len(&self) -> usize
+        ensures len { result ≡ length self.now }
+        ensures small { result < 2 ^ 32 }
+    {
+        self.tokens.len()
+    }
+
+    /// Whether the mark is next.
+    pub(crate) fn is_at(&self, wanted: Mark) -> bool
+        ensures { result ≡ is_next wanted self.now }
+    {
+        match self.tokens.first() {
+            Some(token) => token.kind == Kind::Mark(wanted),
+            None => false,
+        }
+    }
+
+    /// Goes past the next token, where there is one.
+    pub(crate) fn skip(&mut self)
+        ensures { self.new ≡ behind self.old }
+    {
+        if let Some((_, rest)) = self.tokens.split_first() {
+            self.tokens = rest;
+        }
+    }
+
+    /// Takes the mark where it is next.
+    pub(crate) fn takes(&mut self, wanted: Mark) -> bool
+        ensures taken { result ≡ is_next wanted self.old }
+        ensures left { result ≡ true → self.new ≡ behind self.old }
+        ensures same { result ≡ false → self.new ≡ self.old }
+    {
+        if !self.is_at(wanted) {
+            return false;
+        }
+        self.skip();
+        true
+    }
+
+    /// The mark.
+    pub(crate) fn mark(&mut self, wanted: Mark) -> Result<(), Stop>
+        ensures { Gives (λ _. tt) result self.new (read_mark wanted self.old) }
+    {
+        if self.takes(wanted) {
+            Ok(())
+        } else {
+            Err(Stop::Amiss)
+        }
+    }
+
+    /// A name.
+    pub(crate) fn name(&mut self, alloc: Global) -> Result<Name, Stop>
+        ensures { Gives (λ name. name) result self.new (read_name self.old) }
+    {
+        let Some((token, rest)) = self.tokens.split_first() else {
+            return Err(Stop::Amiss);
+        };
+        if token.kind != Kind::Name {
+            return Err(Stop::Amiss);
+        }
+        let name = Name::of(alloc, name_bytes(token, self.text))?;
+        self.tokens = rest;
+        Ok(name)
+    }
+
+    /// The bits of a sized number.
+    pub(crate) fn sized(&mut self, alloc: Global) -> Result<Vec<bool>, Stop>
+        ensures { Gives (λ bits. bits.items) result self.new (read_sized self.old) }
+    {
+        let Some((token, rest)) = self.tokens.split_first() else {
+            return Err(Stop::Amiss);
+        };
+        if token.kind != Kind::Sized {
+            return Err(Stop::Amiss);
+        }
+        let bits = sized_bits(alloc, token, self.text)?;
+        self.tokens = rest;
+        Ok(bits)
+    }
+
+    /// The value of a plain number.
+    pub(crate) fn plain(&mut self) -> Result<u32, Stop>
+        ensures { Gives (λ value. value) result self.new (read_plain self.old) }
+    {
+        let Some((token, rest)) = self.tokens.split_first() else {
+            return Err(Stop::Amiss);
+        };
+        if token.kind != Kind::Plain {
+            return Err(Stop::Amiss);
+        }
+        let value = plain_value(token, self.text);
+        self.tokens = rest;
+        Ok(value)
+    }
+
+    /// What the next token is.
+    pub(crate) fn kind(&self) -> Option<Kind>
+        ensures { result ≡ next_kind self.now }
+    {
+        self.tokens.first().map(|token| token.kind)
+    }
+
+    /// Whether a plain number and `{` come next.
+    pub(crate) fn begins_repeat(&self) -> bool
+        ensures { result ≡ begins_repeat self.now }
+    {
+        match self.tokens {
+            [first, second, ..] => first.kind == Kind::Plain
+                && second.kind == Kind::Mark(Mark::LeftBrace),
+            _ => false,
+        }
+    }
+
+    /// Which operator of the level comes next, if any.
+    pub(crate) fn operator(&self, level: Level) -> Option<Op>
+        ensures { result ≡ next_operator level self.now }
+    {
+        match self.kind() {
+            Some(Kind::Mark(mark)) => operator_of(level, mark),
+            _ => None,
+        }
+    }
+}
+
+/// The operator that a mark is at the level.
+fn operator_of(level: Level, mark: Mark) -> Option<Op>
+    ensures { result ≡ level_operator level mark }
+{
+    match (level, mark) {
+        (Level::And, Mark::Amp) => Some(Op::And),
+        (Level::Xor, Mark::Caret) => Some(Op::Xor),
+        (Level::Xor, Mark::TildeCaret | Mark::CaretTilde) => Some(Op::Xnor),
+        (Level::Or, Mark::Bar) => Some(Op::Or),
+        _ => None,
+    }
+}

@@ -1,0 +1,119 @@
+ghost use Rattle.std.specs.Prelude.{◌≡◌, ℕ, List, map};
+ghost use Rattle.bb_ast.specs.Views.{expression, gate_view, body_view};
+ghost use Rattle.bb_parse.specs.Reading.{Gives, read_list};
+ghost use Rattle.bb_parse.specs.ReadingItems.{read_optional_name, read_terms, read_gate, read_gates, gate_of, gates_at};
+
+use crate::cursor::Cursor;
+use crate::expr::expr;
+use crate::stop::Stop;
+use bb_ast::{Body, Expr, Gate, GateCall};
+use bb_bits::Name;
+use bb_lex::{Keyword, Kind, Mark};
+use smallvec::SmallVec;
+use std::alloc::Global;
+
+/// A name, or nothing where none comes next.
+fn optional_name(alloc: Global, cursor: &mut Cursor<'_>) -> Result<Option<Name>, Stop>
+    ensures { Gives (λ name. name) result cursor.new (read_optional_name cursor.old) }
+{
+    match cursor.kind() {
+        Some(Kind::Name) => {
+            let name = cursor.name(alloc)?;
+            Ok(Some(name))
+        }
+        _ => Ok(None),
+    }
+}
+
+/// The terminals of a gate: two expressions or more, with commas between.
+#[tactic(auto, using(crate::proofs::Loops::terms_looping), unfolding(crate::specs::ReadingItems::read_terms))]
+fn terms(alloc: Global, cursor: &mut Cursor<'_>, depth: u32) -> Result<SmallVec<Expr, 4>, Stop>
+    ensures { Gives (λ terms. map expression terms.items) result cursor.new (read_terms depth cursor.old) }
+{
+    let first = expr(alloc, cursor, depth)?;
+    cursor.mark(Mark::Comma)?;
+    let second = expr(alloc, cursor, depth)?;
+    let mut terms = SmallVec::new(alloc);
+    terms.push(first)?;
+    terms.push(second)?;
+    for turn in 0..cursor.len() {
+        if !cursor.takes(Mark::Comma) {
+            return Ok(terms);
+        }
+        let next = expr(alloc, cursor, depth)?;
+        terms.push(next)?;
+    }
+    Ok(terms)
+}
+
+/// A gate's name, if it has one, and its terminals.
+#[tactic(auto, unfolding(crate::specs::ReadingItems::read_gate))]
+fn gate(alloc: Global, cursor: &mut Cursor<'_>, depth: u32) -> Result<GateCall, Stop>
+    ensures { Gives gate_view result cursor.new (read_gate depth cursor.old) }
+{
+    let name = optional_name(alloc, cursor)?;
+    cursor.mark(Mark::LeftRound)?;
+    let terms = terms(alloc, cursor, depth)?;
+    cursor.mark(Mark::RightRound)?;
+    Ok(GateCall { name, terms })
+}
+
+/// One or more gates, with commas between.
+#[tactic(auto, using(crate::proofs::Loops::looping))]
+fn gate_list(alloc: Global, cursor: &mut Cursor<'_>, depth: u32) -> Result<Vec<GateCall>, Stop>
+    ensures { Gives (λ all. map gate_view all.items) result cursor.new (read_list (read_gate depth) cursor.old) }
+{
+    let first = gate(alloc, cursor, depth)?;
+    let mut all = Vec::new(alloc);
+    all.push(first)?;
+    for turn in 0..cursor.len() {
+        if !cursor.takes(Mark::Comma) {
+            return Ok(all);
+        }
+        let next = gate(alloc, cursor, depth)?;
+        all.push(next)?;
+    }
+    Ok(all)
+}
+
+/// Gates of one function, behind its word.
+#[tactic(auto, unfolding(crate::specs::ReadingItems::read_gates))]
+fn gates(alloc: Global, cursor: &mut Cursor<'_>, depth: u32, gate: Gate) -> Result<Body, Stop>
+    ensures { Gives body_view result cursor.new (read_gates gate depth cursor.old) }
+{
+    let all = gate_list(alloc, cursor, depth)?;
+    cursor.mark(Mark::Semicolon)?;
+    Ok(Body::Gates(gate, all))
+}
+
+/// The gate that a word is.
+fn gate_named(word: Keyword) -> Option<Gate>
+    ensures { result ≡ gate_of word }
+{
+    match word {
+        Keyword::And => Some(Gate::And),
+        Keyword::Nand => Some(Gate::Nand),
+        Keyword::Or => Some(Gate::Or),
+        Keyword::Nor => Some(Gate::Nor),
+        Keyword::Xor => Some(Gate::Xor),
+        Keyword::Xnor => Some(Gate::Xnor),
+        Keyword::Buf => Some(Gate::Buf),
+        Keyword::Not => Some(Gate::Not),
+        _ => None,
+    }
+}
+
+/// Gates, behind a word, which may be no gate's.
+pub(crate) fn worded_gates(
+    alloc: Global,
+    cursor: &mut Cursor<'_>,
+    depth: u32,
+    word: Keyword,
+) -> Result<Body, Stop>
+    ensures { Gives body_view result cursor.new (gates_at (gate_of word) depth cursor.old) }
+{
+    match gate_named(word) {
+        Some(gate) => gates(alloc, cursor, depth, gate),
+        None => Err(Stop::Amiss),
+    }
+}

@@ -1,0 +1,136 @@
+ghost use Rattle.std.specs.Prelude.{◌≡◌, ℕ, List, map};
+ghost use Rattle.bb_ast.specs.declared.module.Head.{Head};
+ghost use Rattle.bb_ast.specs.Views.{head_view};
+ghost use Rattle.bb_parse.specs.Reading.{Gives, next_kind, read_list};
+ghost use Rattle.bb_parse.specs.ReadingDeclarations.{read_head, read_next_port, read_ansi, read_ansi_heads, read_heads, read_header, header_at};
+
+use crate::cursor::Cursor;
+use crate::decl::{direction, port};
+use crate::stop::Stop;
+use bb_ast::{Head, Port};
+use bb_bits::Name;
+use bb_lex::{Keyword, Kind, Mark};
+use std::alloc::Global;
+
+/// A name of a header without declarations.
+#[tactic(auto, unfolding(crate::specs::ReadingDeclarations::read_head))]
+fn head(alloc: Global, cursor: &mut Cursor<'_>) -> Result<Head, Stop>
+    ensures { Gives head_view result cursor.new (read_head cursor.old) }
+{
+    let name = cursor.name(alloc)?;
+    Ok(Head { name, decl: None })
+}
+
+/// The names of a header without declarations.
+#[tactic(auto, using(crate::proofs::Loops::looping))]
+fn plain_heads(alloc: Global, cursor: &mut Cursor<'_>) -> Result<Vec<Head>, Stop>
+    ensures { Gives (λ heads. map head_view heads.items) result cursor.new (read_list read_head cursor.old) }
+{
+    let first = head(alloc, cursor)?;
+    let mut heads = Vec::new(alloc);
+    heads.push(first)?;
+    for turn in 0..cursor.len() {
+        if !cursor.takes(Mark::Comma) {
+            return Ok(heads);
+        }
+        let next = head(alloc, cursor)?;
+        heads.push(next)?;
+    }
+    Ok(heads)
+}
+
+/// A declaration, or else the one before it.
+#[tactic(auto, unfolding(crate::specs::ReadingDeclarations::read_next_port))]
+fn next_port(cursor: &mut Cursor<'_>, before: Port) -> Result<Port, Stop>
+    ensures { Gives (λ port. port) result cursor.new (read_next_port before cursor.old) }
+{
+    if direction(cursor.kind()).is_some() {
+        port(cursor)
+    } else {
+        Ok(before)
+    }
+}
+
+/// A name with its declaration, which may be the one before it.
+#[tactic(auto, unfolding(crate::specs::ReadingDeclarations::read_ansi))]
+fn ansi(alloc: Global, cursor: &mut Cursor<'_>, before: Port) -> Result<(Port, Name), Stop>
+    ensures { Gives (λ x. (x.0, x.1)) result cursor.new (read_ansi before cursor.old) }
+{
+    let port = next_port(cursor, before)?;
+    let name = cursor.name(alloc)?;
+    Ok((port, name))
+}
+
+/// The names of a header with their declarations.
+#[tactic(auto, using(crate::proofs::Loops::ansi_looping), unfolding(crate::specs::ReadingDeclarations::read_ansi_heads))]
+fn ansi_heads(alloc: Global, cursor: &mut Cursor<'_>) -> Result<Vec<Head>, Stop>
+    ensures { Gives (λ heads. map head_view heads.items) result cursor.new (read_ansi_heads cursor.old) }
+{
+    let mut before = port(cursor)?;
+    let first = cursor.name(alloc)?;
+    let mut heads = Vec::new(alloc);
+    heads.push(Head {
+        name: first,
+        decl: Some(before),
+    })?;
+    for turn in 0..cursor.len() {
+        if !cursor.takes(Mark::Comma) {
+            return Ok(heads);
+        }
+        let (port, name) = ansi(alloc, cursor, before)?;
+        before = port;
+        heads.push(Head {
+            name,
+            decl: Some(port),
+        })?;
+    }
+    Ok(heads)
+}
+
+/// The names of a header, behind `(`, and `)`.
+#[tactic(auto, unfolding(crate::specs::ReadingDeclarations::read_heads))]
+fn heads(alloc: Global, cursor: &mut Cursor<'_>) -> Result<Vec<Head>, Stop>
+    ensures { Gives (λ heads. map head_view heads.items) result cursor.new (read_heads cursor.old) }
+{
+    if cursor.takes(Mark::RightRound) {
+        return Ok(Vec::new(alloc));
+    }
+    let heads = if direction(cursor.kind()).is_some() {
+        ansi_heads(alloc, cursor)?
+    } else {
+        plain_heads(alloc, cursor)?
+    };
+    cursor.mark(Mark::RightRound)?;
+    Ok(heads)
+}
+
+/// A module's name and the names of its header, behind `module`.
+#[tactic(auto, unfolding(crate::specs::ReadingDeclarations::read_header))]
+fn header(alloc: Global, cursor: &mut Cursor<'_>) -> Result<(Name, Vec<Head>), Stop>
+    ensures { Gives (λ x. (x.0, map head_view x.1.items)) result cursor.new (read_header cursor.old) }
+{
+    let name = cursor.name(alloc)?;
+    let heads = if cursor.takes(Mark::LeftRound) {
+        heads(alloc, cursor)?
+    } else {
+        Vec::new(alloc)
+    };
+    cursor.mark(Mark::Semicolon)?;
+    Ok((name, heads))
+}
+
+/// A module's name and the names of its header, with `module`.
+pub(crate) fn module_header(
+    alloc: Global,
+    cursor: &mut Cursor<'_>,
+) -> Result<(Name, Vec<Head>), Stop>
+    ensures { Gives (λ x. (x.0, map head_view x.1.items)) result cursor.new (header_at (next_kind cursor.old) cursor.old) }
+{
+    match cursor.kind() {
+        Some(Kind::Word(Keyword::Module)) => {
+            cursor.skip();
+            header(alloc, cursor)
+        }
+        _ => Err(Stop::Amiss),
+    }
+}

@@ -1,0 +1,200 @@
+ghost use Rattle.std.specs.Prelude.{◌≡◌, ℕ, List, map};
+ghost use Rattle.bb_ast.specs.Views.{expression, arm_view, named_view, body_view};
+ghost use Rattle.bb_parse.specs.Reading.{Gives, read_list};
+ghost use Rattle.bb_parse.specs.ReadingItems.{read_net, read_nets, read_assignment, read_assign, edge_of, read_clock, read_event, read_always, worded, read_body};
+
+use crate::cursor::Cursor;
+use crate::decl::{optional_range, ports, regs, supply};
+use crate::expr::expr;
+use crate::gates::worded_gates;
+use crate::instances::calls;
+use crate::lval::lval;
+use crate::stop::Stop;
+use bb_ast::{Always, Body, Expr};
+use bb_bits::Name;
+use bb_lex::{Keyword, Kind, Mark};
+use std::alloc::Global;
+
+/// A net's name, with the expression that is assigned to it or none.
+#[tactic(auto, unfolding(crate::specs::ReadingItems::read_net))]
+fn net(alloc: Global, cursor: &mut Cursor<'_>, depth: u32) -> Result<(Name, Option<Expr>), Stop>
+    ensures { Gives named_view result cursor.new (read_net depth cursor.old) }
+{
+    let name = cursor.name(alloc)?;
+    if !cursor.takes(Mark::Equals) {
+        return Ok((name, None));
+    }
+    let value = expr(alloc, cursor, depth)?;
+    Ok((name, Some(value)))
+}
+
+/// One or more of these, with commas between.
+#[tactic(auto, using(crate::proofs::Loops::looping))]
+fn net_list(
+    alloc: Global,
+    cursor: &mut Cursor<'_>,
+    depth: u32,
+) -> Result<Vec<(Name, Option<Expr>)>, Stop>
+    ensures { Gives (λ nets. map named_view nets.items) result cursor.new (read_list (read_net depth) cursor.old) }
+{
+    let first = net(alloc, cursor, depth)?;
+    let mut nets = Vec::new(alloc);
+    nets.push(first)?;
+    for turn in 0..cursor.len() {
+        if !cursor.takes(Mark::Comma) {
+            return Ok(nets);
+        }
+        let next = net(alloc, cursor, depth)?;
+        nets.push(next)?;
+    }
+    Ok(nets)
+}
+
+/// Nets, behind `wire`.
+#[tactic(auto, unfolding(crate::specs::ReadingItems::read_nets))]
+fn nets(alloc: Global, cursor: &mut Cursor<'_>, depth: u32) -> Result<Body, Stop>
+    ensures { Gives body_view result cursor.new (read_nets depth cursor.old) }
+{
+    let range = optional_range(cursor)?;
+    let nets = net_list(alloc, cursor, depth)?;
+    cursor.mark(Mark::Semicolon)?;
+    Ok(Body::Nets(range, nets))
+}
+
+/// A left side, `=` and a right side.
+#[tactic(auto, unfolding(crate::specs::ReadingItems::read_assignment))]
+fn assignment(alloc: Global, cursor: &mut Cursor<'_>, depth: u32) -> Result<(Expr, Expr), Stop>
+    ensures { Gives arm_view result cursor.new (read_assignment depth cursor.old) }
+{
+    let left = lval(alloc, cursor, depth)?;
+    cursor.mark(Mark::Equals)?;
+    let right = expr(alloc, cursor, depth)?;
+    Ok((left, right))
+}
+
+/// One or more assignments, with commas between.
+#[tactic(auto, using(crate::proofs::Loops::looping))]
+fn assignments(
+    alloc: Global,
+    cursor: &mut Cursor<'_>,
+    depth: u32,
+) -> Result<Vec<(Expr, Expr)>, Stop>
+    ensures { Gives (λ all. map arm_view all.items) result cursor.new (read_list (read_assignment depth) cursor.old) }
+{
+    let first = assignment(alloc, cursor, depth)?;
+    let mut all = Vec::new(alloc);
+    all.push(first)?;
+    for turn in 0..cursor.len() {
+        if !cursor.takes(Mark::Comma) {
+            return Ok(all);
+        }
+        let next = assignment(alloc, cursor, depth)?;
+        all.push(next)?;
+    }
+    Ok(all)
+}
+
+/// Assignments, behind `assign`.
+#[tactic(auto, unfolding(crate::specs::ReadingItems::read_assign))]
+fn assign(alloc: Global, cursor: &mut Cursor<'_>, depth: u32) -> Result<Body, Stop>
+    ensures { Gives body_view result cursor.new (read_assign depth cursor.old) }
+{
+    let all = assignments(alloc, cursor, depth)?;
+    cursor.mark(Mark::Semicolon)?;
+    Ok(Body::Assign(all))
+}
+
+/// Whether the edge that a word is falls.
+fn edge(kind: Option<Kind>) -> Option<bool>
+    ensures { result ≡ edge_of kind }
+{
+    match kind {
+        Some(Kind::Word(Keyword::Posedge)) => Some(false),
+        Some(Kind::Word(Keyword::Negedge)) => Some(true),
+        _ => None,
+    }
+}
+
+/// A clock: a net or one bit of it.
+#[tactic(auto, unfolding(crate::specs::ReadingItems::read_clock))]
+fn clock(alloc: Global, cursor: &mut Cursor<'_>) -> Result<Expr, Stop>
+    ensures { Gives expression result cursor.new (read_clock cursor.old) }
+{
+    let name = cursor.name(alloc)?;
+    if !cursor.takes(Mark::LeftSquare) {
+        return Ok(Expr::Net(name));
+    }
+    let index = cursor.plain()?;
+    cursor.mark(Mark::RightSquare)?;
+    Ok(Expr::Bit(name, index))
+}
+
+/// The edge and the clock, behind `always`: `@ ( posedge clock )`.
+#[tactic(auto, unfolding(crate::specs::ReadingItems::read_event))]
+fn event(alloc: Global, cursor: &mut Cursor<'_>) -> Result<(bool, Expr), Stop>
+    ensures { Gives (λ x. (x.0, expression x.1)) result cursor.new (read_event cursor.old) }
+{
+    cursor.mark(Mark::At)?;
+    cursor.mark(Mark::LeftRound)?;
+    let Some(falling) = edge(cursor.kind()) else {
+        return Err(Stop::Amiss);
+    };
+    cursor.skip();
+    let clock = clock(alloc, cursor)?;
+    cursor.mark(Mark::RightRound)?;
+    Ok((falling, clock))
+}
+
+/// A register, behind `always`.
+#[tactic(auto, unfolding(crate::specs::ReadingItems::read_always))]
+fn always(alloc: Global, cursor: &mut Cursor<'_>, depth: u32) -> Result<Body, Stop>
+    ensures { Gives body_view result cursor.new (read_always depth cursor.old) }
+{
+    let (falling, clock) = event(alloc, cursor)?;
+    let left = lval(alloc, cursor, depth)?;
+    cursor.mark(Mark::LessEqual)?;
+    let right = expr(alloc, cursor, depth)?;
+    cursor.mark(Mark::Semicolon)?;
+    Ok(Body::Always(Always {
+        falling,
+        clock,
+        left,
+        right,
+    }))
+}
+
+/// An item that begins with a reserved word, which is next.
+fn worded_item(
+    alloc: Global,
+    cursor: &mut Cursor<'_>,
+    depth: u32,
+    word: Keyword,
+) -> Result<Body, Stop>
+    ensures { Gives body_view result cursor.new (worded word depth cursor.old) }
+{
+    match word {
+        Keyword::Input | Keyword::Output => return ports(alloc, cursor),
+        _ => cursor.skip(),
+    }
+    match word {
+        Keyword::Wire => nets(alloc, cursor, depth),
+        Keyword::Reg => regs(alloc, cursor),
+        Keyword::Supply0 => supply(alloc, cursor, false),
+        Keyword::Supply1 => supply(alloc, cursor, true),
+        Keyword::Assign => assign(alloc, cursor, depth),
+        Keyword::Always => always(alloc, cursor, depth),
+        _ => worded_gates(alloc, cursor, depth, word),
+    }
+}
+
+/// An item of a module.
+#[tactic(auto, unfolding(crate::specs::ReadingItems::read_body))]
+pub(crate) fn body(alloc: Global, cursor: &mut Cursor<'_>, depth: u32) -> Result<Body, Stop>
+    ensures { Gives body_view result cursor.new (read_body depth cursor.old) }
+{
+    match cursor.kind() {
+        Some(Kind::Name) => calls(alloc, cursor, depth),
+        Some(Kind::Word(word)) => worded_item(alloc, cursor, depth, word),
+        _ => Err(Stop::Amiss),
+    }
+}

@@ -1,0 +1,47 @@
+ghost use Rattle.std.specs.Prelude.{◌≡◌, ℕ, List, map};
+ghost use Rattle.bb_ast.specs.Views.{expression};
+ghost use Rattle.bb_parse.specs.Reading.{Gives, read_list};
+ghost use Rattle.bb_parse.specs.ReadingExpressions.{read_lval, read_lvals};
+
+use crate::cursor::Cursor;
+use crate::expr::select;
+use crate::stop::Stop;
+use bb_ast::Expr;
+use bb_lex::Mark;
+use std::alloc::Global;
+
+/// What may be assigned, in which braces nest to less than `depth` levels.
+#[cycle(lval)]
+#[tactic(auto, unfolding(crate::specs::ReadingExpressions::read_lval, crate::specs::ReadingExpressions::read_lvals))]
+pub(crate) fn lval(alloc: Global, cursor: &mut Cursor<'_>, depth: u32) -> Result<Expr, Stop>
+    ensures { Gives expression result cursor.new (read_lval depth cursor.old) }
+{
+    if depth == 0 {
+        return Err(Stop::Amiss);
+    }
+    if !cursor.takes(Mark::LeftBrace) {
+        return select(alloc, cursor);
+    }
+    let parts = lvals(alloc, cursor, depth - 1)?;
+    cursor.mark(Mark::RightBrace)?;
+    Ok(Expr::Concat(parts))
+}
+
+/// One or more of what may be assigned, with commas between.
+#[cycle(lval)]
+#[tactic(auto, using(crate::proofs::Loops::looping))]
+fn lvals(alloc: Global, cursor: &mut Cursor<'_>, depth: u32) -> Result<Vec<Expr>, Stop>
+    ensures { Gives (λ parts. map expression parts.items) result cursor.new (read_list (read_lval depth) cursor.old) }
+{
+    let first = lval(alloc, cursor, depth)?;
+    let mut parts = Vec::new(alloc);
+    parts.push(first)?;
+    for turn in 0..cursor.len() {
+        if !cursor.takes(Mark::Comma) {
+            return Ok(parts);
+        }
+        let part = lval(alloc, cursor, depth)?;
+        parts.push(part)?;
+    }
+    Ok(parts)
+}

@@ -1,0 +1,26 @@
+ghost use Rattle.std.specs.Prelude.{◌≡◌, ℕ, List};
+ghost use Rattle.bb_parse.specs.Reading.{Gives, read_name, read_list};
+
+use crate::cursor::Cursor;
+use crate::stop::Stop;
+use bb_bits::Name;
+use bb_lex::Mark;
+use std::alloc::Global;
+
+/// One or more names, with commas between.
+#[tactic(auto, using(crate::proofs::Loops::looping))]
+pub(crate) fn names(alloc: Global, cursor: &mut Cursor<'_>) -> Result<Vec<Name>, Stop>
+    ensures { Gives (λ names. names.items) result cursor.new (read_list read_name cursor.old) }
+{
+    let first = cursor.name(alloc)?;
+    let mut names = Vec::new(alloc);
+    names.push(first)?;
+    for turn in 0..cursor.len() {
+        if !cursor.takes(Mark::Comma) {
+            return Ok(names);
+        }
+        let name = cursor.name(alloc)?;
+        names.push(name)?;
+    }
+    Ok(names)
+}

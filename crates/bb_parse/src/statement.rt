@@ -1,0 +1,162 @@
+ghost use Rattle.std.specs.Prelude.{◌≡◌, ◌<◌, ◌≤◌, ◌+◌, ◌^◌, ℕ, List, map, max, length, option_map};
+ghost use Rattle.std.specs.List.{AllByRecursion};
+ghost use Rattle.bb_ast.specs.declared.module.Head.{Head};
+ghost use Rattle.bb_ast.specs.Views.{head_view, body_view};
+ghost use Rattle.bb_lex.specs.Cut.{IsTokenOf};
+ghost use Rattle.bb_parse.specs.Nesting.{nesting};
+ghost use Rattle.bb_parse.specs.Sources.{ends, line_of};
+ghost use Rattle.bb_parse.specs.ReadingSources.{Answers, count_at, square_at, first_statement, read_header_of, read_item_of};
+
+use crate::cursor::Cursor;
+use crate::fault::ParseFault;
+use crate::header::module_header;
+use crate::items::body;
+use crate::stop::Stop;
+use bb_ast::{Body, Head};
+use bb_bits::Name;
+use bb_lex::{Keyword, Kind, Mark, Token};
+use std::alloc::Global;
+
+/// The deepest nesting of a statement.
+const NESTING: u32 = 200;
+
+/// The levels on which an expression may stand: one more than nesting.
+const LEVELS: u32 = 201;
+
+/// Whether a token of the kind ends a statement.
+fn is_end(kind: Kind) -> bool
+    ensures { result ≡ ends kind }
+{
+    matches!(
+        kind,
+        Kind::Mark(Mark::Semicolon) | Kind::Word(Keyword::Endmodule)
+    )
+}
+
+/// The first statement and what stands behind it, where one ends.
+#[tactic(auto, using(crate::proofs::Statements::first_looping))]
+pub(crate) fn first<'a>(tokens: &'a [Token]) -> Option<(&'a [Token], &'a [Token])>
+    ensures { option_map (λ x. (x.0.now, x.1.now)) result ≡ first_statement tokens.entry.now }
+{
+    for (i, token) in tokens.iter().enumerate() {
+        if is_end(token.kind) {
+            return Some(tokens.split_at(i + 1));
+        }
+    }
+    None
+}
+
+/// The line of the first token.
+pub(crate) fn line(statement: &[Token]) -> u32
+    ensures { result ≡ line_of statement.now }
+{
+    match statement.first() {
+        Some(token) => token.line,
+        None => 0,
+    }
+}
+
+/// The counter of nesting behind what comes next, where so many square brackets are open.
+fn count_behind(kind: Option<Kind>, square: u32, count: u32) -> u32
+    requires { count < 4294967295 }
+    ensures value { result ≡ count_at kind square count }
+    ensures within { result ≤ count + 1 }
+{
+    match kind {
+        Some(Kind::Mark(Mark::LeftRound | Mark::LeftBrace | Mark::Query)) => count + 1,
+        Some(Kind::Mark(Mark::RightRound | Mark::RightBrace)) => count.saturating_sub(1),
+        Some(Kind::Mark(Mark::Colon)) if square == 0 => count.saturating_sub(1),
+        _ => count,
+    }
+}
+
+/// How many square brackets are open behind what comes next.
+fn square_behind(kind: Option<Kind>, square: u32) -> u32
+    requires { square < 4294967295 }
+    ensures value { result ≡ square_at kind square }
+    ensures within { result ≤ square + 1 }
+{
+    match kind {
+        Some(Kind::Mark(Mark::LeftSquare)) => square + 1,
+        Some(Kind::Mark(Mark::RightSquare)) => square.saturating_sub(1),
+        _ => square,
+    }
+}
+
+/// The greater of two numbers.
+fn greater(a: u32, b: u32) -> u32
+    ensures { result ≡ max a b }
+{
+    if a < b { b } else { a }
+}
+
+/// How deep the tokens nest; they are passed over.
+#[tactic(auto, using(crate::proofs::Statements::nesting_looping))]
+fn depth(cursor: &mut Cursor<'_>) -> u32
+    ensures { result ≡ nesting cursor.old }
+{
+    let mut count = 0;
+    let mut square = 0;
+    let mut greatest = 0;
+    for turn in 0..cursor.len() {
+        let kind = cursor.kind();
+        let behind = count_behind(kind, square, count);
+        square = square_behind(kind, square);
+        count = behind;
+        greatest = greater(greatest, count);
+        cursor.skip();
+    }
+    greatest
+}
+
+/// The header of a module.
+#[tactic(auto, unfolding(crate::specs::ReadingSources::read_header_of))]
+pub(crate) fn header_of(
+    alloc: Global,
+    statement: &[Token],
+    text: &[u8],
+) -> Result<(Name, Vec<Head>), ParseFault>
+    requires of_text { AllByRecursion (λ token. IsTokenOf token text.now) statement.now }
+    requires small { length statement.now < 2 ^ 32 }
+    ensures { Answers (λ x. (x.0, map head_view x.1.items)) result (read_header_of text.now statement.now) }
+{
+    let line = line(statement);
+    if depth(&mut Cursor::new(statement, text)) > NESTING {
+        return Err(ParseFault::Deep { line });
+    }
+    let mut cursor = Cursor::new(statement, text);
+    match module_header(alloc, &mut cursor) {
+        Ok(header) => {
+            if cursor.len() > 0 {
+                return Err(ParseFault::Statement { line });
+            }
+            Ok(header)
+        }
+        Err(Stop::Amiss) => Err(ParseFault::Statement { line }),
+        Err(Stop::NoMemory) => Err(ParseFault::NoMemory),
+    }
+}
+
+/// An item of a module.
+#[tactic(auto, unfolding(crate::specs::ReadingSources::read_item_of))]
+pub(crate) fn item_of(alloc: Global, statement: &[Token], text: &[u8]) -> Result<Body, ParseFault>
+    requires of_text { AllByRecursion (λ token. IsTokenOf token text.now) statement.now }
+    requires small { length statement.now < 2 ^ 32 }
+    ensures { Answers body_view result (read_item_of text.now statement.now) }
+{
+    let line = line(statement);
+    if depth(&mut Cursor::new(statement, text)) > NESTING {
+        return Err(ParseFault::Deep { line });
+    }
+    let mut cursor = Cursor::new(statement, text);
+    match body(alloc, &mut cursor, LEVELS) {
+        Ok(item) => {
+            if cursor.len() > 0 {
+                return Err(ParseFault::Statement { line });
+            }
+            Ok(item)
+        }
+        Err(Stop::Amiss) => Err(ParseFault::Statement { line }),
+        Err(Stop::NoMemory) => Err(ParseFault::NoMemory),
+    }
+}
