@@ -1,0 +1,19 @@
+//! Netlists of numbered cells with boxes whose contents are open, and the values of their cells.
+#![tactic(auto)]
+
+mod build;
+mod cell;
+mod conditions;
+mod net;
+mod tables;
+mod tern;
+mod value;
+
+pub use cell::Cell;
+pub use conditions::known_difference_stays;
+pub use net::{BoxPins, Net};
+pub use tern::{known_is_value, known_without_boxes, tern_exists, tern_is_unique};
+pub use value::{value_exists, value_is_unique};
+
+#[cfg(test)]
+mod tests;

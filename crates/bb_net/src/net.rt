@@ -1,0 +1,126 @@
+ghost use Rattle.std.specs.Prelude.{◌≡◌, ◌+◌, ◌<◌, ◌^◌, [], IfOk};
+ghost use Rattle.bb_net.specs.Netlists.{Netlist, Pins, first_cells, IsNetlist};
+
+use crate::Cell;
+use bb_bits::NoMemory;
+use std::alloc::Global;
+use std::marker::Model;
+
+/// The pins of a box: the cells at its input pins, and its own output cells, both in pin order.
+#[derive(Debug, Drop)]
+pub struct BoxPins {
+    pub(crate) ins: Vec<u32>,
+    pub(crate) outs: Vec<u32>,
+}
+
+impl Model for BoxPins {
+    ghost use Rattle.bb_net.specs.Netlists.{Pins};
+
+    ghost Value = { Pins };
+
+    ghost view = { λ b. record { ins = b.ins.items; outs = b.outs.items } };
+}
+
+impl BoxPins {
+    /// The places of the cells at the input pins.
+    pub fn ins(&self) -> &[u32]
+        ensures ins { result.now ≡ self.now.ins }
+    {
+        &self.ins
+    }
+
+    /// The places of the cells of the output pins.
+    pub fn outs(&self) -> &[u32]
+        ensures outs { result.now ≡ self.now.outs }
+    {
+        &self.outs
+    }
+}
+
+/// A netlist: cells in an order in which each reads only earlier ones, its boxes, and the cells at its outputs.
+///
+/// Cells 0 and 1 are the constants 0 and 1, and the inputs follow in order. A box stands behind each box on whose
+/// outputs its input pins depend.
+#[derive(Debug, Drop)]
+pub struct Net {
+    pub(crate) inputs: u32,
+    pub(crate) cells: Vec<Cell>,
+    pub(crate) boxes: Vec<BoxPins>,
+    pub(crate) outs: Vec<u32>,
+}
+
+impl Model for Net {
+    ghost use Rattle.bb_net.specs.Netlists.{Netlist};
+
+    ghost Value = { Netlist };
+
+    ghost use Rattle.bb_net.specs.Netlists.{IsNetlist};
+
+    ghost view = { λ n. record { inputs = n.inputs; cells = n.cells.items; boxes = n.boxes.items; outs = n.outs.items } };
+
+    ghost invariant = { λ n. IsNetlist (record { inputs = n.inputs; cells = n.cells.items; boxes = n.boxes.items; outs = n.outs.items }) };
+}
+
+impl Net {
+    /// The netlist of the two constants and the inputs alone.
+    #[tactic(auto, using(crate::proofs::NetLemmas::cells_begin))]
+    pub fn start(alloc: Global, inputs: u32) -> Result<Net, NoMemory>
+        requires { inputs + 2 < 2 ^ 32 }
+        ensures ok { IfOk result (λ net. net ≡ record { inputs = inputs; cells = first_cells inputs; boxes = []; outs = [] }) }
+    {
+        let cells = start_cells(alloc, inputs)?;
+        Ok(Net {
+            inputs,
+            cells,
+            boxes: Vec::new(alloc),
+            outs: Vec::new(alloc),
+        })
+    }
+
+    /// The number of inputs.
+    pub fn inputs(&self) -> u32
+        ensures inputs { result ≡ self.now.inputs }
+        ensures kept { IsNetlist self.now }
+    {
+        self.inputs
+    }
+
+    /// The cells in order.
+    pub fn cells(&self) -> &[Cell]
+        ensures cells { result.now ≡ self.now.cells }
+        ensures kept { IsNetlist self.now }
+    {
+        &self.cells
+    }
+
+    /// The boxes in order.
+    pub fn boxes(&self) -> &[BoxPins]
+        ensures boxes { result.now ≡ self.now.boxes }
+        ensures kept { IsNetlist self.now }
+    {
+        &self.boxes
+    }
+
+    /// The places of the cells at the outputs, in order.
+    pub fn outs(&self) -> &[u32]
+        ensures outs { result.now ≡ self.now.outs }
+        ensures kept { IsNetlist self.now }
+    {
+        &self.outs
+    }
+}
+
+// The constants 0 and 1, and then the inputs in order.
+#[tactic(auto, using(crate::proofs::NetLemmas::cells_begin))]
+fn start_cells(alloc: Global, inputs: u32) -> Result<Vec<Cell>, NoMemory>
+    requires { inputs + 2 < 2 ^ 32 }
+    ensures ok { IfOk result (λ cells. cells.items ≡ first_cells inputs) }
+{
+    let mut cells = Vec::with_capacity(alloc, inputs as usize + 2)?;
+    cells.push(Cell::Const(false))?;
+    cells.push(Cell::Const(true))?;
+    for i in 0..inputs {
+        cells.push(Cell::Input(i))?;
+    }
+    Ok(cells)
+}

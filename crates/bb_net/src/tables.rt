@@ -1,0 +1,75 @@
+ghost use Rattle.std.specs.Prelude.{◌≡◌, ◌+◌, ◌<◌, ◌≤◌, ℕ, All, length, map};
+ghost use Rattle.bb_bits.specs.Numbers.{number_of};
+ghost use Rattle.bb_bits.specs.Tables.{table_bit};
+ghost use Rattle.bb_net.specs.Netlists.{ReadsBefore, IsPinAt, box_at, cell_at};
+ghost use Rattle.bb_net.specs.Values.{bit_of, gate, tabled_bit, FitBoxes, flat_with};
+
+use crate::value::cell_bit;
+use crate::{BoxPins, Cell, Net};
+use bb_bits::Table;
+
+impl Net {
+    /// Writes the value of each cell, for the inputs `x` and boxes that hold the tables, one for each box in order.
+    pub fn value_with(&self, x: &[bool], tables: &[Table], out: &mut [bool])
+        requires inputs { length x.now ≡ self.now.inputs }
+        requires tables { FitBoxes tables.now self.now.boxes }
+        requires room { length out.old ≡ length self.now.cells }
+        ensures value { out.new ≡ flat_with self.now x.now tables.now }
+    {
+        write_tabled(&self.cells, &self.boxes, x, tables, out);
+    }
+}
+
+// Writes the bit of each cell in order.
+fn write_tabled(cells: &[Cell], boxes: &[BoxPins], x: &[bool], tables: &[Table], out: &mut [bool])
+    requires room { length out.old ≡ length cells.now }
+    requires tables { FitBoxes tables.now boxes.now }
+    requires ordered { (place : ℕ) → place < length cells.now → ReadsBefore (length x.now) boxes.now place (cell_at cells.now place) }
+    requires listed { (place b p : ℕ) → place < length cells.now → cell_at cells.now place ≡ Cell.BoxOut b p → IsPinAt boxes.now b p place }
+    ensures each { (place : ℕ) → place < length cells.now
+        → bit_of out.new place ≡ gate boxes.now x.now (tabled_bit tables.now) (bit_of out.new) (cell_at cells.now place) }
+{
+    for (place, cell) in cells.iter().enumerate() {
+        out[place] = tabled_cell(*cell, boxes, x, tables, out);
+    }
+}
+
+// The bit of a cell whose operands are written.
+fn tabled_cell(cell: Cell, boxes: &[BoxPins], x: &[bool], tables: &[Table], out: &[bool]) -> bool
+    requires tables { FitBoxes tables.now boxes.now }
+    requires reads { ReadsBefore (length x.now) boxes.now (length out.now) cell }
+    requires listed { (b p : ℕ) → cell ≡ Cell.BoxOut b p → p < length (box_at boxes.now b).outs }
+    ensures { result ≡ gate boxes.now x.now (tabled_bit tables.now) (bit_of out.now) cell }
+{
+    match cell {
+        Cell::BoxOut(b, p) => tabled_pin(&boxes[b as usize], &tables[b as usize], p, out),
+        gate => cell_bit(gate, false, x, out),
+    }
+}
+
+// The bit of an output pin of a box that holds a table.
+fn tabled_pin(pins: &BoxPins, table: &Table, pin: u32, out: &[bool]) -> bool
+    requires inputs { table.now.inputs ≡ length pins.now.ins }
+    requires pin { pin < table.now.outputs }
+    requires there { All (λ place. place < length out.now) pins.now.ins }
+    ensures { result ≡ table_bit table.now (number_of (map (bit_of out.now) pins.now.ins)) pin }
+{
+    let row = row_number(table.inputs(), pins.ins(), out);
+    table.bit(row, pin)
+}
+
+// The number that the bits at the places of input pins spell, the first one most significant.
+fn row_number(inputs: u32, places: &[u32], out: &[bool]) -> u32
+    requires inputs { inputs ≡ length places.now }
+    requires few { inputs ≤ 24 }
+    requires there { All (λ place. place < length out.now) places.now }
+    ensures { result ≡ number_of (map (bit_of out.now) places.now) }
+{
+    let mut number = 0;
+    for (i, place) in places.iter().enumerate() {
+        if out[*place as usize] {
+            number += 1 << (inputs - 1 - i as u32);
+        }
+    }
+    number
+}

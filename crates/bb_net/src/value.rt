@@ -1,0 +1,95 @@
+ghost use Rattle.std.specs.Prelude.{◌≡◌, ◌≢◌, ◌+◌, ◌<◌, ◌≤◌, ℕ, [], length, slice_index, take, Bool, List};
+ghost use Rattle.bb_net.specs.Netlists.{Netlist, IsOrdered, IsPinAt, ReadsBefore, cell_at};
+ghost use Rattle.bb_net.specs.Values.{bit_of, gate, output_pins, value_of, IsValue, flat};
+
+use crate::{BoxPins, Cell, Net};
+
+// The bit of a cell whose operands are written, where `here` is the bit of a box output.
+pub(crate) fn cell_bit(cell: Cell, here: bool, x: &[bool], out: &[bool]) -> bool
+    requires { ReadsBefore (length x.now) [] (length out.now) cell }
+    ensures { result ≡ gate [] x.now (λ b p ins. here) (bit_of out.now) cell }
+{
+    match cell {
+        Cell::Const(bit) => bit,
+        Cell::Input(i) => x[i as usize],
+        Cell::Not(a) => !out[a as usize],
+        Cell::And(a, b) => out[a as usize] && out[b as usize],
+        Cell::Or(a, b) => out[a as usize] || out[b as usize],
+        Cell::Xor(a, b) => out[a as usize] != out[b as usize],
+        Cell::Mux(c, t, e) => {
+            if out[c as usize] {
+                out[t as usize]
+            } else {
+                out[e as usize]
+            }
+        }
+        Cell::BoxOut(_, _) => here,
+    }
+}
+
+// Writes the bit of each cell in order. At a box output its bit stands already.
+fn write_cells(cells: &[Cell], x: &[bool], out: &mut [bool])
+    requires room { length out.old ≡ length cells.now }
+    requires ordered { (place : ℕ) → place < length cells.now → ReadsBefore (length x.now) [] place (cell_at cells.now place) }
+    ensures each { (place : ℕ) → place < length cells.now
+        → bit_of out.new place ≡ gate [] x.now (λ b p ins. bit_of out.old place) (bit_of out.new) (cell_at cells.now place) }
+{
+    for (place, cell) in cells.iter().enumerate() {
+        out[place] = cell_bit(*cell, out[place], x, out);
+    }
+}
+
+// Writes bits at the places of a box's output cells, in pin order.
+fn place_pins(outs: &[u32], bits: &[bool], out: &mut [bool])
+    requires bits { length bits.now ≡ length outs.now }
+    requires there { (p : ℕ) → p < length outs.now → slice_index outs.now p < length out.old }
+    requires apart { (p q : ℕ) → p < q → q < length outs.now → slice_index outs.now p ≢ slice_index outs.now q }
+    ensures placed { (p : ℕ) → p < length outs.now → bit_of out.new (slice_index outs.now p) ≡ bit_of bits.now p }
+    ensures others { (place : ℕ) → ((p : ℕ) → p < length outs.now → slice_index outs.now p ≢ place)
+        → bit_of out.new place ≡ bit_of out.old place }
+{
+    for (p, place) in outs.iter().enumerate() {
+        out[*place as usize] = bits[p];
+    }
+}
+
+// Writes free bits at the places of all output pins, box after box.
+fn place_outputs(boxes: &[BoxPins], z: &[bool], out: &mut [bool])
+    requires bits { length z.now ≡ output_pins boxes.now }
+    requires there { (b p place : ℕ) → IsPinAt boxes.now b p place → place < length out.old }
+    requires apart { (b p c q place : ℕ) → IsPinAt boxes.now b p place → IsPinAt boxes.now c q place → (b ≡ c) × (p ≡ q) }
+    ensures placed { (b p place : ℕ) → IsPinAt boxes.now b p place
+        → bit_of out.new place ≡ bit_of z.now (output_pins (take b boxes.now) + p) }
+{
+    let mut start = 0;
+    for pins in boxes {
+        let outs = pins.outs();
+        let end = start + outs.len();
+        place_pins(outs, &z[start..end], out);
+        start = end;
+    }
+}
+
+/// A netlist has a value: its cells' bits can be their gates' functions of the bits that they read.
+pub fn value_exists()
+    ensures { (net : Netlist) (x : List Bool) (box : ℕ → ℕ → List Bool → Bool) → IsOrdered net → IsValue net x box (value_of net x box) }
+{}
+
+/// A netlist has only one value.
+pub fn value_is_unique()
+    ensures { (net : Netlist) (x : List Bool) (box : ℕ → ℕ → List Bool → Bool) (bits : List Bool)
+        → IsOrdered net → IsValue net x box bits → bits ≡ value_of net x box }
+{}
+
+impl Net {
+    /// Writes the value of each cell, for the inputs `x` and the box outputs `z`, both in order, box after box.
+    pub fn value(&self, x: &[bool], z: &[bool], out: &mut [bool])
+        requires inputs { length x.now ≡ self.now.inputs }
+        requires outputs { length z.now ≡ output_pins self.now.boxes }
+        requires room { length out.old ≡ length self.now.cells }
+        ensures value { out.new ≡ flat self.now x.now z.now }
+    {
+        place_outputs(&self.boxes, z, out);
+        write_cells(&self.cells, x, out);
+    }
+}
