@@ -1,0 +1,5 @@
+pub mod Faults
+pub mod Halving
+pub mod Recalled
+pub mod Tops
+pub mod Variables

@@ -1,0 +1,5 @@
+pub mod Faults
+pub mod Operations
+pub mod Results
+pub mod State
+pub mod Terminals

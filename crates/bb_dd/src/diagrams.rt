@@ -1,0 +1,213 @@
+ghost use Rattle.std.specs.Prelude.{◌≡◌, ◌<◌, ◌≤◌, ℕ, [], ◌&&◌, ◌||◌, Some, length, IfOk, OnOk, OnErr, IsErrOf, IfSome, IfNone, Contains};
+ghost use Rattle.std.specs.Map.{lookup};
+ghost use Rattle.lru.specs.LruCache.{lru_cache, promoted, put_entries};
+ghost use Rattle.bb_bits.specs.Truth.{variable, complement, joined, chosen, quantified, truth_at};
+ghost use Rattle.bb_bits.specs.TruthSets.{HasSize};
+ghost use Rattle.bb_uniq.specs.Nodes.{IsRef, IsBelow, IsNew, Gives, view_of};
+ghost use Rattle.bb_uniq.specs.Meaning.{truth_of, branch, Adds, Keeps, IsTooMany, IsHeld, ViewMeans};
+ghost use Rattle.bb_dd.specs.Operations.{differ};
+ghost use Rattle.bb_dd.specs.Results.{quantifier};
+ghost use Rattle.bb_dd.specs.State.{DiagramState, IsSound};
+
+use crate::apply::{apply, bit_at, make_node};
+use crate::cache::{look_up, put};
+use crate::fault::DdFault;
+use crate::key::{Key, Operation, same_keys};
+use bb_bits::NoMemory;
+use bb_uniq::{Ref, Store, View};
+use lru::LruCache;
+use std::alloc::Global;
+use std::marker::Model;
+use std::num::NonZeroUsize;
+
+/// Decision diagrams over one store, with a cache of results. A diagram means its truth table over all variables, the first
+/// variable most significant.
+#[derive(Drop)]
+pub struct Diagrams {
+    store: Store,
+    cache: LruCache<Key, Ref>,
+}
+
+impl Model for Diagrams {
+    ghost use Rattle.bb_dd.specs.State.{DiagramState, IsSound};
+
+    ghost Value = { DiagramState };
+
+    ghost view = { λ d. record { store = d.store; entries = d.cache.entries; capacity = d.cache.cap } };
+
+    ghost invariant = { λ d. IsSound (record { store = d.store; entries = d.cache.entries; capacity = d.cache.cap }) };
+}
+
+impl Diagrams {
+    /// Diagrams of so many variables with no inner node, for at most `limit` inner nodes and `cache` cached results.
+    pub fn start(alloc: Global, vars: u32, limit: u32, cache: u32) -> Result<Diagrams, NoMemory>
+        requires vars { vars ≤ 2048 }
+        requires limit { limit ≤ 50000000 }
+        requires cache_least { 1 ≤ cache }
+        requires cache_most { cache ≤ 1048576 }
+        ensures ok { IfOk result (λ d. d ≡ record { store = record { vars = vars; limit = limit; nodes = [] }; entries = []; capacity = cache }) }
+    {
+        let store = Store::start(alloc, vars, limit)?;
+        match NonZeroUsize::new(cache as usize) {
+            Some(capacity) => Ok(Diagrams {
+                store,
+                cache: LruCache::sparse(alloc, capacity)?,
+            }),
+            None => unreachable!(),
+        }
+    }
+
+    /// How many inner nodes, and so how many beads, are held.
+    pub fn len(&self) -> u32
+        ensures nodes { result ≡ length self.now.store.nodes }
+        ensures beads { HasSize (IsHeld self.now.store) result }
+    {
+        self.store.len()
+    }
+
+    /// What stands at a diagram.
+    pub fn view(&self, r: Ref) -> View
+        requires { IsRef self.now.store r.0 }
+        ensures view { result ≡ view_of self.now.store r.0 }
+        ensures table { ViewMeans self.now.store r.0 result }
+    {
+        self.store.view(r)
+    }
+
+    /// What the diagrams keep: the store is one of reduced ordered diagrams, each cached result is what its key defines, and
+    /// Refs with one truth table are one Ref.
+    pub fn is_canonical(&self)
+        ensures sound { IsSound self.now }
+        ensures refs { (r q : ℕ) → IsRef self.now.store r → IsRef self.now.store q → truth_of self.now.store r ≡ truth_of self.now.store q → r ≡ q }
+    {
+        self.store.is_canonical();
+    }
+
+    /// The bit of a diagram at a point, which gives each variable a value, the first one first.
+    pub fn at(&self, f: Ref, point: &[bool]) -> bool
+        requires f { IsRef self.now.store f.0 }
+        requires point { length point.now ≡ self.now.store.vars }
+        ensures { result ≡ truth_at (truth_of self.now.store f.0) point.now }
+    {
+        bit_at(&self.store, f, point)
+    }
+
+    /// The node "`hi` where `var` is 1, else `lo`". Where both are one it is that child; where the store has the node it is
+    /// that node; else the node is added.
+    ///
+    /// # Errors
+    ///
+    /// `Full` where the node is new and the store holds as many as it may, `NoMemory` where it is new and memory runs out.
+    /// Store and cache are then as before.
+    pub fn make(&mut self, var: u32, lo: Ref, hi: Ref) -> Result<Ref, DdFault>
+        requires var { var < self.old.store.vars }
+        requires lo { IsBelow self.old.store var lo.0 }
+        requires hi { IsBelow self.old.store var hi.0 }
+        ensures ok { IfOk result (λ r. Gives self.old.store self.new.store var lo.0 hi.0 r.0) }
+        ensures adds { IfOk result (λ r. Adds self.old.store self.new.store (branch self.old.store var lo.0 hi.0) r.0) }
+        ensures full { IsErrOf result DdFault.Full → IsNew self.old.store var lo.0 hi.0 × (length self.old.store.nodes ≡ self.old.store.limit) }
+        ensures too_many { IsErrOf result DdFault.Full → IsTooMany self.old.store (branch self.old.store var lo.0 hi.0) }
+        ensures err { OnErr result (self.new.store ≡ self.old.store) }
+        ensures entries { self.new.entries ≡ self.old.entries }
+        ensures capacity { self.new.capacity ≡ self.old.capacity }
+    {
+        make_node(&mut self.store, var, lo, hi)
+    }
+
+    /// The diagram of a variable.
+    pub fn var(&mut self, v: u32) -> Result<Ref, DdFault>
+        requires { v < self.old.store.vars }
+        ensures ok { IfOk result (λ r. Adds self.old.store self.new.store (variable self.old.store.vars v) r.0) }
+        ensures full { IsErrOf result DdFault.Full → IsTooMany self.old.store (variable self.old.store.vars v) }
+        ensures kept { Keeps self.old.store self.new.store }
+    {
+        make_node(&mut self.store, v, Ref(0), Ref(1))
+    }
+
+    /// The complement: the other bit at every point.
+    pub fn not(&mut self, f: Ref) -> Result<Ref, DdFault>
+        requires { IsRef self.old.store f.0 }
+        ensures ok { IfOk result (λ r. Adds self.old.store self.new.store (complement (truth_of self.old.store f.0)) r.0) }
+        ensures full { IsErrOf result DdFault.Full → IsTooMany self.old.store (complement (truth_of self.old.store f.0)) }
+        ensures kept { Keeps self.old.store self.new.store }
+    {
+        apply(&mut self.store, &mut self.cache, Operation::Not, f, f, f)
+    }
+
+    /// The conjunction.
+    pub fn and(&mut self, f: Ref, g: Ref) -> Result<Ref, DdFault>
+        requires f { IsRef self.old.store f.0 }
+        requires g { IsRef self.old.store g.0 }
+        ensures ok { IfOk result (λ r. Adds self.old.store self.new.store (joined ◌&&◌ (truth_of self.old.store f.0) (truth_of self.old.store g.0)) r.0) }
+        ensures full { IsErrOf result DdFault.Full → IsTooMany self.old.store (joined ◌&&◌ (truth_of self.old.store f.0) (truth_of self.old.store g.0)) }
+        ensures kept { Keeps self.old.store self.new.store }
+    {
+        apply(&mut self.store, &mut self.cache, Operation::And, f, g, f)
+    }
+
+    /// The disjunction.
+    pub fn or(&mut self, f: Ref, g: Ref) -> Result<Ref, DdFault>
+        requires f { IsRef self.old.store f.0 }
+        requires g { IsRef self.old.store g.0 }
+        ensures ok { IfOk result (λ r. Adds self.old.store self.new.store (joined ◌||◌ (truth_of self.old.store f.0) (truth_of self.old.store g.0)) r.0) }
+        ensures full { IsErrOf result DdFault.Full → IsTooMany self.old.store (joined ◌||◌ (truth_of self.old.store f.0) (truth_of self.old.store g.0)) }
+        ensures kept { Keeps self.old.store self.new.store }
+    {
+        apply(&mut self.store, &mut self.cache, Operation::Or, f, g, f)
+    }
+
+    /// The exclusive disjunction: 1 where the two differ.
+    pub fn xor(&mut self, f: Ref, g: Ref) -> Result<Ref, DdFault>
+        requires f { IsRef self.old.store f.0 }
+        requires g { IsRef self.old.store g.0 }
+        ensures ok { IfOk result (λ r. Adds self.old.store self.new.store (joined differ (truth_of self.old.store f.0) (truth_of self.old.store g.0)) r.0) }
+        ensures full { IsErrOf result DdFault.Full → IsTooMany self.old.store (joined differ (truth_of self.old.store f.0) (truth_of self.old.store g.0)) }
+        ensures kept { Keeps self.old.store self.new.store }
+    {
+        apply(&mut self.store, &mut self.cache, Operation::Xor, f, g, f)
+    }
+
+    /// The choice: `f` where `c` is 1, else `g`.
+    pub fn ite(&mut self, c: Ref, f: Ref, g: Ref) -> Result<Ref, DdFault>
+        requires c { IsRef self.old.store c.0 }
+        requires f { IsRef self.old.store f.0 }
+        requires g { IsRef self.old.store g.0 }
+        ensures ok { IfOk result (λ r. Adds self.old.store self.new.store (chosen (truth_of self.old.store c.0) (truth_of self.old.store f.0) (truth_of self.old.store g.0)) r.0) }
+        ensures full { IsErrOf result DdFault.Full → IsTooMany self.old.store (chosen (truth_of self.old.store c.0) (truth_of self.old.store f.0) (truth_of self.old.store g.0)) }
+        ensures kept { Keeps self.old.store self.new.store }
+    {
+        apply(&mut self.store, &mut self.cache, Operation::Ite, c, f, g)
+    }
+
+    /// The cached result of quantifying the variable `v` in `f`, by "for all" or by "exists". It is then the last used.
+    pub fn recall(&mut self, all: bool, f: Ref, v: u32) -> Option<Ref>
+        requires f { IsRef self.old.store f.0 }
+        requires v { v < self.old.store.vars }
+        ensures some { IfSome result (λ r. Contains self.old.entries (Key.Quantify all f v, r)) }
+        ensures none { IfNone result ((r : Ref) → Contains self.old.entries (Key.Quantify all f v, r) → ⊥) }
+        ensures right { IfSome result (λ r. IsRef self.old.store r.0 × (truth_of self.old.store r.0 ≡ quantified (quantifier all) v (truth_of self.old.store f.0))) }
+        ensures found { result ≡ lookup (⟦<Key as PartialEq>⟧.eq (Key.Quantify all f v)) self.old.entries }
+        ensures store { self.new.store ≡ self.old.store }
+        ensures entries { self.new.entries ≡ promoted (⟦<Key as PartialEq>⟧.eq (Key.Quantify all f v)) self.old.entries }
+        ensures capacity { self.new.capacity ≡ self.old.capacity }
+    {
+        same_keys();
+        look_up(&mut self.cache, &Key::Quantify { all, f, v })
+    }
+
+    /// Puts a result of quantifying the variable `v` in `f` into the cache. Where no memory is found, all stays as it is.
+    pub fn keep(&mut self, all: bool, f: Ref, v: u32, r: Ref) -> Result<(), NoMemory>
+        requires f { IsRef self.old.store f.0 }
+        requires v { v < self.old.store.vars }
+        requires r { IsRef self.old.store r.0 }
+        requires right { truth_of self.old.store r.0 ≡ quantified (quantifier all) v (truth_of self.old.store f.0) }
+        ensures ok { OnOk result (self.new.entries ≡ put_entries ⟦<Key as PartialEq>⟧.eq (lru_cache self.old.entries self.old.capacity) (Key.Quantify all f v) r) }
+        ensures recalled { OnOk result (lookup (⟦<Key as PartialEq>⟧.eq (Key.Quantify all f v)) self.new.entries ≡ Some r) }
+        ensures store { self.new.store ≡ self.old.store }
+        ensures capacity { self.new.capacity ≡ self.old.capacity }
+        ensures err { OnErr result (self.new ≡ self.old) }
+    {
+        same_keys();
+        put(&mut self.cache, Key::Quantify { all, f, v }, r)
+    }
+}

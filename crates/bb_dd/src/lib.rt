@@ -1,0 +1,15 @@
+//! Decision diagrams: operations on Boolean functions that are held as nodes of one store, with a cache of results.
+#![tactic(auto)]
+
+mod apply;
+mod cache;
+mod diagrams;
+mod fault;
+mod key;
+mod terminal;
+#[cfg(test)]
+mod tests;
+
+pub use bb_uniq::{Ref, View};
+pub use diagrams::Diagrams;
+pub use fault::DdFault;

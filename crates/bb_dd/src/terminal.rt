@@ -1,0 +1,105 @@
+ghost use Rattle.std.specs.Prelude.{◌≡◌, ◌<◌, ◌≤◌, ℕ, Bool, true, false, not, ◌&&◌, ◌||◌, if◌then◌else◌, IfSome, IfNone};
+ghost use Rattle.bb_dd.specs.Operations.{value_of, differ};
+ghost use Rattle.bb_dd.specs.Terminals.{Settles, IsGiven};
+
+use crate::key::Operation;
+use bb_uniq::Ref;
+
+/// The complement of a leaf.
+fn not_terminal(f: Ref) -> Option<Ref>
+    ensures value { IfSome result (λ r. Settles (λ a b c. not a) f.0 f.0 f.0 r.0) }
+    ensures leaf { IfSome result (λ r. r.0 < 2) }
+    ensures none { IfNone result (2 ≤ f.0) }
+{
+    match f.0 {
+        0 => Some(Ref(1)),
+        1 => Some(Ref(0)),
+        _ => None,
+    }
+}
+
+/// The conjunction where an operand is a leaf, or both are one.
+fn and_terminal(f: Ref, g: Ref) -> Option<Ref>
+    ensures value { IfSome result (λ r. Settles (λ a b c. a && b) f.0 g.0 f.0 r.0) }
+    ensures given { IfSome result (λ r. IsGiven f.0 g.0 f.0 r.0) }
+    ensures none { IfNone result (2 ≤ f.0) }
+{
+    match (f.0, g.0) {
+        (0, _) => Some(f),
+        (1, _) => Some(g),
+        (_, 0) => Some(g),
+        (_, 1) => Some(f),
+        (a, b) => if a == b { Some(f) } else { None },
+    }
+}
+
+/// The disjunction where an operand is a leaf, or both are one.
+fn or_terminal(f: Ref, g: Ref) -> Option<Ref>
+    ensures value { IfSome result (λ r. Settles (λ a b c. a || b) f.0 g.0 f.0 r.0) }
+    ensures given { IfSome result (λ r. IsGiven f.0 g.0 f.0 r.0) }
+    ensures none { IfNone result (2 ≤ f.0) }
+{
+    match (f.0, g.0) {
+        (0, _) => Some(g),
+        (1, _) => Some(f),
+        (_, 0) => Some(f),
+        (_, 1) => Some(g),
+        (a, b) => if a == b { Some(f) } else { None },
+    }
+}
+
+/// The exclusive disjunction where an operand is false, or both are one.
+fn xor_terminal(f: Ref, g: Ref) -> Option<Ref>
+    ensures value { IfSome result (λ r. Settles (λ a b c. differ a b) f.0 g.0 f.0 r.0) }
+    ensures given { IfSome result (λ r. IsGiven f.0 g.0 f.0 r.0) }
+    ensures none { IfNone result (f.0 < 2 → 2 ≤ g.0) }
+{
+    match (f.0, g.0) {
+        (0, _) => Some(g),
+        (_, 0) => Some(f),
+        (a, b) => if a == b { Some(Ref(0)) } else { None },
+    }
+}
+
+/// The choice where the condition is a leaf, both branches are one, or they are the bits of the condition.
+fn ite_terminal(f: Ref, g: Ref, h: Ref) -> Option<Ref>
+    ensures value { IfSome result (λ r. Settles (λ a b c. if a then b else c) f.0 g.0 h.0 r.0) }
+    ensures given { IfSome result (λ r. IsGiven f.0 g.0 h.0 r.0) }
+    ensures none { IfNone result (2 ≤ f.0) }
+{
+    match f.0 {
+        0 => Some(h),
+        1 => Some(g),
+        _ => if g == h {
+            Some(g)
+        } else {
+            ite_of_leaves(f, g, h)
+        },
+    }
+}
+
+/// The condition itself, where it chooses between true and false.
+fn ite_of_leaves(f: Ref, g: Ref, h: Ref) -> Option<Ref>
+    ensures value { IfSome result (λ r. Settles (λ a b c. if a then b else c) f.0 g.0 h.0 r.0) }
+    ensures given { IfSome result (λ r. r.0 ≡ f.0) }
+{
+    match (g.0, h.0) {
+        (1, 0) => Some(f),
+        _ => None,
+    }
+}
+
+/// The result of an operation, where it is a leaf or an operand and this shows without looking below.
+pub fn terminal(operation: Operation, f: Ref, g: Ref, h: Ref) -> Option<Ref>
+    ensures value { IfSome result (λ r. Settles (value_of operation) f.0 g.0 h.0 r.0) }
+    ensures given { IfSome result (λ r. IsGiven f.0 g.0 h.0 r.0) }
+    ensures none { IfNone result (f.0 < 2 → g.0 < 2 → ⊥) }
+{
+    match operation {
+        Operation::Not => not_terminal(f),
+        Operation::And => and_terminal(f, g),
+        Operation::Or => or_terminal(f, g),
+        Operation::Xor => xor_terminal(f, g),
+        Operation::Ite => ite_terminal(f, g, h),
+    }
+}

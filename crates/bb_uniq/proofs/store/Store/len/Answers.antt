@@ -1,0 +1,12 @@
+use Rattle.std.proofs.Common.{subst, sym, ap, ◌∙◌, ◌≡◌, length}
+use Rattle.bb_bits.specs.TruthSets.{HasSize}
+use Rattle.bb_uniq.specs.Nodes.{NodeStore, IsStore}
+use Rattle.bb_uniq.specs.Meaning.{IsHeld}
+use Rattle.bb_uniq.proofs.Held.{size_of_held}
+use Rattle.bb_uniq.proofs.store.Store.len.Goals as goal
+
+pub returns-clause-beads : goal.returns-clause-beads
+returns-clause-beads c =
+    let now = c.args.self.now in
+    let e : length now.nodes ≡ c.len.result = sym (ap (λ (s : NodeStore). length s.nodes) c.self.view_is) ∙ sym c.len.ensures.len in
+    subst (λ n. HasSize (IsHeld now) n) e (size_of_held now (subst IsStore c.self.view_is c.self.invariant.0))

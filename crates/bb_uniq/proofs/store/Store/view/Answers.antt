@@ -1,0 +1,18 @@
+use Rattle.std.proofs.Common.{◌≡◌, rules}
+use Rattle.bb_uniq.specs.declared.store.View.{View}
+use Rattle.bb_uniq.specs.declared.store.View.TheVariants.{Node}
+use Rattle.bb_uniq.specs.Nodes.{NodeStore, view_of}
+use Rattle.bb_uniq.proofs.Making.{leaf_table, view_means_at}
+use Rattle.bb_uniq.proofs.store.Store.view.Goals as goal
+
+pub returns-then-r-lt2-clause-table : goal.returns-then-r-lt2-clause-table
+returns-then-r-lt2-clause-table c = leaf_table c.args.self.now c.args.self.now.vars c.args.r.0 c.if-r-lt2.true
+
+pub returns-clause-table : goal.returns-clause-table
+returns-clause-table c =
+    let i = c.self.inside in
+    let s : NodeStore = record { vars = i.vars; limit = i.limit; nodes = i.nodes.keys } in
+    let node = c.index-node.result.now in
+    let v : View = Node node.var (record { 0 = node.lo }) (record { 0 = node.hi }) in
+    let seen : v ≡ view_of c.args.self.now c.args.r.0 = search rules in
+    view_means_at s c.args.self.now c.self.view_is c.self.invariant.0 c.args.r.0 c.requires v seen

@@ -1,0 +1,9 @@
+//! The store of decision diagrams: each node is held once, and each bead has one node.
+#![tactic(auto)]
+
+pub mod laws;
+mod store;
+#[cfg(test)]
+mod tests;
+
+pub use store::{Ref, Store, StoreFault, View};
