@@ -1,0 +1,135 @@
+// The checker of refutations.
+ghost use Rattle.std.specs.Prelude.{◌-◌, [], length, IsSomeAnd, IfSome, IfNone, OnSome, ◌≡◌, ◌↔◌, ◌++◌, false, true, map, slice_get, option_map, Some, None, IfOk, OnOk, IsTrue, List};
+ghost use Rattle.smallvec.specs.SmallVec.{SmallVec as Items};
+ghost use Rattle.bb_cnf.specs.declared.clauses.Lit.{Lit};
+ghost use Rattle.bb_cnf.specs.Clauses.{literals_of, lists_of};
+ghost use Rattle.bb_cnf.specs.Chains.{chain, made_by, IsRefutation};
+ghost use Rattle.bb_cnf.specs.Current.{held, IsTrailed, sets_of};
+ghost use Rattle.bb_cnf.specs.Truth.{HaveNoModel};
+
+use crate::current::Current;
+use crate::{Cnf, Lit, NoMemory, Refutation, Step};
+use smallvec::SmallVec;
+use std::alloc::Global;
+
+// The clause of this number: the given ones come first, and those that steps made follow.
+fn clause<'a>(
+    given: &'a [SmallVec<Lit, 4>],
+    made: &'a [SmallVec<Lit, 4>],
+    number: u64,
+) -> Option<&'a [Lit]>
+    ensures { option_map (λ lits. literals_of lits.now) result ≡ slice_get (sets_of given.now ++ sets_of made.now) number }
+{
+    let place = number as usize;
+    let found = if place < given.len() {
+        &given[place]
+    } else {
+        made.get(place - given.len())?
+    };
+    Some(found.as_slice())
+}
+
+// Resolves along a chain, and says whether each resolution is one.
+fn resolve_along(
+    current: &mut Current,
+    given: &[SmallVec<Lit, 4>],
+    made: &[SmallVec<Lit, 4>],
+    rest: &[(u64, u32)],
+) -> Result<bool, NoMemory>
+    requires { IsTrailed current.old }
+    ensures made { IfOk result (λ yes. yes ≡ true → chain (sets_of given.now ++ sets_of made.now) (held current.old) rest.now ≡ Some (held current.new)) }
+    ensures none { IfOk result (λ yes. yes ≡ false → chain (sets_of given.now ++ sets_of made.now) (held current.old) rest.now ≡ None) }
+    ensures trailed { OnOk result (IsTrailed current.new) }
+{
+    for (number, var) in rest {
+        let Some(named) = clause(given, made, *number) else {
+            return Ok(false);
+        };
+        if !current.resolve(named, *var)? {
+            return Ok(false);
+        }
+    }
+    Ok(true)
+}
+
+// Begins with a clause.
+fn begin(current: &mut Current, first: &[Lit]) -> Result<(), NoMemory>
+    requires empty { (l : Lit) → held current.old l ≡ false }
+    requires trailed { IsTrailed current.old }
+    ensures held { OnOk result (held current.new ≡ literals_of first.now) }
+    ensures trailed { OnOk result (IsTrailed current.new) }
+{
+    current.put_all(first)?;
+    Ok(())
+}
+
+// Gives out the clause that the chain has come to.
+fn finish(alloc: Global, current: &mut Current) -> Result<SmallVec<Lit, 4>, NoMemory>
+    requires { IsTrailed current.old }
+    ensures given { IfOk result (λ clause. literals_of clause.items ≡ held current.old) }
+    ensures empty { OnOk result ((l : Lit) → held current.new l ≡ false) }
+    ensures trailed { OnOk result (IsTrailed current.new) }
+{
+    let clause = current.drain(alloc)?;
+    Ok(clause)
+}
+
+// Makes the clause of a step, if its chain stands.
+fn make(
+    alloc: Global,
+    current: &mut Current,
+    given: &[SmallVec<Lit, 4>],
+    made: &[SmallVec<Lit, 4>],
+    step: &Step,
+) -> Result<Option<SmallVec<Lit, 4>>, NoMemory>
+    requires empty { (l : Lit) → held current.old l ≡ false }
+    requires trailed { IsTrailed current.old }
+    ensures some { IfOk result (λ next. IfSome next (λ clause. made_by (sets_of given.now ++ sets_of made.now) step.now ≡ Some (literals_of clause.items))) }
+    ensures none { IfOk result (λ next. IfNone next (made_by (sets_of given.now ++ sets_of made.now) step.now ≡ None)) }
+    ensures empty { IfOk result (λ next. OnSome next ((l : Lit) → held current.new l ≡ false)) }
+    ensures trailed { IfOk result (λ next. OnSome next (IsTrailed current.new)) }
+{
+    let Some(first) = clause(given, made, step.first) else {
+        return Ok(None);
+    };
+    begin(current, first)?;
+    if !resolve_along(current, given, made, &step.rest)? {
+        return Ok(None);
+    }
+    let clause = finish(alloc, current)?;
+    Ok(Some(clause))
+}
+
+// Is the last clause empty?
+fn ends_empty(made: &[SmallVec<Lit, 4>]) -> bool
+    ensures { IsTrue result ↔ IsSomeAnd (slice_get made.now (length made.now - 1)) (λ clause. clause.items ≡ []) }
+{
+    match made.last() {
+        Some(clause) => clause.is_empty(),
+        None => false,
+    }
+}
+
+// Follows the steps one by one.
+fn refutes(alloc: Global, given: &[SmallVec<Lit, 4>], steps: &[Step]) -> Result<bool, NoMemory>
+    ensures { IfOk result (λ yes. IsTrue yes ↔ IsRefutation (lists_of given.now) steps.now) }
+{
+    let mut made = Vec::new(alloc);
+    let mut current = Current::new(alloc);
+    for step in steps {
+        let Some(clause) = make(alloc, &mut current, given, &made, step)? else {
+            return Ok(false);
+        };
+        made.push(clause)?;
+    }
+    Ok(ends_empty(&made))
+}
+
+/// Is the list a refutation of the clauses: are there steps, does each chain of resolutions stand, and is the
+/// last step's clause empty? It takes time in proportion to the clauses that the chains name.
+pub fn check(alloc: Global, cnf: &Cnf, refutation: &Refutation) -> Result<bool, NoMemory>
+    ensures exact { IfOk result (λ yes. IsTrue yes ↔ IsRefutation cnf.now.clauses refutation.now.steps.items) }
+    ensures none { IfOk result (λ yes. IsTrue yes → HaveNoModel cnf.now.clauses) }
+{
+    refutes(alloc, &cnf.clauses, &refutation.steps)
+}

@@ -1,0 +1,62 @@
+// Literals and lists of clauses.
+ghost use Rattle.std.specs.Prelude.{◌≡◌, ◌≤◌, ◌↔◌, All, IsTrue, IsSome, IfSome, map};
+ghost use Rattle.smallvec.specs.SmallVec.{SmallVec as Items};
+
+use smallvec::SmallVec;
+use std::marker::Model;
+
+/// A variable, counted from 1, or its negation.
+#[derive(Clone, Copy, Debug, Default, PartialEq, Eq)]
+pub struct Lit {
+    pub var: u32,
+    pub neg: bool,
+}
+
+/// Clauses over the variables from 1 to `vars`. Their numbers count from 0.
+#[derive(Drop)]
+pub struct Cnf {
+    pub vars: u32,
+    pub clauses: Vec<SmallVec<Lit, 4>>,
+}
+
+impl Model for Cnf {
+    ghost use Rattle.bb_cnf.specs.Clauses.{Formula, IsWithin, lists_of};
+
+    ghost Value = { Formula };
+
+    ghost view = { λ cnf. record { vars = cnf.vars; clauses = lists_of cnf.clauses.items } };
+
+    ghost invariant = { λ cnf. IsWithin cnf.vars (lists_of cnf.clauses.items) };
+}
+
+impl Cnf {
+    ghost use Rattle.bb_cnf.specs.Clauses.{Formula, IsWithin, lists_of};
+
+    /// These clauses, if each variable is from 1 to `vars`.
+    pub fn new(vars: u32, clauses: Vec<SmallVec<Lit, 4>>) -> Option<Cnf>
+        ensures some { IfSome result (λ cnf. cnf ≡ record { vars = vars; clauses = lists_of clauses.items }) }
+        ensures exact { IsSome result ↔ IsWithin vars (lists_of clauses.items) }
+    {
+        if are_within(&clauses, vars) {
+            Some(Cnf { vars, clauses })
+        } else {
+            None
+        }
+    }
+}
+
+// Is each variable of the clause from 1 to `vars`?
+fn is_within(lits: &[Lit], vars: u32) -> bool
+    ensures { IsTrue result ↔ All (λ l. (1 ≤ l.var) × (l.var ≤ vars)) lits.now }
+{
+    lits.iter().all(|lit| 1 <= lit.var && lit.var <= vars)
+}
+
+// Is each variable of the clauses from 1 to `vars`?
+fn are_within(clauses: &[SmallVec<Lit, 4>], vars: u32) -> bool
+    ensures { IsTrue result ↔ All (λ clause. All (λ l. (1 ≤ l.var) × (l.var ≤ vars)) clause.items) clauses.now }
+{
+    clauses
+        .iter()
+        .all(|clause| is_within(clause.as_slice(), vars))
+}

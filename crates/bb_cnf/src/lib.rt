@@ -1,0 +1,21 @@
+//! Clauses, resolution, and a checker of refutations. Whoever made a refutation is not trusted: where the
+//! checker says yes, no assignment makes all clauses true.
+#![tactic(auto)]
+
+mod checker;
+mod clauses;
+mod current;
+mod laws;
+mod marks;
+mod printer;
+mod refutation;
+
+pub use checker::check;
+pub use clauses::{Cnf, Lit};
+pub use laws::refutations_are_sound;
+pub use printer::print;
+pub use refutation::{Refutation, Step};
+pub use std::alloc::AllocError as NoMemory;
+
+#[cfg(test)]
+mod tests;

@@ -1,0 +1,85 @@
+// Marks of variables, in pages that are made where they are first needed: a few variables with high numbers
+// take little memory.
+ghost use Rattle.std.specs.Prelude.{◌≡◌, ◌==◌, ◌&&◌, ◌||◌, ◌<◌, ◌≤◌, not, false, ℕ, OnOk, slice_index_or, vec_len};
+ghost use Rattle.bb_cnf.specs.Marks.{bit_at, mark_at};
+
+use crate::NoMemory;
+use std::alloc::Global;
+
+// How many variables a page has.
+const PAGE: u32 = 65536;
+
+fn bit(page: &[bool], place: usize) -> bool
+    ensures { result ≡ bit_at page.now place }
+{
+    place < page.len() && page[place]
+}
+
+// Makes a page at least so long, with no mark in what is new.
+fn widen(page: &mut Vec<bool>, size: usize) -> Result<(), NoMemory>
+    ensures room { OnOk result (size ≤ vec_len page.new) }
+    ensures same { OnOk result ((k : ℕ) → bit_at page.new.items k ≡ bit_at page.old.items k) }
+{
+    if page.len() < size {
+        page.resize(size, false)?;
+    }
+    Ok(())
+}
+
+fn set_bit(page: &mut Vec<bool>, place: usize) -> Result<(), NoMemory>
+    requires { place < 65536 }
+    ensures { OnOk result ((k : ℕ) → bit_at page.new.items k ≡ (bit_at page.old.items k || k == place)) }
+{
+    widen(page, PAGE as usize)?;
+    page[place] = true;
+    Ok(())
+}
+
+fn clear_bit(page: &mut Vec<bool>, place: usize)
+    ensures { (k : ℕ) → bit_at page.new.items k ≡ (bit_at page.old.items k && not (k == place)) }
+{
+    if place < page.len() {
+        page[place] = false;
+    }
+}
+
+/// Reads the mark of a variable.
+pub(crate) fn mark(pages: &[Vec<bool>], var: u32) -> bool
+    ensures { result ≡ mark_at pages.now var }
+{
+    match pages.get((var / PAGE) as usize) {
+        Some(page) => bit(page, (var % PAGE) as usize),
+        None => false,
+    }
+}
+
+// Makes empty pages, up to the one at this place.
+fn make_pages(alloc: Global, pages: &mut Vec<Vec<bool>>, place: usize) -> Result<(), NoMemory>
+    ensures room { OnOk result (place < vec_len pages.new) }
+    ensures same { OnOk result ((x : ℕ) → mark_at pages.new.items x ≡ mark_at pages.old.items x) }
+{
+    while pages.len() <= place {
+        pages.push(Vec::new(alloc))?;
+    }
+    Ok(())
+}
+
+/// Sets the mark of a variable.
+pub(crate) fn set_mark(alloc: Global, pages: &mut Vec<Vec<bool>>, var: u32) -> Result<(), NoMemory>
+    ensures { OnOk result ((x : ℕ) → mark_at pages.new.items x ≡ (mark_at pages.old.items x || x == var)) }
+{
+    let place = (var / PAGE) as usize;
+    make_pages(alloc, pages, place)?;
+    set_bit(&mut pages[place], (var % PAGE) as usize)?;
+    Ok(())
+}
+
+/// Takes the mark of a variable away.
+pub(crate) fn clear_mark(pages: &mut Vec<Vec<bool>>, var: u32)
+    ensures { (x : ℕ) → mark_at pages.new.items x ≡ (mark_at pages.old.items x && not (x == var)) }
+{
+    let place = (var / PAGE) as usize;
+    if place < pages.len() {
+        clear_bit(&mut pages[place], (var % PAGE) as usize);
+    }
+}
