@@ -1,0 +1,13 @@
+use Rattle.bb_ladder.proofs.HeadlineLemmas.{error_sound}
+use Rattle.bb_ladder.proofs.compare.run.Goals as goal
+
+pub returns-in-Ok-put_all-clause-whole : goal.returns-in-Ok-put_all-clause-whole
+returns-in-Ok-put_all-clause-whole g c = λ small. (c.in-Ok.answer.report.items, rw c.deref.ensures.value at c.in-Ok-put_all.ensures.ok, c.in-Ok.ensures.answer)
+
+pub returns-clause-front : goal.returns-clause-front
+returns-clause-front g c = λ six.
+    let cut = rw c.deref.ensures.value at c.in-Err.ensures.err in
+    (c.in-Ok.answer.status, c.in-Ok.answer.report.items, cut.0, cut.1, cut.2, c.in-Ok.ensures.answer)
+
+pub returns-in-Ok-put_all-clause-error : goal.returns-in-Ok-put_all-clause-error
+returns-in-Ok-put_all-clause-error g c = λ one. error_sound _ _ _ _ c.in-Ok.answer.status c.in-Ok.answer.report.items c.in-Ok.ensures.answer one
