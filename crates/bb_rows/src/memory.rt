@@ -18,10 +18,10 @@ fn words(alloc: Global, texts: &[&str]) -> Result<Vec<String>, AllocError> {
     Ok(words)
 }
 
-fn file(alloc: Global, name: &str, text: &str) -> Result<(String, Vec<u8>), AllocError> {
+fn file(alloc: Global, name: &str, text: &[u8]) -> Result<(String, Vec<u8>), AllocError> {
     Ok((
         String::from_str(alloc, name)?,
-        Vec::from_slice(alloc, text.as_bytes())?,
+        Vec::from_slice(alloc, text)?,
     ))
 }
 
@@ -30,8 +30,8 @@ fn file(alloc: Global, name: &str, text: &str) -> Result<(String, Vec<u8>), Allo
 pub fn run_in_memory(
     alloc: Global,
     texts: &[&str],
-    spec: &str,
-    imp: &str,
+    spec: &[u8],
+    imp: &[u8],
     failing: Vec<u64>,
     plan: Vec<Take>,
 ) -> Result<Outcome, AllocError> {

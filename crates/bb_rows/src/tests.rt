@@ -9,6 +9,14 @@ const NOR: &str = "module s(a,b,y); input a,b; output y; nor g(y,a,b); endmodule
 const HOLE: &str =
     "module t(a,b,y); input a,b; output y; wire z; bx u(b,z); and g(y,z,a); endmodule module bx(i,o); input i; output o; endmodule";
 
+const NO_WIRE: &str =
+    "module t(a,b,y); input a,b; output y; bx u(b,z); and g(y,z,a); endmodule module bx(i,o); input i; output o; endmodule";
+
+const FOLLOWS: &str = "module s(a,b,y); input a,b; output y; buf(y,b); endmodule";
+
+const WRONG_INPUT: &str =
+    "module t(a,b,y); input a,b; output y; bx u(a,y); endmodule module bx(i,o); input i; output o; endmodule";
+
 const BUFFER: &str = "module s(a,y); input a; output y; buf(y,a); endmodule";
 
 const INVERTER: &str = "module t(a,y); input a; output y; not(y,a); endmodule";
@@ -25,8 +33,8 @@ fn expect<R: Abort>(
     let found = run_in_memory(
         alloc,
         &["bbeq", "s.v", "i.v"],
-        spec,
-        imp,
+        spec.as_bytes(),
+        imp.as_bytes(),
         Vec::new(alloc),
         Vec::new(alloc),
     )?;
@@ -56,6 +64,14 @@ fn pairs_have_their_reports(rt: HostRuntime) -> Result<(), Fail> {
     expect(
         &rt,
         rt.alloc(),
+        FOLLOWS,
+        WRONG_INPUT,
+        3,
+        "rung ternary none\nverdict open\n",
+    )?;
+    expect(
+        &rt,
+        rt.alloc(),
         BUFFER,
         BUFFER,
         3,
@@ -78,39 +94,90 @@ fn texts_are_refused_in_order(rt: HostRuntime) -> Result<(), Fail> {
     expect(&rt, rt.alloc(), NOR, INVERTER, 2, "refused pair notyet\n")
 }
 
+// What is written of two texts where these reads fail and the sink follows this plan.
+fn expect_outside<R: Abort>(
+    rt: &R,
+    alloc: Global,
+    failing: Vec<u64>,
+    plan: Vec<Take>,
+    status: u8,
+    report: &str,
+) -> Result<(), Fail> {
+    let (spec, imp) = (NOR.as_bytes(), HOLE.as_bytes());
+    let found = run_in_memory(alloc, &["bbeq", "s.v", "i.v"], spec, imp, failing, plan)?;
+    assert_eq!(rt; found.status, status);
+    assert_eq!(rt; found.report.as_slice(), report.as_bytes());
+    Ok(())
+}
+
 #[test]
 fn what_lies_outside_may_fail(rt: HostRuntime) -> Result<(), Fail> {
     let alloc = rt.alloc();
-    let usage = run_in_memory(
+    let mut first = Vec::new(alloc);
+    first.push(0)?;
+    expect_outside(&rt, alloc, first, Vec::new(alloc), 4, "unread spec\n")?;
+    let mut second = Vec::new(alloc);
+    second.push(1)?;
+    expect_outside(&rt, alloc, second, Vec::new(alloc), 4, "unread impl\n")?;
+    let mut plan = Vec::new(alloc);
+    plan.push(Take::Some(5))?;
+    plan.push(Take::Fail)?;
+    expect_outside(&rt, alloc, Vec::new(alloc), plan, 6, "rung ")
+}
+
+#[test]
+fn other_words_are_refused(rt: HostRuntime) -> Result<(), Fail> {
+    let alloc = rt.alloc();
+    let (spec, imp) = (NOR.as_bytes(), HOLE.as_bytes());
+    let short = run_in_memory(
         alloc,
         &["bbeq", "s.v"],
-        NOR,
-        HOLE,
+        spec,
+        imp,
         Vec::new(alloc),
         Vec::new(alloc),
     )?;
-    assert_eq!(rt; usage.status, 2);
-    assert_eq!(rt; usage.report.as_slice(), b"refused usage\n".as_slice());
-    let unread = run_in_memory(
+    assert_eq!(rt; short.status, 2);
+    assert_eq!(rt; short.report.as_slice(), "refused usage\n".as_bytes());
+    let option = run_in_memory(
         alloc,
-        &["bbeq", "s.v", "i.v"],
-        NOR,
-        HOLE,
-        vec![in alloc; 1]?,
+        &["bbeq", "s.v", "-i.v"],
+        spec,
+        imp,
+        Vec::new(alloc),
         Vec::new(alloc),
     )?;
-    assert_eq!(rt; unread.status, 4);
-    assert_eq!(rt; unread.report.as_slice(), b"unread impl\n".as_slice());
-    let plan = vec![in alloc; Take::Some(5), Take::Fail]?;
-    let cut = run_in_memory(
+    assert_eq!(rt; option.status, 2);
+    assert_eq!(rt; option.report.as_slice(), "refused usage\n".as_bytes());
+    Ok(())
+}
+
+// So many blanks.
+fn blanks(alloc: Global, count: usize) -> Result<Vec<u8>, Fail> {
+    let mut text = Vec::new(alloc);
+    for _ in 0..count {
+        text.push(b' ')?;
+    }
+    Ok(text)
+}
+
+#[test]
+fn long_texts_are_refused(rt: HostRuntime) -> Result<(), Fail> {
+    let alloc = rt.alloc();
+    let long = blanks(alloc, 33_554_433)?;
+    let words = ["bbeq", "s.v", "i.v"];
+    let spec = run_in_memory(alloc, &words, &long, b"", Vec::new(alloc), Vec::new(alloc))?;
+    assert_eq!(rt; spec.status, 2);
+    assert_eq!(rt; spec.report.as_slice(), "refused spec toolong\n".as_bytes());
+    let imp = run_in_memory(
         alloc,
-        &["bbeq", "s.v", "i.v"],
-        NOR,
-        HOLE,
+        &words,
+        NOR.as_bytes(),
+        &long,
         Vec::new(alloc),
-        plan,
+        Vec::new(alloc),
     )?;
-    assert_eq!(rt; cut.status, 6);
-    assert_eq!(rt; cut.report.as_slice(), b"rung ".as_slice());
+    assert_eq!(rt; imp.status, 2);
+    assert_eq!(rt; imp.report.as_slice(), "refused impl toolong\n".as_bytes());
     Ok(())
 }
