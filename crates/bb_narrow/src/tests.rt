@@ -8,53 +8,53 @@ fn is_narrow(alloc: Global, text: &str) -> Result<bool, NoMemory> {
 }
 
 #[test]
-fn tells_narrow_texts_from_others(rt: HostRuntime) -> Result<(), Fail> {
-    for (text, narrow) in [
-        ("module m(a,y);input a;output y;buf(y,a);endmodule", true),
-        (" module\tm (\r\na ) ; endmodule\n", true),
-        (
-            "module m(a,y);wire w$1,_w;nand g1(w$1,a,a),(_w,a,a);not(y,((_w)));endmodule",
-            true,
-        ),
-        (
-            "module m(a,y);bx u(a,y);endmodule module bx(i,o);input i;output o;endmodule",
-            true,
-        ),
-        ("module m(a,y);and(y,a);bx u((a));bx v(a,y);endmodule", true),
-        ("", false),
-        ("module m;endmodule", false),
-        ("module m();endmodule", false),
-        ("module m(a,);endmodule", false),
-        ("module m(input a);endmodule", false),
-        ("module m(a) input a;endmodule", false),
-        ("MODULE m(a);endmodule", false),
-        ("macromodule m(a);endmodule", false),
-        ("module m(begin);endmodule", false),
-        ("module m(a);input wire a;endmodule", false),
-        ("module m(a);input [1:0] a;endmodule", false),
-        ("module m(a);wire w = a;endmodule", false),
-        ("module m(a);wire;endmodule", false),
-        ("module m(a);wire w endmodule", false),
-        ("module m(a);// nothing\nendmodule", false),
-        ("module m(a,y);buf(y,1a);endmodule", false),
-        ("module m(a,y);buf(y,a,a);endmodule", false),
-        ("module m(a,y);and(y);endmodule", false),
-        ("module m(a,y);buf(y,(a);endmodule", false),
-        ("module m(a,y);buf(y,a));endmodule", false),
-        ("module m(a,y);bx u(a),v(y);endmodule", false),
-        ("module m(a);bx u();endmodule", false),
-        ("module m(a);bx(a);endmodule", false),
-        ("module m(a);bx u(.i(a));endmodule", false),
-        ("module m(a);input a;", false),
-        ("module m(a);endmodule;", false),
-        ("module m(a);endmodule module n(b);wire b;endmodule", false),
-        ("module m(a);endmodule module n(b);bx u(b);endmodule", false),
-        (
-            "module m(a);endmodule module n(b);endmodule module o(c);endmodule",
-            false,
-        ),
+fn narrow_texts_are_read(rt: HostRuntime) -> Result<(), Fail> {
+    for text in [
+        "module m(a,y);input a;output y;buf(y,a);endmodule",
+        " module\tm (\r\na ) ; endmodule\n",
+        "module m(a,y);wire w$1,_w;nand g1(w$1,a,a),(_w,a,a);not(y,((_w)));endmodule",
+        "module m(a,y);bx u(a,y);endmodule module bx(i,o);input i;output o;endmodule",
+        "module m(a,y);and(y,a);bx u((a));bx v(a,y);endmodule",
     ] {
-        assert_eq!(rt; is_narrow(rt.alloc(), text)?, narrow, "{text}");
+        assert!(rt; is_narrow(rt.alloc(), text)?, "{text}");
+    }
+    Ok(())
+}
+
+#[test]
+fn other_texts_are_not_read(rt: HostRuntime) -> Result<(), Fail> {
+    for text in [
+        "",
+        "module m;endmodule",
+        "module m();endmodule",
+        "module m(a,);endmodule",
+        "module m(input a);endmodule",
+        "module m(a) input a;endmodule",
+        "MODULE m(a);endmodule",
+        "macromodule m(a);endmodule",
+        "module m(begin);endmodule",
+        "module m(a);input wire a;endmodule",
+        "module m(a);input [1:0] a;endmodule",
+        "module m(a);wire w = a;endmodule",
+        "module m(a);wire;endmodule",
+        "module m(a);wire w endmodule",
+        "module m(a);// nothing\nendmodule",
+        "module m(a,y);buf(y,1a);endmodule",
+        "module m(a,y);buf(y,a,a);endmodule",
+        "module m(a,y);and(y);endmodule",
+        "module m(a,y);buf(y,(a);endmodule",
+        "module m(a,y);buf(y,a));endmodule",
+        "module m(a,y);bx u(a),v(y);endmodule",
+        "module m(a);bx u();endmodule",
+        "module m(a);bx(a);endmodule",
+        "module m(a);bx u(.i(a));endmodule",
+        "module m(a);input a;",
+        "module m(a);endmodule;",
+        "module m(a);endmodule module n(b);wire b;endmodule",
+        "module m(a);endmodule module n(b);bx u(b);endmodule",
+        "module m(a);endmodule module n(b);endmodule module o(c);endmodule",
+    ] {
+        assert!(rt; !is_narrow(rt.alloc(), text)?, "{text}");
     }
     Ok(())
 }

@@ -15,6 +15,14 @@ fn tell_name(out: &mut String, name: &Name) -> Result<(), AllocError> {
     Ok(())
 }
 
+fn tell_bits(out: &mut String, bits: &[bool]) -> Result<(), AllocError> {
+    out.push_str("'")?;
+    for bit in bits {
+        out.push_str(if *bit { "1" } else { "0" })?;
+    }
+    Ok(())
+}
+
 /// Writes an expression with parentheses around each chain and each conditional.
 #[cycle(tell)]
 fn tell(out: &mut String, e: &Expr) -> Result<(), AllocError> {
@@ -28,13 +36,7 @@ fn tell(out: &mut String, e: &Expr) -> Result<(), AllocError> {
             tell_name(out, name)?;
             write!(out, "[{i}:{j}]")
         }
-        Expr::Sized(bits) => {
-            out.push_str("'")?;
-            for bit in bits {
-                out.push_str(if *bit { "1" } else { "0" })?;
-            }
-            Ok(())
-        }
+        Expr::Sized(bits) => tell_bits(out, bits),
         Expr::Plain(n) => write!(out, "{n}"),
         Expr::Not(k, inner) => {
             write!(out, "~{k} ")?;
@@ -376,7 +378,7 @@ fn expressions(rt: HostRuntime) -> Result<(), Fail> {
 }
 
 #[test]
-fn faults(rt: HostRuntime) -> Result<(), Fail> {
+fn statements_out_of_their_place(rt: HostRuntime) -> Result<(), Fail> {
     reads_as(
         &rt,
         rt.alloc(),
@@ -399,6 +401,17 @@ fn faults(rt: HostRuntime) -> Result<(), Fail> {
             (b"module m;\nendmodule;", "statement line 2"),
             (b"module m; wire a\nendmodule", "statement line 1"),
             (b"module m(a, input b); endmodule", "statement line 1"),
+            (b"primitive p(a, b);", "statement line 1"),
+        ],
+    )
+}
+
+#[test]
+fn expressions_at_fault(rt: HostRuntime) -> Result<(), Fail> {
+    reads_as(
+        &rt,
+        rt.alloc(),
+        &[
             (
                 b"module m; assign y = a && b; endmodule",
                 "statement line 1",
@@ -422,7 +435,16 @@ fn faults(rt: HostRuntime) -> Result<(), Fail> {
                 b"module m; assign y = a ~& b; endmodule",
                 "statement line 1",
             ),
-            (b"module m; assign (y) = a; endmodule", "statement line 1"),
+        ],
+    )
+}
+
+#[test]
+fn gates_and_instances_at_fault(rt: HostRuntime) -> Result<(), Fail> {
+    reads_as(
+        &rt,
+        rt.alloc(),
+        &[
             (b"module m; and g(a); endmodule", "statement line 1"),
             (
                 b"module m; and (strong0, strong1) g(a, b); endmodule",
@@ -434,12 +456,33 @@ fn faults(rt: HostRuntime) -> Result<(), Fail> {
             (b"module m; box (a); endmodule", "statement line 1"),
             (b"module m; box u(a, .p(b)); endmodule", "statement line 1"),
             (b"module m; box u(.p(a),); endmodule", "statement line 1"),
+        ],
+    )
+}
+
+#[test]
+fn declarations_at_fault(rt: HostRuntime) -> Result<(), Fail> {
+    reads_as(
+        &rt,
+        rt.alloc(),
+        &[
+            (b"module m; assign (y) = a; endmodule", "statement line 1"),
             (b"module m; inout a; endmodule", "statement line 1"),
             (b"module m; tri a; endmodule", "statement line 1"),
             (b"module m; supply0 wire a; endmodule", "statement line 1"),
             (b"module m; wire signed a; endmodule", "statement line 1"),
             (b"module m; reg q = 1; endmodule", "statement line 1"),
             (b"module m; parameter p = 1; endmodule", "statement line 1"),
+        ],
+    )
+}
+
+#[test]
+fn registers_at_fault(rt: HostRuntime) -> Result<(), Fail> {
+    reads_as(
+        &rt,
+        rt.alloc(),
+        &[
             (
                 b"module m; always @(posedge c or negedge r) q <= d; endmodule",
                 "statement line 1",
@@ -460,7 +503,16 @@ fn faults(rt: HostRuntime) -> Result<(), Fail> {
                 b"module m; always @(posedge c) q = d; endmodule",
                 "statement line 1",
             ),
-            (b"primitive p(a, b);", "statement line 1"),
+        ],
+    )
+}
+
+#[test]
+fn bytes_of_no_token(rt: HostRuntime) -> Result<(), Fail> {
+    reads_as(
+        &rt,
+        rt.alloc(),
+        &[
             (b"module m;\nassign y = a + b; endmodule", "token line 2"),
             (b"module m;\nand #1 (a, b); endmodule", "token line 2"),
         ],
