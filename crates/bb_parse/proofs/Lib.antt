@@ -10,6 +10,7 @@ pub mod Loops
 pub mod Marks
 pub mod Measures
 pub mod Parts
+pub mod Sizes
 pub mod SourceLaws
 pub mod SourceLoop
 pub mod Statements

@@ -7,6 +7,7 @@ pub mod Reading
 pub mod ReadingExpressions
 pub mod ReadingDeclarations
 pub mod ReadingItems
+pub mod Sizes
 pub mod Laws
 pub mod Nesting
 pub mod Sources

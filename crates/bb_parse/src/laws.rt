@@ -1,6 +1,6 @@
 //! Laws of sources: they follow from the definitions alone, and no code runs.
 
-ghost use Rattle.bb_parse.specs.Laws.{SourcesAreOne, FaultsAreOne, SourceOrFault, NotSourceAndFault, TextsReadOnce};
+ghost use Rattle.bb_parse.specs.Laws.{SourcesAreOne, FaultsAreOne, SourceOrFault, NotSourceAndFault, TextsReadOnce, SourcesAreShort};
 
 /// Tokens mean at most one source.
 pub fn sources_are_one()
@@ -25,4 +25,9 @@ pub fn not_source_and_fault()
 /// A text reads as at most one source.
 pub fn texts_read_once()
     ensures { TextsReadOnce }
+{}
+
+/// A source has no more gates, instances, terminals, places and names of headers than its text has tokens.
+pub fn sources_are_short()
+    ensures { SourcesAreShort }
 {}

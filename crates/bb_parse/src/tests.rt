@@ -299,7 +299,7 @@ fn reads_as(rt: &impl Abort, alloc: Global, rows: &[(&[u8], &str)]) -> Result<()
 }
 
 #[test]
-fn headers_and_items(rt: HostRuntime) -> Result<(), Fail> {
+fn headers_and_declarations(rt: HostRuntime) -> Result<(), Fail> {
     reads_as(
         &rt,
         rt.alloc(),
@@ -316,6 +316,10 @@ fn headers_and_items(rt: HostRuntime) -> Result<(), Fail> {
             ),
             (b"module m(output reg q); endmodule", "<1 m out reg q,>"),
             (
+                b"module m(input [3:0] a, output reg [0:1] q, input wire b, c); endmodule",
+                "<1 m in [3:0] a,out reg [0:1] q,in wire b,in wire c,>",
+            ),
+            (
                 b"module m(a);\ninput [0:7] a,\nb; output reg c;\nendmodule",
                 "<1 m a,; 2 in [0:7] a,b,; 3 out reg c,>",
             ),
@@ -323,6 +327,16 @@ fn headers_and_items(rt: HostRuntime) -> Result<(), Fail> {
                 b"module m; wire a; wire [1:0] b, c = 2'b10, d; reg [7:0] q, r; supply0 z; supply1 [1:0] o, p; endmodule",
                 "<1 m ; 1 wire a=-,; 1 wire [1:0] b=-,c='10,d=-,; 1 reg [7:0] q,r,; 1 zero z,; 1 one [1:0] o,p,>",
             ),
+        ],
+    )
+}
+
+#[test]
+fn items(rt: HostRuntime) -> Result<(), Fail> {
+    reads_as(
+        &rt,
+        rt.alloc(),
+        &[
             (
                 b"module m; assign a = b, c[1] = d, {e, f[3:0], {g}} = h; endmodule",
                 "<1 m ; 1 a=b,c[1]=d,{e,f[3:0],{g,},}=h,>",
@@ -332,12 +346,20 @@ fn headers_and_items(rt: HostRuntime) -> Result<(), Fail> {
                 "<1 m ; 1 Nand (a,b,c,)g1(d,e,); 1 Not n(f,g,); 1 Buf (a,b,c,d,e,f,); 1 Xnor (a,(b And c),)>",
             ),
             (
+                b"module m; and(a, b, c); or(a, b); nor(a, b); xor g(a, b, c); endmodule",
+                "<1 m ; 1 And (a,b,c,); 1 Or (a,b,); 1 Nor (a,b,); 1 Xor g(a,b,c,)>",
+            ),
+            (
                 b"module m; box u(), v(a), w(a, , b[2]), x(,), y(.p(a), .q()), z(.r(a & b)); endmodule",
                 "<1 m ; 1 box u()v(a,)w(a,-,b[2],)x(-,-,)y(p=a,q=-,)z(r=(a And b),)>",
             ),
             (
                 b"module m; always @(posedge c) q <= d; always @(negedge c[2]) {q, r[3:0]} <= d & e; endmodule",
                 "<1 m ; 1 rise c q=d; 1 fall c[2] {q,r[3:0],}=(d And e)>",
+            ),
+            (
+                b"module m; always @(negedge c) q[2] <= d; always @(posedge c) q[3:0] <= {d, e}; endmodule",
+                "<1 m ; 1 fall c q[2]=d; 1 rise c q[3:0]={d,e,}>",
             ),
         ],
     )
@@ -435,6 +457,18 @@ fn expressions_at_fault(rt: HostRuntime) -> Result<(), Fail> {
                 b"module m; assign y = a ~& b; endmodule",
                 "statement line 1",
             ),
+            (
+                b"module m;\nassign y = a || b; endmodule",
+                "statement line 2",
+            ),
+            (
+                b"module m;\nassign y = a == b; endmodule",
+                "statement line 2",
+            ),
+            (
+                b"module m;\nassign y = a <= b; endmodule",
+                "statement line 2",
+            ),
         ],
     )
 }
@@ -452,8 +486,12 @@ fn gates_and_instances_at_fault(rt: HostRuntime) -> Result<(), Fail> {
             ),
             (b"module m; and g[3:0](a, b); endmodule", "statement line 1"),
             (b"module m; bufif0(a, b, c); endmodule", "statement line 1"),
+            (b"module m; notif1(a, b, c); endmodule", "statement line 1"),
             (b"module m; nmos(a, b, c); endmodule", "statement line 1"),
+            (b"module m; tran(a, b); endmodule", "statement line 1"),
+            (b"module m; pullup(a); endmodule", "statement line 1"),
             (b"module m; box (a); endmodule", "statement line 1"),
+            (b"module m; box u[3:0](a); endmodule", "statement line 1"),
             (b"module m; box u(a, .p(b)); endmodule", "statement line 1"),
             (b"module m; box u(.p(a),); endmodule", "statement line 1"),
         ],
@@ -469,10 +507,53 @@ fn declarations_at_fault(rt: HostRuntime) -> Result<(), Fail> {
             (b"module m; assign (y) = a; endmodule", "statement line 1"),
             (b"module m; inout a; endmodule", "statement line 1"),
             (b"module m; tri a; endmodule", "statement line 1"),
+            (b"module m; wand a; endmodule", "statement line 1"),
             (b"module m; supply0 wire a; endmodule", "statement line 1"),
             (b"module m; wire signed a; endmodule", "statement line 1"),
+            (
+                b"module m; input signed [3:0] a; endmodule",
+                "statement line 1",
+            ),
             (b"module m; reg q = 1; endmodule", "statement line 1"),
+            (
+                b"module m(output reg q = 1'b0); endmodule",
+                "statement line 1",
+            ),
             (b"module m; parameter p = 1; endmodule", "statement line 1"),
+        ],
+    )
+}
+
+#[test]
+fn constructs_left_out(rt: HostRuntime) -> Result<(), Fail> {
+    reads_as(
+        &rt,
+        rt.alloc(),
+        &[
+            (
+                b"module m;\nlocalparam p = 1; endmodule",
+                "statement line 2",
+            ),
+            (
+                b"module m; box u(a);\ndefparam u.p = 1; endmodule",
+                "statement line 2",
+            ),
+            (
+                b"module m;\ngenerate wire a; endgenerate endmodule",
+                "statement line 2",
+            ),
+            (
+                b"module m;\nfunction f; input a; f = a; endfunction endmodule",
+                "statement line 2",
+            ),
+            (
+                b"module m;\ntask t; input a; b = a; endtask endmodule",
+                "statement line 2",
+            ),
+            (
+                b"module m;\nspecify specparam t = 1; endspecify endmodule",
+                "statement line 2",
+            ),
         ],
     )
 }
@@ -500,6 +581,10 @@ fn registers_at_fault(rt: HostRuntime) -> Result<(), Fail> {
                 "statement line 1",
             ),
             (
+                b"module m; always @(c or d) q <= d; endmodule",
+                "statement line 1",
+            ),
+            (
                 b"module m; always @(posedge c) q = d; endmodule",
                 "statement line 1",
             ),
@@ -513,8 +598,38 @@ fn bytes_of_no_token(rt: HostRuntime) -> Result<(), Fail> {
         &rt,
         rt.alloc(),
         &[
-            (b"module m;\nassign y = a + b; endmodule", "token line 2"),
             (b"module m;\nand #1 (a, b); endmodule", "token line 2"),
+            (b"module m;\nbox #(4) u(a); endmodule", "token line 2"),
+            (
+                b"module m\n#(parameter p = 1) (a); endmodule",
+                "token line 2",
+            ),
+            (b"module m;\nalways @(*) q <= d; endmodule", "token line 2"),
+            (b"module m;\nassign y = \"a\"; endmodule", "token line 2"),
+            (b"module m;\nassign y = 4'b10x0; endmodule", "token line 2"),
+            (b"module m;\nassign y = 1'hz; endmodule", "token line 2"),
+            (b"module m;\nassign y = 4'b1?; endmodule", "token line 2"),
+            (b"module m;\nassign y = 'b1; endmodule", "token line 2"),
+        ],
+    )
+}
+
+#[test]
+fn operators_of_no_token(rt: HostRuntime) -> Result<(), Fail> {
+    reads_as(
+        &rt,
+        rt.alloc(),
+        &[
+            (b"module m;\nassign y = a + b; endmodule", "token line 2"),
+            (b"module m;\nassign y = a - b; endmodule", "token line 2"),
+            (b"module m;\nassign y = a * b; endmodule", "token line 2"),
+            (b"module m;\nassign y = a / b; endmodule", "token line 2"),
+            (b"module m;\nassign y = a % b; endmodule", "token line 2"),
+            (b"module m;\nassign y = a < b; endmodule", "token line 2"),
+            (b"module m;\nassign y = a >= b; endmodule", "token line 2"),
+            (b"module m;\nassign y = a << b; endmodule", "token line 2"),
+            (b"module m;\nassign y = a != b; endmodule", "token line 2"),
+            (b"module m;\nassign y = !a; endmodule", "token line 2"),
         ],
     )
 }
