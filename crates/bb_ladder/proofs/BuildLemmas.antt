@@ -8,13 +8,13 @@ use Rattle.std.proofs.lemmas.List.Concat.{flat_map-append}
 use Rattle.std.proofs.lemmas.List.Elements.{All-append, All-push, recursion_from_All, All-from_recursion}
 use Rattle.std.proofs.lemmas.List.Sums.{sum_by_push}
 use Rattle.bb_net.specs.Netlists.{Netlist, Pins, box_at}
-use Rattle.bb_narrow.specs.Designs.{Design, Part}
+use Rattle.bb_narrow.specs.Designs.{Design, Part, terminal_count}
 use Rattle.bb_narrow.specs.declared.design.Kind.{Kind}
-use Rattle.bb_narrow.specs.declared.design.Gate.{Gate as Function}
+use Rattle.bb_ast.specs.declared.module.Gate.{Gate as Function}
 use Rattle.bb_narrow.specs.declared.design.Kind.TheVariants.{Gate, Instance}
 use Rattle.bb_ladder.specs.Worlds.{two, three, gate_value}
 use Rattle.bb_ladder.specs.Circuits.{has, IsAmong, AreDistinct, HasTerminals, reads, driven, all_driven, instanced_by}
-use Rattle.bb_ladder.specs.Wiring.{place_in, Grows, IsGate, IsWired, AreCells, MayAdd, Adds, Extends, MayStand, Built, terminal_count}
+use Rattle.bb_ladder.specs.Wiring.{place_in, Grows, IsGate, IsWired, AreCells, MayAdd, Adds, Extends, MayStand, Built}
 use Rattle.bb_ladder.proofs.NameLemmas.{AreDistinct-front, All-among}
 use Rattle.bb_ladder.proofs.WireLemmas.{All-here}
 use Rattle.bb_ladder.proofs.WiringLemmas.{Follows-grows, Grows-itself}

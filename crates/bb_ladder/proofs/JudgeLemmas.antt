@@ -1,14 +1,17 @@
 -- What is known of two texts when they are judged.
-use Rattle.std.proofs.Common.{◌≡◌, ◌&&◌, ℕ, Bool, true, false, List, [], ◌∷◌, Option, None, Some, is_some, option_map, option_copied, IfSome, IfNone, IsTrue, Bor, length, arith, sym, ◌∙◌, ap, subst, refl}
+use Rattle.std.proofs.Common.{◌≡◌, ◌⊎◌, inl, inr, ◌&&◌, ℕ, Bool, true, false, List, [], ◌∷◌, Option, None, Some, is_some, option_map, option_copied, IsTrue, Bor, length, arith, sym, ◌∙◌, ap, subst, refl}
 use lib.Pointwise.{pointwise}
 use Rattle.bb_bits.specs.Names.{same_name}
 use Rattle.bb_narrow.specs.Designs.{Design}
-use Rattle.bb_narrow.specs.Grammar.{Says}
+use Rattle.bb_narrow.specs.Narrow.{Says}
 use Rattle.bb_narrow.proofs.Laws.{says_one}
 use Rattle.bb_ladder.specs.declared.circuit.Circuit.{Circuit}
+use Rattle.bb_ladder.specs.declared.fault.TextFault.{TextFault}
+use Rattle.bb_ladder.specs.declared.fault.TextFault.TheVariants.{NoMemory}
+use Rattle.bb_ladder.specs.Refusals.{IsTextFault}
 use Rattle.bb_ladder.specs.Circuits.{IsCircuit}
 use Rattle.bb_ladder.specs.Wiring.{IsCircuitOf}
-use Rattle.bb_ladder.specs.Answers.{IsSpec, IsImp, NoSpec, NoImp, HaveEqualPorts}
+use Rattle.bb_ladder.specs.Answers.{NoSpec, NoImp, HaveEqualPorts}
 use Rattle.bb_ladder.proofs.NameLemmas.{same_equal, same_self}
 use Rattle.bb_ladder.proofs.WireLemmas.{none_of}
 
@@ -30,31 +33,32 @@ list_itself (x ∷ xs) = ap (λ c. c && pointwise same_name xs xs) (same_self x)
 pub lists_decide : (xs ys : List (List ℕ)) (b : Bool) → b ≡ pointwise same_name xs ys → (IsTrue b → xs ≡ ys) × (xs ≡ ys → IsTrue b)
 lists_decide xs ys b e = (λ h. lists_equal xs ys (sym e ∙ h), λ s. e ∙ ap (pointwise same_name xs) (sym s) ∙ list_itself xs)
 
+-- where memory does not run out, what is answered is what is wrong with the text
+pub is_fault : (none : Type 0) (text : List ℕ) (fault : TextFault) → (fault ≡ NoMemory) ⊎ IsTextFault none text fault → (fault ≡ NoMemory → ⊥) → IsTextFault none text fault
+is_fault none text fault (inl memory) never = absurd (never memory)
+is_fault none text fault (inr is) never = is
+
 -- a text with an empty module is no specification
 pub spec_two : (text : List ℕ) (f : Design) (s : Option Design) → Says text f s → is_some s ≡ true → NoSpec text
-spec_two text f s says two d is = let e = (says_one text f d s None says is.0).1 in let clash : false ≡ true = sym (ap is_some e) ∙ two in cc
+spec_two text f s says two d is = let e = (says_one text f s d None says is.0).1 in let clash : false ≡ true = sym (ap is_some e) ∙ two in cc
 
-pub spec_some : (found : Option Circuit) (text : List ℕ) (d : Design) (s : Option Design) → Says text d s → is_some s ≡ false
-    → IfSome found (λ c. IsCircuit d None × IsCircuitOf d None c.net c.ins.items c.outs.items)
-    → IfSome found (λ c. (x : Design) × IsSpec text x × IsCircuitOf x None c.net c.ins.items c.outs.items)
-spec_some None text d s says none h = tt
-spec_some (Some c) text d s says none h = (d, (subst (Says text d) (none_of s none) says, h.0), h.1)
+-- a text that says nothing is no circuit
+pub spec_nothing : (text : List ℕ) → ((f : Design) (s : Option Design) → Says text f s → ⊥) → NoSpec text
+spec_nothing text never d is = never d None is.0
 
-pub spec_none : (found : Option Circuit) (text : List ℕ) (d : Design) (s : Option Design) → Says text d s → IfNone found (IsCircuit d None → ⊥) → IfNone found (NoSpec text)
-spec_none None text d s says never = λ e is. never (subst (λ m. IsCircuit m None) (sym (says_one text d e s None says is.0).0) is.1)
-spec_none (Some c) text d s says never = tt
+pub imp_nothing : (text : List ℕ) → ((f : Design) (s : Option Design) → Says text f s → ⊥) → NoImp text
+imp_nothing text never d empty is = never d empty is.0
 
-pub imp_some : (found : Option Circuit) (text : List ℕ) (d : Design) (s box : Option Design) → Says text d s → box ≡ s
-    → IfSome found (λ c. IsCircuit d box × IsCircuitOf d box c.net c.ins.items c.outs.items)
-    → IfSome found (λ c. (x : Design) × (y : Option Design) × IsImp text x y × IsCircuitOf x y c.net c.ins.items c.outs.items)
-imp_some None text d s box says e h = tt
-imp_some (Some c) text d s box says e h = (d, box, (subst (Says text d) (sym e) says, h.0), h.1)
+pub says_alone : (text : List ℕ) (d : Design) (s : Option Design) → Says text d s → is_some s ≡ false → Says text d None
+says_alone text d s says none = subst (Says text d) (none_of s none) says
 
-pub imp_none : (found : Option Circuit) (text : List ℕ) (d : Design) (s box : Option Design) → Says text d s → box ≡ s → IfNone found (IsCircuit d box → ⊥) → IfNone found (NoImp text)
-imp_none None text d s box says e never = λ f t is.
-    let same = says_one text d f s t says is.0 in
+pub spec_none : (text : List ℕ) (d : Design) (s : Option Design) → Says text d s → (IsCircuit d None → ⊥) → NoSpec text
+spec_none text d s says never e is = never (subst (λ m. IsCircuit m None) (sym (says_one text d s e None says is.0).0) is.1)
+
+pub imp_none : (text : List ℕ) (d : Design) (s box : Option Design) → Says text d s → box ≡ s → (IsCircuit d box → ⊥) → NoImp text
+imp_none text d s box says e never f t is =
+    let same = says_one text d s f t says is.0 in
     never (subst (λ m. IsCircuit m box) (sym same.0) (subst (IsCircuit f) (sym (e ∙ same.1)) is.1))
-imp_none (Some c) text d s box says e never = tt
 
 pub same_copied : (r : Option (Bor Design)) → option_map (λ e. e.now) r ≡ option_copied r
 same_copied None = refl

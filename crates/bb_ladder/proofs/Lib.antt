@@ -13,6 +13,8 @@ pub mod PinLemmas
 pub mod InputLemmas
 pub mod BuildLemmas
 pub mod CircuitLemmas
-pub mod SizeLemmas
+pub mod FaultLaws
+pub mod ReadLemmas
 pub mod JudgeLemmas
+pub mod JudgedOnce
 pub mod HeadlineLemmas

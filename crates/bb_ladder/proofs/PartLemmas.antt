@@ -9,7 +9,7 @@ use Rattle.std.proofs.lemmas.List.Elements.{All-append, recursion_from_All, All-
 use Rattle.bb_bits.specs.Names.{same_name}
 use Rattle.bb_net.specs.Netlists.{Netlist}
 use Rattle.bb_narrow.specs.Designs.{Design}
-use Rattle.bb_narrow.specs.declared.design.Gate.{Gate as Function}
+use Rattle.bb_ast.specs.declared.module.Gate.{Gate as Function}
 use Rattle.bb_narrow.specs.declared.design.Kind.TheVariants.{Gate}
 use Rattle.bb_ladder.specs.Circuits.{has, IsAmong, AreDistinct, places_among}
 use Rattle.bb_ladder.specs.Wiring.{place_in, Grows, IsGate, AreCells, MayAdd, Adds}

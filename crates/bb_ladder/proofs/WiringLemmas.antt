@@ -11,7 +11,7 @@ use Rattle.bb_ladder.specs.Worlds.{Logic, two, three, folded, gate_value}
 use Rattle.bb_ladder.specs.declared.gates.Join.{Join}
 use Rattle.bb_ladder.specs.declared.gates.Join.TheVariants.{Both, Either, Differ}
 use Rattle.bb_ladder.specs.Wiring.{IsValuation, Follows, IsJoined, IsGate, join_cell, join_op, gate_function, Grows}
-use Rattle.bb_narrow.specs.declared.design.Gate.{Gate}
+use Rattle.bb_ast.specs.declared.module.Gate.{Gate}
 
 -- a cell that is no constant stands among the cells, and stays there
 pub cell_at-front : (cells more : List Cell) (place : ℕ) (c : Cell) → cell_at cells place ≡ c → c ≢ Const false → cell_at (cells ++ more) place ≡ c

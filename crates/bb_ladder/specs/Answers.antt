@@ -1,10 +1,12 @@
 -- What the program may answer: a status and a text, given the words, what the files hold, and how often a file was read.
 use Rattle.std.specs.Prelude.{◌≡◌, ℕ, ◌<◌, Bool, false, not, ◌&&◌, ◌==◌, if◌then◌else◌, List, [], ◌∷◌, length, take, Option, None, Some, codes, IfSome}
 use Rattle.bb_narrow.specs.Designs.{Design}
-use Rattle.bb_narrow.specs.Grammar.{Says}
+use Rattle.bb_narrow.specs.Narrow.{Says}
 use Rattle.bb_outside.specs.Counts.{next_count}
 use Rattle.bb_ladder.specs.Circuits.{IsCircuit, input_ports, output_ports}
-use Rattle.bb_ladder.specs.Report.{Reports}
+use Rattle.bb_ladder.specs.declared.fault.TextFault.{TextFault}
+use Rattle.bb_ladder.specs.Refusals.{IsTextFault, fault_words, refusal}
+use Rattle.bb_ladder.specs.Report.{Reports, Passes, all_zero, all_one}
 use Rattle.bb_ladder.specs.Agreement.{NoneAgree}
 use Rattle.bb_ladder.specs.declared.answer.TheConstants.{READ_LIMIT}
 
@@ -36,11 +38,11 @@ NoImp text = (d : Design) (empty : Option Design) → IsImp text d empty → ⊥
 abbrev pub HaveEqualPorts : Design → Design → Type 0
 HaveEqualPorts spec imp = (input_ports spec ≡ input_ports imp) × (output_ports spec ≡ output_ports imp)
 
--- what may be answered to two texts
+-- what may be answered to two texts: the specification's refusal comes before the implementation's, and that before the pair's
 pub data Judges (spec imp : List ℕ) (status : ℕ) (text : List ℕ) : Type 0 where
-  SpecUnknown : NoSpec spec → status ≡ 2 → text ≡ codes "refused spec notyet\n" → Judges spec imp status text
-  ImpUnknown : (s : Design) → IsSpec spec s → NoImp imp → status ≡ 2 → text ≡ codes "refused impl notyet\n" → Judges spec imp status text
-  PairUnknown : (s i : Design) (empty : Option Design) → IsSpec spec s → IsImp imp i empty → (HaveEqualPorts s i → ⊥) → status ≡ 2 → text ≡ codes "refused pair notyet\n" → Judges spec imp status text
+  SpecRefused : (fault : TextFault) → IsTextFault (NoSpec spec) spec fault → status ≡ 2 → text ≡ refusal (codes "spec") (fault_words fault) → Judges spec imp status text
+  ImpRefused : (s : Design) → IsSpec spec s → (fault : TextFault) → IsTextFault (NoImp imp) imp fault → status ≡ 2 → text ≡ refusal (codes "impl") (fault_words fault) → Judges spec imp status text
+  PairUnknown : (s i : Design) (empty : Option Design) → IsSpec spec s → IsImp imp i empty → (HaveEqualPorts s i → ⊥) → status ≡ 2 → text ≡ refusal (codes "pair") (codes "notyet") → Judges spec imp status text
   Judged : (s i : Design) (empty : Option Design) → IsSpec spec s → IsImp imp i empty → HaveEqualPorts s i → Reports s i empty status text → Judges spec imp status text
 
 -- what a read gives: where it is told what the file holds, the bytes of the file up to the limit, which is one byte more than a text may have
@@ -64,10 +66,15 @@ pub data MayAnswer (words : List (List ℕ)) (holds : List ℕ → Option (List 
   Usage : asked words ≡ None → after ≡ before → status ≡ 2 → text ≡ codes "refused usage\n" → MayAnswer words holds before after status text
   Asked : (names : List ℕ × List ℕ) → asked words ≡ Some names → OfFiles holds names before after status text → MayAnswer words holds before after status text
 
--- two texts read as designs that no contents of the box make agree
+-- two texts read as designs with equal ports that no contents of the box make agree
 abbrev pub AreRefuted : List ℕ → List ℕ → Type 0
-AreRefuted spec imp = (s : Design) × (i : Design) × (empty : Option Design) × IsSpec spec s × IsImp imp i empty × NoneAgree s i empty
+AreRefuted spec imp = (s : Design) × (i : Design) × (empty : Option Design) × IsSpec spec s × IsImp imp i empty × HaveEqualPorts s i × NoneAgree s i empty
 
--- so do the two files that the words ask for, where it is told what they hold
-abbrev pub AreFilesRefuted : List (List ℕ) → (List ℕ → Option (List ℕ)) → Type 0
-AreFilesRefuted words holds = IfSome (asked words) (λ names. IfSome (holds names.0) (λ spec. IfSome (holds names.1) (λ imp. AreRefuted spec imp)))
+-- two texts read as designs with equal ports between which neither vector shows a mistake
+abbrev pub AreOpen : List ℕ → List ℕ → Type 0
+AreOpen spec imp =
+    (s : Design) × (i : Design) × (empty : Option Design) × IsSpec spec s × IsImp imp i empty × HaveEqualPorts s i × Passes s i empty (all_zero i) × Passes s i empty (all_one i)
+
+-- what is so of two texts is so of the two files that the words ask for, where it is told what they hold
+abbrev pub AreFilesSo : (List ℕ → List ℕ → Type 0) → List (List ℕ) → (List ℕ → Option (List ℕ)) → Type 0
+AreFilesSo so words holds = IfSome (asked words) (λ names. IfSome (holds names.0) (λ spec. IfSome (holds names.1) (λ imp. so spec imp)))

@@ -2,6 +2,8 @@ pub mod Circuits
 pub mod Worlds
 pub mod Agreement
 pub mod Report
+pub mod Faults
+pub mod Refusals
 pub mod Answers
 pub mod Wiring
 pub mod Rung

@@ -1,16 +1,16 @@
 -- How a netlist stands for a design: each net has a cell, and whatever values the cells have, the nets have the values that
 -- the design's gates ask for. This ties the code's netlist to the worlds of a design.
-use Rattle.std.specs.Prelude.{◌≡◌, ℕ, ◌+◌, ◌<◌, ◌≤◌, Bool, List, [], ◌∷◌, ◌++◌, length, map, All, Option, unwrap_or, slice_set, sum_by, if◌then◌else◌}
+use Rattle.std.specs.Prelude.{◌≡◌, ℕ, ◌+◌, ◌<◌, ◌≤◌, Bool, List, [], ◌∷◌, ◌++◌, length, map, All, Option, unwrap_or, slice_set, if◌then◌else◌}
 use Rattle.std.specs.List.{range_with_len, flat_map}
 use Rattle.std.specs.Map.{lookup, keys_of}
 use Rattle.bb_bits.specs.Names.{same_name}
 use Rattle.bb_net.specs.declared.cell.Cell.{Cell}
 use Rattle.bb_net.specs.declared.cell.Cell.TheVariants as cell
 use Rattle.bb_net.specs.Netlists.{Netlist, Pins, cell_at, box_at, IsNetlist}
-use Rattle.bb_narrow.specs.Designs.{Design, Part}
+use Rattle.bb_narrow.specs.Designs.{Design, Part, terminal_count}
 use Rattle.bb_narrow.specs.declared.design.Kind.{Kind}
 use Rattle.bb_narrow.specs.declared.design.Kind.TheVariants as kind
-use Rattle.bb_narrow.specs.declared.design.Gate.{Gate}
+use Rattle.bb_ast.specs.declared.module.Gate.{Gate}
 use Rattle.bb_ladder.specs.Circuits.{reads, driven, read_by, driven_by, input_ports, output_ports, empty_of, all_driven, instanced_by, instances, HasTerminals, IsAmong, AreDistinct}
 use Rattle.bb_ladder.specs.Worlds.{Logic, two, three, folded, gate_value}
 use Rattle.bb_ladder.specs.declared.gates.Join.{Join}
@@ -128,10 +128,6 @@ pub record MayStand (empty : Design) (wired : List (List ℕ × ℕ)) (free : Li
   pub once : AreDistinct (keys_of wired ++ all_driven empty parts)
   pub writable : All (IsAmong free) (all_driven empty parts)
   pub before : (front : List Part) (p : Part) (back : List Part) → parts ≡ front ++ p ∷ back → All (IsAmong (keys_of wired ++ all_driven empty front)) (reads empty p)
-
--- how many terminals parts have
-abbrev pub terminal_count : List Part → ℕ
-terminal_count parts = sum_by (λ p. length p.terminals) parts
 
 -- parts were added to a netlist, and the nets that they drive have cells
 pub record Built (empty : Design) (old new : Netlist) (wired after : List (List ℕ × ℕ)) (parts : List Part) : Type 0 where

@@ -5,8 +5,8 @@ use Rattle.std.specs.Prelude.{◌≡◌, ℕ, Bool, false, not, ◌&&◌, ◌||�
 use Rattle.bb_narrow.specs.Designs.{Design}
 use Rattle.bb_narrow.specs.declared.design.Kind.{Kind}
 use Rattle.bb_narrow.specs.declared.design.Kind.TheVariants as kind
-use Rattle.bb_narrow.specs.declared.design.Gate.{Gate}
-use Rattle.bb_narrow.specs.declared.design.Gate.TheVariants.{And, Nand, Or, Nor, Xor, Xnor, Buf, Not}
+use Rattle.bb_ast.specs.declared.module.Gate.{Gate}
+use Rattle.bb_ast.specs.declared.module.Gate.TheVariants.{And, Nand, Or, Nor, Xor, Xnor, Buf, Not}
 use Rattle.bb_net.specs.Values.{xor}
 use Rattle.bb_net.specs.Ternary.{not3, and3, or3, xor3}
 use Rattle.bb_ladder.specs.Circuits.{reads, driven, input_ports, empty_of}

@@ -2,16 +2,17 @@
 ghost use Rattle.std.specs.Prelude.{◌≡◌, ◌+◌, ◌<◌, ◌^◌, ℕ, List, [], length, option_map, IfOk, IfNone, IfSome, MatchBool};
 ghost use Rattle.std.specs.List.{flat_map};
 ghost use Rattle.std.specs.Map.{keys_of};
-ghost use Rattle.bb_narrow.specs.Designs.{Design};
+ghost use Rattle.bb_narrow.specs.Designs.{Design, terminal_count};
 ghost use Rattle.bb_narrow.specs.declared.design.Kind.TheVariants as kind;
 ghost use Rattle.bb_ladder.specs.Circuits.{AreDistinct, HasTerminals, empty_of, instanced_by};
-ghost use Rattle.bb_ladder.specs.Wiring.{AreCells, Adds, Built, MayAdd, MayStand, terminal_count};
+ghost use Rattle.bb_ladder.specs.Wiring.{AreCells, Adds, Built, MayAdd, MayStand};
 
 use crate::parts::{add_gate, add_instance};
 use crate::ports::Ports;
 use crate::wires::Wires;
+use bb_ast::Gate;
 use bb_bits::{Name, NoMemory};
-use bb_narrow::{Design, Gate, Kind, Part};
+use bb_narrow::{Design, Kind, Part};
 use bb_net::Net;
 use indexmap::IndexSet;
 use std::alloc::Global;

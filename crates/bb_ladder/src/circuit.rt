@@ -1,9 +1,10 @@
 // A design as a netlist with named inputs and outputs.
 ghost use Rattle.std.specs.Prelude.{◌≡◌, ◌+◌, ◌<◌, ◌^◌, ◌++◌, ◌∷◌, [], ℕ, List, Option, None, Some, length, option_map, All, IfOk, OnOk, IfSome, IfNone};
 ghost use Rattle.std.specs.List.{flat_map};
+ghost use Rattle.bb_narrow.specs.Designs.{terminal_count};
 ghost use Rattle.bb_net.specs.Netlists.{Netlist};
 ghost use Rattle.bb_ladder.specs.Circuits.{AreDistinct, HasPorts, HaveTerminals, IsCircuit, IsDriven, empty_of, instanced_by};
-ghost use Rattle.bb_ladder.specs.Wiring.{IsCircuitOf, terminal_count};
+ghost use Rattle.bb_ladder.specs.Wiring.{IsCircuitOf};
 
 use crate::build::{Empty, add_parts};
 use crate::inputs::{Wired, wired_inputs};

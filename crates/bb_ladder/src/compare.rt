@@ -3,7 +3,7 @@ ghost use Rattle.std.specs.Prelude.{◌≡◌, ◌≤◌, ◌<◌, ◌≢◌, �
 ghost use Rattle.std.specs.Io.KnownBytes.{append_known};
 ghost use Rattle.bb_outside.specs.Counts.{Rose};
 ghost use Rattle.bb_ladder.specs.declared.answer.TheConstants.{READ_LIMIT};
-ghost use Rattle.bb_ladder.specs.Answers.{AfterSpec, AreFilesRefuted, MayAnswer, OfFiles};
+ghost use Rattle.bb_ladder.specs.Answers.{AfterSpec, AreFilesSo, AreOpen, AreRefuted, MayAnswer, OfFiles};
 
 use crate::answer::{Answer, READ_LIMIT, say};
 use crate::judge::judge;
@@ -77,7 +77,10 @@ pub fn run<F: Files, K: Sink>(alloc: Global, words: &[String], files: &mut F, ou
         × MayAnswer (map string_bytes words.now) (F.holds files.old) (F.reads files.old) (F.reads files.new) status text }
 
     // An error is reported only where no contents of the box make every output agree on every vector.
-    ensures error { result ≡ 1 → AreFilesRefuted (map string_bytes words.now) (F.holds files.old) }
+    ensures error { result ≡ 1 → AreFilesSo AreRefuted (map string_bytes words.now) (F.holds files.old) }
+
+    // The question is left open only where neither of the two vectors shows a mistake.
+    ensures left_open { result ≡ 3 → AreFilesSo AreOpen (map string_bytes words.now) (F.holds files.old) }
 
     // A file or the sink is blamed only where a failure was counted in this call.
     ensures unread { result ≡ 4 → Rose (F.faults files.old) (F.faults files.new) }

@@ -3,8 +3,8 @@ ghost use Rattle.std.specs.Prelude.{◌≡◌, ◌+◌, ◌<◌, ◌≤◌, ◌^
 ghost use Rattle.bb_ladder.specs.Worlds.{two, three, gate_value};
 ghost use Rattle.bb_ladder.specs.Wiring.{Grows, IsGate, IsJoined, join_cell, gate_function};
 
+use bb_ast::Gate;
 use bb_bits::NoMemory;
-use bb_narrow::Gate;
 use bb_net::{Cell, Net};
 
 // How two inputs of a gate are joined.

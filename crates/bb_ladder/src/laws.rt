@@ -6,7 +6,7 @@ ghost use Rattle.bb_ladder.specs.Circuits.{IsCircuit, IsAmong, input_ports, outp
 ghost use Rattle.bb_ladder.specs.Worlds.{two, three, IsWorld, HasVector};
 ghost use Rattle.bb_ladder.specs.Agreement.{row_of, NoneAgree};
 ghost use Rattle.bb_ladder.specs.Report.{MayBe, unknown, FailsAt, Reports};
-ghost use Rattle.bb_ladder.specs.Answers.{HaveEqualPorts};
+ghost use Rattle.bb_ladder.specs.Answers.{HaveEqualPorts, Judges};
 ghost use Rattle.bb_ladder.specs.Laws.{settled, FillsBox};
 
 /// Two worlds of a circuit with the same vector have the same bits at every net that has a driver, and so have two worlds in
@@ -70,4 +70,10 @@ pub fn report_is_determined()
     ensures once { (s i : Design) (empty : Option Design) (status other : ℕ) (text more : List ℕ)
         → IsCircuit s None → IsCircuit i empty → HaveEqualPorts s i
         → Reports s i empty status text → Reports s i empty other more → (status ≡ other) × (text ≡ more) }
+{}
+
+/// Two texts are answered in one way.
+pub fn texts_are_judged_once()
+    ensures { (spec imp : List ℕ) (status other : ℕ) (text more : List ℕ)
+        → Judges spec imp status text → Judges spec imp other more → (status ≡ other) × (text ≡ more) }
 {}

@@ -5,6 +5,7 @@ mod answer;
 mod build;
 mod circuit;
 mod compare;
+mod fault;
 mod gates;
 mod inputs;
 mod judge;
@@ -12,6 +13,7 @@ mod laws;
 mod names;
 mod parts;
 mod ports;
+mod read;
 mod report;
 mod ternary;
 mod wires;
@@ -20,6 +22,6 @@ mod words;
 pub use answer::{Answer, READ_LIMIT, read_limit_is};
 pub use compare::run;
 pub use laws::{
-    error_excludes_contents, known_is_bit, report_is_determined, vector_has_world,
-    world_is_determined, world_without_box,
+    error_excludes_contents, known_is_bit, report_is_determined, texts_are_judged_once,
+    vector_has_world, world_is_determined, world_without_box,
 };

@@ -10,8 +10,9 @@ ghost use Rattle.bb_ladder.specs.Wiring.{AreCells, Adds, Extends, FillsPins, May
 use crate::gates::gate_place;
 use crate::ports::Ports;
 use crate::wires::{Wires, drive, places};
+use bb_ast::Gate;
 use bb_bits::{Name, NoMemory};
-use bb_narrow::{Design, Gate};
+use bb_narrow::Design;
 use bb_net::{Cell, Net};
 use indexmap::IndexSet;
 use std::alloc::Global;

@@ -1,7 +1,4 @@
-pub mod Choices
-pub mod ScanLaws
-pub mod WordLaws
-pub mod GrammarLaws
-pub mod Complete
-pub mod Sound
+pub mod Loops
+pub mod Growing
 pub mod Laws
+pub mod SizeLaws

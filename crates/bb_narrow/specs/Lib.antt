@@ -1,7 +1,3 @@
 pub mod Designs
-pub mod Tokens
-pub mod Grammar
-pub mod Scanning
+pub mod Narrow
 pub mod Building
-pub mod Words
-pub mod Reading

@@ -1,30 +1,10 @@
-ghost use Rattle.std.specs.Prelude.{◌≡◌, List, ℕ, [], OnOk};
-ghost use Rattle.bb_narrow.specs.Building.{named, with_port, with_net, with_part, with_terminal};
+ghost use Rattle.std.specs.Prelude.{◌≡◌, ◌++◌, OnOk};
+ghost use Rattle.bb_narrow.specs.Building.{headed, with_ports, with_wire, with_part};
 
+use bb_ast::{Dir, Gate};
 use bb_bits::{Name, NoMemory};
 use std::alloc::Global;
 use std::marker::Model;
-
-/// The function of a gate (IEEE 1364-2005, 7.2 and 7.3).
-#[derive(Clone, Copy, Debug, PartialEq, Eq)]
-pub enum Gate {
-    And,
-    Nand,
-    Or,
-    Nor,
-    Xor,
-    Xnor,
-    Buf,
-    Not,
-}
-
-/// The nets that a declaration gives.
-#[derive(Clone, Copy, Debug)]
-pub(crate) enum Nets {
-    Inputs,
-    Outputs,
-    Wires,
-}
 
 /// What stands between nets: a gate, or an instance of a module.
 #[derive(Debug, Drop)]
@@ -49,21 +29,11 @@ impl Model for Part {
 }
 
 impl Part {
-    /// A part that has no terminal yet.
-    pub(crate) fn new(alloc: Global, kind: Kind) -> Part
-        ensures { result ≡ record { kind = kind; terminals = [] } }
+    /// A gate or an instance with these names at its terminals.
+    pub(crate) fn new(kind: Kind, terminals: Vec<Name>) -> Part
+        ensures { result ≡ record { kind = kind; terminals = terminals.items } }
     {
-        Part {
-            kind,
-            terminals: Vec::new(alloc),
-        }
-    }
-
-    /// Puts a terminal behind the others.
-    pub(crate) fn add_terminal(&mut self, name: Name) -> Result<(), NoMemory>
-        ensures { OnOk result (self.new ≡ with_terminal name self.old) }
-    {
-        Ok(self.terminals.push(name)?)
+        Part { kind, terminals }
     }
 
     /// The gate, or the module and the name of the instance.
@@ -108,13 +78,13 @@ impl Model for Design {
 }
 
 impl Design {
-    /// A module that has only its name yet.
-    pub(crate) fn new(alloc: Global, name: Name) -> Design
-        ensures { result ≡ named name }
+    /// A module with the names of its header, before its items.
+    pub(crate) fn new(alloc: Global, name: Name, ports: Vec<Name>) -> Design
+        ensures { result ≡ headed name ports.items }
     {
         Design {
             name,
-            ports: Vec::new(alloc),
+            ports,
             inputs: Vec::new(alloc),
             outputs: Vec::new(alloc),
             wires: Vec::new(alloc),
@@ -122,23 +92,21 @@ impl Design {
         }
     }
 
-    /// Puts a name behind those of the header.
-    pub(crate) fn add_port(&mut self, name: Name) -> Result<(), NoMemory>
-        ensures { OnOk result (self.new ≡ with_port name self.old) }
+    /// Puts declared ports behind those of their direction.
+    pub(crate) fn add_ports(&mut self, dir: Dir, names: &[Name]) -> Result<(), NoMemory>
+        ensures { OnOk result (self.new ≡ with_ports dir names.now self.old) }
     {
-        Ok(self.ports.push(name)?)
+        match dir {
+            Dir::Input => push_all(&mut self.inputs, names),
+            Dir::Output => push_all(&mut self.outputs, names),
+        }
     }
 
-    /// Puts a declared net behind those of its role.
-    pub(crate) fn add_net(&mut self, nets: Nets, name: Name) -> Result<(), NoMemory>
-        ensures { OnOk result (self.new ≡ with_net nets name self.old) }
+    /// Puts a declared wire behind the others.
+    pub(crate) fn add_wire(&mut self, name: Name) -> Result<(), NoMemory>
+        ensures { OnOk result (self.new ≡ with_wire name self.old) }
     {
-        match nets {
-            Nets::Inputs => self.inputs.push(name)?,
-            Nets::Outputs => self.outputs.push(name)?,
-            Nets::Wires => self.wires.push(name)?,
-        }
-        Ok(())
+        Ok(self.wires.push(name)?)
     }
 
     /// Puts a gate or an instance behind the others.
@@ -191,9 +159,19 @@ impl Design {
     }
 }
 
-/// What a narrow text says: its first module, and the empty module after it, if there is one.
+/// Puts copies of names behind others.
+fn push_all(all: &mut Vec<Name>, names: &[Name]) -> Result<(), NoMemory>
+    ensures { OnOk result (all.new.items ≡ all.old.items ++ names.now) }
+{
+    for name in names {
+        all.push(name.clone()?)?;
+    }
+    Ok(())
+}
+
+/// A design, and the empty module behind it, if there is one.
 #[derive(Debug, Drop)]
-pub struct Source {
+pub struct Designs {
     pub first: Design,
     pub second: Option<Design>,
 }

@@ -1,17 +1,16 @@
-//! Narrow texts: one module of gates, and after it at most one empty module, written with names, reserved words, commas,
-//! semicolons and round brackets alone.
+//! Narrow modules: gates over nets of one bit, and at most one instance of an empty module, as designs.
 #![tactic(auto)]
 
 mod design;
-mod place;
-mod reader;
-mod scan;
-mod statements;
+mod items;
+mod narrow;
+mod terminals;
+mod texts;
+
+pub use bb_ast::Gate;
+pub use design::{Design, Designs, Kind, Part};
+pub use narrow::designs_of;
+pub use texts::{says_at_most_one, text_is_long_enough};
+
 #[cfg(test)]
 mod tests;
-mod token;
-mod words;
-
-pub use design::{Design, Gate, Kind, Part, Source};
-pub use reader::{read, says_at_most_one};
-pub use token::Token;

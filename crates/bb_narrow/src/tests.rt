@@ -1,132 +1,110 @@
 use super::*;
-use bb_bits::{Name, NoMemory};
-use std::alloc::Global;
+use bb_bits::Name;
+use std::alloc::{AllocError, Global};
+use std::process::Abort;
 use std::test::Fail;
 
-fn is_narrow(alloc: Global, text: &str) -> Result<bool, NoMemory> {
-    Ok(read(alloc, text.as_bytes())?.is_some())
-}
-
-#[test]
-fn narrow_texts_are_read(rt: HostRuntime) -> Result<(), Fail> {
-    for text in [
-        "module m(a,y);input a;output y;buf(y,a);endmodule",
-        " module\tm (\r\na ) ; endmodule\n",
-        "module m(a,y);wire w$1,_w;nand g1(w$1,a,a),(_w,a,a);not(y,((_w)));endmodule",
-        "module m(a,y);bx u(a,y);endmodule module bx(i,o);input i;output o;endmodule",
-        "module m(a,y);and(y,a);bx u((a));bx v(a,y);endmodule",
-    ] {
-        assert!(rt; is_narrow(rt.alloc(), text)?, "{text}");
+fn tell_name(out: &mut String, name: &Name) -> Result<(), AllocError> {
+    for b in name.bytes() {
+        out.push(char::from(*b))?;
     }
     Ok(())
 }
 
-#[test]
-fn other_texts_are_not_read(rt: HostRuntime) -> Result<(), Fail> {
-    for text in [
-        "",
-        "module m;endmodule",
-        "module m();endmodule",
-        "module m(a,);endmodule",
-        "module m(input a);endmodule",
-        "module m(a) input a;endmodule",
-        "MODULE m(a);endmodule",
-        "macromodule m(a);endmodule",
-        "module m(begin);endmodule",
-        "module m(a);input wire a;endmodule",
-        "module m(a);input [1:0] a;endmodule",
-        "module m(a);wire w = a;endmodule",
-        "module m(a);wire;endmodule",
-        "module m(a);wire w endmodule",
-        "module m(a);// nothing\nendmodule",
-        "module m(a,y);buf(y,1a);endmodule",
-        "module m(a,y);buf(y,a,a);endmodule",
-        "module m(a,y);and(y);endmodule",
-        "module m(a,y);buf(y,(a);endmodule",
-        "module m(a,y);buf(y,a));endmodule",
-        "module m(a,y);bx u(a),v(y);endmodule",
-        "module m(a);bx u();endmodule",
-        "module m(a);bx(a);endmodule",
-        "module m(a);bx u(.i(a));endmodule",
-        "module m(a);input a;",
-        "module m(a);endmodule;",
-        "module m(a);endmodule module n(b);wire b;endmodule",
-        "module m(a);endmodule module n(b);bx u(b);endmodule",
-        "module m(a);endmodule module n(b);endmodule module o(c);endmodule",
-    ] {
-        assert!(rt; !is_narrow(rt.alloc(), text)?, "{text}");
-    }
-    Ok(())
-}
-
-fn bracketed(alloc: Global, count: usize) -> Result<String, NoMemory> {
-    let mut text = String::from_str(alloc, "module m(a,y);buf(y,")?;
-    for _ in 0..count {
-        text.push_str("(")?;
-    }
-    text.push_str("a")?;
-    for _ in 0..count {
-        text.push_str(")")?;
-    }
-    text.push_str(");endmodule")?;
-    Ok(text)
-}
-
-#[test]
-fn nests_200_deep_and_no_deeper(rt: HostRuntime) -> Result<(), Fail> {
-    assert!(rt; is_narrow(rt.alloc(), bracketed(rt.alloc(), 199)?.as_str())?);
-    assert!(rt; !is_narrow(rt.alloc(), bracketed(rt.alloc(), 200)?.as_str())?);
-    Ok(())
-}
-
-fn joined(alloc: Global, names: &[Name]) -> Result<Vec<u8>, NoMemory> {
-    let mut bytes = Vec::new(alloc);
+fn tell_names(out: &mut String, role: &str, names: &[Name]) -> Result<(), AllocError> {
+    out.push_str(role)?;
     for name in names {
-        bytes.extend_from_slice(name.bytes())?;
-        bytes.push(b' ')?;
+        out.push_str(" ")?;
+        tell_name(out, name)?;
     }
-    Ok(bytes)
+    out.push_str("; ")
 }
 
-#[test]
-fn gives_what_the_text_says(rt: HostRuntime) -> Result<(), Fail> {
-    let alloc = rt.alloc();
-    let text =
-        "module m(a,y,b);input a,b;output y;wire w;xor(w,a,b);bx u(w,y);endmodule module bx(i,o);input i;output o;endmodule";
-    let source = read(alloc, text.as_bytes())?.ok_or("narrow")?;
-    let first = &source.first;
-    assert_eq!(rt; first.name().bytes(), "m".as_bytes());
-    assert_eq!(rt;
-        joined(alloc, first.ports())?.as_slice(),
-        "a y b ".as_bytes()
-    );
-    assert_eq!(rt;
-        joined(alloc, first.inputs())?.as_slice(),
-        "a b ".as_bytes()
-    );
-    assert_eq!(rt; joined(alloc, first.outputs())?.as_slice(), "y ".as_bytes());
-    assert_eq!(rt; joined(alloc, first.wires())?.as_slice(), "w ".as_bytes());
-    assert_eq!(rt; first.parts().len(), 2);
-    assert_eq!(rt;
-        joined(alloc, first.parts()[0].terminals())?.as_slice(),
-        "w a b ".as_bytes()
-    );
-    match first.parts()[0].kind() {
-        Kind::Gate(gate) => assert!(rt; *gate == Gate::Xor),
-        Kind::Instance { .. } => assert!(rt; false),
-    }
-    match first.parts()[1].kind() {
-        Kind::Gate(_) => assert!(rt; false),
+fn tell_part(out: &mut String, part: &Part) -> Result<(), AllocError> {
+    match part.kind() {
+        Kind::Gate(gate) => write!(out, "{gate:?}")?,
         Kind::Instance { module, name } => {
-            assert_eq!(rt; module.bytes(), "bx".as_bytes());
-            assert_eq!(rt; name.bytes(), "u".as_bytes());
+            tell_name(out, module)?;
+            out.push_str(" ")?;
+            tell_name(out, name)?;
         }
     }
-    let second = source.second.as_ref().ok_or("a second module")?;
-    assert_eq!(rt;
-        joined(alloc, second.ports())?.as_slice(),
-        "i o ".as_bytes()
-    );
+    tell_names(out, ":", part.terminals())
+}
+
+fn tell_design(out: &mut String, design: &Design) -> Result<(), AllocError> {
+    tell_name(out, design.name())?;
+    tell_names(out, ":", design.ports())?;
+    tell_names(out, "inputs", design.inputs())?;
+    tell_names(out, "outputs", design.outputs())?;
+    tell_names(out, "wires", design.wires())?;
+    for part in design.parts() {
+        tell_part(out, part)?;
+    }
+    Ok(())
+}
+
+/// What the modules of a text describe, one design a line.
+fn told(rt: &impl Abort, alloc: Global, text: &[u8]) -> Result<String, Fail> {
+    assert!(rt; text.len() <= 33_554_432);
+    let tokens = bb_lex::tokens(alloc, text)?;
+    let source = bb_parse::source(alloc, &tokens, text)?;
+    let mut out = String::new(alloc);
+    let Some(designs) = designs_of(alloc, &source)? else {
+        out.push_str("not narrow")?;
+        return Ok(out);
+    };
+    tell_design(&mut out, &designs.first)?;
+    if let Some(second) = &designs.second {
+        out.push_str("\n")?;
+        tell_design(&mut out, second)?;
+    }
+    Ok(out)
+}
+
+#[test]
+fn gives_what_the_modules_say(rt: HostRuntime) -> Result<(), Fail> {
     says_at_most_one();
+    text_is_long_enough();
+    for (text, expected) in [
+        (
+            b"module m(a, y, b); input a, b; wire w, v; xor x(w, a, b), (v, w, a, b); output y; buf (w, v); bx u(v, y); endmodule module bx(i, o); output o; input i; endmodule".as_slice(),
+            "m: a y b; inputs a b; outputs y; wires w v; Xor: w a b; Xor: v w a b; Buf: w v; bx u: v y; \nbx: i o; inputs i; outputs o; wires; ",
+        ),
+        (
+            b"(* top *) module \\m+ (a, /* in */ y); // ports\ninput a; output y; wire \\w[0] ;\n(* keep = 1 *) not \\g&h (\\w[0] , a), (y, ((\\w[0] ))); endmodule",
+            "m+: a y; inputs a; outputs y; wires w[0]; Not: w[0] a; Not: y w[0]; ",
+        ),
+    ] {
+        let found = told(&rt, rt.alloc(), text)?;
+        assert_eq!(rt; found.as_str(), expected);
+    }
+    Ok(())
+}
+
+#[test]
+fn other_modules_are_not_narrow(rt: HostRuntime) -> Result<(), Fail> {
+    for text in [
+        b"".as_slice(),
+        b"module m; endmodule",
+        b"module m(); endmodule",
+        b"module m(input a); endmodule",
+        b"module m(a); input wire a; endmodule",
+        b"module m(a); input [1:0] a; endmodule",
+        b"module m(a); wire [0:0] w; endmodule",
+        b"module m(a); wire v, w = a; endmodule",
+        b"module m(a); supply0 w; endmodule",
+        b"module m(a, y); assign y = a; endmodule",
+        b"module m(a, y); buf (y, a, a); endmodule",
+        b"module m(a, y); and (y, a, ~a); endmodule",
+        b"module m(a, y); bx u(a, , y); endmodule",
+        b"module m(a, y); bx u(.i(a), .o(y)); endmodule",
+        b"module m(a); endmodule module n(b); wire w; endmodule",
+        b"module m(a); endmodule module n(b); bx u(b); endmodule",
+        b"module m(a); endmodule module n(b); endmodule module o(c); endmodule",
+    ] {
+        let found = told(&rt, rt.alloc(), text)?;
+        assert_eq!(rt; found.as_str(), "not narrow");
+    }
     Ok(())
 }

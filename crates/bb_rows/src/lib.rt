@@ -1,7 +1,13 @@
 //! Worked pairs of texts through the top call, over files and a sink in memory.
 #![tactic(auto)]
 
+#[cfg(test)]
+mod fault_tests;
 mod memory;
+#[cfg(test)]
+mod reference;
+#[cfg(test)]
+mod reference_tests;
 #[cfg(test)]
 mod tests;
 

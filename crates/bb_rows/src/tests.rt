@@ -21,8 +21,8 @@ const BUFFER: &str = "module s(a,y); input a; output y; buf(y,a); endmodule";
 
 const INVERTER: &str = "module t(a,y); input a; output y; not(y,a); endmodule";
 
-// Compares the status and the report of a pair, read with good words and ample memory.
-fn expect<R: Abort>(
+/// Compares the status and the report of a pair, read with good words and ample memory.
+pub fn expect<R: Abort>(
     rt: &R,
     alloc: Global,
     spec: &str,

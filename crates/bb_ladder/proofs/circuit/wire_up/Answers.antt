@@ -3,7 +3,7 @@ use Rattle.std.proofs.lemmas.Bool.Decides.{when_true, when_false}
 use Rattle.bb_net.specs.Netlists.{IsNetlist}
 use Rattle.bb_net.proofs.NetLemmas.{length-first_cells}
 use Rattle.bb_ladder.specs.Circuits.{AreDistinct, input_ports, output_ports, has}
-use Rattle.bb_ladder.specs.Wiring.{terminal_count}
+use Rattle.bb_narrow.specs.Designs.{terminal_count}
 use Rattle.bb_ladder.proofs.CircuitLemmas.{AreDistinct-filter, length-filter-le, writable_distinct, stand_refused, outs_refused, circuit_done}
 use Rattle.bb_ladder.proofs.PartLemmas.{place_cells}
 use Rattle.bb_ladder.proofs.circuit.wire_up.Goals as goal

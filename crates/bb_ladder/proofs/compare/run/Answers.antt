@@ -1,4 +1,4 @@
-use Rattle.bb_ladder.proofs.HeadlineLemmas.{error_sound}
+use Rattle.bb_ladder.proofs.HeadlineLemmas.{error_sound, open_sound}
 use Rattle.bb_ladder.proofs.compare.run.Goals as goal
 
 pub returns-in-Ok-put_all-clause-whole : goal.returns-in-Ok-put_all-clause-whole
@@ -11,3 +11,6 @@ returns-clause-front g c = λ six.
 
 pub returns-in-Ok-put_all-clause-error : goal.returns-in-Ok-put_all-clause-error
 returns-in-Ok-put_all-clause-error g c = λ one. error_sound _ _ _ _ c.in-Ok.answer.status c.in-Ok.answer.report.items c.in-Ok.ensures.answer one
+
+pub returns-in-Ok-put_all-clause-left_open : goal.returns-in-Ok-put_all-clause-left_open
+returns-in-Ok-put_all-clause-left_open g c = λ three. open_sound _ _ _ _ c.in-Ok.answer.status c.in-Ok.answer.report.items c.in-Ok.ensures.answer three

@@ -1,0 +1,5 @@
+use Rattle.bb_narrow.proofs.Laws.{says_one}
+use Rattle.bb_narrow.proofs.texts.says_at_most_one.Goals as goal
+
+pub returns : goal.returns
+returns c = λ text f g s t p q. says_one text f s g t p q
