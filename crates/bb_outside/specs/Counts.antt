@@ -10,7 +10,11 @@ next_count n = min (n + 1) (2 ^ 64 - 1)
 abbrev pub Rose : ℕ → ℕ → Type 0
 Rose before now = next_count before ≤ now
 
--- the law of it: between two moments a count rose exactly where it is greater, or stands at its last value
+-- from before to now the count went up by one where this is so, and stayed where it is not
+abbrev pub CountsWhere : Type 0 → ℕ → ℕ → Type 0
+CountsWhere failed before now = (failed → now ≡ next_count before) × ((failed → ⊥) → now ≡ before)
+
+-- the law of `Rose`: between two moments a count rose exactly where it is greater, or stands at its last value
 abbrev pub RoseIsGrowth : Type 0
 RoseIsGrowth = (before now : ℕ) → before ≤ now → now < 2 ^ 64 → Rose before now ↔ ((before < now) ⊎ (now ≡ 2 ^ 64 - 1))
 

@@ -1,3 +1,4 @@
 pub mod Counts
 pub mod MemFiles
 pub mod MemSink
+pub mod Streams

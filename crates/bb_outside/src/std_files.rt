@@ -1,11 +1,12 @@
 // The files of the system.
-ghost use Rattle.std.specs.Prelude.{◌≡◌, ◌≤◌, IfOk, None, vec_len};
+ghost use Rattle.std.specs.Prelude.{◌≡◌, ◌≤◌, ℕ, List, take, IfOk, IfSome, IsErr, IsErrOf, None, vec_len};
+ghost use Rattle.bb_outside.specs.Counts.{CountsWhere, Rose, next_count};
 
 use crate::{FileFault, Files};
 use std::alloc::Global;
 use std::io::Read;
 use std::marker::Model;
-use std::{fs, rt};
+use std::{fs, io, rt};
 
 // How many bytes one read of a file asks for at most.
 const STEP: usize = 16384;
@@ -41,7 +42,9 @@ impl<R: rt::Files + Drop> StdFiles<R> {
 
 // Reads a file up to its end, or to the limit.
 fn read_front<F: Read>(alloc: Global, file: &mut F, limit: u64) -> Result<Vec<u8>, FileFault>
-    ensures { IfOk result (λ bytes. vec_len bytes ≤ limit) }
+    ensures within { IfOk result (λ bytes. vec_len bytes ≤ limit) }
+    // Where the file tells what it has left, these are its first bytes, all of them up to the limit.
+    ensures front { IfOk result (λ bytes. IfSome (F.remaining file.old) (λ left. bytes.items ≡ take limit left)) }
 {
     let mut bytes = Vec::new(alloc);
     let mut buffer = [0; STEP];
@@ -58,16 +61,17 @@ fn read_front<F: Read>(alloc: Global, file: &mut F, limit: u64) -> Result<Vec<u8
     Ok(bytes)
 }
 
-// Opens a file and reads it. A path of a directory opens, and its read fails.
-fn open_and_read<R: rt::Files>(
-    files: &R,
+// Reads a file that was to be opened. A path of a directory opens, and its read fails.
+fn read_opened<F: Read + Drop>(
     alloc: Global,
-    name: &str,
+    opened: io::Result<F>,
     limit: u64,
 ) -> Result<Vec<u8>, FileFault>
-    ensures { IfOk result (λ bytes. vec_len bytes ≤ limit) }
+    ensures within { IfOk result (λ bytes. vec_len bytes ≤ limit) }
+    ensures front { IfOk opened (λ file. IfOk result (λ bytes. IfSome (F.remaining file) (λ left. bytes.items ≡ take limit left))) }
+    ensures unopened { IsErr opened → IsErrOf result FileFault.Failed }
 {
-    let Ok(mut file) = fs::open(files, name) else {
+    let Ok(mut file) = opened else {
         return Err(FileFault::Failed);
     };
     read_front(alloc, &mut file, limit)
@@ -80,9 +84,19 @@ impl<R: rt::Files + Drop> Files for StdFiles<R> {
 
     ghost reads = { λ s. s.reads };
 
-    fn read(&mut self, alloc: Global, name: &str, limit: u64) -> Result<Vec<u8>, FileFault> {
+    fn read(&mut self, alloc: Global, name: &str, limit: u64) -> Result<Vec<u8>, FileFault>
+        ensures within { IfOk result (λ bytes. vec_len bytes ≤ limit) }
+        ensures reads { self.new.reads ≡ next_count self.old.reads }
+
+        // A failure is counted where it is told, and only there.
+        ensures counted { CountsWhere (IsErrOf result FileFault.Failed) self.old.faults self.new.faults }
+
+        // What a caller over any files sees.
+        ensures never_falls { self.old.faults ≤ self.new.faults }
+        ensures failed { IsErrOf result FileFault.Failed → Rose self.old.faults self.new.faults }
+    {
         self.reads = self.reads.saturating_add(1);
-        let answer = open_and_read(&self.files, alloc, name, limit);
+        let answer = read_opened(alloc, fs::open(&self.files, name), limit);
         if let Err(FileFault::Failed) = answer {
             self.faults = self.faults.saturating_add(1);
         }

@@ -1,5 +1,7 @@
 // Standard output.
-ghost use Rattle.std.specs.Prelude.{◌≡◌, None};
+ghost use Rattle.std.specs.Prelude.{◌≡◌, ◌<◌, ◌≤◌, length, take, None, IfOk, IsErr, OnErr};
+ghost use Rattle.std.specs.Io.KnownBytes.{WriteAppends, append_known};
+ghost use Rattle.bb_outside.specs.Counts.{CountsWhere, Rose};
 
 use crate::{Failed, Sink};
 use std::io::Write;
@@ -13,18 +15,17 @@ pub struct StdOut<W: Write + Drop> {
 }
 
 impl<W: Write + Drop> Model for StdOut<W> {
-    ghost use Rattle.std.specs.Prelude.{ℕ};
+    ghost use Rattle.bb_outside.specs.Streams.{StreamState};
 
-    // The count of failed writes.
-    ghost Value = { ℕ };
+    ghost Value = { StreamState };
 
-    ghost view = { λ s. s.faults };
+    ghost view = { λ s. record { held = W.contents s.stream; faults = s.faults } };
 }
 
 impl<W: Write + Drop> StdOut<W> {
     /// A sink over this stream.
     pub fn new(stream: W) -> StdOut<W>
-        ensures { result ≡ 0 }
+        ensures { result ≡ record { held = W.contents stream; faults = 0 } }
     {
         StdOut { stream, faults: 0 }
     }
@@ -33,10 +34,22 @@ impl<W: Write + Drop> StdOut<W> {
 impl<W: Write + Drop> Sink for StdOut<W> {
     ghost written = { λ _. None };
 
-    ghost faults = { λ count. count };
+    ghost faults = { λ s. s.faults };
 
     // A write that takes nothing of a piece is a failure, since it would never end.
-    fn put(&mut self, piece: &[u8]) -> Result<usize, Failed> {
+    fn put(&mut self, piece: &[u8]) -> Result<usize, Failed>
+        // Where the stream tells what it holds, it has got the front of the piece that is answered, and nothing at a failure.
+        ensures stream { WriteAppends self.old.held self.new.held result piece.now }
+
+        // A failure is counted where it is told, and only there.
+        ensures counted { CountsWhere (IsErr result) self.old.faults self.new.faults }
+
+        // What a caller over any sink sees.
+        ensures at_most { IfOk result (λ n. n ≤ length piece.now) }
+        ensures at_least { 0 < length piece.now → IfOk result (λ n. 1 ≤ n) }
+        ensures never_falls { self.old.faults ≤ self.new.faults }
+        ensures failed { OnErr result (Rose self.old.faults self.new.faults) }
+    {
         match self.stream.write(piece) {
             Ok(count) if count > 0 || piece.is_empty() => Ok(count),
             _ => {
