@@ -23,6 +23,7 @@ fn read_imp<F: Files>(
     ensures answer { IfOk result (λ answer. AfterSpec (F.holds files.old imp.now) (F.reads files.old) (F.reads files.new) spec.now answer.status answer.report.items) }
     ensures unread { IfOk result (λ answer. answer.status ≡ 4 → Rose (F.faults files.old) (F.faults files.new)) }
     ensures never_falls { F.faults files.old ≤ F.faults files.new }
+    ensures kept { (n : List ℕ) → F.holds files.new n ≡ F.holds files.old n }
 {
     match files.read(alloc, imp, READ_LIMIT) {
         Err(FileFault::Failed) => say(alloc, 4, "unread impl\n"),
@@ -36,6 +37,7 @@ fn read_imp<F: Files>(
 fn read_spec<F: Files>(alloc: Global, names: Names<'_>, files: &mut F) -> Result<Answer, NoMemory>
     ensures answer { IfOk result (λ answer. OfFiles (F.holds files.old) (names.entry.spec.now, names.entry.imp.now) (F.reads files.old) (F.reads files.new) answer.status answer.report.items) }
     ensures unread { IfOk result (λ answer. answer.status ≡ 4 → Rose (F.faults files.old) (F.faults files.new)) }
+    ensures kept { (n : List ℕ) → F.holds files.new n ≡ F.holds files.old n }
 {
     match files.read(alloc, names.spec, READ_LIMIT) {
         Err(FileFault::Failed) => say(alloc, 4, "unread spec\n"),
@@ -49,6 +51,7 @@ fn read_spec<F: Files>(alloc: Global, names: Names<'_>, files: &mut F) -> Result
 fn answer<F: Files>(alloc: Global, words: &[String], files: &mut F) -> Result<Answer, NoMemory>
     ensures answer { IfOk result (λ answer. MayAnswer (map string_bytes words.now) (F.holds files.old) (F.reads files.old) (F.reads files.new) answer.status answer.report.items) }
     ensures unread { IfOk result (λ answer. answer.status ≡ 4 → Rose (F.faults files.old) (F.faults files.new)) }
+    ensures kept { (n : List ℕ) → F.holds files.new n ≡ F.holds files.old n }
 {
     match asked_names(words) {
         None => say(alloc, 2, "refused usage\n"),
@@ -82,7 +85,8 @@ pub fn run<F: Files, K: Sink>(alloc: Global, words: &[String], files: &mut F, ou
     // The question is left open only where neither of the two vectors shows a mistake.
     ensures left_open { result ≡ 3 → AreFilesSo AreOpen (map string_bytes words.now) (F.holds files.old) }
 
-    // A file or the sink is blamed only where a failure was counted in this call.
+    // What the files hold stays, and a file or the sink is blamed only where a failure was counted in this call.
+    ensures kept { (n : List ℕ) → F.holds files.new n ≡ F.holds files.old n }
     ensures unread { result ≡ 4 → Rose (F.faults files.old) (F.faults files.new) }
     ensures failed { result ≡ 6 → Rose (K.faults out.old) (K.faults out.new) }
 {

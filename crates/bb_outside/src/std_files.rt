@@ -1,5 +1,5 @@
 // The files of the system.
-ghost use Rattle.std.specs.Prelude.{◌≡◌, ◌≤◌, ℕ, List, take, IfOk, IfSome, IsErr, IsErrOf, None, vec_len};
+ghost use Rattle.std.specs.Prelude.{◌≡◌, ◌≤◌, take, IfOk, IfSome, IsErr, IsErrOf, None, vec_len};
 ghost use Rattle.bb_outside.specs.Counts.{CountsWhere, Rose, next_count};
 
 use crate::{FileFault, Files};

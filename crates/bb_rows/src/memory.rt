@@ -1,4 +1,8 @@
 // One run of the top call over two texts in memory.
+ghost use Rattle.std.specs.Prelude.{◌≡◌, ◌<◌, ◌≤◌, ◌∷◌, [], ℕ, List, Some, map, codes, string_bytes, IfOk};
+ghost use Rattle.bb_outside.specs.MemFiles.{text_under};
+ghost use Rattle.bb_ladder.specs.Answers.{MayAnswer};
+
 use bb_ladder::run;
 use bb_outside::{MemFiles, MemSink, Take};
 use std::alloc::{AllocError, Global};
@@ -10,7 +14,9 @@ pub struct Outcome {
     pub report: Vec<u8>,
 }
 
-fn words(alloc: Global, texts: &[&str]) -> Result<Vec<String>, AllocError> {
+fn words(alloc: Global, texts: &[&str]) -> Result<Vec<String>, AllocError>
+    ensures { IfOk result (λ words. map string_bytes words.items ≡ map (λ text. text.now) texts.now) }
+{
     let mut words = Vec::new(alloc);
     for text in texts {
         words.push(String::from_str(alloc, text)?)?;
@@ -18,11 +24,38 @@ fn words(alloc: Global, texts: &[&str]) -> Result<Vec<String>, AllocError> {
     Ok(words)
 }
 
-fn file(alloc: Global, name: &str, text: &[u8]) -> Result<(String, Vec<u8>), AllocError> {
+fn file(alloc: Global, name: &str, text: &[u8]) -> Result<(String, Vec<u8>), AllocError>
+    ensures { IfOk result (λ file. (string_bytes file.0 ≡ name.now) × (file.1.items ≡ text.now)) }
+{
     Ok((
         String::from_str(alloc, name)?,
         Vec::from_slice(alloc, text)?,
     ))
+}
+
+// The two files in memory.
+fn held_files(
+    alloc: Global,
+    spec: &[u8],
+    imp: &[u8],
+    failing: Vec<u64>,
+) -> Result<MemFiles, AllocError>
+    ensures files { IfOk result (λ files. files.files ≡ (codes "s.v", spec.now) ∷ (codes "i.v", imp.now) ∷ []) }
+    ensures reads { IfOk result (λ files. files.reads ≡ 0) }
+{
+    let mut held = Vec::new(alloc);
+    held.push(file(alloc, "s.v", spec)?)?;
+    held.push(file(alloc, "i.v", imp)?)?;
+    Ok(MemFiles::new(held, failing))
+}
+
+// An empty sink with room for any report.
+fn planned_sink(alloc: Global, plan: Vec<Take>) -> Result<MemSink, AllocError>
+    ensures { IfOk result (λ sink. sink.bytes ≡ []) }
+{
+    let mut sink = MemSink::new(alloc, plan);
+    sink.reserve(4_194_304)?;
+    Ok(sink)
 }
 
 /// Runs the top call with these words over a file `s.v` and a file `i.v`. Reads of these numbers fail, and the sink
@@ -34,14 +67,16 @@ pub fn run_in_memory(
     imp: &[u8],
     failing: Vec<u64>,
     plan: Vec<Take>,
-) -> Result<Outcome, AllocError> {
+) -> Result<Outcome, AllocError>
+    ensures status { IfOk result (λ outcome. outcome.status ≤ 6) }
+    // A report that is written whole is one that may be answered to the words and the two files.
+    ensures whole { IfOk result (λ outcome. outcome.status < 5 → (reads : ℕ) × MayAnswer (map (λ text. text.now) texts.now)
+        (λ name. Some (text_under ((codes "s.v", spec.now) ∷ (codes "i.v", imp.now) ∷ []) name)) 0 reads outcome.status outcome.report.items) }
+    ensures silent { IfOk result (λ outcome. outcome.status ≡ 5 → outcome.report.items ≡ []) }
+{
     let words = words(alloc, texts)?;
-    let mut held = Vec::new(alloc);
-    held.push(file(alloc, "s.v", spec)?)?;
-    held.push(file(alloc, "i.v", imp)?)?;
-    let mut files = MemFiles::new(held, failing);
-    let mut sink = MemSink::new(alloc, plan);
-    sink.reserve(4_194_304)?;
+    let mut files = held_files(alloc, spec, imp, failing)?;
+    let mut sink = planned_sink(alloc, plan)?;
     let status = run(alloc, &words, &mut files, &mut sink);
     let report = Vec::from_slice(alloc, sink.bytes())?;
     Ok(Outcome { status, report })
