@@ -83,6 +83,7 @@ fn pairs_have_their_reports(rt: HostRuntime) -> Result<(), Fail> {
 fn texts_are_refused_in_order(rt: HostRuntime) -> Result<(), Fail> {
     expect(&rt, rt.alloc(), "", "", 2, "refused spec notyet\n")?;
     expect(&rt, rt.alloc(), HOLE, BUFFER, 2, "refused spec notyet\n")?;
+    expect(&rt, rt.alloc(), NOR, NO_WIRE, 2, "refused impl notyet\n")?;
     expect(
         &rt,
         rt.alloc(),
