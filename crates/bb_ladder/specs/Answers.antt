@@ -1,8 +1,8 @@
--- What the program may answer: a status and a text, given the words, what the files hold, and how often a file was read.
+-- What the program may answer: a status and a text, given the words, what the files hold, and the reads before and after.
 use Rattle.std.specs.Prelude.{◌≡◌, ℕ, ◌<◌, Bool, false, not, ◌&&◌, ◌==◌, if◌then◌else◌, List, [], ◌∷◌, length, take, Option, None, Some, codes, IfSome}
 use Rattle.bb_narrow.specs.Designs.{Design}
 use Rattle.bb_narrow.specs.Narrow.{Says}
-use Rattle.bb_outside.specs.Counts.{next_count}
+use Rattle.bb_outside.specs.Counts.{IsRead, Reads, Rose}
 use Rattle.bb_ladder.specs.Circuits.{IsCircuit, input_ports, output_ports}
 use Rattle.bb_ladder.specs.declared.fault.TextFault.{TextFault}
 use Rattle.bb_ladder.specs.Refusals.{IsTextFault, fault_words, refusal}
@@ -49,22 +49,27 @@ pub data Judges (spec imp : List ℕ) (status : ℕ) (text : List ℕ) : Type 0 
 abbrev pub Gives : Option (List ℕ) → List ℕ → Type 0
 Gives held bytes = IfSome held (λ h. bytes ≡ take READ_LIMIT h)
 
--- what may be answered after the specification was read, with the counts of reads before and after the read of the implementation
-pub data AfterSpec (held : Option (List ℕ)) (before after : ℕ) (spec : List ℕ) (status : ℕ) (text : List ℕ) : Type 0 where
-  ImpUnread : after ≡ next_count before → status ≡ 4 → text ≡ codes "unread impl\n" → AfterSpec held before after spec status text
-  ImpLong : (imp : List ℕ) → Gives held imp → length imp ≡ READ_LIMIT → after ≡ next_count before → status ≡ 2 → text ≡ codes "refused impl toolong\n" → AfterSpec held before after spec status text
-  BothRead : (imp : List ℕ) → Gives held imp → length imp < READ_LIMIT → after ≡ next_count before → Judges spec imp status text → AfterSpec held before after spec status text
+-- what may be answered after the specification was read: the implementation is read, and its text is judged
+pub data AfterSpec (held : Option (List ℕ)) (name : List ℕ) (before after : Reads) (spec : List ℕ) (status : ℕ) (text : List ℕ) : Type 0 where
+  ImpUnread : IsRead before after name → Rose before.faults after.faults → status ≡ 4 → text ≡ codes "unread impl\n" → AfterSpec held name before after spec status text
+  ImpLong : (imp : List ℕ) → Gives held imp → length imp ≡ READ_LIMIT → IsRead before after name → status ≡ 2 → text ≡ codes "refused impl toolong\n" → AfterSpec held name before after spec status text
+  BothRead : (imp : List ℕ) → Gives held imp → length imp < READ_LIMIT → IsRead before after name → Judges spec imp status text → AfterSpec held name before after spec status text
 
--- what may be answered to the names of two files
-pub data OfFiles (holds : List ℕ → Option (List ℕ)) (names : List ℕ × List ℕ) (before after : ℕ) (status : ℕ) (text : List ℕ) : Type 0 where
-  SpecUnread : after ≡ next_count before → status ≡ 4 → text ≡ codes "unread spec\n" → OfFiles holds names before after status text
-  SpecLong : (spec : List ℕ) → Gives (holds names.0) spec → length spec ≡ READ_LIMIT → after ≡ next_count before → status ≡ 2 → text ≡ codes "refused spec toolong\n" → OfFiles holds names before after status text
-  SpecRead : (spec : List ℕ) → Gives (holds names.0) spec → length spec < READ_LIMIT → AfterSpec (holds names.1) (next_count before) after spec status text → OfFiles holds names before after status text
+-- what may be answered to the names of two files: the specification is read first
+pub data OfFiles (holds : List ℕ → Option (List ℕ)) (names : List ℕ × List ℕ) (before after : Reads) (status : ℕ) (text : List ℕ) : Type 0 where
+  SpecUnread : IsRead before after names.0 → Rose before.faults after.faults → status ≡ 4 → text ≡ codes "unread spec\n" → OfFiles holds names before after status text
+  SpecLong : (spec : List ℕ) → Gives (holds names.0) spec → length spec ≡ READ_LIMIT → IsRead before after names.0 → status ≡ 2 → text ≡ codes "refused spec toolong\n" → OfFiles holds names before after status text
+  SpecRead : (spec : List ℕ) (between : Reads) → Gives (holds names.0) spec → length spec < READ_LIMIT → IsRead before between names.0
+      → AfterSpec (holds names.1) names.1 between after spec status text → OfFiles holds names before after status text
 
--- what may be answered to words, given what the files hold and how often one was read before the call and after it
-pub data MayAnswer (words : List (List ℕ)) (holds : List ℕ → Option (List ℕ)) (before after : ℕ) (status : ℕ) (text : List ℕ) : Type 0 where
+-- what may be answered to words, given what the files hold and the reads before the call and after it
+pub data MayAnswer (words : List (List ℕ)) (holds : List ℕ → Option (List ℕ)) (before after : Reads) (status : ℕ) (text : List ℕ) : Type 0 where
   Usage : asked words ≡ None → after ≡ before → status ≡ 2 → text ≡ codes "refused usage\n" → MayAnswer words holds before after status text
   Asked : (names : List ℕ × List ℕ) → asked words ≡ Some names → OfFiles holds names before after status text → MayAnswer words holds before after status text
+
+-- the words ask for two files, and these hold the two texts
+pub data AreTexts (words : List (List ℕ)) (holds : List ℕ → Option (List ℕ)) (spec imp : List ℕ) : Type 0 where
+  Held : (names : List ℕ × List ℕ) → asked words ≡ Some names → holds names.0 ≡ Some spec → holds names.1 ≡ Some imp → AreTexts words holds spec imp
 
 -- two texts read as designs with equal ports that no contents of the box make agree
 abbrev pub AreRefuted : List ℕ → List ℕ → Type 0
@@ -74,7 +79,3 @@ AreRefuted spec imp = (s : Design) × (i : Design) × (empty : Option Design) ×
 abbrev pub AreOpen : List ℕ → List ℕ → Type 0
 AreOpen spec imp =
     (s : Design) × (i : Design) × (empty : Option Design) × IsSpec spec s × IsImp imp i empty × HaveEqualPorts s i × Passes s i empty (all_zero i) × Passes s i empty (all_one i)
-
--- what is so of two texts is so of the two files that the words ask for, where it is told what they hold
-abbrev pub AreFilesSo : (List ℕ → List ℕ → Type 0) → List (List ℕ) → (List ℕ → Option (List ℕ)) → Type 0
-AreFilesSo so words holds = IfSome (asked words) (λ names. IfSome (holds names.0) (λ spec. IfSome (holds names.1) (λ imp. so spec imp)))

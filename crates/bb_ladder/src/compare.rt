@@ -1,12 +1,12 @@
-// The top call: the words are read, then the two files, and the report is made whole before its first byte is written.
+//! The top call: the words are read, then the two files, and the report is made whole before its first byte is written.
 ghost use Rattle.std.specs.Prelude.{◌≡◌, ◌≤◌, ◌<◌, ◌≢◌, ℕ, List, length, map, take, string_bytes, IfOk};
 ghost use Rattle.std.specs.Io.KnownBytes.{append_known};
 ghost use Rattle.bb_outside.specs.Counts.{Rose};
 ghost use Rattle.bb_ladder.specs.declared.answer.TheConstants.{READ_LIMIT};
-ghost use Rattle.bb_ladder.specs.Answers.{AfterSpec, AreFilesSo, AreOpen, AreRefuted, MayAnswer, OfFiles};
+ghost use Rattle.bb_ladder.specs.Answers.{AfterSpec, AreOpen, AreRefuted, AreTexts, MayAnswer, OfFiles};
 
 use crate::answer::{Answer, READ_LIMIT, say};
-use crate::judge::judge;
+use crate::judge::judge_texts;
 use crate::words::{Names, asked_names};
 use bb_bits::NoMemory;
 use bb_outside::{FileFault, Files, Sink, put_all};
@@ -20,23 +20,24 @@ fn read_imp<F: Files>(
     files: &mut F,
 ) -> Result<Answer, NoMemory>
     requires { length spec.now < READ_LIMIT }
-    ensures answer { IfOk result (λ answer. AfterSpec (F.holds files.old imp.now) (F.reads files.old) (F.reads files.new) spec.now answer.status answer.report.items) }
-    ensures unread { IfOk result (λ answer. answer.status ≡ 4 → Rose (F.faults files.old) (F.faults files.new)) }
-    ensures never_falls { F.faults files.old ≤ F.faults files.new }
+    ensures answer { IfOk result (λ answer. AfterSpec (F.holds files.old imp.now) imp.now (F.reads files.old) (F.reads files.new)
+        spec.now answer.status answer.report.items) }
+    ensures never_falls { (F.reads files.old).faults ≤ (F.reads files.new).faults }
     ensures kept { (n : List ℕ) → F.holds files.new n ≡ F.holds files.old n }
 {
     match files.read(alloc, imp, READ_LIMIT) {
         Err(FileFault::Failed) => say(alloc, 4, "unread impl\n"),
         Err(FileFault::NoMemory) => Err(NoMemory),
         Ok(text) if text.len() as u64 == READ_LIMIT => say(alloc, 2, "refused impl toolong\n"),
-        Ok(text) => judge(alloc, spec, &text),
+        Ok(text) => judge_texts(alloc, spec, &text),
     }
 }
 
 // Reads the specification, and then the implementation.
 fn read_spec<F: Files>(alloc: Global, names: Names<'_>, files: &mut F) -> Result<Answer, NoMemory>
-    ensures answer { IfOk result (λ answer. OfFiles (F.holds files.old) (names.entry.spec.now, names.entry.imp.now) (F.reads files.old) (F.reads files.new) answer.status answer.report.items) }
-    ensures unread { IfOk result (λ answer. answer.status ≡ 4 → Rose (F.faults files.old) (F.faults files.new)) }
+    ensures answer { IfOk result (λ answer. OfFiles (F.holds files.old) (names.entry.spec.now, names.entry.imp.now)
+        (F.reads files.old) (F.reads files.new) answer.status answer.report.items) }
+    ensures never_falls { (F.reads files.old).faults ≤ (F.reads files.new).faults }
     ensures kept { (n : List ℕ) → F.holds files.new n ≡ F.holds files.old n }
 {
     match files.read(alloc, names.spec, READ_LIMIT) {
@@ -49,8 +50,9 @@ fn read_spec<F: Files>(alloc: Global, names: Names<'_>, files: &mut F) -> Result
 
 // What is answered to the words.
 fn answer<F: Files>(alloc: Global, words: &[String], files: &mut F) -> Result<Answer, NoMemory>
-    ensures answer { IfOk result (λ answer. MayAnswer (map string_bytes words.now) (F.holds files.old) (F.reads files.old) (F.reads files.new) answer.status answer.report.items) }
-    ensures unread { IfOk result (λ answer. answer.status ≡ 4 → Rose (F.faults files.old) (F.faults files.new)) }
+    ensures answer { IfOk result (λ answer. MayAnswer (map string_bytes words.now) (F.holds files.old) (F.reads files.old) (F.reads files.new)
+        answer.status answer.report.items) }
+    ensures never_falls { (F.reads files.old).faults ≤ (F.reads files.new).faults }
     ensures kept { (n : List ℕ) → F.holds files.new n ≡ F.holds files.old n }
 {
     match asked_names(words) {
@@ -80,15 +82,17 @@ pub fn run<F: Files, K: Sink>(alloc: Global, words: &[String], files: &mut F, ou
         × MayAnswer (map string_bytes words.now) (F.holds files.old) (F.reads files.old) (F.reads files.new) status text }
 
     // An error is reported only where no contents of the box make every output agree on every vector.
-    ensures error { result ≡ 1 → AreFilesSo AreRefuted (map string_bytes words.now) (F.holds files.old) }
+    ensures error { result ≡ 1 → (spec imp : List ℕ) → AreTexts (map string_bytes words.now) (F.holds files.old) spec imp → AreRefuted spec imp }
 
     // The question is left open only where neither of the two vectors shows a mistake.
-    ensures left_open { result ≡ 3 → AreFilesSo AreOpen (map string_bytes words.now) (F.holds files.old) }
+    ensures left_open { result ≡ 3 → (spec imp : List ℕ) → AreTexts (map string_bytes words.now) (F.holds files.old) spec imp → AreOpen spec imp }
 
     // What the files hold stays, and a file or the sink is blamed only where a failure was counted in this call.
     ensures kept { (n : List ℕ) → F.holds files.new n ≡ F.holds files.old n }
-    ensures unread { result ≡ 4 → Rose (F.faults files.old) (F.faults files.new) }
+    ensures unread { result ≡ 4 → Rose (F.reads files.old).faults (F.reads files.new).faults }
     ensures failed { result ≡ 6 → Rose (K.faults out.old) (K.faults out.new) }
+    ensures reads_never_fall { (F.reads files.old).faults ≤ (F.reads files.new).faults }
+    ensures faults_never_fall { K.faults out.old ≤ K.faults out.new }
 {
     let Ok(answer) = answer(alloc, words, files) else {
         return 5;

@@ -1,8 +1,8 @@
-// The verdict on two texts: each is read as a circuit, the specification first, and then the two are compared.
+//! The verdict on two texts: each is read as a circuit, the specification first, and then the two are compared.
 ghost use Rattle.std.specs.Prelude.{◌≡◌, ◌<◌, ◌⊎◌, ◌↔◌, ℕ, List, Option, None, length, codes, IsTrue, IfOk, IfErr};
 ghost use Rattle.bb_narrow.specs.Designs.{Design};
 ghost use Rattle.bb_ladder.specs.declared.answer.TheConstants.{READ_LIMIT};
-ghost use Rattle.bb_ladder.specs.Answers.{Judges, IsSpec, IsImp, NoSpec, NoImp};
+ghost use Rattle.bb_ladder.specs.Answers.{AreOpen, AreRefuted, Judges, IsSpec, IsImp, NoSpec, NoImp};
 ghost use Rattle.bb_ladder.specs.Refusals.{IsTextFault, fault_words, refusal};
 ghost use Rattle.bb_ladder.specs.Wiring.{IsCircuitOf};
 
@@ -75,8 +75,8 @@ fn refuse(alloc: Global, side: &str, fault: &TextFault) -> Result<Answer, NoMemo
     Ok(Answer { status: 2, report })
 }
 
-/// What is answered to the text of the specification and that of the implementation.
-pub fn judge(alloc: Global, spec: &[u8], imp: &[u8]) -> Result<Answer, NoMemory>
+// What is answered to the text of the specification and that of the implementation.
+fn judge(alloc: Global, spec: &[u8], imp: &[u8]) -> Result<Answer, NoMemory>
     requires spec { length spec.now < READ_LIMIT }
     requires imp { length imp.now < READ_LIMIT }
     ensures { IfOk result (λ answer. Judges spec.now imp.now answer.status answer.report.items) }
@@ -101,4 +101,22 @@ pub fn judge(alloc: Global, spec: &[u8], imp: &[u8]) -> Result<Answer, NoMemory>
     }
     let answer = compare_circuits(alloc, &specification, &implementation)?;
     Ok(answer)
+}
+
+/// What is answered to the text of the specification and that of the implementation, whoever read them.
+///
+/// Status 1 says that no contents of the box make every output agree on every vector, status 3 that neither of the two
+/// vectors shows a mistake, and status 2 that the line is the refusal of the first thing that is wrong.
+///
+/// # Errors
+///
+/// Want of memory alone.
+pub fn judge_texts(alloc: Global, spec: &[u8], imp: &[u8]) -> Result<Answer, NoMemory>
+    requires spec { length spec.now < READ_LIMIT }
+    requires imp { length imp.now < READ_LIMIT }
+    ensures answer { IfOk result (λ answer. Judges spec.now imp.now answer.status answer.report.items) }
+    ensures error { IfOk result (λ answer. answer.status ≡ 1 → AreRefuted spec.now imp.now) }
+    ensures left_open { IfOk result (λ answer. answer.status ≡ 3 → AreOpen spec.now imp.now) }
+{
+    judge(alloc, spec, imp)
 }

@@ -4,7 +4,7 @@ ghost use Rattle.bb_bits.specs.Contents.{Contents};
 ghost use Rattle.bb_narrow.specs.Designs.{Design};
 ghost use Rattle.bb_ladder.specs.Circuits.{IsCircuit, IsAmong, input_ports, output_ports};
 ghost use Rattle.bb_ladder.specs.Worlds.{two, three, IsWorld, HasVector};
-ghost use Rattle.bb_ladder.specs.Agreement.{row_of, NoneAgree};
+ghost use Rattle.bb_ladder.specs.Agreement.{row_of, Agree, NoneAgree};
 ghost use Rattle.bb_ladder.specs.Report.{MayBe, unknown, FailsAt, Reports};
 ghost use Rattle.bb_ladder.specs.Answers.{HaveEqualPorts, Judges};
 ghost use Rattle.bb_ladder.specs.Laws.{settled, FillsBox};
@@ -51,6 +51,11 @@ pub fn vector_has_world()
 pub fn world_without_box()
     ensures bits { (d : Design) (box other : List ℕ → List Bool → List Bool) (w : List ℕ → Bool) → IsCircuit d None → IsWorld two box d None w → IsWorld two other d None w }
     ensures values { (d : Design) (box other : List ℕ → List (Option Bool) → List (Option Bool)) (w : List ℕ → Option Bool) → IsCircuit d None → IsWorld three box d None w → IsWorld three other d None w }
+{}
+
+/// A specification agrees with itself, so agreement can be had.
+pub fn circuits_agree_with_themselves()
+    ensures { (d : Design) (contents : Contents) → IsCircuit d None → Agree contents d d None }
 {}
 
 /// Where an output cannot be what the specification says, no contents of the box make the circuits agree; so none do where an

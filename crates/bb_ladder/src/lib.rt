@@ -21,7 +21,8 @@ mod words;
 
 pub use answer::{Answer, READ_LIMIT, read_limit_is};
 pub use compare::run;
+pub use judge::judge_texts;
 pub use laws::{
-    error_excludes_contents, known_is_bit, report_is_determined, texts_are_judged_once,
-    vector_has_world, world_is_determined, world_without_box,
+    circuits_agree_with_themselves, error_excludes_contents, known_is_bit, report_is_determined,
+    texts_are_judged_once, vector_has_world, world_is_determined, world_without_box,
 };

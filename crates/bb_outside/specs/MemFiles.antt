@@ -1,10 +1,10 @@
 -- Files in memory: a list of names with their bytes, and the numbers of the reads that fail. The first read
 -- has number 0, so the number of a read is the number of reads before it.
-use Rattle.std.specs.Prelude.{◌≡◌, ◌≢◌, ℕ, Bool, if◌then◌else◌, ◌==◌, List, [], ◌∷◌, map, nat_eq, Vec, String, string_bytes}
+use Rattle.std.specs.Prelude.{None, ◌≡◌, ◌≢◌, ℕ, Bool, if◌then◌else◌, ◌==◌, List, [], ◌∷◌, map, nat_eq, Vec, String, string_bytes}
 use Rattle.std.specs.declared.alloc.Global.{Global}
 use Rattle.std.specs.List.{list_any}
 use lib.Pointwise.{pointwise}
-use Rattle.bb_outside.specs.Counts.{next_count}
+use Rattle.bb_outside.specs.Counts.{Reads, next_count}
 
 -- files by name, the reads that fail, and the counts of reads and of failed reads
 pub record HeldFiles : Type 0 where
@@ -12,6 +12,10 @@ pub record HeldFiles : Type 0 where
   pub failing : List ℕ
   pub reads : ℕ
   pub faults : ℕ
+
+-- what a caller over any files sees of the reads; the names that were read are not kept
+abbrev pub reads_of : HeldFiles → Reads
+reads_of m = record { count = m.reads; faults = m.faults; names = None }
 
 -- names and texts as bytes
 abbrev pub entries : List (String Global × Vec ℕ Global) → List (List ℕ × List ℕ)

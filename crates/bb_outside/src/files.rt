@@ -1,7 +1,7 @@
-// Files that are read by name.
+//! Files that are read by name.
 ghost use Rattle.std.specs.Prelude.{◌≡◌, ◌≤◌, ℕ, Option, List, take, IfOk, IfSome, IsErrOf, vec_len};
 ghost use Rattle.bb_outside.specs.declared.files.FileFault.TheVariants.{NoMemory};
-ghost use Rattle.bb_outside.specs.Counts.{Rose, next_count};
+ghost use Rattle.bb_outside.specs.Counts.{IsRead, Reads, Rose};
 
 use std::alloc::{AllocError, AllocFailed, Global};
 
@@ -35,11 +35,9 @@ pub trait Files {
     /// The bytes under a name, where the object tells them.
     ghost holds: { Self → List ℕ → Option (List ℕ) };
 
-    /// A count of failed reads. It never falls.
-    ghost faults: { Self → ℕ };
-
-    /// The number of reads so far, which stays at the last 64-bit number.
-    ghost reads: { Self → ℕ };
+    /// How many reads there were so far, how many of them failed, each up to the last 64-bit number, and the names that
+    /// were read, where the object tells them.
+    ghost reads: { Self → Reads };
 
     /// The first `limit` bytes of the file of this name, or all where there are fewer.
     fn read(&mut self, alloc: Global, name: &str, limit: u64) -> Result<Vec<u8>, FileFault>
@@ -47,11 +45,10 @@ pub trait Files {
         ensures bytes { IfOk result (λ bytes. IfSome (holds self.old name.now)
             (λ held. bytes.items ≡ take limit held)) }
 
-        // What is held stays as it is, and each call is counted, whatever it answers.
+        // What is held stays as it is, and each call is one read of this name, whatever it answers.
         ensures holds { (n : List ℕ) → holds self.new n ≡ holds self.old n }
-        ensures reads { reads self.new ≡ next_count (reads self.old) }
+        ensures reads { IsRead (reads self.old) (reads self.new) name.now }
 
         // A failure is told only where one was counted in this call.
-        ensures never_falls { faults self.old ≤ faults self.new }
-        ensures failed { IsErrOf result FileFault.Failed → Rose (faults self.old) (faults self.new) };
+        ensures failed { IsErrOf result FileFault.Failed → Rose (reads self.old).faults (reads self.new).faults };
 }

@@ -1,4 +1,4 @@
-// What a reader expects of the definitions that the clauses cite.
+//! What a reader expects of the definitions that the clauses cite.
 ghost use Rattle.bb_outside.specs.Counts.{RoseIsGrowth};
 ghost use Rattle.bb_outside.specs.MemFiles.{FirstOfTheNameCounts};
 

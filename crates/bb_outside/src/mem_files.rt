@@ -1,7 +1,7 @@
-// Files in memory, which fail by a list.
+//! Files in memory, which fail by a list.
 ghost use Rattle.std.specs.Prelude.{◌≡◌, ◌≤◌, ◌↔◌, ℕ, List, Option, Some, take, map, length, Contains, IfOk, IfSome, IsErrOf, vec_len, string_bytes};
-ghost use Rattle.bb_outside.specs.Counts.{Rose, next_count};
-ghost use Rattle.bb_outside.specs.MemFiles.{text_under, is_failing, after_read, entries};
+ghost use Rattle.bb_outside.specs.Counts.{IsRead, Rose};
+ghost use Rattle.bb_outside.specs.MemFiles.{text_under, is_failing, after_read, entries, reads_of};
 
 use crate::{FileFault, Files};
 use std::alloc::Global;
@@ -53,9 +53,7 @@ fn text<'a>(files: &'a [(String, Vec<u8>)], name: &str) -> &'a [u8]
 impl Files for MemFiles {
     ghost holds = { λ m name. Some (text_under m.files name) };
 
-    ghost faults = { λ m. m.faults };
-
-    ghost reads = { λ m. m.reads };
+    ghost reads = { reads_of };
 
     fn read(&mut self, alloc: Global, name: &str, limit: u64) -> Result<Vec<u8>, FileFault>
         ensures within { IfOk result (λ bytes. vec_len bytes ≤ limit) }
@@ -67,8 +65,7 @@ impl Files for MemFiles {
 
         // What a caller over any files sees.
         ensures holds { (n : List ℕ) → Some (text_under self.new.files n) ≡ Some (text_under self.old.files n) }
-        ensures reads { self.new.reads ≡ next_count self.old.reads }
-        ensures never_falls { self.old.faults ≤ self.new.faults }
+        ensures reads { IsRead (reads_of self.old) (reads_of self.new) name.now }
         ensures failed { IsErrOf result FileFault.Failed → Rose self.old.faults self.new.faults }
     {
         let number = self.reads;

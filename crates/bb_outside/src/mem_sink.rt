@@ -1,4 +1,4 @@
-// A sink in memory, which takes and fails by a plan.
+//! A sink in memory, which takes and fails by a plan.
 ghost use Rattle.std.specs.Prelude.{◌≡◌, ◌<◌, ◌≤◌, take, ◌+◌, ◌↔◌, [], ◌++◌, Some, max, length, drop, IfOk, OnOk, OnErr, IsOk, IsErr, vec_len, vec_capacity};
 ghost use Rattle.std.specs.Io.KnownBytes.{append_known};
 ghost use Rattle.bb_outside.specs.Counts.{Rose};

@@ -1,4 +1,4 @@
-// A sink that takes bytes in pieces.
+//! A sink that takes bytes in pieces.
 ghost use Rattle.std.specs.Prelude.{◌≡◌, ◌<◌, ◌≤◌, ℕ, Option, List, length, take, IfOk, OnOk, OnErr};
 ghost use Rattle.std.specs.Io.KnownBytes.{append_known};
 ghost use Rattle.bb_outside.specs.Counts.{Rose};

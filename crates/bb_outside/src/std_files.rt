@@ -1,6 +1,6 @@
-// The files of the system.
+//! The files of the system.
 ghost use Rattle.std.specs.Prelude.{◌≡◌, ◌≤◌, take, IfOk, IfSome, IsErr, IsErrOf, None, vec_len};
-ghost use Rattle.bb_outside.specs.Counts.{CountsWhere, Rose, next_count};
+ghost use Rattle.bb_outside.specs.Counts.{CountsWhere, IsRead, Rose};
 
 use crate::{FileFault, Files};
 use std::alloc::Global;
@@ -20,17 +20,18 @@ pub struct StdFiles<R: rt::Files + Drop> {
 }
 
 impl<R: rt::Files + Drop> Model for StdFiles<R> {
-    ghost use Rattle.bb_outside.specs.Counts.{ReadCounts};
+    ghost use Rattle.std.specs.Prelude.{None};
+    ghost use Rattle.bb_outside.specs.Counts.{Reads};
 
-    ghost Value = { ReadCounts };
+    ghost Value = { Reads };
 
-    ghost view = { λ s. record { reads = s.reads; faults = s.faults } };
+    ghost view = { λ s. record { count = s.reads; faults = s.faults; names = None } };
 }
 
 impl<R: rt::Files + Drop> StdFiles<R> {
     /// The files that this runtime reaches.
     pub fn new(files: R) -> StdFiles<R>
-        ensures { result ≡ record { reads = 0; faults = 0 } }
+        ensures { result ≡ record { count = 0; faults = 0; names = None } }
     {
         StdFiles {
             files,
@@ -80,19 +81,16 @@ fn read_opened<F: Read + Drop>(
 impl<R: rt::Files + Drop> Files for StdFiles<R> {
     ghost holds = { λ _ _. None };
 
-    ghost faults = { λ s. s.faults };
-
-    ghost reads = { λ s. s.reads };
+    ghost reads = { λ s. s };
 
     fn read(&mut self, alloc: Global, name: &str, limit: u64) -> Result<Vec<u8>, FileFault>
         ensures within { IfOk result (λ bytes. vec_len bytes ≤ limit) }
-        ensures reads { self.new.reads ≡ next_count self.old.reads }
 
         // A failure is counted where it is told, and only there.
         ensures counted { CountsWhere (IsErrOf result FileFault.Failed) self.old.faults self.new.faults }
 
         // What a caller over any files sees.
-        ensures never_falls { self.old.faults ≤ self.new.faults }
+        ensures reads { IsRead self.old self.new name.now }
         ensures failed { IsErrOf result FileFault.Failed → Rose self.old.faults self.new.faults }
     {
         self.reads = self.reads.saturating_add(1);

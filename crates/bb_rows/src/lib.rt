@@ -2,6 +2,8 @@
 #![tactic(auto)]
 
 #[cfg(test)]
+mod example_tests;
+#[cfg(test)]
 mod fault_tests;
 mod memory;
 #[cfg(test)]

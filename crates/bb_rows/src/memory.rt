@@ -1,7 +1,7 @@
-// One run of the top call over two texts in memory.
-ghost use Rattle.std.specs.Prelude.{◌≡◌, ◌<◌, ◌≤◌, ◌∷◌, [], ℕ, List, Some, map, codes, string_bytes, IfOk};
-ghost use Rattle.bb_outside.specs.MemFiles.{text_under};
-ghost use Rattle.bb_ladder.specs.Answers.{MayAnswer};
+//! One run of the top call over two texts in memory.
+ghost use Rattle.std.specs.Prelude.{◌≡◌, ◌<◌, ◌≤◌, ◌∷◌, [], ℕ, List, length, take, map, codes, string_bytes, IfOk};
+ghost use Rattle.bb_ladder.specs.Answers.{AreRefuted};
+ghost use Rattle.bb_rows.specs.Memory.{MayTell};
 
 use bb_ladder::run;
 use bb_outside::{MemFiles, MemSink, Take};
@@ -41,7 +41,7 @@ fn held_files(
     failing: Vec<u64>,
 ) -> Result<MemFiles, AllocError>
     ensures files { IfOk result (λ files. files.files ≡ (codes "s.v", spec.now) ∷ (codes "i.v", imp.now) ∷ []) }
-    ensures reads { IfOk result (λ files. files.reads ≡ 0) }
+    ensures reads { IfOk result (λ files. (files.reads ≡ 0) × (files.faults ≡ 0)) }
 {
     let mut held = Vec::new(alloc);
     held.push(file(alloc, "s.v", spec)?)?;
@@ -69,10 +69,17 @@ pub fn run_in_memory(
     plan: Vec<Take>,
 ) -> Result<Outcome, AllocError>
     ensures status { IfOk result (λ outcome. outcome.status ≤ 6) }
-    // A report that is written whole is one that may be answered to the words and the two files.
-    ensures whole { IfOk result (λ outcome. outcome.status < 5 → (reads : ℕ) × MayAnswer (map (λ text. text.now) texts.now)
-        (λ name. Some (text_under ((codes "s.v", spec.now) ∷ (codes "i.v", imp.now) ∷ []) name)) 0 reads outcome.status outcome.report.items) }
+
+    // What is written is a whole report that may be answered to the words and the two files, a front of one, or nothing.
+    ensures whole { IfOk result (λ outcome. outcome.status < 5
+        → MayTell (map (λ text. text.now) texts.now) spec.now imp.now outcome.status outcome.report.items) }
+    ensures front { IfOk result (λ outcome. outcome.status ≡ 6 → (status : ℕ) × (text : List ℕ) × (n : ℕ) × (n < length text)
+        × (outcome.report.items ≡ take n text) × MayTell (map (λ text. text.now) texts.now) spec.now imp.now status text) }
     ensures silent { IfOk result (λ outcome. outcome.status ≡ 5 → outcome.report.items ≡ []) }
+
+    // An error is reported only where no contents of the box make the two agree.
+    ensures error { IfOk result (λ outcome. outcome.status ≡ 1 → (program : List ℕ)
+        → map (λ text. text.now) texts.now ≡ program ∷ codes "s.v" ∷ codes "i.v" ∷ [] → AreRefuted spec.now imp.now) }
 {
     let words = words(alloc, texts)?;
     let mut files = held_files(alloc, spec, imp, failing)?;

@@ -1,5 +1,5 @@
-// A plain reference for small designs: the bit of a net is found by recursion, agreement by trying every vector, and whether some
-// contents agree by trying all of them. It shares no code with the checker that it is compared with.
+//! A plain reference for small designs: the bit of a net is found by recursion, agreement by trying every vector, and whether some
+//! contents agree by trying all of them. It shares the reader of texts with the checker that it is compared with, and nothing else.
 use bb_lex::tokens;
 use bb_narrow::{Design, Gate, Kind, Part, designs_of};
 use bb_parse::source;

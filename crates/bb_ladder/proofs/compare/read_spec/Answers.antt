@@ -12,5 +12,5 @@ returns-in-Ok-clause-answer g c =
 pub returns-in-Ok-2-clause-answer : goal.returns-in-Ok-2-clause-answer
 returns-in-Ok-2-clause-answer g c =
     let short : length c.in-Ok.text.items < READ_LIMIT = omega (arith, c.in-Ok.text.ok, c.in-Ok.ensures.within) in
-    let read = rw (c.read.ensures.holds c.args.names.imp.now, c.read.ensures.reads, c.deref.ensures.value) at c.read_imp.ensures.answer in
-    IfOk-weaker _ _ _ (λ a e. SpecRead c.in-Ok.text.items c.in-Ok.ensures.bytes short e) read
+    let read = rw (c.read.ensures.holds c.args.names.imp.now, c.deref.ensures.value) at c.read_imp.ensures.answer in
+    IfOk-weaker _ _ _ (λ a e. SpecRead c.in-Ok.text.items _ c.in-Ok.ensures.bytes short c.in-Ok.ensures.reads e) read

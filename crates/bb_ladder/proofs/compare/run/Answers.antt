@@ -1,4 +1,4 @@
-use Rattle.bb_ladder.proofs.HeadlineLemmas.{error_sound, open_sound}
+use Rattle.bb_ladder.proofs.HeadlineLemmas.{error_sound, open_sound, unread_rose}
 use Rattle.bb_ladder.proofs.compare.run.Goals as goal
 
 pub returns-in-Ok-put_all-clause-whole : goal.returns-in-Ok-put_all-clause-whole
@@ -10,7 +10,10 @@ returns-clause-front g c = λ six.
     (c.in-Ok.answer.status, c.in-Ok.answer.report.items, cut.0, cut.1, cut.2, c.in-Ok.ensures.answer)
 
 pub returns-in-Ok-put_all-clause-error : goal.returns-in-Ok-put_all-clause-error
-returns-in-Ok-put_all-clause-error g c = λ one. error_sound _ _ _ _ c.in-Ok.answer.status c.in-Ok.answer.report.items c.in-Ok.ensures.answer one
+returns-in-Ok-put_all-clause-error g c = λ one spec imp texts. error_sound _ _ _ _ c.in-Ok.answer.status c.in-Ok.answer.report.items spec imp c.in-Ok.ensures.answer one texts
 
 pub returns-in-Ok-put_all-clause-left_open : goal.returns-in-Ok-put_all-clause-left_open
-returns-in-Ok-put_all-clause-left_open g c = λ three. open_sound _ _ _ _ c.in-Ok.answer.status c.in-Ok.answer.report.items c.in-Ok.ensures.answer three
+returns-in-Ok-put_all-clause-left_open g c = λ three spec imp texts. open_sound _ _ _ _ c.in-Ok.answer.status c.in-Ok.answer.report.items spec imp c.in-Ok.ensures.answer three texts
+
+pub returns-in-Ok-put_all-clause-unread : goal.returns-in-Ok-put_all-clause-unread
+returns-in-Ok-put_all-clause-unread g c = λ four. unread_rose _ _ _ _ c.in-Ok.answer.status c.in-Ok.answer.report.items c.in-Ok.ensures.answer four

@@ -1,13 +1,30 @@
 use Rattle.std.proofs.Common.{◌∙◌, ap, map, string_bytes}
-use Rattle.bb_rows.proofs.Told.{grown, told}
+use Rattle.bb_rows.proofs.Told.{fresh, grown, refuted, told}
 use Rattle.bb_rows.proofs.memory.run_in_memory.Goals as goal
 
 pub returns-clause-whole : goal.returns-clause-whole
 returns-clause-whole c = λ small.
-    let answer = c.run-status.ensures.whole small in (
-      _,
-      told _ _ _ _ _ _ c.run-status.result answer.0 c.in_ok-report.report.items
-          (ap (map string_bytes) c.deref.ensures.value ∙ c.in_ok-words.ensures) c.in_ok-files.ensures.files c.in_ok-files.ensures.reads
-          (c.in_ok-report.ensures.items ∙ c.bytes.ensures ∙ grown _ _ answer.0 c.in_ok-sink.ensures answer.1)
-          answer.2,
+    let answer = c.run-status.ensures.whole small in
+    let is_text = c.in_ok-report.ensures.items ∙ c.bytes.ensures ∙ grown _ _ answer.0 c.in_ok-sink.ensures answer.1 in
+    rw is_text (told _ _ _ _ _ _ _ c.run-status.result answer.0
+    (ap (map string_bytes) c.deref.ensures.value ∙ c.in_ok-words.ensures) c.in_ok-files.ensures.files
+    (fresh c.in_ok-files.files c.in_ok-files.ensures.reads.0 c.in_ok-files.ensures.reads.1) answer.2)
+
+pub returns-clause-front : goal.returns-clause-front
+returns-clause-front c = λ six.
+    let answer = c.run-status.ensures.front six in
+    let is_text = c.in_ok-report.ensures.items ∙ c.bytes.ensures ∙ grown _ _ _ c.in_ok-sink.ensures answer.4 in (
+      answer.0,
+      answer.1,
+      answer.2,
+      answer.3,
+      is_text,
+      told _ _ _ _ _ _ _ answer.0 answer.1
+          (ap (map string_bytes) c.deref.ensures.value ∙ c.in_ok-words.ensures) c.in_ok-files.ensures.files
+          (fresh c.in_ok-files.files c.in_ok-files.ensures.reads.0 c.in_ok-files.ensures.reads.1) answer.5,
     )
+
+pub returns-clause-error : goal.returns-clause-error
+returns-clause-error c = λ one program asked.
+    refuted _ _ _ program _ _ (ap (map string_bytes) c.deref.ensures.value ∙ c.in_ok-words.ensures) c.in_ok-files.ensures.files asked
+    (c.run-status.ensures.error one)
