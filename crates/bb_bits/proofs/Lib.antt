@@ -3,6 +3,8 @@ pub mod TableLemmas
 pub mod TruthBeads
 pub mod TruthBits
 pub mod TruthBlocks
+pub mod TruthFinite
 pub mod TruthLaws
 pub mod TruthPoints
+pub mod TruthQuantifiers
 pub mod TruthSizes

@@ -6,8 +6,8 @@ use Rattle.std.proofs.lemmas.Bool.{cases_lt, cases_order}
 use Rattle.std.proofs.Math.Seq.{drop-append-add}
 use Rattle.std.proofs.Math.Nat.{pow-suc, mul-le-mul_right, le_of_mul-le-mul_left}
 use Rattle.std.proofs.Math.Pow.{pow-lt}
-use Rattle.bb_bits.specs.Truth.{Truth, Bit, Halves, IsTable, bits_of, IsSubtableOf, IsBead, IsBeadOf, IsAlignedBead}
-use Rattle.bb_bits.proofs.TruthBits.{length-bits_of, bits_fix_table}
+use Rattle.bb_bits.specs.Truth.{Truth, Bit, Halves, IsTruthTable, truth_bits, IsSubtableOf, IsBead, IsBeadOf, IsAlignedBead}
+use Rattle.bb_bits.proofs.TruthBits.{length-truth_bits, bits_fix_table}
 use Rattle.bb_bits.proofs.TruthBeads.{IsSubtableOf-self}
 
 -- the block of 2^m bits with the number k
@@ -30,23 +30,23 @@ block_within m j k h =
     omega (arith, p, pow-add 2 m j)
 
 -- the table of the block of 2^m bits with this number is a subtable
-subtable_at : (j m k : ℕ) (t : Truth) → IsTable (m + j) t → k < 2 ^ j → (b : Truth) × IsTable m b × IsSubtableOf b t × (bits_of b ≡ block m k (bits_of t))
+subtable_at : (j m k : ℕ) (t : Truth) → IsTruthTable (m + j) t → k < 2 ^ j → (b : Truth) × IsTruthTable m b × IsSubtableOf b t × (truth_bits b ≡ block m k (truth_bits t))
 subtable_at zero m k t h l =
     let e : k ≡ 0 = omega (arith, l) in
-    let h' : IsTable m t = rw add-zero at h in
-    (t, h', IsSubtableOf-self t, rw (e, zero-mul) (sym (take_all (2 ^ m) (bits_of t) (omega (arith, length-bits_of m t h')))))
+    let h' : IsTruthTable m t = rw add-zero at h in
+    (t, h', IsSubtableOf-self t, rw (e, zero-mul) (sym (take_all (2 ^ m) (truth_bits t) (omega (arith, length-truth_bits m t h')))))
 subtable_at (suc j) m k (Bit x) h l = absurd (rw add-suc at h)
 subtable_at (suc j) m k (Halves lo hi) h l =
-    let h' : IsTable (suc (m + j)) (Halves lo hi) = rw add-suc at h in
-    let long = length-bits_of (m + j) lo h'.0 in
+    let h' : IsTruthTable (suc (m + j)) (Halves lo hi) = rw add-suc at h in
+    let long = length-truth_bits (m + j) lo h'.0 in
     elim (cases_lt k (2 ^ j)) [
       | inl first ↦
           let s = subtable_at j m k lo h'.0 first in
-          (s.0, s.1, inr (inl s.2), s.3 ∙ sym (block-first m k (m + j) (bits_of lo) (bits_of hi) (omega (arith, long, block_within m j k first))))
+          (s.0, s.1, inr (inl s.2), s.3 ∙ sym (block-first m k (m + j) (truth_bits lo) (truth_bits hi) (omega (arith, long, block_within m j k first))))
       | inr second ↦
           let s = subtable_at j m (k - 2 ^ j) hi h'.1 (omega (arith, l, pow-suc 2 j)) in
           let e : 2 ^ j + (k - 2 ^ j) ≡ k = omega arith in
-          (s.0, s.1, inr (inr s.2), s.3 ∙ (sym (block-second m j (k - 2 ^ j) (bits_of lo) (bits_of hi) long) ∙ ap (λ i. block m i (bits_of lo ++ bits_of hi)) e))
+          (s.0, s.1, inr (inr s.2), s.3 ∙ (sym (block-second m j (k - 2 ^ j) (truth_bits lo) (truth_bits hi) long) ∙ ap (λ i. block m i (truth_bits lo ++ truth_bits hi)) e))
     ]
 
 -- where a subtable stands
@@ -56,11 +56,11 @@ pub record Place (v : ℕ) (b t : Truth) : Type 0 where
   pub k : ℕ
   pub sizes : m + j ≡ v
   pub below : k < 2 ^ j
-  pub isTable : IsTable m b
-  pub bits : bits_of b ≡ take (2 ^ m) (drop (k * 2 ^ m) (bits_of t))
+  pub isTable : IsTruthTable m b
+  pub bits : truth_bits b ≡ take (2 ^ m) (drop (k * 2 ^ m) (truth_bits t))
 
-pub place_of : (v : ℕ) (b t : Truth) → IsTable v t → IsSubtableOf b t → Place v b t
-place_of zero b (Bit x) h s = record { m = 0; j = 0; k = 0; sizes = refl; below = omega arith; isTable = subst (IsTable 0) (sym s) tt; bits = ap bits_of s }
+pub place_of : (v : ℕ) (b t : Truth) → IsTruthTable v t → IsSubtableOf b t → Place v b t
+place_of zero b (Bit x) h s = record { m = 0; j = 0; k = 0; sizes = refl; below = omega arith; isTable = subst (IsTruthTable 0) (sym s) tt; bits = ap truth_bits s }
 place_of zero b (Halves lo hi) h s = absurd h
 place_of (suc v) b (Bit x) h s = absurd h
 place_of (suc v) b (Halves lo hi) h (inl e) = record {
@@ -69,13 +69,13 @@ place_of (suc v) b (Halves lo hi) h (inl e) = record {
   k = 0;
   sizes = omega arith;
   below = omega arith;
-  isTable = subst (IsTable (suc v)) (sym e) h;
-  bits = ap bits_of e ∙ rw zero-mul (sym (take_all (2 ^ suc v) (bits_of lo ++ bits_of hi) (omega (arith, length-bits_of (suc v) (Halves lo hi) h))));
+  isTable = subst (IsTruthTable (suc v)) (sym e) h;
+  bits = ap truth_bits e ∙ rw zero-mul (sym (take_all (2 ^ suc v) (truth_bits lo ++ truth_bits hi) (omega (arith, length-truth_bits (suc v) (Halves lo hi) h))));
 }
 place_of (suc v) b (Halves lo hi) h (inr (inl s)) =
     let p = place_of v b lo h.0 s in
     let within = block_within p.m p.j p.k p.below in
-    let long = length-bits_of v lo h.0 in
+    let long = length-truth_bits v lo h.0 in
     let power = ap (λ n. 2 ^ n) p.sizes in
     record {
       m = p.m;
@@ -84,11 +84,11 @@ place_of (suc v) b (Halves lo hi) h (inr (inl s)) =
       sizes = omega (arith, p.sizes);
       below = omega (arith, p.below, pow-suc 2 p.j);
       isTable = p.isTable;
-      bits = p.bits ∙ sym (block-first p.m p.k v (bits_of lo) (bits_of hi) (omega (arith, within, long, power)));
+      bits = p.bits ∙ sym (block-first p.m p.k v (truth_bits lo) (truth_bits hi) (omega (arith, within, long, power)));
     }
 place_of (suc v) b (Halves lo hi) h (inr (inr s)) =
     let p = place_of v b hi h.1 s in
-    let long = length-bits_of v lo h.0 in
+    let long = length-truth_bits v lo h.0 in
     let power = ap (λ n. 2 ^ n) p.sizes in
     record {
       m = p.m;
@@ -97,25 +97,25 @@ place_of (suc v) b (Halves lo hi) h (inr (inr s)) =
       sizes = omega (arith, p.sizes);
       below = omega (arith, p.below, pow-suc 2 p.j);
       isTable = p.isTable;
-      bits = p.bits ∙ sym (block-second p.m p.j p.k (bits_of lo) (bits_of hi) (omega (arith, long, power)));
+      bits = p.bits ∙ sym (block-second p.m p.j p.k (truth_bits lo) (truth_bits hi) (omega (arith, long, power)));
     }
 
 -- a bead has halves, and so one variable at least
-bead_halves : (m : ℕ) (b : Truth) → IsTable m b → IsBead b → (n : ℕ) × (lo : Truth) × (hi : Truth) × (m ≡ suc n) × (b ≡ Halves lo hi) × IsTable n lo × IsTable n hi × (lo ≢ hi)
+bead_halves : (m : ℕ) (b : Truth) → IsTruthTable m b → IsBead b → (n : ℕ) × (lo : Truth) × (hi : Truth) × (m ≡ suc n) × (b ≡ Halves lo hi) × IsTruthTable n lo × IsTruthTable n hi × (lo ≢ hi)
 bead_halves zero (Bit x) h k = absurd k
 bead_halves zero (Halves lo hi) h k = absurd h
 bead_halves (suc n) (Bit x) h k = absurd h
 bead_halves (suc n) (Halves lo hi) h k = (n, lo, hi, refl, refl, h.0, h.1, k)
 
 -- the halves of a bead's bits differ
-halves_differ : (m : ℕ) (lo hi : Truth) (s : List Bool) → IsTable m lo → IsTable m hi → lo ≢ hi → bits_of lo ++ bits_of hi ≡ s → take (2 ^ m) s ≢ drop (2 ^ m) s
+halves_differ : (m : ℕ) (lo hi : Truth) (s : List Bool) → IsTruthTable m lo → IsTruthTable m hi → lo ≢ hi → truth_bits lo ++ truth_bits hi ≡ s → take (2 ^ m) s ≢ drop (2 ^ m) s
 halves_differ m lo hi s h k differ e same =
-    let long = length-bits_of m lo h in
-    let first : take (2 ^ m) s ≡ bits_of lo = rw (← e) (take_at (bits_of lo) (bits_of hi) (2 ^ m) long) in
-    let second : drop (2 ^ m) s ≡ bits_of hi = rw (← e) (drop_at (bits_of lo) (bits_of hi) (2 ^ m) long) in
+    let long = length-truth_bits m lo h in
+    let first : take (2 ^ m) s ≡ truth_bits lo = rw (← e) (take_at (truth_bits lo) (truth_bits hi) (2 ^ m) long) in
+    let second : drop (2 ^ m) s ≡ truth_bits hi = rw (← e) (drop_at (truth_bits lo) (truth_bits hi) (2 ^ m) long) in
     differ (bits_fix_table m lo hi h k (sym first ∙ (same ∙ second)))
 
-block_of_bead : (v : ℕ) (t b : Truth) (s : List Bool) → IsTable v t → IsBeadOf b t → bits_of b ≡ s → IsAlignedBead s (bits_of t)
+block_of_bead : (v : ℕ) (t b : Truth) (s : List Bool) → IsTruthTable v t → IsBeadOf b t → truth_bits b ≡ s → IsAlignedBead s (truth_bits t)
 block_of_bead v t b s h bead e =
     let p = place_of v b t h bead.0 in
     let q = bead_halves p.m b p.isTable bead.1 in
@@ -126,9 +126,9 @@ block_of_bead v t b s h bead e =
     record {
       m = n;
       k = p.k;
-      within = omega (arith, block_within p.m p.j p.k p.below, length-bits_of v t h, power, whole, ap (λ i. p.k * i) power);
-      block = sym e ∙ (p.bits ∙ ap (λ i. take i (drop (p.k * i) (bits_of t))) power);
-      differs = halves_differ n q.1 q.2 s q.5 q.6 q.7 (sym (ap bits_of q.4) ∙ e);
+      within = omega (arith, block_within p.m p.j p.k p.below, length-truth_bits v t h, power, whole, ap (λ i. p.k * i) power);
+      block = sym e ∙ (p.bits ∙ ap (λ i. take i (drop (p.k * i) (truth_bits t))) power);
+      differs = halves_differ n q.1 q.2 s q.5 q.6 q.7 (sym (ap truth_bits q.4) ∙ e);
     }
 
 -- a block of 2^m bits that lies within 2^v bits
@@ -147,24 +147,24 @@ block_below v m k h =
           (v - m, e, omega (arith, r))
     ]
 
-bead_from_bits : (m : ℕ) (b : Truth) → IsTable (suc m) b → take (2 ^ m) (bits_of b) ≢ drop (2 ^ m) (bits_of b) → IsBead b
+bead_from_bits : (m : ℕ) (b : Truth) → IsTruthTable (suc m) b → take (2 ^ m) (truth_bits b) ≢ drop (2 ^ m) (truth_bits b) → IsBead b
 bead_from_bits m (Bit x) h differ = h
 bead_from_bits m (Halves lo hi) h differ = λ e.
-    let long = length-bits_of m lo h.0 in
-    differ (take_at (bits_of lo) (bits_of hi) (2 ^ m) long ∙ (ap bits_of e ∙ sym (drop_at (bits_of lo) (bits_of hi) (2 ^ m) long)))
+    let long = length-truth_bits m lo h.0 in
+    differ (take_at (truth_bits lo) (truth_bits hi) (2 ^ m) long ∙ (ap truth_bits e ∙ sym (drop_at (truth_bits lo) (truth_bits hi) (2 ^ m) long)))
 
-bead_from_block : (m : ℕ) (b : Truth) → IsTable (m + 1) b → take (2 ^ m) (bits_of b) ≢ drop (2 ^ m) (bits_of b) → IsBead b
+bead_from_block : (m : ℕ) (b : Truth) → IsTruthTable (m + 1) b → take (2 ^ m) (truth_bits b) ≢ drop (2 ^ m) (truth_bits b) → IsBead b
 bead_from_block m b h = bead_from_bits m b (rw add-one at h)
 
-bead_of_block : (v : ℕ) (t : Truth) (s : List Bool) → IsTable v t → IsAlignedBead s (bits_of t) → (b : Truth) × IsBeadOf b t × (bits_of b ≡ s)
+bead_of_block : (v : ℕ) (t : Truth) (s : List Bool) → IsTruthTable v t → IsAlignedBead s (truth_bits t) → (b : Truth) × IsBeadOf b t × (truth_bits b ≡ s)
 bead_of_block v t s h a =
-    let place = block_below v (a.m + 1) a.k (omega (arith, a.within, length-bits_of v t h)) in
-    let sub = subtable_at place.0 (a.m + 1) a.k t (subst (λ i. IsTable i t) (sym place.1) h) place.2 in
-    let same : bits_of sub.0 ≡ s = sub.3 ∙ sym a.block in
+    let place = block_below v (a.m + 1) a.k (omega (arith, a.within, length-truth_bits v t h)) in
+    let sub = subtable_at place.0 (a.m + 1) a.k t (subst (λ i. IsTruthTable i t) (sym place.1) h) place.2 in
+    let same : truth_bits sub.0 ≡ s = sub.3 ∙ sym a.block in
     (sub.0, (sub.2, bead_from_block a.m sub.0 sub.1 (λ e. a.differs (subst (λ bits. take (2 ^ a.m) bits ≡ drop (2 ^ a.m) bits) same e))), same)
 
 -- the beads of a table are the aligned blocks of its bits whose halves differ
-pub beads_are_blocks : (v : ℕ) (t : Truth) (s : List Bool) → IsTable v t → (IsAlignedBead s (bits_of t) ↔ ((b : Truth) × IsBeadOf b t × (bits_of b ≡ s)))
+pub beads_are_blocks : (v : ℕ) (t : Truth) (s : List Bool) → IsTruthTable v t → (IsAlignedBead s (truth_bits t) ↔ ((b : Truth) × IsBeadOf b t × (truth_bits b ≡ s)))
 beads_are_blocks v t s h = (bead_of_block v t s h, λ found. block_of_bead v t found.0 s h found.1 found.2)
 
 pow_same : (m n : ℕ) → 2 ^ m ≡ 2 ^ n → m ≡ n
@@ -175,9 +175,9 @@ pow_same m n e =
     ]
 
 -- beads with the same bits are one bead
-pub blocks_fix_bead : (v w : ℕ) (t u b c : Truth) → IsTable v t → IsTable w u → IsBeadOf b t → IsBeadOf c u → bits_of b ≡ bits_of c → b ≡ c
+pub blocks_fix_bead : (v w : ℕ) (t u b c : Truth) → IsTruthTable v t → IsTruthTable w u → IsBeadOf b t → IsBeadOf c u → truth_bits b ≡ truth_bits c → b ≡ c
 blocks_fix_bead v w t u b c h k bead other e =
     let p = place_of v b t h bead.0 in
     let q = place_of w c u k other.0 in
-    let same : p.m ≡ q.m = pow_same p.m q.m (sym (length-bits_of p.m b p.isTable) ∙ (ap length e ∙ length-bits_of q.m c q.isTable)) in
-    bits_fix_table p.m b c p.isTable (subst (λ i. IsTable i c) (sym same) q.isTable) e
+    let same : p.m ≡ q.m = pow_same p.m q.m (sym (length-truth_bits p.m b p.isTable) ∙ (ap length e ∙ length-truth_bits q.m c q.isTable)) in
+    bits_fix_table p.m b c p.isTable (subst (λ i. IsTruthTable i c) (sym same) q.isTable) e

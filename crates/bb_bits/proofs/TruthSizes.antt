@@ -1,12 +1,13 @@
 -- lists without repetition, and how long they may be
-use Rattle.std.proofs.Common.{◌≡◌, ◌≢◌, ◌≤◌, ◌↔◌, ℕ, suc, List, [], ◌∷◌, length, get_or, refl, sym, ap, ◌∙◌, arith}
-use Rattle.std.specs.Prelude.{Contains, remove}
+use Rattle.std.proofs.Common.{◌≡◌, ◌≢◌, ◌≤◌, ◌<◌, ◌+◌, ◌↔◌, ◌⊎◌, ℕ, zero, suc, List, [], ◌∷◌, ◌++◌, length, length-append, get_or, refl, sym, ap, ◌∙◌, subst, inl, inr, arith}
+use Rattle.std.specs.Prelude.{All, Contains, remove}
 use Rattle.std.proofs.lemmas.List.Edits.{length-remove}
-use Rattle.std.proofs.lemmas.List.Elements.{All-contains}
+use Rattle.std.proofs.lemmas.List.Elements.{All-contains, All-weaker, Contains-push, Contains-append_left, Contains-append_cases}
+use Rattle.std.proofs.lemmas.List.Quantifiers.{all_pairs_push}
 use Rattle.std.proofs.lemmas.List.{get_or_default}
 use Rattle.std.proofs.lemmas.Grind.{in_remove}
 use Rattle.bb_bits.specs.Truth.{Truth}
-use Rattle.bb_bits.specs.TruthSets.{AreDistinct, HasSize, HasAtMost}
+use Rattle.bb_bits.specs.TruthSets.{AreDistinct, HasSize, HasMoreThan, HasAtMost}
 
 -- entries that all stand in a second list are at most as many as that has
 pub length-le_from_entries : (ts us : List Truth) → AreDistinct ts → ((t : Truth) → Contains ts t → Contains us t) → length ts ≤ length us
@@ -38,3 +39,49 @@ pub HasSize-one : (P : Truth → Type 0) (m n : ℕ) → HasSize P m → HasSize
 HasSize-one P m n h k =
     let same = size_is_fixed h.0 k.0 h.1 k.1 (λ t. (λ c. (k.2 t).1 ((h.2 t).0 c), λ c. (h.2 t).1 ((k.2 t).0 c))) in
     omega (arith, same, h.3, k.3)
+
+-- all entries of the list that counts a set are members
+pub All-from_size : (P : Truth → Type 0) (n : ℕ) (h : HasSize P n) → All P h.0
+All-from_size P n h k d l = (h.2 (get_or h.0 k d)).0 (k, l, get_or_default h.0 k (get_or h.0 k d) d l)
+
+pub more_than : (P : Truth → Type 0) (n k : ℕ) → HasSize P n → (HasMoreThan P k ↔ (k < n))
+more_than P n k h = (
+  λ many. let l = HasAtMost-from_size P n h many.0 many.1 many.2 in omega (arith, l, many.3),
+  λ l. (h.0, h.1, All-from_size P n h, omega (arith, l, h.3)),
+)
+
+pub at_most : (P : Truth → Type 0) (n k : ℕ) → HasSize P n → (HasAtMost P k ↔ (n ≤ k))
+at_most P n k h = (
+  λ few. let l = few h.0 h.1 (All-from_size P n h) in omega (arith, l, h.3),
+  λ l ts d all. let below = HasAtMost-from_size P n h ts d all in omega (arith, below, l),
+)
+
+pub not_both : (P : Truth → Type 0) (k : ℕ) → HasMoreThan P k → HasAtMost P k → ⊥
+not_both P k many few = let l = few many.0 many.1 many.2 in omega (arith, l, many.3)
+
+pub more_in_larger : (P Q : Truth → Type 0) (k : ℕ) → ((t : Truth) → P t → Q t) → HasMoreThan P k → HasMoreThan Q k
+more_in_larger P Q k f many = (many.0, many.1, All-weaker P Q f many.0 many.2, many.3)
+
+pub size_of_same : (P Q : Truth → Type 0) (n : ℕ) → ((t : Truth) → P t ↔ Q t) → HasSize P n → HasSize Q n
+size_of_same P Q n same h = (h.0, h.1, λ t. (λ c. (same t).0 ((h.2 t).0 c), λ q. (h.2 t).1 ((same t).1 q)), h.3)
+
+pub one_more : (P Q : Truth → Type 0) (n : ℕ) (t : Truth) → ((u : Truth) → Q u ↔ (P u ⊎ (u ≡ t))) → (P t → ⊥) → HasSize P n → HasSize Q (n + 1)
+one_more P Q n t same new h = (
+  h.0 ++ t ∷ [],
+  all_pairs_push (λ x y. x ≢ y) h.0 t h.1 (λ k d l e. new (subst P e (All-from_size P n h k d l))),
+  λ u. (
+    λ c. elim (Contains-append_cases h.0 (t ∷ []) u c) [
+      | inl before ↦ (same u).1 (inl ((h.2 u).0 before))
+      | inr last ↦ (same u).1 (inr (only u last))
+    ],
+    λ q. elim ((same u).0 q) [
+      | inl p ↦ Contains-append_left h.0 (t ∷ []) u ((h.2 u).1 p)
+      | inr e ↦ subst (Contains (h.0 ++ t ∷ [])) (sym e) (Contains-push h.0 t)
+    ],
+  ),
+  omega (arith, length-append h.0 (t ∷ []), h.3),
+)
+  where
+    only : (u : Truth) → Contains (t ∷ []) u → u ≡ t
+    only u (zero, l, e) = sym e
+    only u (suc k, l, e) = absurd (omega (arith, l))

@@ -1,3 +1,4 @@
+pub mod Bits
 pub mod Contents
 pub mod Names
 pub mod Numbers

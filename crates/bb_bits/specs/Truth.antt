@@ -1,8 +1,9 @@
 -- Truth tables of Boolean functions, and their beads (Knuth, The Art of Computer Programming, volume 4A, section 7.1.4).
 -- A table of v variables is the list of 2^v bits of a function, the first variable most significant. It is written here as
--- the tree of its halves: the first half has the first variable 0, the second has it 1. `bits_of` gives the list back.
+-- the tree of its halves: the first half has the first variable 0, the second has it 1. `truth_bits` gives the list back.
 -- A subtable is what is left once some of the first variables have a value; a bead is a subtable whose halves differ.
-use Rattle.std.specs.Prelude.{◌≡◌, ◌≢◌, ◌≤◌, ◌⊎◌, ℕ, zero, suc, ◌+◌, ◌*◌, ◌^◌, Bool, true, false, not, if◌then◌else◌, List, [], ◌∷◌, ◌++◌, length, take, drop}
+-- Knuth also calls the two single bits beads; here they are none.
+use Rattle.std.specs.Prelude.{◌≡◌, ◌≢◌, ◌≤◌, ◌⊎◌, ℕ, zero, suc, ◌+◌, ◌*◌, ◌^◌, Bool, true, false, not, if◌then◌else◌, List, [], ◌∷◌, ◌++◌, length, take, drop, Contains}
 
 -- a bit, or the halves at the first variable
 pub data Truth : Type 0 where
@@ -10,16 +11,16 @@ pub data Truth : Type 0 where
   Halves : Truth → Truth → Truth
 
 -- it is a table of so many variables
-abbrev pub IsTable : ℕ → Truth → Type 0
-IsTable zero (Bit b) = Unit {0}
-IsTable zero (Halves lo hi) = ⊥
-IsTable (suc v) (Bit b) = ⊥
-IsTable (suc v) (Halves lo hi) = IsTable v lo × IsTable v hi
+abbrev pub IsTruthTable : ℕ → Truth → Type 0
+IsTruthTable zero (Bit b) = Unit {0}
+IsTruthTable zero (Halves lo hi) = ⊥
+IsTruthTable (suc v) (Bit b) = ⊥
+IsTruthTable (suc v) (Halves lo hi) = IsTruthTable v lo × IsTruthTable v hi
 
 -- the bits of a table, one after another
-abbrev pub bits_of : Truth → List Bool
-bits_of (Bit b) = b ∷ []
-bits_of (Halves lo hi) = bits_of lo ++ bits_of hi
+abbrev pub truth_bits : Truth → List Bool
+truth_bits (Bit b) = b ∷ []
+truth_bits (Halves lo hi) = truth_bits lo ++ truth_bits hi
 
 -- the bit at a point, which gives each variable a value, the first one first
 abbrev pub truth_at : Truth → List Bool → Bool
@@ -56,7 +57,7 @@ joined op t u = combined (λ a b c. op a b) t u t
 abbrev pub complement : Truth → Truth
 complement t = combined (λ a b c. not a) t t t
 
--- at each point, the bit of t where c has 1, and the bit of e where c has 0
+-- if c then t else e, at each point
 abbrev pub chosen : Truth → Truth → Truth → Truth
 chosen c t e = combined (λ a b d. if a then b else d) c t e
 
@@ -65,6 +66,11 @@ abbrev pub quantified : (Bool → Bool → Bool) → ℕ → Truth → Truth
 quantified op v (Bit b) = Bit b
 quantified op zero (Halves lo hi) = Halves (joined op lo hi) (joined op lo hi)
 quantified op (suc v) (Halves lo hi) = Halves (quantified op v lo) (quantified op v hi)
+
+-- the same for k variables, from v on, the last one first
+abbrev pub quantified_block : (Bool → Bool → Bool) → ℕ → ℕ → Truth → Truth
+quantified_block op v zero t = t
+quantified_block op v (suc k) t = quantified op v (quantified_block op (suc v) k t)
 
 -- s is the table t, or a half of it, or a half of a half, and so on
 abbrev pub IsSubtableOf : Truth → Truth → Type 0
@@ -79,6 +85,10 @@ IsBead (Halves lo hi) = lo ≢ hi
 -- a subtable of t whose halves differ
 abbrev pub IsBeadOf : Truth → Truth → Type 0
 IsBeadOf b t = IsSubtableOf b t × IsBead b
+
+-- a bead of one of the tables
+abbrev pub IsBeadOfAny : List Truth → Truth → Type 0
+IsBeadOfAny ts b = (t : Truth) × Contains ts t × IsBeadOf b t
 
 -- s is a block of 2^(m + 1) bits that begins at a multiple of its length, and its halves differ
 pub record IsAlignedBead (s bits : List Bool) : Type 0 where

@@ -1,12 +1,12 @@
 -- an operation on three diagrams, by halves
 use Rattle.std.proofs.Common.{◌≡◌, ◌<◌, ℕ, suc, ◌+◌, ◌-◌, Bool, true, false, min, refl, sym, ap, ◌∙◌, subst, inl, inr, arith}
 use Rattle.std.proofs.lemmas.Bool.{cases_lt}
-use Rattle.bb_bits.specs.Truth.{Truth, Halves, IsTable, lifted, combined, truth_at}
-use Rattle.bb_bits.proofs.TruthPoints.{combined-lifted, IsTable-combined, combined_at_point, points_fix_table, constant_at_point}
+use Rattle.bb_bits.specs.Truth.{Truth, Halves, IsTruthTable, lifted, combined, truth_at}
+use Rattle.bb_bits.proofs.TruthPoints.{combined-lifted, IsTruthTable-combined, combined_at_point, points_fix_table, constant_at_point}
 use Rattle.bb_uniq.specs.Nodes.{NodeStore, IsRef, IsBelow, IsStore}
 use Rattle.bb_uniq.specs.Meaning.{Keeps, Adds, IsTooMany, truth_of, branch}
 use Rattle.bb_uniq.specs.Splits.{top_of, Splits}
-use Rattle.bb_uniq.proofs.Tables.{IsTable-table}
+use Rattle.bb_uniq.proofs.Tables.{IsTruthTable-table}
 use Rattle.bb_uniq.proofs.Growth.{Keeps-same, below_ref}
 use Rattle.bb_uniq.proofs.Making.{adds, leaf_table}
 use Rattle.bb_uniq.proofs.Steps.{Parts, parts, too_many_first, too_many_second, too_many_last, adds_joined}
@@ -24,8 +24,8 @@ given_ref s f g h r f_ref g_ref h_ref (inr (inr (inr e))) = subst (IsRef s) (sym
 -- a result whose bit is right whatever the diagrams' bits are has the right table
 settled_table : (s : NodeStore) (op : Bool → Bool → Bool → Bool) (f g h r : ℕ) → Settles op f g h r → truth_of s r ≡ result_table s op f g h
 settled_table s op f g h r settles =
-    let table : (q : ℕ) → IsTable s.vars (truth_of s q) = λ q. IsTable-table s s.vars q in
-    points_fix_table s.vars (truth_of s r) (result_table s op f g h) (table r) (IsTable-combined s.vars op (truth_of s f) (truth_of s g) (truth_of s h) (table f) (table g) (table h)) (λ point long.
+    let table : (q : ℕ) → IsTruthTable s.vars (truth_of s q) = λ q. IsTruthTable-table s s.vars q in
+    points_fix_table s.vars (truth_of s r) (result_table s op f g h) (table r) (IsTruthTable-combined s.vars op (truth_of s f) (truth_of s g) (truth_of s h) (table f) (table g) (table h)) (λ point long.
     let zero_bit : truth_at (truth_of s 0) point ≡ false = ap (λ t. truth_at t point) (leaf_table s s.vars 0 (omega arith)) ∙ constant_at_point s.vars false point long in
     let one_bit : truth_at (truth_of s 1) point ≡ true = ap (λ t. truth_at t point) (leaf_table s s.vars 1 (omega arith)) ∙ constant_at_point s.vars true point long in
     settles (λ q. truth_at (truth_of s q) point) zero_bit one_bit ∙ sym (combined_at_point s.vars op (truth_of s f) (truth_of s g) (truth_of s h) point (table f) (table g) (table h) long))
@@ -53,8 +53,8 @@ pub record Halved (s : NodeStore) (op : Bool → Bool → Bool → Bool) (v m f 
   pub level : v + suc m ≡ s.vars
   pub first : Truth
   pub second : Truth
-  pub first_size : IsTable m first
-  pub second_size : IsTable m second
+  pub first_size : IsTruthTable m first
+  pub second_size : IsTruthTable m second
   pub whole : result_table s op f g h ≡ lifted v (Halves first second)
   pub first_is : result_table s op f0 g0 h0 ≡ lifted (suc v) first
   pub second_is : result_table s op f1 g1 h1 ≡ lifted (suc v) second
@@ -71,8 +71,8 @@ halved s op v m f g h f0 g0 h0 f1 g1 h1 level x y z = record {
   level = level;
   first = combined op x.first y.first z.first;
   second = combined op x.second y.second z.second;
-  first_size = IsTable-combined m op x.first y.first z.first x.first_size y.first_size z.first_size;
-  second_size = IsTable-combined m op x.second y.second z.second x.second_size y.second_size z.second_size;
+  first_size = IsTruthTable-combined m op x.first y.first z.first x.first_size y.first_size z.first_size;
+  second_size = IsTruthTable-combined m op x.second y.second z.second x.second_size y.second_size z.second_size;
   whole = three op x.whole y.whole z.whole ∙ combined-lifted v op (Halves x.first x.second) (Halves y.first y.second) (Halves z.first z.second);
   first_is = three op x.lo_table y.lo_table z.lo_table ∙ combined-lifted (suc v) op x.first y.first z.first;
   second_is = three op x.hi_table y.hi_table z.hi_table ∙ combined-lifted (suc v) op x.second y.second z.second;

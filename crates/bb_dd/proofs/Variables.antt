@@ -1,23 +1,23 @@
 -- the table of a variable, and the bit of a branch at a point
 use Rattle.std.proofs.Common.{◌≡◌, ◌<◌, ℕ, zero, suc, Bool, true, false, List, length, get_or, cond, refl, sym, ap, ap₂, ◌∙◌, arith}
-use Rattle.bb_bits.specs.Truth.{Truth, Bit, Halves, IsTable, constant, variable, chosen, truth_at}
+use Rattle.bb_bits.specs.Truth.{Truth, Bit, Halves, IsTruthTable, constant, variable, chosen, truth_at}
 use Rattle.bb_bits.proofs.TruthPoints.{combined_at_point, variable_at_point, constant_at_point}
 use Rattle.bb_uniq.specs.Nodes.{NodeStore}
 use Rattle.bb_uniq.specs.Meaning.{truth_of, branch}
-use Rattle.bb_uniq.proofs.Tables.{IsTable-table}
+use Rattle.bb_uniq.proofs.Tables.{IsTruthTable-table}
 use Rattle.bb_uniq.proofs.Making.{leaf_table}
 
-IsTable-constant : (n : ℕ) (b : Bool) → IsTable n (constant n b)
-IsTable-constant zero b = tt
-IsTable-constant (suc n) b = (IsTable-constant n b, IsTable-constant n b)
+IsTruthTable-constant : (n : ℕ) (b : Bool) → IsTruthTable n (constant n b)
+IsTruthTable-constant zero b = tt
+IsTruthTable-constant (suc n) b = (IsTruthTable-constant n b, IsTruthTable-constant n b)
 
-IsTable-variable : (n v : ℕ) → v < n → IsTable n (variable n v)
-IsTable-variable zero v l = absurd (omega (arith, l))
-IsTable-variable (suc n) zero l = (IsTable-constant n false, IsTable-constant n true)
-IsTable-variable (suc n) (suc v) l = let below : v < n = omega (arith, l) in (IsTable-variable n v below, IsTable-variable n v below)
+IsTruthTable-variable : (n v : ℕ) → v < n → IsTruthTable n (variable n v)
+IsTruthTable-variable zero v l = absurd (omega (arith, l))
+IsTruthTable-variable (suc n) zero l = (IsTruthTable-constant n false, IsTruthTable-constant n true)
+IsTruthTable-variable (suc n) (suc v) l = let below : v < n = omega (arith, l) in (IsTruthTable-variable n v below, IsTruthTable-variable n v below)
 
 -- the choice between true and false is the condition
-chosen-constants : (n : ℕ) (t : Truth) → IsTable n t → chosen t (constant n true) (constant n false) ≡ t
+chosen-constants : (n : ℕ) (t : Truth) → IsTruthTable n t → chosen t (constant n true) (constant n false) ≡ t
 chosen-constants zero (Bit false) h = refl
 chosen-constants zero (Bit true) h = refl
 chosen-constants zero (Halves a b) h = absurd h
@@ -27,13 +27,13 @@ chosen-constants (suc n) (Halves a b) h = ap₂ Halves (chosen-constants n a h.0
 pub branch-leaves : (s : NodeStore) (v : ℕ) → v < s.vars → branch s v 0 1 ≡ variable s.vars v
 branch-leaves s v l =
     ap₂ (λ x y. chosen (variable s.vars v) x y) (leaf_table s s.vars 1 (omega arith)) (leaf_table s s.vars 0 (omega arith))
-    ∙ chosen-constants s.vars (variable s.vars v) (IsTable-variable s.vars v l)
+    ∙ chosen-constants s.vars (variable s.vars v) (IsTruthTable-variable s.vars v l)
 
 -- the bit of a branch is that of the child that the point leads to
 pub branch_at_point : (s : NodeStore) (v lo hi : ℕ) (point : List Bool) → v < s.vars → length point ≡ s.vars →
     truth_at (branch s v lo hi) point ≡ cond (get_or point v false) (truth_at (truth_of s hi) point) (truth_at (truth_of s lo) point)
 branch_at_point s v lo hi point l long =
-    combined_at_point s.vars (λ a b c. cond a b c) (variable s.vars v) (truth_of s hi) (truth_of s lo) point (IsTable-variable s.vars v l) (IsTable-table s s.vars hi) (IsTable-table s s.vars lo) long
+    combined_at_point s.vars (λ a b c. cond a b c) (variable s.vars v) (truth_of s hi) (truth_of s lo) point (IsTruthTable-variable s.vars v l) (IsTruthTable-table s s.vars hi) (IsTruthTable-table s s.vars lo) long
     ∙ ap (λ b. cond b (truth_at (truth_of s hi) point) (truth_at (truth_of s lo) point)) (variable_at_point s.vars v point l long)
 
 -- the steps of a walk along a point

@@ -5,13 +5,13 @@ use Rattle.std.specs.List.{range_with_len}
 use Rattle.std.proofs.lemmas.List.{length-map}
 use Rattle.std.proofs.lemmas.List.FromFn.{get_or-map-range_with_len, length-range_with_len}
 use Rattle.std.proofs.lemmas.Option.{slice_get_within}
-use Rattle.bb_bits.specs.Truth.{Truth, Bit, Halves, IsTable, lifted, IsBead, IsBeadOf}
+use Rattle.bb_bits.specs.Truth.{Truth, Bit, Halves, IsTruthTable, lifted, IsBead, IsBeadOf}
 use Rattle.bb_bits.specs.TruthSets.{HasSize}
 use Rattle.bb_bits.proofs.TruthBeads.{IsSubtableOf-self, beads_of_halves, bead_above}
 use Rattle.bb_uniq.specs.declared.store.Triple.{Triple}
 use Rattle.bb_uniq.specs.Nodes.{NodeStore, node_at, IsStore}
 use Rattle.bb_uniq.specs.Meaning.{truth_of, IsHeld}
-use Rattle.bb_uniq.proofs.Tables.{IsWithin, table, table-zero, table-here, table-lifted, Shape, Here, Later, shape_of, within_from_ref, within_from_below, node_ref, canonical, IsTable-table, option_cases, match_from_some}
+use Rattle.bb_uniq.proofs.Tables.{IsWithin, table, table-zero, table-here, table-lifted, Shape, Here, Later, shape_of, within_from_ref, within_from_below, node_ref, canonical, IsTruthTable-table, option_cases, match_from_some}
 
 -- b is the table of the node r over its own variable and the m that follow
 pub record HeldAt (s : NodeStore) (b : Truth) : Type 0 where
@@ -70,7 +70,7 @@ pub at_from_held : (s : NodeStore) → IsStore s → (b : Truth) → IsHeld s b 
 at_from_held s h b k = held_at s h s.vars k.0 b (within_from_ref s k.0 k.1) k.2
 
 -- a table has one number of variables
-pub one_depth : (m n : ℕ) (t : Truth) → IsTable m t → IsTable n t → m ≡ n
+pub one_depth : (m n : ℕ) (t : Truth) → IsTruthTable m t → IsTruthTable n t → m ≡ n
 one_depth zero zero t h k = refl
 one_depth zero (suc n) (Bit x) h k = absurd k
 one_depth zero (suc n) (Halves a b) h k = absurd h
@@ -121,7 +121,7 @@ own_table_differs s h i j l k e =
     let b = placed s h j k in
     let same : table s (suc a.m) (suc (suc i)) ≡ table s (suc b.m) (suc (suc j)) = sym (own_table-is s i a.m a.node a.at a.level) ∙ (e ∙ own_table-is s j b.m b.node b.at b.level) in
     let depth : suc b.m ≡ suc a.m =
-    one_depth (suc b.m) (suc a.m) (table s (suc a.m) (suc (suc i))) (subst (IsTable (suc b.m)) (sym same) (IsTable-table s (suc b.m) (suc (suc j)))) (IsTable-table s (suc a.m) (suc (suc i))) in
+    one_depth (suc b.m) (suc a.m) (table s (suc a.m) (suc (suc i))) (subst (IsTruthTable (suc b.m)) (sym same) (IsTruthTable-table s (suc b.m) (suc (suc j)))) (IsTruthTable-table s (suc a.m) (suc (suc i))) in
     let f : suc (suc i) ≡ suc (suc j) =
     canonical s h (suc a.m) (suc (suc i)) (suc (suc j)) (within_own s (suc (suc i)) a.m a.node a.at a.level)
     (subst (λ n. IsWithin s n (suc (suc j))) depth (within_own s (suc (suc j)) b.m b.node b.at b.level)) (same ∙ ap (λ n. table s n (suc (suc j))) depth) in

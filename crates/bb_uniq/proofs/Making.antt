@@ -4,7 +4,7 @@ use Rattle.std.specs.Prelude.{All}
 use Rattle.std.proofs.lemmas.List.{get_or_default}
 use Rattle.std.proofs.lemmas.List.Elements.{All-push, All-weaker}
 use Rattle.std.proofs.lemmas.List.Quantifiers.{all_pairs_push}
-use Rattle.bb_bits.specs.Truth.{Truth, Bit, Halves, IsTable, lifted, constant, variable, chosen, combined, IsBeadOf}
+use Rattle.bb_bits.specs.Truth.{Truth, Bit, Halves, IsTruthTable, lifted, constant, variable, chosen, combined, IsBeadOf}
 use Rattle.bb_bits.proofs.TruthBeads.{IsSubtableOf-self, bead_above}
 use Rattle.bb_bits.proofs.TruthPoints.{combined-lifted, variable-lifted}
 use Rattle.bb_bits.proofs.TruthSizes.{HasAtMost-from_size}
@@ -14,7 +14,7 @@ use Rattle.bb_uniq.specs.declared.store.View.{View}
 use Rattle.bb_uniq.specs.Places.{IsAbsent, Stands, Before, Last}
 use Rattle.std.proofs.lemmas.Option.{slice_get_within}
 use Rattle.bb_uniq.specs.Meaning.{truth_of, IsHeld, IsHeldWith, Keeps, Adds, IsTooMany, branch, ViewMeans, table_of}
-use Rattle.bb_uniq.proofs.Tables.{table, table-here, table-none, table-zero, ref_node, table-lifted, within_from_ref, within_from_below, node_ref, canonical, IsTable-table}
+use Rattle.bb_uniq.proofs.Tables.{table, table-here, table-none, table-zero, ref_node, table-lifted, within_from_ref, within_from_below, node_ref, canonical, IsTruthTable-table}
 use Rattle.bb_uniq.proofs.Growth.{Keeps-grown, Keeps-same, IsStore-with_node, node_at_push, node_at-last, table-grown, below_ref}
 use Rattle.bb_uniq.proofs.Held.{HeldAt, held_from_at, at_from_held, within_own, one_depth, size_of_held, bead_of_at}
 
@@ -23,7 +23,7 @@ pub lifted-suc : (v : ℕ) (t : Truth) → lifted (suc v) t ≡ lifted v (Halves
 lifted-suc zero t = refl
 lifted-suc (suc v) t = let e = lifted-suc v t in ap₂ Halves e e
 
-pick_first : (op : Bool → Bool → Bool → Bool) (x : Bool) → ((y z : Bool) → op x y z ≡ y) → (m : ℕ) (b a : Truth) → IsTable m b → IsTable m a → combined op (constant m x) b a ≡ b
+pick_first : (op : Bool → Bool → Bool → Bool) (x : Bool) → ((y z : Bool) → op x y z ≡ y) → (m : ℕ) (b a : Truth) → IsTruthTable m b → IsTruthTable m a → combined op (constant m x) b a ≡ b
 pick_first op x f zero (Bit y) (Bit z) h k = ap Bit (f y z)
 pick_first op x f zero (Bit y) (Halves c d) h k = absurd k
 pick_first op x f zero (Halves c d) a h k = absurd h
@@ -31,7 +31,7 @@ pick_first op x f (suc m) (Bit y) a h k = absurd h
 pick_first op x f (suc m) (Halves c d) (Bit z) h k = absurd k
 pick_first op x f (suc m) (Halves c d) (Halves p q) h k = ap₂ Halves (pick_first op x f m c p h.0 k.0) (pick_first op x f m d q h.1 k.1)
 
-pick_second : (op : Bool → Bool → Bool → Bool) (x : Bool) → ((y z : Bool) → op x y z ≡ z) → (m : ℕ) (b a : Truth) → IsTable m b → IsTable m a → combined op (constant m x) b a ≡ a
+pick_second : (op : Bool → Bool → Bool → Bool) (x : Bool) → ((y z : Bool) → op x y z ≡ z) → (m : ℕ) (b a : Truth) → IsTruthTable m b → IsTruthTable m a → combined op (constant m x) b a ≡ a
 pick_second op x f zero (Bit y) (Bit z) h k = ap Bit (f y z)
 pick_second op x f zero (Bit y) (Halves c d) h k = absurd k
 pick_second op x f zero (Halves c d) a h k = absurd h
@@ -40,7 +40,7 @@ pick_second op x f (suc m) (Halves c d) (Bit z) h k = absurd k
 pick_second op x f (suc m) (Halves c d) (Halves p q) h k = ap₂ Halves (pick_second op x f m c p h.0 k.0) (pick_second op x f m d q h.1 k.1)
 
 -- the choice by a variable has the two tables as its halves at that variable
-pub chosen-variable : (v m : ℕ) (a b : Truth) → IsTable m a → IsTable m b → chosen (variable (v + suc m) v) (lifted (suc v) b) (lifted (suc v) a) ≡ lifted v (Halves a b)
+pub chosen-variable : (v m : ℕ) (a b : Truth) → IsTruthTable m a → IsTruthTable m b → chosen (variable (v + suc m) v) (lifted (suc v) b) (lifted (suc v) a) ≡ lifted v (Halves a b)
 chosen-variable v m a b h k =
     let one = pick_first (λ x y z. cond x y z) true (λ y z. refl) m b a k h in
     let zero' = pick_second (λ x y z. cond x y z) false (λ y z. refl) m b a k h in
@@ -76,13 +76,13 @@ table-branch s v m lo hi level lo_below hi_below =
     let hi_table : truth_of s hi ≡ lifted (suc v) (table s m hi) = ap (λ n. table s n hi) (sym e) ∙ b in
     ap (λ n. chosen (variable n v) (truth_of s hi) (truth_of s lo)) (sym level)
     ∙ (ap₂ (λ x y. chosen (variable (v + suc m) v) x y) hi_table lo_table
-    ∙ chosen-variable v m (table s m lo) (table s m hi) (IsTable-table s m lo) (IsTable-table s m hi))
+    ∙ chosen-variable v m (table s m lo) (table s m hi) (IsTruthTable-table s m lo) (IsTruthTable-table s m hi))
 
 -- the two halves of a new node, as a table that no node has
 new_bead_differs : (s : NodeStore) → IsStore s → (v m lo hi : ℕ) → v + suc m ≡ s.vars → IsBelow s v lo → IsBelow s v hi → IsNew s v lo hi → HeldAt s (Halves (table s m lo) (table s m hi)) → ⊥
 new_bead_differs s h v m lo hi level lo_below hi_below new k =
     let depth : k.m ≡ m =
-    let d = one_depth (suc k.m) (suc m) (Halves (table s m lo) (table s m hi)) (subst (IsTable (suc k.m)) k.own (IsTable-table s (suc k.m) k.r)) (IsTable-table s m lo, IsTable-table s m hi) in omega (arith, d) in
+    let d = one_depth (suc k.m) (suc m) (Halves (table s m lo) (table s m hi)) (subst (IsTruthTable (suc k.m)) k.own (IsTruthTable-table s (suc k.m) k.r)) (IsTruthTable-table s m lo, IsTruthTable-table s m hi) in omega (arith, d) in
     let level' : k.node.var + suc m ≡ s.vars = omega (arith, k.level, depth) in
     let own : table s (suc m) k.r ≡ Halves (table s m lo) (table s m hi) = ap (λ n. table s (suc n) k.r) (sym depth) ∙ k.own in
     let halves : Halves (table s m k.node.lo) (table s m k.node.hi) ≡ Halves (table s m lo) (table s m hi) = sym (table-here s m k.r k.node k.at level') ∙ own in

@@ -1,12 +1,12 @@
 -- the step of a recursion over diagrams: two results over the later variables, and the node that joins them
 use Rattle.std.proofs.Common.{◌≡◌, ℕ, suc, ◌+◌, refl, sym, ap, ap₂, ◌∙◌, subst, inl, inr, arith}
 use Rattle.std.proofs.lemmas.List.Elements.{All-weaker}
-use Rattle.bb_bits.specs.Truth.{Truth, Halves, IsTable, lifted, chosen, variable, IsBeadOf}
+use Rattle.bb_bits.specs.Truth.{Truth, Halves, IsTruthTable, lifted, chosen, variable, IsBeadOf}
 use Rattle.bb_bits.proofs.TruthBeads.{beads_of_halves, bead_above, bead_below}
 use Rattle.bb_uniq.specs.Nodes.{NodeStore, IsRef, IsBelow, IsStore}
 use Rattle.bb_uniq.specs.Meaning.{truth_of, IsHeld, IsHeldWith, Keeps, Adds, IsTooMany, branch}
 use Rattle.bb_uniq.specs.Splits.{Splits}
-use Rattle.bb_uniq.proofs.Tables.{IsWithin, table, table-lifted, within_from_ref, within_from_below, below_from_within, IsTable-table, settled}
+use Rattle.bb_uniq.proofs.Tables.{IsWithin, table, table-lifted, within_from_ref, within_from_below, below_from_within, IsTruthTable-table, settled}
 use Rattle.bb_uniq.proofs.Growth.{Keeps-then}
 use Rattle.bb_uniq.proofs.Making.{adds, table-branch, chosen-variable, lifted-suc}
 
@@ -54,7 +54,7 @@ pub record Parts (old last : NodeStore) (v : ℕ) (a b t : Truth) (r q : ℕ) : 
   pub hi_below : IsBelow last v q
   pub branch_is : branch last v r q ≡ t
 
-pub parts : (old mid last : NodeStore) → IsStore last → (v m : ℕ) (a b t x y : Truth) (r q : ℕ) → v + suc m ≡ old.vars → IsTable m a → IsTable m b →
+pub parts : (old mid last : NodeStore) → IsStore last → (v m : ℕ) (a b t x y : Truth) (r q : ℕ) → v + suc m ≡ old.vars → IsTruthTable m a → IsTruthTable m b →
     t ≡ lifted v (Halves a b) → x ≡ lifted (suc v) a → y ≡ lifted (suc v) b → Adds old mid x r → Adds mid last y q → Parts old last v a b t r q
 parts old mid last h v m a b t x y r q level a_size b_size whole first second added also =
     let vars : last.vars ≡ old.vars = also.kept.vars ∙ added.kept.vars in
@@ -89,8 +89,8 @@ splits_node s v m r lo hi level lo_below hi_below e =
     record {
       first = table s m lo;
       second = table s m hi;
-      first_size = IsTable-table s m lo;
-      second_size = IsTable-table s m hi;
+      first_size = IsTruthTable-table s m lo;
+      second_size = IsTruthTable-table s m hi;
       lo_below = lo_below;
       hi_below = hi_below;
       whole = e ∙ table-branch s v m lo hi level lo_below hi_below;
@@ -106,8 +106,8 @@ splits_later s v m r level below =
     record {
       first = table s m r;
       second = table s m r;
-      first_size = IsTable-table s m r;
-      second_size = IsTable-table s m r;
+      first_size = IsTruthTable-table s m r;
+      second_size = IsTruthTable-table s m r;
       lo_below = below;
       hi_below = below;
       whole = tab ∙ lifted-suc v (table s m r);

@@ -3,7 +3,7 @@ use Rattle.std.proofs.Common.{◌≡◌, ◌≢◌, ◌≤◌, ◌<◌, ◌⊎�
 use Rattle.std.specs.Prelude.{MatchOption, slice_get}
 use Rattle.std.proofs.lemmas.Bool.{cases_eq, eq-eqb, ne_eqb, cond_both, cond-true, cond-false}
 use Rattle.std.proofs.lemmas.Option.{slice_get_within}
-use Rattle.bb_bits.specs.Truth.{Truth, Bit, Halves, IsTable, lifted}
+use Rattle.bb_bits.specs.Truth.{Truth, Bit, Halves, IsTruthTable, lifted}
 use Rattle.bb_uniq.specs.declared.store.Triple.{Triple}
 use Rattle.bb_uniq.specs.Nodes.{NodeStore, node_at, IsRef, IsBelow, IsStore}
 use Rattle.bb_uniq.specs.Meaning.{halves_by, table_of}
@@ -129,13 +129,13 @@ table-later s m r w =
           table-other s m r some.0 some.1 (λ e. omega (arith, bound, e))
     ]
 
-pub IsTable-table : (s : NodeStore) (m r : ℕ) → IsTable m (table s m r)
-IsTable-table s zero r = rw (table-zero s r) tt
-IsTable-table s (suc m) r = rw (table-suc s m r) (both (IsTable-table s m) (node_at s.nodes r))
+pub IsTruthTable-table : (s : NodeStore) (m r : ℕ) → IsTruthTable m (table s m r)
+IsTruthTable-table s zero r = rw (table-zero s r) tt
+IsTruthTable-table s (suc m) r = rw (table-suc s m r) (both (IsTruthTable-table s m) (node_at s.nodes r))
   where
-    both : ((q : ℕ) → IsTable m (table s m q)) → (o : Option Triple) → IsTable (suc m) (halves_by s.vars m r (table s m) o)
+    both : ((q : ℕ) → IsTruthTable m (table s m q)) → (o : Option Triple) → IsTruthTable (suc m) (halves_by s.vars m r (table s m) o)
     both h None = (h r, h r)
-    both h (Some node) = cond_both (eqb (node.var + suc m) s.vars) (Halves (table s m node.lo) (table s m node.hi)) (Halves (table s m r) (table s m r)) (IsTable (suc m))
+    both h (Some node) = cond_both (eqb (node.var + suc m) s.vars) (Halves (table s m node.lo) (table s m node.hi)) (Halves (table s m r) (table s m r)) (IsTruthTable (suc m))
         (λ _. (h node.lo, h node.hi)) (λ _. (h r, h r))
 
 leaf_from_within : (s : NodeStore) → IsStore s → (r : ℕ) → IsWithin s zero r → r < 2

@@ -1,6 +1,6 @@
 -- How a diagram splits at a variable: two diagrams of later variables, for the variable 0 and 1.
 use Rattle.std.specs.Prelude.{◌≡◌, ℕ, suc}
-use Rattle.bb_bits.specs.Truth.{Truth, Halves, IsTable, lifted}
+use Rattle.bb_bits.specs.Truth.{Truth, Halves, IsTruthTable, lifted}
 use Rattle.bb_uniq.specs.declared.store.View.{View}
 use Rattle.bb_uniq.specs.declared.store.View.TheVariants.{Leaf, Node}
 use Rattle.bb_uniq.specs.Nodes.{NodeStore, IsBelow, view_of}
@@ -19,8 +19,8 @@ top_of s r = variable_seen s.vars (view_of s r)
 pub record Splits (s : NodeStore) (v m r lo hi : ℕ) : Type 0 where
   pub first : Truth
   pub second : Truth
-  pub first_size : IsTable m first
-  pub second_size : IsTable m second
+  pub first_size : IsTruthTable m first
+  pub second_size : IsTruthTable m second
   pub lo_below : IsBelow s v lo
   pub hi_below : IsBelow s v hi
   pub whole : truth_of s r ≡ lifted v (Halves first second)
