@@ -9,6 +9,8 @@ mod reference;
 #[cfg(test)]
 mod reference_tests;
 #[cfg(test)]
+mod table_tests;
+#[cfg(test)]
 mod tests;
 
 pub use memory::{Outcome, run_in_memory};
