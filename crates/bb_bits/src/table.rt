@@ -1,7 +1,7 @@
 ghost use Rattle.std.specs.Prelude.{◌≡◌, ℕ, ◌+◌, ◌*◌, ◌<◌, ◌≤◌, ◌^◌, Bool, List, length, take, drop, slice_set, IfOk, All};
 ghost use Rattle.bb_bits.specs.Numbers.{number_of};
-ghost use Rattle.bb_bits.specs.Tables.{TableBits, HasAllBits, IsTable, row_of, table_bit, zero_table, rows_of};
-ghost use Rattle.bb_bits.specs.Contents.{HasShape, row_at, output_bit};
+ghost use Rattle.bb_bits.specs.Tables.{TableBits, IsTable, row_of, table_bit, zero_table};
+ghost use Rattle.bb_bits.specs.TableLaws.{RowsHaveShape, RowsAreChosen, BitsAreChosen, RowsHaveTable, RowsFixTable};
 
 use crate::NoMemory;
 use crate::number::number;
@@ -133,22 +133,25 @@ pub fn tables_have_all_bits(tables: &[Table])
     }
 }
 
+/// A table with an output has at most 24 inputs.
+#[tactic(auto, using(crate::proofs::TableLemmas::few_inputs))]
+pub fn tables_have_few_inputs()
+    ensures { (t : TableBits) → IsTable t → 0 < t.outputs → t.inputs ≤ 24 }
+{}
+
 /// The rows of a table fit a box with its numbers of pins.
 pub fn rows_have_shape()
-    ensures { (t : TableBits) → HasAllBits t → HasShape t.inputs t.outputs (rows_of t) }
+    ensures { RowsHaveShape }
 {}
 
 /// Among the rows of a table, input bits choose the one with their number, and an output pin gives its bit of it.
 pub fn rows_are_chosen()
-    ensures row { (t : TableBits) (ins : List Bool) → length ins ≡ t.inputs → row_at (rows_of t) ins ≡ row_of t (number_of ins) }
-    ensures bit { (t : TableBits) (ins : List Bool) (pin : ℕ) → length ins ≡ t.inputs → pin < t.outputs
-        → output_bit (rows_of t) ins pin ≡ table_bit t (number_of ins) pin }
+    ensures row { RowsAreChosen }
+    ensures bit { BitsAreChosen }
 {}
 
 /// Rows that fit a box are the rows of a table with its numbers of pins, and of one alone.
 pub fn rows_are_tables()
-    ensures found { (inputs outputs : ℕ) (rows : List (List Bool)) → HasShape inputs outputs rows
-        → (t : TableBits) × (t.inputs ≡ inputs) × (t.outputs ≡ outputs) × HasAllBits t × (rows_of t ≡ rows) }
-    ensures unique { (t u : TableBits) → HasAllBits t → HasAllBits u → t.inputs ≡ u.inputs → t.outputs ≡ u.outputs
-        → rows_of t ≡ rows_of u → t ≡ u }
+    ensures found { RowsHaveTable }
+    ensures unique { RowsFixTable }
 {}
