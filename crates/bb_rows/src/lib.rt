@@ -5,6 +5,8 @@
 mod fault_tests;
 mod memory;
 #[cfg(test)]
+mod net_tests;
+#[cfg(test)]
 mod reference;
 #[cfg(test)]
 mod reference_tests;
