@@ -1,10 +1,10 @@
 -- Lemmas on the number that bits spell.
-use Rattle.std.proofs.Common.{◌≡◌, ℕ, ◌+◌, ◌-◌, ◌<◌, ◌≤◌, ◌^◌, zero, suc, Bool, true, false, List, [], ◌∷◌, length, drop, get_or, refl, ap, ◌∙◌, arith, inl, inr}
+use Rattle.std.proofs.Common.{◌≡◌, ℕ, ◌+◌, ◌*◌, ◌-◌, ◌<◌, ◌≤◌, ◌^◌, zero, suc, Bool, true, false, List, [], ◌∷◌, ◌++◌, length, drop, get_or, refl, ap, ◌∙◌, arith, inl, inr}
 use Rattle.std.specs.Prelude.{nat_le, if◌then◌else◌}
 use Rattle.std.proofs.Math.Nat.{pow-suc}
 use Rattle.std.proofs.lemmas.Bool.Decides.{nat_tests}
 use Rattle.std.proofs.lemmas.Bool.{cases_lt}
-use Rattle.std.proofs.lemmas.List.{length-drop, at_drop_more}
+use Rattle.std.proofs.lemmas.List.{length-drop, at_drop_more, length_push}
 use Rattle.std.proofs.lemmas.Nat.{pow_below}
 use Rattle.bb_bits.specs.Numbers.{number_of, bits_of}
 
@@ -66,3 +66,12 @@ number_of-bits_of (suc n) number h = elim (cases_lt number (2 ^ n)) [
       let len = ap (λ k. 2 ^ k) (length-bits_of n (number - 2 ^ n)) in
       rw e (omega (arith, r, len))
 ]
+
+-- one more bit behind others
+pub number_of-push : (bits : List Bool) (b : Bool) → number_of (bits ++ b ∷ []) ≡ 2 * number_of bits + (if b then 1 else 0)
+number_of-push [] true = omega arith
+number_of-push [] false = omega arith
+number_of-push (true ∷ bits) b =
+    let more : length (bits ++ b ∷ []) ≡ suc (length bits) = omega (arith, length_push bits b) in
+    omega (arith, number_of-push bits b, ap (λ n. 2 ^ n) more, pow-suc 2 (length bits))
+number_of-push (false ∷ bits) b = number_of-push bits b

@@ -10,9 +10,13 @@ pub record TableBits : Type 0 where
   pub outputs : ℕ
   pub rows : List Bool
 
--- every table has a row for each list of input bits, and has at most 2^24 bits
+-- it has a bit for each of its output pins and each list of its input bits, and no other
+abbrev pub HasAllBits : TableBits → Type 0
+HasAllBits t = length t.rows ≡ t.outputs * 2 ^ t.inputs
+
+-- what every Table keeps: it has all its bits, and these are at most 2^24
 pub record IsTable (t : TableBits) : Type 0 where
-  pub whole : length t.rows ≡ t.outputs * 2 ^ t.inputs
+  pub whole : HasAllBits t
   pub small : t.outputs * 2 ^ t.inputs ≤ 2 ^ 24
 
 -- the row with a number

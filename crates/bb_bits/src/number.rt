@@ -1,4 +1,4 @@
-ghost use Rattle.std.specs.Prelude.{◌≡◌, ℕ, ◌<◌, ◌≤◌, ◌^◌, Bool, List, length};
+ghost use Rattle.std.specs.Prelude.{◌≡◌, ℕ, ◌+◌, ◌*◌, ◌<◌, ◌≤◌, ◌^◌, Bool, if◌then◌else◌, List, [], ◌∷◌, ◌++◌, length};
 ghost use Rattle.bb_bits.specs.Numbers.{number_of, bits_of};
 
 // The number that bits spell, the first one most significant.
@@ -18,6 +18,11 @@ pub(crate) fn number(bits: &[bool]) -> usize
 /// So many bits spell a number below that power of two.
 pub fn number_is_below()
     ensures { (bits : List Bool) → number_of bits < 2 ^ length bits }
+{}
+
+/// One more bit behind others doubles their number and adds the bit.
+pub fn number_doubles()
+    ensures { (bits : List Bool) (b : Bool) → number_of (bits ++ b ∷ []) ≡ 2 * number_of bits + (if b then 1 else 0) }
 {}
 
 /// Bits are found again from their number.

@@ -1,7 +1,7 @@
-ghost use Rattle.std.specs.Prelude.{◌≡◌, ℕ, ◌+◌, ◌*◌, ◌<◌, ◌≤◌, ◌^◌, Bool, List, length, take, drop, slice_set, IfOk};
+ghost use Rattle.std.specs.Prelude.{◌≡◌, ℕ, ◌+◌, ◌*◌, ◌<◌, ◌≤◌, ◌^◌, Bool, List, length, take, drop, slice_set, IfOk, All};
 ghost use Rattle.bb_bits.specs.Numbers.{number_of};
-ghost use Rattle.bb_bits.specs.Tables.{TableBits, IsTable, row_of, table_bit, zero_table, rows_of};
-ghost use Rattle.bb_bits.specs.Contents.{HasShape, output_bit};
+ghost use Rattle.bb_bits.specs.Tables.{TableBits, IsTable, row_of, table_bit, zero_table};
+ghost use Rattle.bb_bits.specs.TableLaws.{RowsHaveShape, RowsAreChosen, BitsAreChosen, RowsHaveTable, RowsFixTable};
 
 use crate::NoMemory;
 use crate::number::number;
@@ -56,6 +56,13 @@ impl Table {
         ensures kept { IsTable self.now }
     {
         self.outputs
+    }
+
+    // What the type keeps.
+    fn keeps_its_bits(&self)
+        ensures { IsTable self.now }
+    {
+        let _ = &self.rows;
     }
 
     /// Writes the row of the input bits `ins`.
@@ -117,13 +124,34 @@ fn bit_count(inputs: u32, outputs: u32) -> usize
     }
 }
 
-/// The rows of a table fit a box with its numbers of pins.
-pub fn rows_have_shape()
-    ensures { (t : TableBits) → IsTable t → HasShape t.inputs t.outputs (rows_of t) }
+/// Each table of a list has all its bits: with k inputs and m outputs exactly m * 2^k.
+pub fn tables_have_all_bits(tables: &[Table])
+    ensures { All IsTable tables.now }
+{
+    for table in tables {
+        table.keeps_its_bits();
+    }
+}
+
+/// A table with an output has at most 24 inputs.
+#[tactic(auto, using(crate::proofs::TableLemmas::few_inputs))]
+pub fn tables_have_few_inputs()
+    ensures { (t : TableBits) → IsTable t → 0 < t.outputs → t.inputs ≤ 24 }
 {}
 
-/// What the rows of a table give at an output pin is the bit of the row with the input bits' number.
-pub fn rows_have_bits()
-    ensures { (t : TableBits) (ins : List Bool) (pin : ℕ) → IsTable t → length ins ≡ t.inputs → pin < t.outputs
-        → output_bit (rows_of t) ins pin ≡ table_bit t (number_of ins) pin }
+/// The rows of a table fit a box with its numbers of pins.
+pub fn rows_have_shape()
+    ensures { RowsHaveShape }
+{}
+
+/// Among the rows of a table, input bits choose the one with their number, and an output pin gives its bit of it.
+pub fn rows_are_chosen()
+    ensures row { RowsAreChosen }
+    ensures bit { BitsAreChosen }
+{}
+
+/// Rows that fit a box are the rows of a table with its numbers of pins, and of one alone.
+pub fn rows_are_tables()
+    ensures found { RowsHaveTable }
+    ensures unique { RowsFixTable }
 {}

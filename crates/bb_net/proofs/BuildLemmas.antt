@@ -149,7 +149,7 @@ front_within net kept =
     omega (arith, a, b, d)
 
 -- what a cell reads stands before it
-reads_before : (inputs : ℕ) (boxes : List Pins) (place : ℕ) (c : Cell) → ReadsBefore inputs boxes place c → All (λ k. k < place) (reads_of boxes c)
+pub reads_before : (inputs : ℕ) (boxes : List Pins) (place : ℕ) (c : Cell) → ReadsBefore inputs boxes place c → All (λ k. k < place) (reads_of boxes c)
 reads_before inputs boxes place (Const v) h = All-nil (λ k. k < place)
 reads_before inputs boxes place (Input v) h = All-nil (λ k. k < place)
 reads_before inputs boxes place (Not a) h = All-cons (λ k. k < place) a [] h (All-nil (λ k. k < place))

@@ -1,4 +1,8 @@
 pub mod Steps
+pub mod ChoiceLaws
+pub mod ChoiceTables
+pub mod ConditionLaws
+pub mod Finite
 pub mod NetLemmas
 pub mod ValueLemmas
 pub mod ValueLaws

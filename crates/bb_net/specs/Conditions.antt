@@ -1,31 +1,107 @@
--- When an implementation with boxes cannot be completed so that it agrees with its specification. Both are netlists with
--- the same inputs and as many outputs, and the specification has no box. Outputs are counted from 0.
-use Rattle.std.specs.Prelude.{◌≡◌, ◌≢◌, ℕ, ◌<◌, Bool, List, [], length, Contains, Some, slice_index}
+-- The conditions under which an implementation with boxes cannot be completed so that it agrees with its specification,
+-- from the strongest to the weakest. Each says less about the boxes than the one before it: their outputs are unknown; they
+-- may have any bits, at one output or at all; they depend on the box's inputs alone; they are those of tables. Beside each
+-- condition stands what holds where it does not.
+use Rattle.std.specs.Prelude.{◌≡◌, ◌≢◌, ℕ, ◌<◌, Bool, List, [], ◌∷◌, ◌++◌, length, map, Contains, Some, IfSome, slice_index}
+use Rattle.std.specs.List.{flat_map}
 use Rattle.bb_bits.specs.Tables.{TableBits}
-use Rattle.bb_net.specs.Netlists.{Netlist}
-use Rattle.bb_net.specs.Values.{bit_of, flat, flat_with, FitBoxes}
+use Rattle.bb_net.specs.Netlists.{Netlist, Pins}
+use Rattle.bb_net.specs.Values.{bit_of, flat, FitBoxes}
 use Rattle.bb_net.specs.Ternary.{tern, tern_of}
+use Rattle.bb_net.specs.Agreement.{wanted_bit, IsVector, AreBoxOutputs, IsOutput, IsRight, IsWrong, AllRight, SomeWrong, TablesAgree}
 
--- the bit at an output, in the value of a netlist's cells
-abbrev pub out_bit : Netlist → List Bool → ℕ → Bool
-out_bit net bits j = bit_of bits (slice_index net.outs j)
+-- the output is known although the boxes are unknown, and is wrong
+abbrev pub IsKnownWrong : Netlist → Netlist → List Bool → ℕ → Type 0
+IsKnownWrong spec imp x j = (bit : Bool) × (tern_of (tern imp x) (slice_index imp.outs j) ≡ Some bit) × (wanted_bit spec x j ≢ bit)
 
--- the bit that the specification has at an output
-abbrev pub wanted_bit : Netlist → List Bool → ℕ → Bool
-wanted_bit spec x j = out_bit spec (flat spec x []) j
+-- it is unknown, or known and right
+abbrev pub MayBeRight : Netlist → Netlist → List Bool → ℕ → Type 0
+MayBeRight spec imp x j = IfSome (tern_of (tern imp x) (slice_index imp.outs j)) (λ bit. wanted_bit spec x j ≡ bit)
 
--- at an output the implementation's three-valued value is known, and is not the specification's
-abbrev pub DiffersKnown : Netlist → Netlist → List Bool → ℕ → Type 0
-DiffersKnown spec imp x j = (bit : Bool) × (tern_of (tern imp x) (slice_index imp.outs j) ≡ Some bit) × (wanted_bit spec x j ≢ bit)
+-- at some of the patterns some output is known and wrong
+abbrev pub KnownWrongAmong : Netlist → Netlist → List (List Bool) → Type 0
+KnownWrongAmong spec imp patterns = (x : List Bool) × Contains patterns x × (j : ℕ) × IsOutput imp j × IsKnownWrong spec imp x j
 
--- at some pattern and some output it is known and differs
-abbrev pub SomeDiffersKnown : Netlist → Netlist → List (List Bool) → Type 0
-SomeDiffersKnown spec imp patterns = (x : List Bool) × Contains patterns x × (j : ℕ) × (j < length imp.outs) × DiffersKnown spec imp x j
+abbrev pub MayBeRightAmong : Netlist → Netlist → List (List Bool) → Type 0
+MayBeRightAmong spec imp patterns = (x : List Bool) → Contains patterns x → (j : ℕ) → IsOutput imp j → MayBeRight spec imp x j
 
--- with these tables in the boxes every output agrees on every input
-abbrev pub TablesAgree : Netlist → Netlist → List TableBits → Type 0
-TablesAgree spec imp tables = (x : List Bool) → length x ≡ imp.inputs → (j : ℕ) → j < length imp.outs → out_bit imp (flat_with imp x tables) j ≡ wanted_bit spec x j
+-- x is the first pattern at which some output is known and wrong, and j is the first such output there
+pub record IsFirstHit (spec imp : Netlist) (patterns : List (List Bool)) (x : List Bool) (j : ℕ) : Type 0 where
+  pub before : List (List Bool)
+  pub after : List (List Bool)
+  pub stands : patterns ≡ before ++ x ∷ after
+  pub earlier : MayBeRightAmong spec imp before
+  pub there : IsOutput imp j
+  pub wrong : IsKnownWrong spec imp x j
+  pub first : (i : ℕ) → i < j → MayBeRight spec imp x i
+
+-- at some vector some output is known and wrong
+abbrev pub KnownWrongSomewhere : Netlist → Netlist → Type 0
+KnownWrongSomewhere spec imp = (x : List Bool) × IsVector imp x × (j : ℕ) × IsOutput imp j × IsKnownWrong spec imp x j
+
+abbrev pub MayBeRightEverywhere : Netlist → Netlist → Type 0
+MayBeRightEverywhere spec imp = (x : List Bool) → IsVector imp x → (j : ℕ) → IsOutput imp j → MayBeRight spec imp x j
+
+-- at the vector x the output j is wrong whatever the boxes' outputs are
+abbrev pub IsAlwaysWrong : Netlist → Netlist → List Bool → ℕ → Type 0
+IsAlwaysWrong spec imp x j = (z : List Bool) → AreBoxOutputs imp z → IsWrong spec imp x (flat imp x z) j
+
+-- at some vector one output is always wrong
+abbrev pub OneAlwaysWrong : Netlist → Netlist → Type 0
+OneAlwaysWrong spec imp = (x : List Bool) × IsVector imp x × (j : ℕ) × IsOutput imp j × IsAlwaysWrong spec imp x j
+
+-- at each vector each output is right for some outputs of the boxes
+abbrev pub EachSometimesRight : Netlist → Netlist → Type 0
+EachSometimesRight spec imp = (x : List Bool) → IsVector imp x → (j : ℕ) → IsOutput imp j → (z : List Bool) × AreBoxOutputs imp z × IsRight spec imp x (flat imp x z) j
+
+-- at the vector x some output is wrong whatever the boxes' outputs are, but not always the same one
+abbrev pub HasAlwaysWrong : Netlist → Netlist → List Bool → Type 0
+HasAlwaysWrong spec imp x = (z : List Bool) → AreBoxOutputs imp z → SomeWrong spec imp x (flat imp x z)
+
+-- there is such a vector
+abbrev pub SomeAlwaysWrong : Netlist → Netlist → Type 0
+SomeAlwaysWrong spec imp = (x : List Bool) × IsVector imp x × HasAlwaysWrong spec imp x
+
+-- at each vector all outputs are right together for some outputs of the boxes
+abbrev pub AllSometimesRight : Netlist → Netlist → Type 0
+AllSometimesRight spec imp = (x : List Bool) → IsVector imp x → (z : List Bool) × AreBoxOutputs imp z × AllRight spec imp x (flat imp x z)
+
+-- bits at the input pins and at the output pins of a box
+pub record PinBits : Type 0 where
+  pub ins : List Bool
+  pub outs : List Bool
+
+-- the bits at the output pins, box after box
+abbrev pub all_outs : List PinBits → List Bool
+all_outs chosen = flat_map (λ bits. bits.outs) chosen
+
+-- where the cells have these bits, the bits at the input pins of each box
+abbrev pub all_ins : List Pins → List Bool → List (List Bool)
+all_ins boxes bits = map (λ pins. map (bit_of bits) pins.ins) boxes
+
+-- with the chosen bits at all pins, every output is right at every vector that leads to the chosen inputs of the boxes
+abbrev pub Suit : Netlist → Netlist → List PinBits → Type 0
+Suit spec imp chosen = (x : List Bool) → IsVector imp x → all_ins imp.boxes (flat imp x (all_outs chosen)) ≡ map (λ bits. bits.ins) chosen
+    → AllRight spec imp x (flat imp x (all_outs chosen))
+
+-- for each list of input bits of the next box there is a list of output bits with which the same holds of the boxes behind
+-- it, and in the end the chosen bits suit
+abbrev pub Wins : (List PinBits → Type 0) → List Pins → List PinBits → Type 0
+Wins suit [] chosen = suit chosen
+Wins suit (box ∷ boxes) chosen = (ins : List Bool) → length ins ≡ length box.ins
+    → (outs : List Bool) × (length outs ≡ length box.outs) × Wins suit boxes (chosen ++ record { ins = ins; outs = outs } ∷ [])
+
+-- box by box there are outputs for the inputs
+abbrev pub SomeChoicesSuit : Netlist → Netlist → Type 0
+SomeChoicesSuit spec imp = Wins (Suit spec imp) imp.boxes []
+
+abbrev pub NoChoicesSuit : Netlist → Netlist → Type 0
+NoChoicesSuit spec imp = SomeChoicesSuit spec imp → ⊥
 
 -- no tables agree
 abbrev pub NoTablesAgree : Netlist → Netlist → Type 0
 NoTablesAgree spec imp = (tables : List TableBits) → FitBoxes tables imp.boxes → TablesAgree spec imp tables → ⊥
+
+-- some tables agree
+abbrev pub SomeTablesAgree : Netlist → Netlist → Type 0
+SomeTablesAgree spec imp = (tables : List TableBits) × FitBoxes tables imp.boxes × TablesAgree spec imp tables

@@ -5,7 +5,7 @@
 use Rattle.std.specs.Prelude.{[], ◌≡◌, ℕ, ◌+◌, ◌<◌, zero, suc, Bool, false, ◌&&◌, ◌||◌, not, if◌then◌else◌, List, length, map, take, sum_by}
 use Rattle.std.specs.List.{range_with_len, slice_index_or}
 use Rattle.bb_bits.specs.Numbers.{number_of}
-use Rattle.bb_bits.specs.Tables.{TableBits, table_bit}
+use Rattle.bb_bits.specs.Tables.{TableBits, HasAllBits, table_bit}
 use Rattle.bb_net.specs.declared.cell.Cell.{Cell}
 use Rattle.bb_net.specs.declared.cell.Cell.TheVariants.{Const, Input, Not, And, Or, Xor, Mux, BoxOut}
 use Rattle.bb_net.specs.Netlists.{Netlist, Pins, cell_at, box_at}
@@ -67,11 +67,12 @@ table_at tables b = slice_index_or tables b (record { inputs = 0; outputs = 0; r
 abbrev pub tabled_bit : List TableBits → ℕ → ℕ → List Bool → Bool
 tabled_bit tables b p ins = table_bit (table_at tables b) (number_of ins) p
 
--- one table for each box, with its numbers of pins
+-- one table for each box, with its numbers of pins and all its bits
 pub record FitBoxes (tables : List TableBits) (boxes : List Pins) : Type 0 where
   pub count : length tables ≡ length boxes
   pub inputs : (b : ℕ) → b < length boxes → (table_at tables b).inputs ≡ length (box_at boxes b).ins
   pub outputs : (b : ℕ) → b < length boxes → (table_at tables b).outputs ≡ length (box_at boxes b).outs
+  pub whole : (b : ℕ) → b < length boxes → HasAllBits (table_at tables b)
 
 -- the value of the cells, for boxes that hold tables
 abbrev pub flat_with : Netlist → List Bool → List TableBits → List Bool

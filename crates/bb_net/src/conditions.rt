@@ -1,12 +1,66 @@
-ghost use Rattle.std.specs.Prelude.{◌≡◌, ◌≢◌, ℕ, ◌<◌, Bool, List, length, All};
-ghost use Rattle.bb_net.specs.Netlists.{Netlist};
-ghost use Rattle.bb_net.specs.Values.{value_of};
-ghost use Rattle.bb_net.specs.Conditions.{out_bit, wanted_bit, DiffersKnown, SomeDiffersKnown, NoTablesAgree};
+//! Laws of the conditions under which no contents of the boxes agree. The definitions stand in the specifications; each
+//! function here has laws as its contract and does nothing.
 
-/// Where a known value differs from the specification's, it differs whatever the boxes give, and so no tables agree.
-pub fn known_difference_stays()
-    ensures stays { (spec imp : Netlist) (x : List Bool) (box : ℕ → ℕ → List Bool → Bool) (j : ℕ)
-        → DiffersKnown spec imp x j → out_bit imp (value_of imp x box) j ≢ wanted_bit spec x j }
-    ensures none_agree { (spec imp : Netlist) (patterns : List (List Bool))
-        → All (λ x. length x ≡ imp.inputs) patterns → SomeDiffersKnown spec imp patterns → NoTablesAgree spec imp }
+ghost use Rattle.std.specs.Prelude.{◌≡◌, ◌<◌, ◌≤◌, ◌^◌, ◌⊎◌, ℕ, Bool, List, length, All};
+ghost use Rattle.bb_bits.specs.Numbers.{number_of, bits_of};
+ghost use Rattle.bb_bits.specs.TableLaws.{RowsHaveShape, BitsAreChosen, RowsHaveTable};
+ghost use Rattle.bb_net.specs.Netlists.{Netlist, IsNetlist};
+ghost use Rattle.bb_net.specs.Agreement.{IsVector};
+ghost use Rattle.bb_net.specs.Conditions.{KnownWrongAmong, MayBeRightAmong, IsFirstHit, KnownWrongSomewhere, MayBeRightEverywhere, OneAlwaysWrong, EachSometimesRight, SomeAlwaysWrong, AllSometimesRight, SomeChoicesSuit, NoChoicesSuit, SomeTablesAgree, NoTablesAgree};
+
+use bb_bits::{
+    number_is_below, number_spelled, number_spelled_once, rows_are_chosen, rows_are_tables,
+    rows_have_shape,
+};
+
+/// Each condition is at least as strong as the next one.
+pub fn conditions_weaken()
+    ensures patterns { (spec imp : Netlist) (patterns : List (List Bool)) → All (IsVector imp) patterns
+        → KnownWrongAmong spec imp patterns → KnownWrongSomewhere spec imp }
+    ensures known { (spec imp : Netlist) → KnownWrongSomewhere spec imp → OneAlwaysWrong spec imp }
+    ensures one { (spec imp : Netlist) → OneAlwaysWrong spec imp → SomeAlwaysWrong spec imp }
+    ensures some { (spec imp : Netlist) → IsNetlist imp → SomeAlwaysWrong spec imp → NoChoicesSuit spec imp }
+    ensures choices { (spec imp : Netlist) → IsNetlist imp → NoChoicesSuit spec imp → NoTablesAgree spec imp }
+{
+    laws_of_tables();
+}
+
+/// With at most one box, choices for its inputs are a table.
+pub fn choices_are_tables()
+    ensures found { (spec imp : Netlist) → IsNetlist imp → length imp.boxes ≤ 1 → SomeChoicesSuit spec imp → SomeTablesAgree spec imp }
+    ensures none { (spec imp : Netlist) → IsNetlist imp → length imp.boxes ≤ 1 → NoTablesAgree spec imp → NoChoicesSuit spec imp }
+{
+    laws_of_tables();
+}
+
+/// A list of patterns has a first hit, or all its patterns may be right at all outputs.
+pub fn hit_or_none()
+    ensures { (spec imp : Netlist) (patterns : List (List Bool))
+        → ((x : List Bool) × (j : ℕ) × IsFirstHit spec imp patterns x j) ⊎ MayBeRightAmong spec imp patterns }
 {}
+
+/// Each condition holds, or what stands beside it.
+pub fn conditions_hold_or_not()
+    ensures known { (spec imp : Netlist) → KnownWrongSomewhere spec imp ⊎ MayBeRightEverywhere spec imp }
+    ensures one { (spec imp : Netlist) → OneAlwaysWrong spec imp ⊎ EachSometimesRight spec imp }
+    ensures some { (spec imp : Netlist) → SomeAlwaysWrong spec imp ⊎ AllSometimesRight spec imp }
+    ensures choices { (spec imp : Netlist) → NoChoicesSuit spec imp ⊎ SomeChoicesSuit spec imp }
+    ensures tables { (spec imp : Netlist) → NoTablesAgree spec imp ⊎ SomeTablesAgree spec imp }
+{}
+
+// The laws of tables and of the numbers that bits spell.
+fn laws_of_tables()
+    ensures shape { RowsHaveShape }
+    ensures chosen { BitsAreChosen }
+    ensures table { RowsHaveTable }
+    ensures below { (bits : List Bool) → number_of bits < 2 ^ length bits }
+    ensures width { (n number : ℕ) → length (bits_of n number) ≡ n }
+    ensures spelled { (bits : List Bool) → bits_of (length bits) (number_of bits) ≡ bits }
+{
+    rows_have_shape();
+    rows_are_chosen();
+    rows_are_tables();
+    number_is_below();
+    number_spelled();
+    number_spelled_once();
+}

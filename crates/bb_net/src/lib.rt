@@ -5,15 +5,14 @@ mod build;
 mod cell;
 mod conditions;
 mod net;
+mod pair;
 mod tables;
 mod tern;
 mod value;
 
 pub use cell::Cell;
-pub use conditions::known_difference_stays;
+pub use conditions::{choices_are_tables, conditions_hold_or_not, conditions_weaken, hit_or_none};
 pub use net::{BoxPins, Net};
+pub use pair::{BoxName, OutName, Pair};
 pub use tern::{known_is_value, known_without_boxes, tern_exists, tern_is_unique};
 pub use value::{value_exists, value_is_unique};
-
-#[cfg(test)]
-mod tests;

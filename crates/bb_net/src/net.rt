@@ -77,6 +77,13 @@ impl Net {
         })
     }
 
+    // What the type keeps.
+    pub(crate) fn keeps_its_order(&self)
+        ensures { IsNetlist self.now }
+    {
+        let _ = &self.cells;
+    }
+
     /// The number of inputs.
     pub fn inputs(&self) -> u32
         ensures inputs { result ≡ self.now.inputs }

@@ -6,7 +6,7 @@ ghost use Rattle.bb_net.specs.Values.{bit_of, gate, tabled_bit, FitBoxes, flat_w
 
 use crate::value::cell_bit;
 use crate::{BoxPins, Cell, Net};
-use bb_bits::Table;
+use bb_bits::{Table, number_doubles, number_is_below, tables_have_few_inputs};
 
 impl Net {
     /// Writes the value of each cell, for the inputs `x` and boxes that hold the tables, one for each box in order.
@@ -54,6 +54,8 @@ fn tabled_pin(pins: &BoxPins, table: &Table, pin: u32, out: &[bool]) -> bool
     requires there { All (λ place. place < length out.now) pins.now.ins }
     ensures { result ≡ table_bit table.now (number_of (map (bit_of out.now) pins.now.ins)) pin }
 {
+    tables_have_few_inputs();
+    number_is_below();
     let row = row_number(table.inputs(), pins.ins(), out);
     table.bit(row, pin)
 }
@@ -65,10 +67,13 @@ fn row_number(inputs: u32, places: &[u32], out: &[bool]) -> u32
     requires there { All (λ place. place < length out.now) places.now }
     ensures { result ≡ number_of (map (bit_of out.now) places.now) }
 {
+    number_doubles();
+    number_is_below();
     let mut number = 0;
-    for (i, place) in places.iter().enumerate() {
+    for place in places {
+        number *= 2;
         if out[*place as usize] {
-            number += 1 << (inputs - 1 - i as u32);
+            number += 1;
         }
     }
     number

@@ -7,9 +7,13 @@ mod example_tests;
 mod fault_tests;
 mod memory;
 #[cfg(test)]
+mod net_tests;
+#[cfg(test)]
 mod reference;
 #[cfg(test)]
 mod reference_tests;
+#[cfg(test)]
+mod table_tests;
 #[cfg(test)]
 mod tests;
 

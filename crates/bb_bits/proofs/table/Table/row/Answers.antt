@@ -17,5 +17,5 @@ copy_row-requires c =
     let len : length c.args.ins.now ≡ t.inputs = omega (arith, ins) in
     let row : c.number.result < 2 ^ t.inputs = omega (arith, number_of-below c.args.ins.now, ap (λ k. 2 ^ k) len) in
     let room : length c.args.out.now ≡ t.outputs = omega (arith, outs) in
-    let fits = row_within t c.number.result c.self.invariant row in
+    let fits = row_within t c.number.result c.self.invariant.whole row in
     rw (room, c.deref.ensures.value) fits

@@ -1,5 +1,7 @@
-use crate::{Cell, Net};
-use bb_bits::Table;
+//! Netlists, their values, and pairs through their public calls.
+
+use bb_bits::{Name, Table};
+use bb_net::{BoxName, Cell, Net, OutName, Pair};
 use std::test::Fail;
 
 #[test]
@@ -76,5 +78,42 @@ fn unknown_conditions_may_settle(rt: HostRuntime) -> Result<(), Fail> {
             Some(false)
         ]
     );
+    Ok(())
+}
+
+// A specification whose output is its input, and an implementation whose output is that of a box over its input.
+#[test]
+fn a_pair_holds_two_nets(rt: HostRuntime) -> Result<(), Fail> {
+    let alloc = rt.alloc();
+    let mut spec = Net::start(alloc, 1)?;
+    spec.add_out(2)?;
+    let mut imp = Net::start(alloc, 1)?;
+    let number = imp.add_box(vec![in alloc; 2]?)?;
+    let pin = imp.push(Cell::BoxOut(number, 0))?;
+    imp.add_out(pin)?;
+    let a = Name::of(alloc, b"a")?;
+    let y = Name::of(alloc, b"y")?;
+    let path = Name::of(alloc, b"u")?;
+    let pins = BoxName::of(
+        path,
+        vec![in alloc; Name::of(alloc, b"p")?]?,
+        vec![in alloc; Name::of(alloc, b"q")?]?,
+    );
+    let out = OutName {
+        next: false,
+        text: y,
+    };
+    let pair = Pair::of(
+        spec,
+        imp,
+        vec![in alloc; a]?,
+        vec![in alloc; out]?,
+        vec![in alloc; pins]?,
+    );
+    assert_eq!(rt; pair.spec().outs(), [2].as_slice());
+    assert_eq!(rt; pair.imp().outs(), [3].as_slice());
+    assert_eq!(rt; pair.ins().len(), 1);
+    assert_eq!(rt; pair.outs()[0].text.bytes(), b"y".as_slice());
+    assert_eq!(rt; pair.boxes()[0].path().bytes(), b"u".as_slice());
     Ok(())
 }

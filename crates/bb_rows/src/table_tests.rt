@@ -1,4 +1,6 @@
-use crate::{Name, Table};
+//! Names and tables through their public calls.
+
+use bb_bits::{Name, Table};
 use std::cmp::Ordering;
 use std::test::Fail;
 

@@ -1,0 +1,143 @@
+//! A specification and an implementation beside each other, with the texts of their inputs, outputs and boxes.
+
+ghost use Rattle.std.specs.Prelude.{◌≡◌, List};
+ghost use Rattle.bb_net.specs.Pairs.{NetPair, BoxTexts, AreBeside, AreSmall, IsPair};
+
+use crate::Net;
+use bb_bits::Name;
+use std::marker::Model;
+
+/// The text of an output: a top output, or the next state of a register.
+#[derive(Debug, Drop)]
+pub struct OutName {
+    pub next: bool,
+    pub text: Name,
+}
+
+/// The path of a box and the texts of its pins, in pin order.
+#[derive(Debug, Drop)]
+pub struct BoxName {
+    path: Name,
+    ins: Vec<Name>,
+    outs: Vec<Name>,
+}
+
+impl Model for BoxName {
+    ghost use Rattle.bb_net.specs.Pairs.{BoxTexts};
+
+    ghost Value = { BoxTexts };
+
+    ghost view = { λ b. record { path = b.path; ins = b.ins.items; outs = b.outs.items } };
+}
+
+impl BoxName {
+    /// The name of a box with this path and these texts of its pins.
+    pub fn of(path: Name, ins: Vec<Name>, outs: Vec<Name>) -> BoxName
+        ensures name { result ≡ record { path = path; ins = ins.items; outs = outs.items } }
+    {
+        BoxName { path, ins, outs }
+    }
+
+    /// The instance names from the top to the box, joined by dots.
+    pub fn path(&self) -> &Name
+        ensures path { result.now ≡ self.now.path }
+    {
+        &self.path
+    }
+
+    /// The texts of the input pins.
+    pub fn ins(&self) -> &[Name]
+        ensures ins { result.now ≡ self.now.ins }
+    {
+        &self.ins
+    }
+
+    /// The texts of the output pins.
+    pub fn outs(&self) -> &[Name]
+        ensures outs { result.now ≡ self.now.outs }
+    {
+        &self.outs
+    }
+}
+
+/// A specification without boxes and an implementation, over the same inputs and with as many outputs.
+///
+/// It has a text for each input and each output, and a name for each box, in their orders. Each net has at most 8,000,000
+/// cells and 2,000,000 outputs, and inputs and box pins are at most 2,048 together.
+#[derive(Debug, Drop)]
+pub struct Pair {
+    spec: Net,
+    imp: Net,
+    ins: Vec<Name>,
+    outs: Vec<OutName>,
+    boxes: Vec<BoxName>,
+}
+
+impl Model for Pair {
+    ghost use Rattle.bb_net.specs.Pairs.{NetPair, IsPair};
+
+    ghost Value = { NetPair };
+
+    ghost view = { λ p. record { spec = p.spec; imp = p.imp; ins = p.ins.items; outs = p.outs.items; boxes = p.boxes.items } };
+
+    ghost invariant = { λ p. IsPair (record { spec = p.spec; imp = p.imp; ins = p.ins.items; outs = p.outs.items; boxes = p.boxes.items }) };
+}
+
+impl Pair {
+    /// The pair of these nets, which are moved into it, with these texts.
+    pub fn of(spec: Net, imp: Net, ins: Vec<Name>, outs: Vec<OutName>, boxes: Vec<BoxName>) -> Pair
+        requires beside { AreBeside (record { spec = spec; imp = imp; ins = ins.items; outs = outs.items; boxes = boxes.items }) }
+        requires small { AreSmall (record { spec = spec; imp = imp; ins = ins.items; outs = outs.items; boxes = boxes.items }) }
+        ensures pair { result ≡ record { spec = spec; imp = imp; ins = ins.items; outs = outs.items; boxes = boxes.items } }
+    {
+        spec.keeps_its_order();
+        imp.keeps_its_order();
+        Pair {
+            spec,
+            imp,
+            ins,
+            outs,
+            boxes,
+        }
+    }
+
+    /// The specification.
+    pub fn spec(&self) -> &Net
+        ensures spec { result.now ≡ self.now.spec }
+        ensures kept { IsPair self.now }
+    {
+        &self.spec
+    }
+
+    /// The implementation.
+    pub fn imp(&self) -> &Net
+        ensures imp { result.now ≡ self.now.imp }
+        ensures kept { IsPair self.now }
+    {
+        &self.imp
+    }
+
+    /// The texts of the inputs, in order.
+    pub fn ins(&self) -> &[Name]
+        ensures ins { result.now ≡ self.now.ins }
+        ensures kept { IsPair self.now }
+    {
+        &self.ins
+    }
+
+    /// The texts of the outputs, in order.
+    pub fn outs(&self) -> &[OutName]
+        ensures outs { result.now ≡ self.now.outs }
+        ensures kept { IsPair self.now }
+    {
+        &self.outs
+    }
+
+    /// The names of the implementation's boxes, in order.
+    pub fn boxes(&self) -> &[BoxName]
+        ensures boxes { result.now ≡ self.now.boxes }
+        ensures kept { IsPair self.now }
+    {
+        &self.boxes
+    }
+}
