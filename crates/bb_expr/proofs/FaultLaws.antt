@@ -1,12 +1,14 @@
 -- A source has no faults, or a first one, and only one.
-use Rattle.std.proofs.Common.{◌≡◌, List, [], ◌∷◌, refl, sym, ◌∙◌, arith, inl, inr}
+use Rattle.std.proofs.Common.{◌≡◌, List, [], ◌∷◌, refl, arith, inl, inr}
 use Rattle.std.specs.Prelude.{◌⊎◌}
-use Rattle.bb_ast.specs.Syntax.{PlainModule}
 use Rattle.bb_expr.specs.declared.fault.NameFault.{NameFault}
-use Rattle.bb_expr.specs.Faults.{faults_of, IsSound, IsFirstFault}
+use Rattle.bb_expr.specs.Faults.{faults_of}
 use Rattle.bb_expr.specs.Laws.{SoundOrFault, NotSoundAndFault, FirstFaultsAreOne}
 
-split : (all : List NameFault) → (all ≡ []) ⊎ ((fault : NameFault) × (rest : List NameFault) × (all ≡ fault ∷ rest))
+abbrev pub IsHead : List NameFault → NameFault → Type 0
+IsHead all fault = (rest : List NameFault) × (all ≡ fault ∷ rest)
+
+split : (all : List NameFault) → (all ≡ []) ⊎ ((fault : NameFault) × IsHead all fault)
 split [] = inl refl
 split (x ∷ xs) = inr (x, (xs, refl))
 

@@ -1,2 +1,4 @@
 pub mod FaultLaws
 pub mod ValueLemmas
+pub mod MadeValue
+pub mod CellCounts

@@ -1,10 +1,9 @@
 -- A value has as many bits as its context has.
-use Rattle.std.proofs.Common.{◌≡◌, ℕ, zero, suc, ◌+◌, ◌-◌, ◌*◌, ◌≤◌, Bool, true, false, List, [], ◌∷◌, ◌++◌, length, map, refl, sym, ap, ◌∙◌, arith, length-append}
+use Rattle.std.proofs.Common.{◌≡◌, ℕ, zero, suc, ◌+◌, ◌*◌, ◌≤◌, Bool, true, false, List, [], ◌∷◌, length, map, refl, ap, ◌∙◌, arith, length-append}
 use Rattle.std.proofs.lemmas.Grind.{common_steps}
 use Rattle.std.proofs.lemmas.List.{length-map, length-replicate}
-use Rattle.std.specs.Prelude.{max, sum, replicate, fold, if◌then◌else◌}
+use Rattle.std.specs.Prelude.{sum, fold, if◌then◌else◌}
 use Rattle.std.specs.List.{flat_map, list_any, range_with_len}
-use Rattle.bb_ast.specs.declared.expr.Op.{Op}
 use Rattle.bb_ast.specs.Syntax.{Expression, Net, Bit, Part, Sized, Plain, Not, Chain, Cond, Concat, Repeat, Operands, no_operand, operand, Arms, no_arm, arm, Parts, no_part, part}
 use Rattle.bb_ast.specs.Folds.{of_operands, of_arms, of_parts}
 use Rattle.bb_bits.specs.Numbers.{bits_of}
@@ -76,7 +75,7 @@ mutual
   chain-length ranges env (operand op e rest) w bits wide fits =
       chain-length ranges env rest w (bitwise (op_bit op) bits (value ranges env e w)) (length-bitwise (op_bit op) w bits _ wide (value-length ranges env e w (omega (arith, fits)))) (omega (arith, fits))
 
-  arms-length : (ranges : Ranges) (env : Bits) (all : Arms) (w : ℕ) (last : Expression)
+  pub arms-length : (ranges : Ranges) (env : Bits) (all : Arms) (w : ℕ) (last : Expression)
       → greatest (map (λ x. x.1) (of_arms (λ x a. a) (widths ranges) all)) ≤ w → Wide ranges env w last
       → length (chosen (of_arms (seen ranges) (values ranges env) all) (seen ranges last (value ranges env last)) w) ≡ w
   arms-length ranges env no_arm w last fits wide = wide

@@ -94,11 +94,12 @@ abbrev pub arms_made : List (Operand Made × Operand Made) → Operand Made → 
 arms_made [] last w = last.at w
 arms_made (x ∷ xs) last w = arm_made (alone x.0) (x.1.at w) (arms_made xs last w)
 
-abbrev pub side_by_side : ℕ → ℕ → List (Operand Made) → Made
-side_by_side k w all = record {
-  bits = extended (Const false) w (copies k (flat_map (λ x. (alone {A = Made} x).bits) all));
-  cells = flat_map (λ x. (alone {A = Made} x).cells) all;
-}
+-- the bits of parts side by side, and their cells
+abbrev pub part_bits : List (Operand Made) → List Term
+part_bits all = flat_map (λ x. (alone {A = Made} x).bits) all
+
+abbrev pub part_cells : List (Operand Made) → List Term
+part_cells all = flat_map (λ x. (alone {A = Made} x).cells) all
 
 abbrev pub makes : Ranges → Cases (Operand Made) (ℕ → Made)
 makes ranges = record {
@@ -110,8 +111,8 @@ makes ranges = record {
   not = λ k e w. let x = e.at w in if is_odd k then record { bits = inverted x.bits; cells = x.cells ++ inverted x.bits } else x;
   chain = λ e rest w. fold (λ a x. let b = x.1.at w in chained a b (operated x.0 a.bits b.bits)) (e.at w) rest;
   cond = λ all last w. arms_made all last w;
-  concat = λ all w. side_by_side 1 w all;
-  repeat = λ k all w. side_by_side k w all;
+  concat = λ all w. record { bits = extended (Const false) w (part_bits all); cells = part_cells all };
+  repeat = λ k all w. record { bits = extended (Const false) w (copies k (part_bits all)); cells = part_cells all };
 }
 
 abbrev pub made : Ranges → Expression → ℕ → Made

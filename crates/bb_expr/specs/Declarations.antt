@@ -1,7 +1,7 @@
 -- What the declarations of a module say of a name (IEEE 1364-2005, 3.5 to 3.7, 4.2, 12.2 and 12.3, in a profile). A declaration
 -- counts in its whole module, whatever stands before it; where a name is declared twice, the first declaration counts. An
 -- undeclared name in a gate's terminal, in a connection or on the left of assign is a wire of one bit (4.5).
-use Rattle.std.specs.Prelude.{ℕ, Bool, true, false, not, ◌&&◌, ◌||◌, List, [], ◌∷◌, ◌++◌, map, Option, Some, None, option_map, option_to_list, is_some, unwrap_or}
+use Rattle.std.specs.Prelude.{ℕ, Bool, true, false, not, ◌&&◌, ◌||◌, List, [], ◌++◌, map, Option, Some, None, option_map, option_to_list, is_some, unwrap_or}
 use Rattle.std.specs.List.{find, filter, flat_map, list_any}
 use Rattle.std.specs.Option.{option_and_then, option_map_or}
 use Rattle.bb_bits.specs.Names.{same_name}
@@ -10,7 +10,7 @@ use Rattle.bb_ast.specs.declared.module.Port.{Port}
 use Rattle.bb_ast.specs.declared.module.PortKind.{PortKind}
 use Rattle.bb_ast.specs.declared.module.PortKind.TheVariants as port_kinds
 use Rattle.bb_ast.specs.declared.module.Range.{Range}
-use Rattle.bb_ast.specs.Syntax.{Expression, PlainConns, Order, Named, PlainBody, Ports, Nets, Regs, Supply, Assign, Gates, Calls, Always, PlainHead, PlainModule}
+use Rattle.bb_ast.specs.Syntax.{Expression, PlainConns, Order, Named, PlainBody, Ports, Nets, Regs, Supply, Assign, Gates, Calls, PlainHead, PlainModule}
 use Rattle.bb_ast.specs.Names.{names_in}
 use Rattle.bb_expr.specs.declared.net.NetKind.{NetKind}
 use Rattle.bb_expr.specs.declared.net.NetKind.TheVariants.{Wire, Reg, Zero, One}

@@ -13,12 +13,12 @@ use Rattle.bb_ast.specs.Gates.{gate_bytes}
 use Rattle.bb_expr.specs.declared.fault.NameFault.{NameFault}
 use Rattle.bb_expr.specs.declared.fault.NameFault.TheVariants as faults
 use Rattle.bb_expr.specs.declared.net.NetKind.{NetKind}
-use Rattle.bb_expr.specs.declared.net.NetKind.TheVariants.{Wire, Reg, Zero, One}
+use Rattle.bb_expr.specs.declared.net.NetKind.TheVariants.{Reg, Zero, One}
 use Rattle.bb_expr.specs.Walks.{each_after, has_name}
 use Rattle.bb_expr.specs.Ranges.{range_width, has_bits}
 use Rattle.bb_expr.specs.Widths.{own_width}
 use Rattle.bb_expr.specs.Declarations.{Declaration, declared_by_head, declared_by, is_instance, range_of, kind_of, direction_of, is_port, port_direction, is_known}
-use Rattle.bb_expr.specs.Spots.{Use, Read, Driven, Stored, Spot, ModuleName, HeadName, Declared, Target, Placed, PortName, Joined, Terminal, Clock, Number, Whole, Used, module_named, header_spots, item_spots}
+use Rattle.bb_expr.specs.Spots.{Read, Driven, Stored, Spot, ModuleName, HeadName, Declared, Target, Placed, PortName, Joined, Terminal, Clock, Number, Whole, Used, module_named, header_spots, item_spots}
 
 abbrev pub told_if : Bool → List ℕ → List (List ℕ)
 told_if fault name = if fault then name ∷ [] else []

@@ -1,5 +1,5 @@
 -- Laws that a reader expects of these definitions.
-use Rattle.std.specs.Prelude.{◌≡◌, ◌⊎◌, ◌≤◌, ◌+◌, ℕ, Bool, true, false, List, ◌++◌, map, length, replicate}
+use Rattle.std.specs.Prelude.{◌≡◌, ◌⊎◌, ◌≤◌, ℕ, List, map, length}
 use Rattle.bb_ast.specs.Syntax.{Expression, PlainModule}
 use Rattle.bb_expr.specs.declared.fault.NameFault.{NameFault}
 use Rattle.bb_expr.specs.Cells.{made, cell_count}

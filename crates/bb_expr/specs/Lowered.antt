@@ -1,5 +1,5 @@
 -- What a list of steps means. A step is a constant, a bit of a net, or an operator on the bits of earlier steps.
-use Rattle.std.specs.Prelude.{◌≡◌, ◌<◌, ℕ, zero, suc, ◌+◌, Bool, true, false, if◌then◌else◌, List, [], ◌∷◌, map, length, All, IfSome, Option, Some, None, slice_get, slice_index_or}
+use Rattle.std.specs.Prelude.{◌≡◌, ◌<◌, ℕ, zero, suc, ◌+◌, Bool, true, false, if◌then◌else◌, List, [], map, length, All, IfSome, Some, None, slice_get, slice_index_or}
 use Rattle.std.specs.List.{filter_map, enumerate_from}
 use Rattle.std.specs.List.Sorted.{IsPermutation}
 use Rattle.std.specs.Option.{option_map_or}

@@ -2,7 +2,7 @@
 -- implicit wires in the order in which they first stand in a terminal, in a connection or on the left of assign.
 use Rattle.std.specs.Prelude.{ℕ, ◌+◌, Bool, true, false, not, ◌&&◌, List, [], ◌∷◌, ◌++◌, map, is_none}
 use Rattle.std.specs.List.{filter, list_all}
-use Rattle.bb_ast.specs.Syntax.{PlainBody, Ports, Nets, Regs, Supply, Assign, Gates, Calls, Always, PlainModule}
+use Rattle.bb_ast.specs.Syntax.{PlainBody, Ports, Nets, Regs, PlainModule}
 use Rattle.bb_expr.specs.declared.net.NetInfo.{NetInfo}
 use Rattle.bb_expr.specs.Walks.{once}
 use Rattle.bb_expr.specs.Declarations.{declarations, range_of, kind_of, port_direction, is_port, implicit_names}

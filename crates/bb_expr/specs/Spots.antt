@@ -1,14 +1,13 @@
 -- What stands in a statement, in text order: each thing at its first token, a larger one before its parts. A fault is always
 -- the fault of one such spot.
-use Rattle.std.specs.Prelude.{ℕ, ◌-◌, Bool, true, false, if◌then◌else◌, List, [], ◌∷◌, ◌++◌, map, length, take, drop, Option, Some, None, option_map, slice_get}
+use Rattle.std.specs.Prelude.{ℕ, Bool, true, false, if◌then◌else◌, List, [], ◌∷◌, ◌++◌, map, length, take, drop, Option, Some, None, option_map, slice_get}
 use Rattle.std.specs.List.{find, flat_map, enumerate_from}
-use Rattle.std.specs.Option.{option_and_then, option_map_or}
+use Rattle.std.specs.Option.{option_and_then}
 use Rattle.bb_bits.specs.Names.{same_name}
 use Rattle.bb_ast.specs.declared.module.Dir.{Dir}
 use Rattle.bb_ast.specs.declared.module.Dir.TheVariants as dirs
 use Rattle.bb_ast.specs.declared.module.Gate.{Gate}
-use Rattle.bb_ast.specs.declared.module.Range.{Range}
-use Rattle.bb_ast.specs.Syntax.{Expression, Plain, PlainConns, Order, Named, PlainAlways, PlainBody, Ports, Nets, Regs, Supply, Assign, Gates, Calls, Always, PlainHead, PlainModule}
+use Rattle.bb_ast.specs.Syntax.{Expression, Plain, PlainConns, Order, Named, PlainBody, Nets, Assign, Gates, Calls, Always, PlainHead, PlainModule}
 use Rattle.bb_ast.specs.Folds.{Cases, fold_by}
 use Rattle.bb_ast.specs.Gates.{output_count}
 use Rattle.bb_expr.specs.declared.net.NetKind.TheVariants.{Wire}

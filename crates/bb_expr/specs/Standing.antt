@@ -1,8 +1,8 @@
 -- The expressions that stand in a module: those of its items, and each expression in one of these.
-use Rattle.std.specs.Prelude.{ℕ, List, [], ◌∷◌, ◌++◌, map, Contains, Option, option_to_list, IsSomeAnd, slice_get}
+use Rattle.std.specs.Prelude.{ℕ, List, [], ◌∷◌, ◌++◌, Contains, option_to_list, IsSomeAnd, slice_get}
 use Rattle.std.specs.List.{flat_map}
 use Rattle.std.specs.Option.{option_and_then, option_map_or}
-use Rattle.bb_ast.specs.Syntax.{Expression, PlainConns, Order, Named, PlainBody, Ports, Nets, Regs, Supply, Assign, Gates, Calls, Always, PlainModule}
+use Rattle.bb_ast.specs.Syntax.{Expression, PlainConns, Order, Named, PlainBody, Nets, Assign, Gates, Calls, Always, PlainModule}
 use Rattle.bb_ast.specs.Folds.{Cases, fold_by}
 use Rattle.bb_expr.specs.declared.net.NetInfo.{NetInfo}
 use Rattle.bb_expr.specs.Widths.{Ranges}

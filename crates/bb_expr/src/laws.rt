@@ -1,6 +1,6 @@
 //! Laws of these definitions. Each function has a law as its contract and does nothing.
 
-ghost use Rattle.bb_expr.specs.Laws.{SoundOrFault, NotSoundAndFault, FirstFaultsAreOne, ValuesHaveWidth};
+ghost use Rattle.bb_expr.specs.Laws.{SoundOrFault, NotSoundAndFault, FirstFaultsAreOne, ValuesHaveWidth, MadeHasValue, CellsAreCounted};
 
 /// A source is sound, or it has a first fault.
 #[tactic(auto, using(crate::proofs::FaultLaws::sound_or_fault))]
@@ -24,4 +24,16 @@ pub fn first_faults_are_one()
 #[tactic(auto, using(crate::proofs::ValueLemmas::values_have_width))]
 pub fn values_have_width()
     ensures { ValuesHaveWidth }
+{}
+
+/// The bits that the cells of an expression make have its value.
+#[tactic(auto, using(crate::proofs::MadeValue::made_has_value))]
+pub fn made_has_value()
+    ensures { MadeHasValue }
+{}
+
+/// As many cells are made as are counted.
+#[tactic(auto, using(crate::proofs::CellCounts::cells_are_counted))]
+pub fn cells_are_counted()
+    ensures { CellsAreCounted }
 {}
