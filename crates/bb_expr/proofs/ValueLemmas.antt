@@ -82,7 +82,7 @@ mutual
   arms-length ranges env (arm c e rest) w last fits wide =
       if-length w (list_any (λ b. b) (value ranges env c (own_width ranges c))) (value ranges env e w) (chosen (of_arms (seen ranges) (values ranges env) rest) (seen ranges last (value ranges env last)) w) (value-length ranges env e w (omega (arith, fits))) (arms-length ranges env rest w last (omega (arith, fits)) wide)
 
-  parts-length : (ranges : Ranges) (env : Bits) (all : Parts)
+  pub parts-length : (ranges : Ranges) (env : Bits) (all : Parts)
       → length (flat_map alone (of_parts (seen ranges) (values ranges env) all)) ≡ sum (of_parts (λ x a. a) (widths ranges) all)
   parts-length ranges env no_part = refl
   parts-length ranges env (part e rest) =

@@ -1,4 +1,4 @@
--- What the declarations of a module say of a name (IEEE 1364-2005, 3.5 to 3.7, 4.2, 12.2 and 12.3, in a profile). A declaration
+-- What the declarations of a module say of a name (IEEE 1364-2005, 4.2, 4.11 and 12.3, in a profile). A declaration
 -- counts in its whole module, whatever stands before it; where a name is declared twice, the first declaration counts. An
 -- undeclared name in a gate's terminal, in a connection or on the left of assign is a wire of one bit (4.5).
 use Rattle.std.specs.Prelude.{ℕ, Bool, true, false, not, ◌&&◌, ◌||◌, List, [], ◌++◌, map, Option, Some, None, option_map, option_to_list, is_some, unwrap_or}

@@ -12,4 +12,5 @@ pub mod Faults
 pub mod Lowered
 pub mod Checked
 pub mod Standing
+pub mod Steady
 pub mod Laws

@@ -1,4 +1,4 @@
--- The value of an expression at the width of its context (IEEE 1364-2005, 5.1 and 5.4.2, in a profile): a list of that many
+-- The value of an expression at the width of its context (IEEE 1364-2005, 5.1.10, 5.1.13, 5.1.14 and 5.4, in a profile): a list of that many
 -- bits, the most significant first, where the width is at least the expression's own. What stands alone in a context, as
 -- a condition or a part, is taken at its own width.
 use Rattle.std.specs.Prelude.{ℕ, zero, suc, ◌+◌, Bool, false, not, ◌&&◌, ◌||◌, if◌then◌else◌, List, [], ◌∷◌, map, fold}

@@ -1,6 +1,6 @@
 //! Laws of these definitions. Each function has a law as its contract and does nothing.
 
-ghost use Rattle.bb_expr.specs.Laws.{SoundOrFault, NotSoundAndFault, FirstFaultsAreOne, ValuesHaveWidth, MadeHasValue, CellsAreCounted};
+ghost use Rattle.bb_expr.specs.Laws.{SoundOrFault, NotSoundAndFault, FirstFaultsAreOne, ValuesHaveWidth, MadeHasValue, CellsAreCounted, WiderAddsZeros};
 
 /// A source is sound, or it has a first fault.
 #[tactic(auto, using(crate::proofs::FaultLaws::sound_or_fault))]
@@ -36,4 +36,10 @@ pub fn made_has_value()
 #[tactic(auto, using(crate::proofs::CellCounts::cells_are_counted))]
 pub fn cells_are_counted()
     ensures { CellsAreCounted }
+{}
+
+/// Where no `~` and no `~^` stands above, a wider context only adds zeros.
+#[tactic(auto, using(crate::proofs::WiderValue::wider_adds_zeros))]
+pub fn wider_adds_zeros()
+    ensures { WiderAddsZeros }
 {}
