@@ -1,0 +1,187 @@
+-- The bits that the cells of an expression make have its value.
+use Rattle.std.proofs.Common.{◌≡◌, ℕ, zero, suc, ◌+◌, ◌≤◌, Bool, true, false, List, [], ◌∷◌, ◌++◌, length, map, refl, sym, ap, ap₂, ◌∙◌, arith}
+use Rattle.std.proofs.lemmas.List.{length-map}
+use Rattle.std.specs.Prelude.{replicate, fold, not, ◌||◌, if◌then◌else◌}
+use Rattle.std.specs.List.{flat_map, list_any, range_with_len}
+use Rattle.bb_ast.specs.declared.expr.Op.{Op}
+use Rattle.bb_ast.specs.declared.expr.Op.TheVariants as ops
+use Rattle.bb_ast.specs.Syntax.{Expression, Net, Bit, Part, Sized, Plain, Not, Chain, Cond, Concat, Repeat, Operands, no_operand, operand, Arms, no_arm, arm, Parts, no_part, part}
+use Rattle.bb_ast.specs.Folds.{of_operands, of_arms, of_parts}
+use Rattle.bb_bits.specs.Numbers.{bits_of}
+use Rattle.bb_expr.specs.Lists.{extended, copies, bitwise}
+use Rattle.bb_expr.specs.Ranges.{distance, range_width, place_of}
+use Rattle.bb_expr.specs.Widths.{Ranges, greatest, own_width, widths, Operand, alone}
+use Rattle.bb_expr.specs.Values.{Bits, value, values, op_bit, chosen, complemented}
+use Rattle.bb_expr.specs.Terms.{Term, Const, Net as NetTerm, And, Or, Xor, bit_of}
+use Rattle.bb_expr.specs.Cells.{Made, made, makes, net_terms, inverted, operated, chained, any_from, any_bit, selected, arms_made, is_odd}
+use Rattle.bb_expr.specs.Laws.{MadeHasValue}
+use Rattle.bb_expr.proofs.ValueLemmas.{value-length, arms-length, seen}
+
+pub map-append : {A B : Type 0} (f : A → B) (xs ys : List A) → map f (xs ++ ys) ≡ map f xs ++ map f ys
+map-append f [] ys = refl
+map-append f (x ∷ xs) ys = ap (λ r. f x ∷ r) (map-append f xs ys)
+
+pub map-replicate : {A B : Type 0} (f : A → B) (n : ℕ) (x : A) → map f (replicate n x) ≡ replicate n (f x)
+map-replicate f zero x = refl
+map-replicate f (suc n) x = ap (λ r. f x ∷ r) (map-replicate f n x)
+
+pub map-extended : (env : Bits) (w : ℕ) (bits : List Term) → map (bit_of env) (extended (Const false) w bits) ≡ extended false w (map (bit_of env) bits)
+map-extended env w bits = rw (map-append, map-replicate, length-map) refl
+
+pub map-net_terms : (env : Bits) (n : List ℕ) (places : List ℕ) → map (bit_of env) (map (NetTerm n) places) ≡ map (env n) places
+map-net_terms env n [] = refl
+map-net_terms env n (i ∷ is) = ap (λ r. env n i ∷ r) (map-net_terms env n is)
+
+pub map-constants : (env : Bits) (bits : List Bool) → map (bit_of env) (map Const bits) ≡ bits
+map-constants env [] = refl
+map-constants env (b ∷ bits) = ap (λ r. b ∷ r) (map-constants env bits)
+
+pub map-copies : (env : Bits) (k : ℕ) (bits : List Term) → map (bit_of env) (copies k bits) ≡ copies k (map (bit_of env) bits)
+map-copies env zero bits = refl
+map-copies env (suc k) bits = map-append (bit_of env) bits (copies k bits) ∙ ap (λ r. map (bit_of env) bits ++ r) (map-copies env k bits)
+
+pub map-bitwise : (env : Bits) (gate : Term → Term → Term) (op : Bool → Bool → Bool) → ((a b : Term) → bit_of env (gate a b) ≡ op (bit_of env a) (bit_of env b))
+    → (xs ys : List Term) → map (bit_of env) (bitwise gate xs ys) ≡ bitwise op (map (bit_of env) xs) (map (bit_of env) ys)
+map-bitwise env gate op same [] ys = refl
+map-bitwise env gate op same (x ∷ xs) [] = refl
+map-bitwise env gate op same (x ∷ xs) (y ∷ ys) = ap₂ (λ a r. a ∷ r) (same x y) (map-bitwise env gate op same xs ys)
+
+xnor-inverted : (env : Bits) (xs ys : List Term) → map (bit_of env) (inverted (bitwise Xor xs ys)) ≡ bitwise (op_bit ops.Xnor) (map (bit_of env) xs) (map (bit_of env) ys)
+xnor-inverted env [] ys = refl
+xnor-inverted env (x ∷ xs) [] = refl
+xnor-inverted env (x ∷ xs) (y ∷ ys) = ap₂ (λ a r. a ∷ r) (xnor-bit (bit_of env x) (bit_of env y)) (xnor-inverted env xs ys)
+  where
+    xnor-bit : (a b : Bool) → not (if a then not b else b) ≡ (if a then b else not b)
+    xnor-bit true true = refl
+    xnor-bit true false = refl
+    xnor-bit false b = refl
+
+pub map-operated : (env : Bits) (op : Op) (xs ys : List Term) → map (bit_of env) (operated op xs ys).bits ≡ bitwise (op_bit op) (map (bit_of env) xs) (map (bit_of env) ys)
+map-operated env ops.And xs ys = map-bitwise env And (op_bit ops.And) (λ a b. refl) xs ys
+map-operated env ops.Or xs ys = map-bitwise env Or (op_bit ops.Or) (λ a b. refl) xs ys
+map-operated env ops.Xor xs ys = map-bitwise env Xor (op_bit ops.Xor) (λ a b. refl) xs ys
+map-operated env ops.Xnor xs ys = xnor-inverted env xs ys
+
+or-false : (a : Bool) → (a || false) ≡ a
+or-false true = refl
+or-false false = refl
+
+or-assoc : (a b c : Bool) → ((a || b) || c) ≡ (a || (b || c))
+or-assoc true b c = refl
+or-assoc false b c = refl
+
+not-if : (o b : Bool) → not (if o then not b else b) ≡ (if not o then not b else b)
+not-if true true = refl
+not-if true false = refl
+not-if false b = refl
+
+-- complementing so many times is complementing once or not at all
+pub complemented-odd : (k : ℕ) (b : Bool) → complemented k b ≡ (if is_odd k then not b else b)
+complemented-odd zero b = refl
+complemented-odd (suc k) b = ap not (complemented-odd k b) ∙ not-if (is_odd k) b
+
+map-complements : (env : Bits) (f : Bool → Bool) → ((b : Bool) → f b ≡ not b) → (bits : List Term) → map (bit_of env) (inverted bits) ≡ map f (map (bit_of env) bits)
+map-complements env f same [] = refl
+map-complements env f same (b ∷ bits) = ap₂ (λ c r. c ∷ r) (sym (same (bit_of env b))) (map-complements env f same bits)
+
+map-same : (f : Bool → Bool) → ((b : Bool) → f b ≡ b) → (bits : List Bool) → bits ≡ map f bits
+map-same f same [] = refl
+map-same f same (b ∷ bits) = ap₂ (λ c r. c ∷ r) (sym (same b)) (map-same f same bits)
+
+inverted-by : (env : Bits) (o : Bool) (f : Bool → Bool) → ((b : Bool) → f b ≡ (if o then not b else b)) → (x : Made)
+    → map (bit_of env) (if o then record { bits = inverted x.bits; cells = x.cells ++ inverted x.bits } else x).bits ≡ map f (map (bit_of env) x.bits)
+inverted-by env true f same x = map-complements env f same x.bits
+inverted-by env false f same x = map-same f same (map (bit_of env) x.bits)
+
+any-from : (env : Bits) (a : Term) (bits : List Term) → bit_of env (any_from a bits).0 ≡ (bit_of env a || list_any (λ b. b) (map (bit_of env) bits))
+any-from env a [] = sym (or-false (bit_of env a))
+any-from env a (b ∷ bits) = any-from env (Or a b) bits ∙ or-assoc (bit_of env a) (bit_of env b) _
+
+pub any-bit : (env : Bits) (bits : List Term) → bit_of env (any_bit bits).0 ≡ list_any (λ b. b) (map (bit_of env) bits)
+any-bit env [] = refl
+any-bit env (b ∷ bits) = any-from env b bits
+
+if-same : {A : Type 0} (b : Bool) (x : A) → x ≡ (if b then x else x)
+if-same true x = refl
+if-same false x = refl
+
+if-cons : (b x y : Bool) (xs ys : List Bool) → ((if b then x else y) ∷ (if b then xs else ys)) ≡ (if b then x ∷ xs else y ∷ ys)
+if-cons true x y xs ys = refl
+if-cons false x y xs ys = refl
+
+pub map-selected : (env : Bits) (c : Term) (ts es : List Term) → length ts ≡ length es
+    → map (bit_of env) (selected c ts es) ≡ (if bit_of env c then map (bit_of env) ts else map (bit_of env) es)
+map-selected env c [] [] long = if-same (bit_of env c) []
+map-selected env c [] (e ∷ es) long = grind (arith, long)
+map-selected env c (t ∷ ts) [] long = grind (arith, long)
+map-selected env c (t ∷ ts) (e ∷ es) long =
+    ap (λ r. (if bit_of env c then bit_of env t else bit_of env e) ∷ r) (map-selected env c ts es (grind (arith, long)))
+    ∙ if-cons (bit_of env c) (bit_of env t) (bit_of env e) (map (bit_of env) ts) (map (bit_of env) es)
+
+-- what an operand of the cells is seen as
+abbrev pub made_seen : Ranges → Expression → (ℕ → Made) → Operand Made
+made_seen ranges e a = record { width = own_width ranges e; at = a }
+
+-- the bits that are made have the value, at each width that suffices
+abbrev pub Means : Ranges → Bits → Expression → Type 0
+Means ranges env e = (w : ℕ) → own_width ranges e ≤ w → map (bit_of env) (made ranges e w).bits ≡ value ranges env e w
+
+-- as many bits are made
+pub made-long : (ranges : Ranges) (env : Bits) (e : Expression) → Means ranges env e → (w : ℕ) → own_width ranges e ≤ w → length (made ranges e w).bits ≡ w
+made-long ranges env e means w fits = sym (length-map (made ranges e w).bits (bit_of env)) ∙ ap length (means w fits) ∙ value-length ranges env e w fits
+
+-- as long as the value
+pub long-by : (env : Bits) (w : ℕ) (xs : List Term) (ys : List Bool) → map (bit_of env) xs ≡ ys → length ys ≡ w → length xs ≡ w
+long-by env w xs ys same long = sym (length-map xs (bit_of env)) ∙ ap length same ∙ long
+
+if-of : {A : Type 0} {b c : Bool} {x y u v : A} → b ≡ c → x ≡ u → y ≡ v → (if b then x else y) ≡ (if c then u else v)
+if-of same first second = rw (same, first, second) refl
+
+mutual
+  pub made-value : (ranges : Ranges) (env : Bits) (e : Expression) → Means ranges env e
+  made-value ranges env (Net n) w fits = map-extended env w _ ∙ ap (extended false w) (map-net_terms env n (range_with_len 0 (range_width (ranges n))))
+  made-value ranges env (Bit n i) w fits = map-extended env w (net_terms n (place_of (ranges n) i) 1) ∙ ap (extended false w) (map-net_terms env n (range_with_len (place_of (ranges n) i) 1))
+  made-value ranges env (Part n i j) w fits = map-extended env w _ ∙ ap (extended false w) (map-net_terms env n (range_with_len (place_of (ranges n) i) (distance i j + 1)))
+  made-value ranges env (Sized bits) w fits = map-extended env w _ ∙ ap (extended false w) (map-constants env bits)
+  made-value ranges env (Plain n) w fits = map-extended env w (map Const (bits_of 32 n)) ∙ ap (extended false w) (map-constants env (bits_of 32 n))
+  made-value ranges env (Not k e) w fits = inverted-by env (is_odd k) (complemented k) (complemented-odd k) (made ranges e w) ∙ ap (map (complemented k)) (made-value ranges env e w fits)
+  made-value ranges env (Chain e rest) w fits = chain-value ranges env rest w (made ranges e w) (value ranges env e w) (made-value ranges env e w (omega (arith, fits))) (omega (arith, fits))
+  made-value ranges env (Cond all last) w fits = arms-value ranges env all w last (omega (arith, fits)) (omega (arith, fits)) (made-value ranges env last w (omega (arith, fits)))
+  made-value ranges env (Concat all) w fits = map-extended env w _ ∙ ap (extended false w) (parts-value ranges env all)
+  made-value ranges env (Repeat k all) w fits = map-extended env w _ ∙ ap (extended false w) (map-copies env k _ ∙ ap (copies k) (parts-value ranges env all))
+
+  chain-value : (ranges : Ranges) (env : Bits) (rest : Operands) (w : ℕ) (m : Made) (bits : List Bool) → map (bit_of env) m.bits ≡ bits
+      → greatest (map (λ x. x.1) (of_operands (λ x a. a) (widths ranges) rest)) ≤ w
+      → map (bit_of env) (fold (λ a x. let b = x.1.at w in chained a b (operated x.0 a.bits b.bits)) m (of_operands (made_seen ranges) (makes ranges) rest)).bits
+      ≡ fold (λ b x. bitwise (op_bit x.0) b (x.1.at w)) bits (of_operands (seen ranges) (values ranges env) rest)
+  chain-value ranges env no_operand w m bits same fits = same
+  chain-value ranges env (operand op e rest) w m bits same fits =
+      chain-value ranges env rest w (chained m (made ranges e w) (operated op m.bits (made ranges e w).bits)) (bitwise (op_bit op) bits (value ranges env e w))
+      (map-operated env op m.bits (made ranges e w).bits ∙ ap₂ (bitwise (op_bit op)) same (made-value ranges env e w (omega (arith, fits)))) (omega (arith, fits))
+
+  pub arms-value : (ranges : Ranges) (env : Bits) (all : Arms) (w : ℕ) (last : Expression)
+      → greatest (map (λ x. x.1) (of_arms (λ x a. a) (widths ranges) all)) ≤ w → own_width ranges last ≤ w
+      → map (bit_of env) (made ranges last w).bits ≡ value ranges env last w
+      → map (bit_of env) (arms_made (of_arms (made_seen ranges) (makes ranges) all) (made_seen ranges last (made ranges last)) w).bits
+      ≡ chosen (of_arms (seen ranges) (values ranges env) all) (seen ranges last (value ranges env last)) w
+  arms-value ranges env no_arm w last fits own same = same
+  arms-value ranges env (arm c e rest) w last fits own same =
+      let below : map (bit_of env) (arms_made (of_arms (made_seen ranges) (makes ranges) rest) (made_seen ranges last (made ranges last)) w).bits
+      ≡ chosen (of_arms (seen ranges) (values ranges env) rest) (seen ranges last (value ranges env last)) w
+      = arms-value ranges env rest w last (omega (arith, fits)) own same in
+      let branch : map (bit_of env) (made ranges e w).bits ≡ value ranges env e w = made-value ranges env e w (omega (arith, fits)) in
+      let condition : map (bit_of env) (made ranges c (own_width ranges c)).bits ≡ value ranges env c (own_width ranges c) = made-value ranges env c (own_width ranges c) (omega arith) in
+      map-selected env (any_bit (made ranges c (own_width ranges c)).bits).0 (made ranges e w).bits _
+      (long-by env w _ _ branch (value-length ranges env e w (omega (arith, fits)))
+      ∙ sym (long-by env w _ _ below (arms-length ranges env rest w last (omega (arith, fits)) (value-length ranges env last w own))))
+      ∙ if-of (any-bit env (made ranges c (own_width ranges c)).bits ∙ ap (list_any (λ b. b)) condition) branch below
+
+  parts-value : (ranges : Ranges) (env : Bits) (all : Parts)
+      → map (bit_of env) (flat_map (λ x. (alone {A = Made} x).bits) (of_parts (made_seen ranges) (makes ranges) all)) ≡ flat_map alone (of_parts (seen ranges) (values ranges env) all)
+  parts-value ranges env no_part = refl
+  parts-value ranges env (part e rest) =
+      map-append (bit_of env) (made ranges e (own_width ranges e)).bits (flat_map (λ x. (alone {A = Made} x).bits) (of_parts (made_seen ranges) (makes ranges) rest))
+      ∙ ap₂ (λ a r. a ++ r) (made-value ranges env e (own_width ranges e) (omega arith)) (parts-value ranges env rest)
+
+pub made_has_value : MadeHasValue
+made_has_value ranges env e w fits = made-value ranges env e w fits

@@ -1,0 +1,16 @@
+pub mod Lists
+pub mod Ranges
+pub mod Widths
+pub mod Values
+pub mod Terms
+pub mod Cells
+pub mod Walks
+pub mod Declarations
+pub mod Nets
+pub mod Spots
+pub mod Faults
+pub mod Lowered
+pub mod Checked
+pub mod Standing
+pub mod Steady
+pub mod Laws

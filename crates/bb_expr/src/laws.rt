@@ -1,0 +1,45 @@
+//! Laws of these definitions. Each function has a law as its contract and does nothing.
+
+ghost use Rattle.bb_expr.specs.Laws.{SoundOrFault, NotSoundAndFault, FirstFaultsAreOne, ValuesHaveWidth, MadeHasValue, CellsAreCounted, WiderAddsZeros};
+
+/// A source is sound, or it has a first fault.
+#[tactic(auto, using(crate::proofs::FaultLaws::sound_or_fault))]
+pub fn sound_or_fault()
+    ensures { SoundOrFault }
+{}
+
+/// No source is sound and has a fault.
+#[tactic(auto, using(crate::proofs::FaultLaws::not_sound_and_fault))]
+pub fn not_sound_and_fault()
+    ensures { NotSoundAndFault }
+{}
+
+/// A source has one first fault at most.
+#[tactic(auto, using(crate::proofs::FaultLaws::first_faults_are_one))]
+pub fn first_faults_are_one()
+    ensures { FirstFaultsAreOne }
+{}
+
+/// A value has as many bits as its context.
+#[tactic(auto, using(crate::proofs::ValueLemmas::values_have_width))]
+pub fn values_have_width()
+    ensures { ValuesHaveWidth }
+{}
+
+/// The bits that the cells of an expression make have its value.
+#[tactic(auto, using(crate::proofs::MadeValue::made_has_value))]
+pub fn made_has_value()
+    ensures { MadeHasValue }
+{}
+
+/// As many cells are made as are counted.
+#[tactic(auto, using(crate::proofs::CellCounts::cells_are_counted))]
+pub fn cells_are_counted()
+    ensures { CellsAreCounted }
+{}
+
+/// Where no `~` and no `~^` stands above, a wider context only adds zeros.
+#[tactic(auto, using(crate::proofs::WiderValue::wider_adds_zeros))]
+pub fn wider_adds_zeros()
+    ensures { WiderAddsZeros }
+{}
