@@ -19,6 +19,3 @@ pub use sink::{Failed, Sink, put_all};
 pub use std::alloc::AllocError as NoMemory;
 pub use std_files::StdFiles;
 pub use std_out::StdOut;
-
-#[cfg(test)]
-mod tests;

@@ -9,6 +9,8 @@ mod memory;
 #[cfg(test)]
 mod net_tests;
 #[cfg(test)]
+mod outside_tests;
+#[cfg(test)]
 mod reference;
 #[cfg(test)]
 mod reference_tests;

@@ -1,4 +1,7 @@
-use super::*;
+//! Files and sinks, in memory and of the system.
+use bb_outside::{
+    Failed, FileFault, Files, MemFiles, MemSink, Sink, StdFiles, StdOut, Take, put_all,
+};
 use std::alloc::Global;
 use std::fs;
 use std::test::Fail;
