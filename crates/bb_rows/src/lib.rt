@@ -3,7 +3,13 @@
 
 #[cfg(test)]
 mod fault_tests;
+#[cfg(test)]
+mod lex_tests;
 mod memory;
+#[cfg(test)]
+mod narrow_tests;
+#[cfg(test)]
+mod parse_tests;
 #[cfg(test)]
 mod reference;
 #[cfg(test)]
