@@ -1,3 +1,4 @@
+pub mod Formed
 pub mod Syntax
 pub mod Views
 pub mod Folds

@@ -1,6 +1,7 @@
 -- The syntax of a text as plain data: names are lists of bytes, lists are lists, and nothing tells where a value lies
 -- in memory. Two sources are the same exactly where these are equal. A sized number's bits go from the most significant
--- on, the parts of a concatenation too, and a range from the leftmost index to the rightmost (IEEE 1364-2005, 4.1, 5 and 7).
+-- on, the parts of a concatenation too, and a range from the leftmost index to the rightmost (IEEE 1364-2005, 4.3.1, 5.1.14
+-- and 7).
 use Rattle.std.specs.Prelude.{ℕ, List, [], ◌∷◌, Option, Bool}
 use Rattle.bb_ast.specs.declared.expr.Op.{Op}
 use Rattle.bb_ast.specs.declared.module.Gate.{Gate}

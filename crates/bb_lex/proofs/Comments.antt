@@ -1,10 +1,10 @@
 -- The reading of comments, strings and attributes finds what the rules say, and nothing else.
 use Rattle.std.proofs.Common.{◌≡◌, ◌⊎◌, ℕ, zero, suc, ◌<◌, ◌≤◌, Bool, true, false, cond, Option, Some, None, List, [], ◌∷◌, ◌++◌, length, get_or, sym, refl, ap, ◌∙◌, subst, arith, ⊎_elim, inl, inr, append_assoc, length-append, eqb-true, eq-eqb, MatchBool}
 use Rattle.std.specs.Prelude.{◌&&◌, ◌||◌, ◌==◌, codes}
-use Rattle.bb_lex.specs.Bytes.{is_in_line, Each, BeginsNot, EndsBefore, run_of, past}
+use Rattle.bb_lex.specs.Bytes.{is_in_line, Each, BeginsNot, EndsBefore, past}
 use Rattle.bb_lex.specs.Skips.{EndsAtFirst, EndsAtQuote, IsOrdinary, IsPart, ArePartsOf}
 use Rattle.bb_lex.specs.Skips.IsPart.{Quoted, Block, Line, Other}
-use Rattle.bb_lex.specs.Reading.{behind_pair, behind_quote, behind_slash, behind_part, behind_close, behind_next, behind_parts, behind_attribute}
+use Rattle.bb_lex.specs.Reading.{behind_pair, behind_quote, behind_slash, behind_part, behind_close, behind_next, behind_parts, behind_attribute, run_of}
 use Rattle.bb_lex.proofs.Choices.{cases_of, chosen, match_true, match_false, by_match, cond_true, cond_false, from_not, to_not, or_false, left_false, right_false, and_false, false_and, left_true, right_true}
 use Rattle.bb_lex.proofs.Runs.{run-past, each_of_run, past_stops, past-each, past-none}
 

@@ -8,11 +8,16 @@ use Rattle.bb_lex.specs.declared.fault.LexFault.TheVariants.{Bad, NoMemory}
 use Rattle.bb_lex.specs.Answers.{IsAnswer}
 use Rattle.std.proofs.lemmas.Nat.{mod-pow-add}
 use Rattle.std.proofs.lemmas.List.{length-map}
-use Rattle.bb_lex.specs.Numbers.{spelled, low_bits, bit_value}
+use Rattle.bb_lex.specs.Numbers.{spelled, number, radix_of, low_bits, bit_value}
+use Rattle.bb_lex.specs.Reading.{sized_bits_of}
 use Rattle.bb_lex.specs.Cut.{AreTokens, IsBadOn, tokens_behind, line_behind}
-use Rattle.bb_lex.specs.Laws.{CutsAreOne, TokensAreOne, BadPlacesAreOne, BadLinesAreOne, CutOrBad, NotBoth, TokensOrBadLine, NotTokensAndBadLine, TokensStandInText, TokensRise, LowBitsSpell, EndsAtFirstPlace}
+use Rattle.bb_lex.specs.Laws.{CutsAreOne, TokensAreOne, BadPlacesAreOne, BadLinesAreOne, CutOrBad, NotBoth, TokensOrBadLine, NotTokensAndBadLine, TokensStandInText, TokensRise, LowBitsSpell, EndsAtFirstPlace, TokensEndPastTheirPlaces, TokensAreFew, NamesArePrintable, SizedTokensSayBits, SizedBitsAreOne, SizedBitsFit, PlainValuesFit, ReadBitsAreSaid, ReadPiecesAreLongest, LongestPiecesAreRead, NoneIsReadWhereNoneBegins}
 use Rattle.bb_lex.specs.Skips.{EndsAtFirst}
 use Rattle.bb_lex.proofs.Choices.{cases_of, from_match, left_true, right_true, both_true}
+use Rattle.bb_lex.proofs.CutReading.{longest_from_read, read_from_longest, none_begins, none_read}
+use Rattle.bb_lex.proofs.Meanings.{says_read, said_bits, plain_fits}
+use Rattle.bb_lex.proofs.PieceReading.{piece_sound}
+use Rattle.bb_lex.proofs.TokenNames.{names_printable}
 use Rattle.bb_lex.proofs.TokenLists as lists
 
 pub cuts_are_one : CutsAreOne
@@ -114,3 +119,39 @@ ends_only x y (b ∷ c ∷ bytes) (f ∷ front) back ends e =
 
 pub ends_at_first_place : EndsAtFirstPlace
 ends_at_first_place x y bytes ends = (ends_with x y bytes ends, λ front back e. ends_only x y bytes front back ends e)
+
+pub tokens_end_past_their_places : TokensEndPastTheirPlaces
+tokens_end_past_their_places = lists.end_past_place
+
+pub tokens_are_few : TokensAreFew
+tokens_are_few = lists.tokens_short
+
+pub names_are_printable : NamesArePrintable
+names_are_printable = names_printable
+
+pub sized_tokens_say_bits : SizedTokensSayBits
+sized_tokens_say_bits token text is e = (sized_bits_of token text, says_read token text e is)
+
+pub sized_bits_are_one : SizedBitsAreOne
+sized_bits_are_one token text bits others says other = said_bits token text bits says ∙ sym (said_bits token text others other)
+
+pub sized_bits_fit : SizedBitsFit
+sized_bits_fit token text bits says =
+    let count : length bits ≡ number 10 says.is.size = ap length says.are ∙ length-low_bits (number 10 says.is.size) (number (radix_of says.is.letter) says.is.digits) in
+    (omega (arith, count, says.is.some_bits), omega (arith, count, says.is.at_most_128))
+
+pub plain_values_fit : PlainValuesFit
+plain_values_fit token text is e = plain_fits token text e is
+
+pub read_bits_are_said : ReadBitsAreSaid
+read_bits_are_said token text = ((λ is e. says_read token text e is), said_bits token text)
+
+pub read_pieces_are_longest : ReadPiecesAreLongest
+read_pieces_are_longest text rest kind read =
+    let w = piece_sound text rest kind read in (w.front, w.splits, longest_from_read text rest kind read w)
+
+pub longest_pieces_are_read : LongestPiecesAreRead
+longest_pieces_are_read = read_from_longest
+
+pub none_is_read_where_none_begins : NoneIsReadWhereNoneBegins
+none_is_read_where_none_begins text = (none_begins text, none_read text)

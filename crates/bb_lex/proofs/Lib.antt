@@ -12,4 +12,5 @@ pub mod PieceReading
 pub mod Runs
 pub mod ShortTexts
 pub mod TokenLists
+pub mod TokenNames
 pub mod WordTable

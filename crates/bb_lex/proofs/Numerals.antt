@@ -3,10 +3,10 @@ use Rattle.std.proofs.Common.{◌≡◌, ℕ, ◌^◌, ◌<◌, ◌≤◌, true,
 use Rattle.std.specs.Prelude.{◌&&◌, ◌||◌, ◌==◌}
 use Rattle.std.specs.Char.{is_ascii_digit, is_digit}
 use Rattle.std.proofs.lemmas.Bool.Decides.{nat_tests}
-use Rattle.bb_lex.specs.Bytes.{is_white, is_word_byte, is_decimal_byte, Each, BeginsNot, run_of, past}
+use Rattle.bb_lex.specs.Bytes.{is_white, is_word_byte, is_decimal_byte, Each, BeginsNot, past}
 use Rattle.bb_lex.specs.Numbers.{number, radix_of}
 use Rattle.bb_lex.specs.Pieces.{IsDecimalRun, IsDigitRun}
-use Rattle.bb_lex.specs.Reading.{is_digit_run, value_fits, behind_digits, behind_base}
+use Rattle.bb_lex.specs.Reading.{is_digit_run, value_fits, behind_digits, behind_base, run_of}
 use Rattle.bb_lex.proofs.Choices.{cases_of, chosen, cond_true, cond_false, left_true, right_true, both_true, each_from_test, test_from_each}
 use Rattle.bb_lex.proofs.Runs.{run-past, each_of_run, past_stops, past-each, run-each, past-none, run-none}
 
@@ -37,7 +37,7 @@ digit_is_word radix b small h = grind (arith, nat_tests)
 base_from_digit : (radix b : ℕ) → is_digit b radix ≡ true → 0 < radix
 base_from_digit radix b h = grind (arith, nat_tests)
 
-radix_small : (b : ℕ) → radix_of b ≤ 16
+pub radix_small : (b : ℕ) → radix_of b ≤ 16
 radix_small b = grind (arith, nat_tests)
 
 -- the run that a digit opens

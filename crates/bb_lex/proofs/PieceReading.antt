@@ -8,13 +8,13 @@ use Rattle.bb_lex.specs.declared.token.Kind.TheVariants.{Name, Sized, Plain, Mar
 use Rattle.bb_lex.specs.declared.mark.Mark.{Mark}
 use Rattle.bb_lex.specs.declared.mark.Mark.TheVariants.{LeftRound, RightRound, LeftSquare, RightSquare, LeftBrace, RightBrace, Comma, Semicolon, Colon, Dot, Equals, At, Amp, Bar, Caret, Tilde, Query, LessEqual, TildeCaret, CaretTilde}
 use Rattle.bb_lex.specs.declared.class.Opening.TheVariants as opening
-use Rattle.bb_lex.specs.Bytes.{is_white, is_in_line, begins_identifier, is_identifier_byte, Each, BeginsNot, run_of, past}
+use Rattle.bb_lex.specs.Bytes.{is_white, is_in_line, begins_identifier, is_identifier_byte, Each, BeginsNot, past}
 use Rattle.bb_lex.specs.Words.{keyword_of}
 use Rattle.bb_lex.specs.Skips.{IsDirective, IsSkip}
 use Rattle.bb_lex.specs.Skips.IsSkip.{White, LineComment, BlockComment, Attribute, Directive}
 use Rattle.bb_lex.specs.Pieces.{written, IsIdentifier, IsDecimalRun, kind_of_word, IsSized, IsEscaped, IsToken, Piece, IsPiece}
 use Rattle.bb_lex.specs.Pieces.IsToken.{Identifier, Escaped, SizedNumber, PlainNumber, Symbol}
-use Rattle.bb_lex.specs.Reading.{behind_pair, behind_comment, behind_attribute, behind_directive, behind_escaped, skipped, token_of, number_at, round_at, longer_mark, opening_of, opened_by, piece_at}
+use Rattle.bb_lex.specs.Reading.{behind_pair, behind_comment, behind_attribute, behind_directive, behind_escaped, skipped, token_of, number_at, round_at, longer_mark, opening_of, opened_by, piece_at, run_of}
 use Rattle.bb_lex.proofs.Choices.{cases_of, chosen, cond_true, cond_false, some_pair}
 use Rattle.bb_lex.proofs.Runs.{run-past, each_of_run, past-each, run-each}
 use Rattle.bb_lex.proofs.Comments.{pair_sound, pair_complete, attribute_sound, attribute_complete}

@@ -1,7 +1,8 @@
 -- The longest run of a class of bytes at the front, and what is left behind it.
 use Rattle.std.proofs.Common.{◌≡◌, ℕ, ◌-◌, ◌≤◌, Bool, List, [], ◌∷◌, ◌++◌, length, take, drop, refl, ap, ◌∙◌, arith, ⊎_elim, length-append}
 use Rattle.std.proofs.lemmas.List.{take_at, drop_at}
-use Rattle.bb_lex.specs.Bytes.{Each, BeginsNot, run_of, past}
+use Rattle.bb_lex.specs.Bytes.{Each, BeginsNot, past}
+use Rattle.bb_lex.specs.Reading.{run_of}
 use Rattle.bb_lex.proofs.Choices.{cases_of, cond_true, cond_false}
 
 -- the run and what is left are the whole

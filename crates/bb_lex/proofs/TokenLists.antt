@@ -1,6 +1,6 @@
 -- The tokens among the pieces of a cut, with their places.
-use Rattle.std.proofs.Common.{◌≡◌, ◌⊎◌, ℕ, ◌+◌, ◌-◌, ◌<◌, ◌≤◌, Option, Some, None, cond, List, [], ◌∷◌, ◌++◌, length, take, drop, sym, refl, ap, ◌∙◌, subst, arith, inl, inr, append_assoc, append-nil, length-append}
-use Rattle.std.specs.Prelude.{◌==◌, count_by, All, slice_range}
+use Rattle.std.proofs.Common.{◌≡◌, ◌⊎◌, ℕ, zero, suc, ◌+◌, ◌-◌, ◌<◌, ◌≤◌, Option, Some, None, cond, List, [], ◌∷◌, ◌++◌, length, take, drop, sym, refl, ap, ◌∙◌, subst, arith, inl, inr, append_assoc, append-nil, length-append}
+use Rattle.std.specs.Prelude.{◌==◌, count_by, All, slice_range, slice_index_or}
 use Rattle.std.specs.List.{AllPairs, flat_map}
 use Rattle.std.proofs.lemmas.List.{append_cancel_right, take_at, drop_at}
 use Rattle.std.proofs.lemmas.List.Elements.{All-nil, All-cons, All-weaker}
@@ -216,3 +216,53 @@ scan_step text tokens line rest r kind read s =
       next = subst (λ l. IsScanned text (tokens ++ l) (line + count_by (λ b. b == 10) (take (length rest - length r) rest)) r) (with_token-at s.front w.front kind (length text - length rest) (length text - length rest + (length rest - length r)) line start stop (sym s.on))
           (subst (λ n. IsScanned text (tokens ++ with_token s.front w.front kind []) (line + n) r) (sym counted) (scanned_more text tokens line rest r kind w read s));
     }
+
+-- no more tokens than bytes
+one_more : (front bytes : List ℕ) (kind : Option Kind) (tokens : List Token) → length (with_token front bytes kind tokens) ≤ 1 + length tokens
+one_more front bytes None tokens = omega arith
+one_more front bytes (Some kind) tokens = omega arith
+
+pieces_take : (text front : List ℕ) (pieces : List Piece) (rest : List ℕ) → IsCutUpTo text pieces rest → length (tokens_behind front pieces) ≤ length text
+pieces_take text front [] rest p = omega arith
+pieces_take text front (piece ∷ pieces) rest p =
+    omega (
+      arith,
+      one_more front piece.bytes piece.kind (tokens_behind (front ++ piece.bytes) pieces),
+      pieces_take p.0 (front ++ piece.bytes) pieces rest p.3,
+      length-piece piece p.0 p.2.is,
+      ap length p.1 ∙ length-append piece.bytes p.0,
+    )
+
+pub tokens_short : (text : List ℕ) (tokens : List Token) → AreTokens text tokens → length tokens ≤ length text
+tokens_short text tokens h = omega (arith, ap length h.are, pieces_take text [] h.pieces [] h.cut)
+
+-- each token ends behind its place in the list, counted from a number
+EndBehind : ℕ → List Token → Type 0
+EndBehind n [] = Unit {0}
+EndBehind n (t ∷ ts) = (n < t.«end») × EndBehind (n + 1) ts
+
+EndBehind-less : (n m : ℕ) (ts : List Token) → n ≤ m → EndBehind m ts → EndBehind n ts
+unfolding EndBehind
+EndBehind-less n m [] le h = tt
+EndBehind-less n m (t ∷ ts) le h = (omega (arith, h.0), EndBehind-less (n + 1) (m + 1) ts (omega arith) h.1)
+
+piece_ends : (front : List ℕ) (bytes : List ℕ) (o : Option Kind) (ts : List Token) → 0 < length bytes → EndBehind (length (front ++ bytes)) ts → EndBehind (length front) (with_token front bytes o ts)
+unfolding EndBehind
+piece_ends front bytes None ts more h = EndBehind-less (length front) (length (front ++ bytes)) ts (omega (arith, length-append front bytes)) h
+piece_ends front bytes (Some kind) ts more h =
+    (omega arith, EndBehind-less (length front + 1) (length (front ++ bytes)) ts (omega (arith, length-append front bytes)) h)
+
+pieces_end : (text front : List ℕ) (pieces : List Piece) (rest : List ℕ) → IsCutUpTo text pieces rest → EndBehind (length front) (tokens_behind front pieces)
+unfolding EndBehind
+pieces_end text front [] rest h = tt
+pieces_end text front (piece ∷ pieces) rest h =
+    piece_ends front piece.bytes piece.kind (tokens_behind (front ++ piece.bytes) pieces) (length-piece piece h.0 h.2.is) (pieces_end h.0 (front ++ piece.bytes) pieces rest h.3)
+
+end_at : (n : ℕ) (ts : List Token) (i : ℕ) (d : Token) → EndBehind n ts → i < length ts → n + i < (slice_index_or ts i d).«end»
+unfolding EndBehind
+end_at n [] i d h less = absurd (omega (arith, less))
+end_at n (t ∷ ts) zero d h less = omega (arith, h.0)
+end_at n (t ∷ ts) (suc i) d h less = omega (arith, end_at (n + 1) ts i d h.1 (omega (arith, less)))
+
+pub end_past_place : (text : List ℕ) (tokens : List Token) → AreTokens text tokens → (i : ℕ) (d : Token) → i < length tokens → i < (slice_index_or tokens i d).«end»
+end_past_place text tokens h i d less = omega (arith, end_at 0 tokens i d (subst (λ (z : List Token). EndBehind 0 z) (sym h.are) (pieces_end text [] h.pieces [] h.cut)) less)

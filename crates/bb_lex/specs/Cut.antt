@@ -3,6 +3,7 @@
 use Rattle.std.specs.Prelude.{◌≡◌, ℕ, ◌+◌, ◌≤◌, ◌<◌, ◌==◌, Option, Some, None, List, [], ◌∷◌, ◌++◌, length, count_by, slice_range, drop}
 use Rattle.bb_lex.specs.declared.token.Kind.{Kind}
 use Rattle.bb_lex.specs.declared.token.Token.{Token}
+use Rattle.bb_lex.specs.Bytes.{newline}
 use Rattle.bb_lex.specs.Pieces.{Piece, IsPiece, IsToken}
 
 -- a piece at the front of these bytes, no longer one begins there
@@ -21,7 +22,7 @@ IsCut text pieces = IsCutUpTo text pieces []
 
 -- the line of what stands behind these bytes: 1 and the number of newlines among them
 abbrev pub line_behind : List ℕ → ℕ
-line_behind front = 1 + count_by (λ b. b == 10) front
+line_behind front = 1 + count_by (λ b. b == newline) front
 
 -- the token that a piece is where these bytes stand before it
 abbrev pub token_at : List ℕ → List ℕ → Kind → Token

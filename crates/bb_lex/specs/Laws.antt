@@ -1,10 +1,15 @@
 -- Laws of cuts, of token lists and of numbers, which a reader expects of the definitions.
-use Rattle.std.specs.Prelude.{◌≡◌, ◌⊎◌, ℕ, ◌%◌, ◌^◌, List, [], ◌∷◌, ◌++◌, length, map, All}
+use Rattle.std.specs.Prelude.{◌≡◌, ◌⊎◌, ℕ, ◌%◌, ◌^◌, ◌<◌, ◌≤◌, Bool, Option, Some, None, List, [], ◌∷◌, ◌++◌, length, map, All, slice_index_or}
 use Rattle.std.specs.List.{AllPairs}
+use Rattle.bb_lex.specs.declared.token.Kind.{Kind}
+use Rattle.bb_lex.specs.declared.token.Kind.TheVariants.{Sized, Plain}
 use Rattle.bb_lex.specs.declared.token.Token.{Token}
-use Rattle.bb_lex.specs.Pieces.{Piece}
+use Rattle.bb_lex.specs.Bytes.{is_graphic, Each}
+use Rattle.bb_lex.specs.Pieces.{Piece, IsPiece}
 use Rattle.bb_lex.specs.Skips.{EndsAtFirst}
-use Rattle.bb_lex.specs.Cut.{IsCut, AreTokens, IsBadBehind, IsBadOn, IsTokenOf, StandsBefore}
+use Rattle.bb_lex.specs.Cut.{IsLongest, IsCut, AreTokens, IsBadBehind, IsBadOn, IsTokenOf, StandsBefore}
+use Rattle.bb_lex.specs.Meaning.{name_of, IsNameOrWord, SaysBits, plain_value_of}
+use Rattle.bb_lex.specs.Reading.{sized_bits_of, piece_at}
 use Rattle.bb_lex.specs.Numbers.{spelled, low_bits, bit_value}
 
 -- a text is cut in one way, and so has one list of tokens
@@ -42,6 +47,52 @@ TokensStandInText = (text : List ℕ) (tokens : List Token) → AreTokens text t
 -- spans rise, and lines do not fall
 abbrev pub TokensRise : Type 0
 TokensRise = (text : List ℕ) (tokens : List Token) → AreTokens text tokens → AllPairs StandsBefore tokens
+
+-- a token ends behind more bytes than tokens stand before it
+abbrev pub TokensEndPastTheirPlaces : Type 0
+TokensEndPastTheirPlaces = (text : List ℕ) (tokens : List Token) → AreTokens text tokens → (i : ℕ) (d : Token) → i < length tokens → i < (slice_index_or tokens i d).«end»
+
+-- so a text has no more tokens than bytes
+abbrev pub TokensAreFew : Type 0
+TokensAreFew = (text : List ℕ) (tokens : List Token) → AreTokens text tokens → length tokens ≤ length text
+
+-- a name, as well as a reserved word, is one or more of the bytes 33 to 126
+abbrev pub NamesArePrintable : Type 0
+NamesArePrintable = (token : Token) (text : List ℕ) → IsTokenOf token text → IsNameOrWord token.kind → (0 < length (name_of token text)) × Each is_graphic (name_of token text)
+
+-- a sized number says one list of bits
+abbrev pub SizedTokensSayBits : Type 0
+SizedTokensSayBits = (token : Token) (text : List ℕ) → IsTokenOf token text → token.kind ≡ Sized → (bits : List Bool) × SaysBits token text bits
+
+abbrev pub SizedBitsAreOne : Type 0
+SizedBitsAreOne = (token : Token) (text : List ℕ) (bits others : List Bool) → SaysBits token text bits → SaysBits token text others → bits ≡ others
+
+-- of 1 to 128 bits
+abbrev pub SizedBitsFit : Type 0
+SizedBitsFit = (token : Token) (text : List ℕ) (bits : List Bool) → SaysBits token text bits → (1 ≤ length bits) × (length bits ≤ 128)
+
+-- a plain number is below 2 ^ 31
+abbrev pub PlainValuesFit : Type 0
+PlainValuesFit = (token : Token) (text : List ℕ) → IsTokenOf token text → token.kind ≡ Plain → plain_value_of token text < 2 ^ 31
+
+-- what sized_bits_of computes from the bytes of a sized number is what that says
+abbrev pub ReadBitsAreSaid : Type 0
+ReadBitsAreSaid = (token : Token) (text : List ℕ)
+    → (IsTokenOf token text → token.kind ≡ Sized → SaysBits token text (sized_bits_of token text))
+    × ((bits : List Bool) → SaysBits token text bits → bits ≡ sized_bits_of token text)
+
+-- what piece_at computes is the longest piece at the front of a text, and none where none begins
+abbrev pub ReadPiecesAreLongest : Type 0
+ReadPiecesAreLongest = (text rest : List ℕ) (kind : Option Kind) → piece_at text ≡ Some (kind, rest)
+    → (bytes : List ℕ) × (text ≡ bytes ++ rest) × IsLongest (record { kind = kind; bytes = bytes }) rest
+
+abbrev pub LongestPiecesAreRead : Type 0
+LongestPiecesAreRead = (piece : Piece) (after : List ℕ) → IsLongest piece after → piece_at (piece.bytes ++ after) ≡ Some (piece.kind, after)
+
+abbrev pub NoneIsReadWhereNoneBegins : Type 0
+NoneIsReadWhereNoneBegins = (text : List ℕ)
+    → (piece_at text ≡ None → (piece : Piece) (after : List ℕ) → text ≡ piece.bytes ++ after → IsPiece piece after → ⊥)
+    × (((piece : Piece) (after : List ℕ) → text ≡ piece.bytes ++ after → IsPiece piece after → ⊥) → piece_at text ≡ None)
 
 -- the low bits of a number are as many as are asked for, and spell it modulo that power of 2
 abbrev pub LowBitsSpell : Type 0

@@ -1,12 +1,12 @@
--- The tokens (IEEE 1364-2005, 3.5 to 3.7): what a run of bytes must be, and what may follow it, to be a token of a kind.
+-- The tokens (IEEE 1364-2005, 3.4, 3.5, 3.7 and annex B): what a run of bytes must be, and what may follow it, to be a token of a kind.
 use Rattle.std.specs.Prelude.{◌≡◌, ℕ, ◌<◌, ◌≤◌, ◌^◌, ◌||◌, ◌==◌, true, Option, Some, None, List, [], ◌∷◌, ◌++◌, length, codes, MatchOption}
 use Rattle.std.specs.Char.{is_ascii_digit, is_digit}
 use Rattle.bb_lex.specs.declared.token.Kind.{Kind}
 use Rattle.bb_lex.specs.declared.token.Kind.TheVariants.{Name, Word, Sized, Plain, Mark as MarkKind}
 use Rattle.bb_lex.specs.declared.mark.Mark.{Mark}
 use Rattle.bb_lex.specs.declared.mark.Mark.TheVariants.{LeftRound, RightRound, LeftSquare, RightSquare, LeftBrace, RightBrace, Comma, Semicolon, Colon, Dot, Equals, At, Amp, Bar, Caret, Tilde, Query, LessEqual, TildeCaret, CaretTilde}
-use Rattle.bb_lex.specs.Bytes.{is_white, begins_identifier, is_identifier_byte, is_word_byte, is_decimal_byte, is_graphic, Each, BeginsNot, EndsBefore, past}
-use Rattle.bb_lex.specs.Numbers.{number, radix_of, is_apostrophe}
+use Rattle.bb_lex.specs.Bytes.{apostrophe, star, backslash, underscore, is_apostrophe, is_white, begins_identifier, is_identifier_byte, is_word_byte, is_decimal_byte, is_graphic, Each, BeginsNot, EndsBefore, past}
+use Rattle.bb_lex.specs.Numbers.{number, radix_of}
 use Rattle.bb_lex.specs.Skips.{IsSkip}
 use Rattle.bb_lex.specs.Words.{keyword_of}
 use Rattle.bb_lex.specs.declared.keyword.Keyword.{Keyword}
@@ -52,7 +52,7 @@ IsDecimalRun (b ∷ bytes) = (is_ascii_digit b ≡ true) × Each is_decimal_byte
 -- a run of digits of a radix and _ that begins with a digit
 abbrev pub IsDigitRun : ℕ → List ℕ → Type 0
 IsDigitRun radix [] = ⊥
-IsDigitRun radix (b ∷ bytes) = (is_digit b radix ≡ true) × Each (λ c. is_digit c radix || c == 95) bytes
+IsDigitRun radix (b ∷ bytes) = (is_digit b radix ≡ true) × Each (λ c. is_digit c radix || c == underscore) bytes
 
 -- a size, an apostrophe, a base letter and digits of that base, as 4'b10_01; white space may stand before the
 -- apostrophe and behind the base letter; a decimal value is below 2 ^ 128
@@ -62,7 +62,7 @@ pub record IsSized (bytes after : List ℕ) : Type 0 where
   pub letter : ℕ
   pub space : List ℕ
   pub digits : List ℕ
-  pub made_of : bytes ≡ size ++ (gap ++ 39 ∷ letter ∷ (space ++ digits))
+  pub made_of : bytes ≡ size ++ (gap ++ apostrophe ∷ letter ∷ (space ++ digits))
   pub size_run : IsDecimalRun size
   pub gap_white : Each is_white gap
   pub base : 0 < radix_of letter
@@ -83,7 +83,7 @@ pub record IsPlain (bytes after : List ℕ) : Type 0 where
 -- a backslash and then bytes from 33 to 126, up to white space or the end of the text
 pub record IsEscaped (bytes after : List ℕ) : Type 0 where
   pub name : List ℕ
-  pub opens : bytes ≡ 92 ∷ name
+  pub opens : bytes ≡ backslash ∷ name
   pub some : 0 < length name
   pub graphic : Each is_graphic name
   pub whole : EndsBefore is_white after
@@ -95,7 +95,7 @@ pub data IsToken (kind : Kind) (bytes after : List ℕ) : Type 0 where
   SizedNumber : IsSized bytes after → kind ≡ Sized → IsToken kind bytes after
   PlainNumber : IsPlain bytes after → kind ≡ Plain → IsToken kind bytes after
   -- ( with * behind it would open an attribute
-  Symbol : (mark : Mark) → bytes ≡ written mark → (mark ≡ LeftRound → BeginsNot (λ b. b == 42) after) → kind ≡ MarkKind mark → IsToken kind bytes after
+  Symbol : (mark : Mark) → bytes ≡ written mark → (mark ≡ LeftRound → BeginsNot (λ b. b == star) after) → kind ≡ MarkKind mark → IsToken kind bytes after
 
 -- a run of bytes with the kind of the token that it is, or none where it is passed over
 pub record Piece : Type 0 where

@@ -1,6 +1,6 @@
--- The reading of a text from the front, as functions on lists: what is left behind the piece that is looked for, if it
--- is there. Clauses inside the crate cite them; that they read what the rules of Skips, Pieces and Cut say is proved.
-use Rattle.std.specs.Prelude.{ℕ, zero, suc, ◌+◌, ◌-◌, ◌*◌, ◌%◌, ◌^◌, Bool, true, false, Option, Some, None, List, [], ◌∷◌, length, map, ◌&&◌, ◌||◌, ◌==◌, nat_lt, nat_le, if◌then◌else◌, codes, bytes_eq}
+-- No clause of a public call rests on this file: it says what functions inside the crate compute. The reading of a text from
+-- the front, as functions on lists: what is left behind the piece that is looked for, if it is there.
+use Rattle.std.specs.Prelude.{ℕ, zero, suc, ◌+◌, ◌-◌, ◌*◌, ◌%◌, ◌^◌, Bool, true, false, Option, Some, None, List, [], ◌∷◌, length, map, not, drop, ◌&&◌, ◌||◌, ◌==◌, nat_lt, nat_le, if◌then◌else◌, codes, bytes_eq}
 use Rattle.std.specs.List.{list_all}
 use Rattle.std.specs.Char.{is_ascii_digit, is_digit, digit_value}
 use Rattle.bb_lex.specs.declared.token.Kind.{Kind}
@@ -13,12 +13,39 @@ use Rattle.bb_lex.specs.declared.class.Opening.TheVariants as opening
 use Rattle.bb_lex.specs.declared.class.Class.{Class}
 use Rattle.bb_lex.specs.declared.class.Class.TheVariants as class
 use Rattle.bb_lex.specs.declared.piece.Found.{Found}
-use Rattle.bb_lex.specs.Bytes.{is_white, is_in_line, begins_identifier, is_identifier_byte, is_word_byte, is_decimal_byte, is_graphic, is_no_apostrophe, run_of, past}
-use Rattle.bb_lex.specs.Numbers.{number, radix_of}
+use Rattle.bb_lex.specs.Bytes.{is_white, is_in_line, begins_identifier, is_identifier_byte, is_word_byte, is_decimal_byte, is_graphic, past}
+use Rattle.bb_lex.specs.Numbers.{number, radix_of, low_bits}
+use Rattle.bb_lex.specs.Cut.{bytes_of}
 use Rattle.std.specs.Borrow.{Bor}
 use Rattle.bb_lex.specs.declared.keyword.Keyword.{Keyword}
 use Rattle.bb_lex.specs.Words.{keyword_of, words_a, words_b, words_c, words_d, words_e, words_f, words_g, words_h, words_i, words_j, words_l, words_m, words_n, words_o, words_p, words_r, words_s, words_t, words_u, words_v, words_w, words_x}
 use Rattle.bb_lex.specs.Pieces.{kind_of_word}
+
+-- the longest run of a class of bytes at the front
+abbrev pub run_of : (ℕ → Bool) → List ℕ → List ℕ
+run_of is [] = []
+run_of is (b ∷ bytes) = if is b then b ∷ run_of is bytes else []
+
+-- what stands before an apostrophe: every byte but that
+abbrev pub is_no_apostrophe : ℕ → Bool
+is_no_apostrophe b = not (b == 39)
+
+-- the size of a sized number: what stands before the apostrophe
+abbrev pub size_of : List ℕ → ℕ
+size_of bytes = number 10 (run_of is_no_apostrophe bytes)
+
+-- the value of a base letter with digits of its base behind it
+abbrev pub based_value : List ℕ → ℕ
+based_value [] = 0
+based_value (letter ∷ digits) = number (radix_of letter) digits
+
+-- the value of a sized number before it is fitted to the size: what stands behind the apostrophe
+abbrev pub value_of : List ℕ → ℕ
+value_of bytes = based_value (drop 1 (past is_no_apostrophe bytes))
+
+-- the bits of a sized number, read from its bytes
+abbrev pub sized_bits_of : Token → List ℕ → List Bool
+sized_bits_of token text = low_bits (size_of (bytes_of token text)) (value_of (bytes_of token text))
 
 -- a table of words, without where it lies in memory
 abbrev pub entries : List (Bor (List ℕ) × Keyword) → List (List ℕ × Keyword)

@@ -1,7 +1,7 @@
 -- What stands between tokens and is passed over (IEEE 1364-2005, 3.2, 3.3, 3.8 and 19): white space, comments,
 -- attributes, and the directives that change nothing here. Strings count within attributes alone.
 use Rattle.std.specs.Prelude.{◌≡◌, ℕ, true, false, ◌&&◌, ◌||◌, ◌==◌, List, [], ◌∷◌, ◌++◌, ◌⊎◌, codes, MatchBool}
-use Rattle.bb_lex.specs.Bytes.{is_white, is_in_line, is_identifier_byte, Each, BeginsNot, EndsBefore}
+use Rattle.bb_lex.specs.Bytes.{newline, quote, right_round, star, slash, backslash, back_quote, is_white, is_in_line, is_identifier_byte, Each, BeginsNot, EndsBefore}
 
 -- the list ends at the first place where the bytes x and y stand side by side, with these two
 abbrev pub EndsAtFirst : ℕ → ℕ → List ℕ → Type 0
@@ -12,8 +12,8 @@ EndsAtFirst x y (b ∷ c ∷ bytes) = MatchBool (b == x && c == y) (bytes ≡ []
 -- what stands behind the opening quote of a string: up to the next quote; a backslash takes the byte behind it along
 abbrev pub EndsAtQuote : List ℕ → Type 0
 EndsAtQuote [] = ⊥
-EndsAtQuote (b ∷ []) = b ≡ 34
-EndsAtQuote (b ∷ c ∷ bytes) = MatchBool (b == 34) ⊥ (MatchBool (b == 92) (EndsAtQuote bytes) (EndsAtQuote (c ∷ bytes)))
+EndsAtQuote (b ∷ []) = b ≡ quote
+EndsAtQuote (b ∷ c ∷ bytes) = MatchBool (b == quote) ⊥ (MatchBool (b == backslash) (EndsAtQuote bytes) (EndsAtQuote (c ∷ bytes)))
 
 -- a comment that ends with its line
 pub record IsLineComment (bytes : List ℕ) : Type 0 where
@@ -25,26 +25,26 @@ pub record IsLineComment (bytes : List ℕ) : Type 0 where
 pub record IsBlockComment (bytes : List ℕ) : Type 0 where
   pub body : List ℕ
   pub opens : bytes ≡ codes "/*" ++ body
-  pub closes : EndsAtFirst 42 47 body
+  pub closes : EndsAtFirst star slash body
 
 pub record IsString (bytes : List ℕ) : Type 0 where
   pub body : List ℕ
-  pub opens : bytes ≡ 34 ∷ body
+  pub opens : bytes ≡ quote ∷ body
   pub closes : EndsAtQuote body
 
 -- a byte of an attribute that opens no string and no comment, and does not close the attribute
 pub record IsOrdinary (bytes after : List ℕ) : Type 0 where
   pub byte : ℕ
   pub is : bytes ≡ byte ∷ []
-  pub no_quote : (byte == 34) ≡ false
-  pub no_comment : byte ≡ 47 → BeginsNot (λ b. b == 47 || b == 42) after
-  pub no_end : byte ≡ 42 → BeginsNot (λ b. b == 41) after
+  pub no_quote : (byte == quote) ≡ false
+  pub no_comment : byte ≡ slash → BeginsNot (λ b. b == slash || b == star) after
+  pub no_end : byte ≡ star → BeginsNot (λ b. b == right_round) after
 
 -- a part of an attribute: a whole string, a whole comment, or another byte
 pub data IsPart (bytes after : List ℕ) : Type 0 where
   Quoted : IsString bytes → IsPart bytes after
   Block : IsBlockComment bytes → IsPart bytes after
-  Line : IsLineComment bytes → EndsBefore (λ b. b == 10) after → IsPart bytes after
+  Line : IsLineComment bytes → EndsBefore (λ b. b == newline) after → IsPart bytes after
   Other : IsOrdinary bytes after → IsPart bytes after
 
 -- the list is these parts, and then closes the attribute
@@ -57,7 +57,7 @@ pub record IsAttribute (bytes : List ℕ) : Type 0 where
   pub body : List ℕ
   pub parts : List (List ℕ)
   pub opens : bytes ≡ codes "(*" ++ body
-  pub not_at_once : BeginsNot (λ b. b == 41) body
+  pub not_at_once : BeginsNot (λ b. b == right_round) body
   pub closes : ArePartsOf body parts
 
 -- a directive with the rest of its line
@@ -65,7 +65,7 @@ pub record IsDirective (bytes after : List ℕ) : Type 0 where
   pub word : List ℕ
   pub line : List ℕ
   pub known : (word ≡ codes "timescale") ⊎ ((word ≡ codes "celldefine") ⊎ (word ≡ codes "endcelldefine"))
-  pub opens : bytes ≡ 96 ∷ word ++ line
+  pub opens : bytes ≡ back_quote ∷ word ++ line
   pub in_line : Each is_in_line line
   pub whole : BeginsNot is_identifier_byte (line ++ after)
 

@@ -1,6 +1,6 @@
 ghost use Rattle.std.specs.Prelude.{◌≡◌};
-ghost use Rattle.bb_lex.specs.Bytes.{run_of, past};
-ghost use Rattle.bb_lex.specs.Reading.{is_of, opening_of};
+ghost use Rattle.bb_lex.specs.Bytes.{past};
+ghost use Rattle.bb_lex.specs.Reading.{is_of, opening_of, run_of};
 
 /// A class of bytes.
 #[derive(Clone, Copy)]

@@ -22,6 +22,3 @@ pub use lexer::tokens;
 pub use mark::Mark;
 pub use meaning::{name_bytes, plain_value, sized_bits};
 pub use token::{Kind, Token};
-
-#[cfg(test)]
-mod tests;

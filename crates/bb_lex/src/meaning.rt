@@ -1,8 +1,9 @@
 ghost use Rattle.std.specs.Prelude.{◌≡◌, ◌<◌, ◌≤◌, ◌%◌, ◌^◌, IfOk};
 ghost use Rattle.bb_lex.specs.declared.token.Kind.{Kind};
+ghost use Rattle.bb_lex.specs.Reading.{size_of, value_of};
 ghost use Rattle.bb_lex.specs.Cut.{bytes_of, IsTokenOf};
-ghost use Rattle.bb_lex.specs.Meaning.{name_of, sized_bits_of, plain_value_of, IsNameOrWord};
-ghost use Rattle.bb_lex.specs.Numbers.{size_of, value_of, low_bits};
+ghost use Rattle.bb_lex.specs.Meaning.{name_of, SaysBits, plain_value_of, IsNameOrWord};
+ghost use Rattle.bb_lex.specs.Numbers.{low_bits};
 
 use crate::class::{Class, run};
 use crate::number::{based_value, decimal_value};
@@ -88,7 +89,7 @@ fn value_of(bytes: &[u8]) -> u128
 pub fn sized_bits(alloc: Global, token: &Token, text: &[u8]) -> Result<Vec<bool>, AllocError>
     requires of_text { IsTokenOf token.now text.now }
     requires sized { token.now.kind ≡ Kind.Sized }
-    ensures { IfOk result (λ bits. bits.items ≡ sized_bits_of token.now text.now) }
+    ensures { IfOk result (λ bits. SaysBits token.now text.now bits.items) }
 {
     let size = size_of(token, text);
     let value = value_of(bytes_of(token, text));

@@ -11,6 +11,3 @@ pub use bb_ast::Gate;
 pub use design::{Design, Designs, Kind, Part};
 pub use narrow::designs_of;
 pub use texts::{says_at_most_one, text_is_long_enough};
-
-#[cfg(test)]
-mod tests;

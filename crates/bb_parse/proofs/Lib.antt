@@ -2,6 +2,7 @@ pub mod DeclarationLaws
 pub mod Depth
 pub mod ExpressionLaws
 pub mod ExpressionReads
+pub mod FormedLaws
 pub mod ItemLaws
 pub mod ItemReads
 pub mod LawProofs
@@ -10,7 +11,9 @@ pub mod Loops
 pub mod Marks
 pub mod Measures
 pub mod Parts
+pub mod ReadLaws
 pub mod Sizes
 pub mod SourceLaws
 pub mod SourceLoop
 pub mod Statements
+pub mod SymbolLaws

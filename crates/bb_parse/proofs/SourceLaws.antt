@@ -1,5 +1,6 @@
 -- What is read as a source is one, and a fault that is found is the first.
 use Rattle.std.proofs.Common.{◌≡◌, ◌≢◌, ◌⊎◌, inl, inr, ℕ, zero, suc, ◌<◌, ◌≤◌, List, [], ◌∷◌, ◌++◌, Option, Some, None, Result, Ok, Err, Bool, true, false, refl, ap, sym, ◌∙◌, subst, arith, length, length-append, append_assoc, IfSome, MatchResult, nat_lt, if◌then◌else◌}
+use Rattle.std.specs.List.{AllByRecursion}
 use Rattle.std.proofs.lemmas.Bool.{ltb-true, ltb-false, le-ltb}
 use Rattle.std.proofs.lemmas.List.{append-nil}
 use Rattle.bb_ast.specs.Syntax.{PlainBody, PlainItem, PlainHead, PlainModule}
@@ -7,14 +8,16 @@ use Rattle.bb_lex.specs.declared.keyword.Keyword.TheVariants as words
 use Rattle.bb_lex.specs.declared.token.Kind.{Kind}
 use Rattle.bb_lex.specs.declared.token.Kind.TheVariants as kinds
 use Rattle.bb_lex.specs.declared.token.Token.{Token}
+use Rattle.bb_lex.specs.Cut.{IsTokenOf}
+use Rattle.bb_lex.specs.Laws.{ReadBitsAreSaid}
 use Rattle.bb_parse.specs.declared.fault.ParseFault.{ParseFault}
 use Rattle.bb_parse.specs.declared.fault.ParseFault.TheVariants.{Statement, Unended, Deep, NoMemory}
-use Rattle.bb_parse.specs.Symbols.{Symbol, Identifier, Reserved, SizedNumber, PlainNumber, Sign, symbol_by, symbols}
+use Rattle.bb_parse.specs.Symbols.{Symbol, Identifier, Reserved, SizedNumber, PlainNumber, Sign, AreSymbols}
 use Rattle.bb_parse.specs.Declarations.{IsHeader}
 use Rattle.bb_parse.specs.Items.{IsItem}
 use Rattle.bb_parse.specs.Nesting.{nesting}
 use Rattle.bb_parse.specs.Sources.{ends, IsStatement, IsFirst, HaveNoEnd, line_of, IsHeaderOf, IsItemOf, IsEnd, AreItems, IsSource, Place, Outside, Inside, IsGood, AreGood, IsWrong, IsFaultFrom, IsFault}
-use Rattle.bb_parse.specs.Reading.{Read, next_kind}
+use Rattle.bb_parse.specs.Reading.{symbol_by, symbols, Read, next_kind}
 use Rattle.bb_parse.specs.ReadingDeclarations.{header_at}
 use Rattle.bb_parse.specs.ReadingItems.{read_body}
 use Rattle.bb_parse.specs.ReadingSources.{levels, first_statement, whole, or_fault, read_header_of, read_item_of, is_endmodule, with_item, with_modules, at_end, then_read, item_added, read_step, read_first, read_from, read_source}
@@ -23,7 +26,8 @@ use Rattle.bb_parse.proofs.ItemLaws.{item_sound}
 use Rattle.bb_parse.proofs.ItemReads.{item_complete}
 use Rattle.bb_parse.proofs.Depth.{item_narrows}
 use Rattle.bb_parse.proofs.Parts.{and_so}
-use Rattle.bb_parse.proofs.SourceLoop.{first_is, none_is, with_modules-nil}
+use Rattle.bb_parse.proofs.SourceLoop.{first_is, none_is, with_modules-nil, statement_of_text, rest_of_text}
+use Rattle.bb_parse.proofs.SymbolLaws.{symbols_of_text, symbols_are_one}
 
 -- one statement
 
@@ -108,20 +112,26 @@ end_is : (text : List ℕ) (s : List Token) → IsStatement s → is_endmodule (
 end_is text [] p h = elim p [ ]
 end_is text (t ∷ []) p h =
     let k : t.kind ≡ kinds.Word words.Endmodule = endmodule_kind t.kind (ap is_endmodule (sym (kind_of_symbol text t t.kind [])) ∙ h) in
-    ap (λ z. symbol_by text t z ∷ []) k
+    (k, tt)
 end_is text (t ∷ u ∷ us) p h =
     let k : t.kind ≡ kinds.Word words.Endmodule = endmodule_kind t.kind (ap is_endmodule (sym (kind_of_symbol text t t.kind (symbols text (u ∷ us)))) ∙ h) in
     absurd (true_false (sym (ap ends k) ∙ p.0))
 
+-- the symbols of an end
+end_symbols : (text : List ℕ) (s : List Token) → IsEnd text s → symbols text s ≡ Reserved words.Endmodule ∷ []
+end_symbols text [] h = elim h [ ]
+end_symbols text (t ∷ []) h = ap (λ z. symbol_by text t z ∷ []) h.0
+end_symbols text (t ∷ u ∷ us) h = elim h.1 [ ]
+
 is_end : (text : List ℕ) (s : List Token) → IsEnd text s → is_endmodule (next_kind (symbols text s)) ≡ true
-is_end text s h = ap (λ z. is_endmodule (next_kind z)) h
+is_end text s h = ap (λ z. is_endmodule (next_kind z)) (end_symbols text s h)
 
 not_true : (b : Bool) → (b ≡ true → ⊥) → b ≡ false
 not_true true h = absurd (h refl)
 not_true false h = refl
 
 end_shallow : (text : List ℕ) (s : List Token) → IsEnd text s → 200 < nesting (symbols text s) → ⊥
-end_shallow text s h less = omega (arith, ap nesting h)
+end_shallow text s h less = omega (arith, ap nesting (end_symbols text s h))
 
 -- statements
 
@@ -182,19 +192,35 @@ unfolding Outcome opened plus
 opened_outcome text tokens s a x first j (Ok ms) o = subst (λ (z : List PlainModule). IsSource text tokens z) (sym o.3) (s, a, o.1, first, j, refl, o.4, o.5)
 opened_outcome text tokens s a x first j (Err e) o = fault_behind text Outside Inside tokens s a e first (x, j) o
 
-no_header : (text : List ℕ) (s : List Token) → ((x : List ℕ × List PlainHead) → IsHeader (symbols text s) x [] → ⊥) → (next : Place) → IsGood text Outside s next → ⊥
-no_header text s h Outside g = g
-no_header text s h Inside g = h g.0 g.1.1
+-- what a statement is, by the symbols that are read from it
+IsReadHeader : List ℕ → List Token → List ℕ × List PlainHead → Type 0
+IsReadHeader text s x = (nesting (symbols text s) ≤ 200) × IsWholeHeader (symbols text s) x
 
-header_outcome : (text : List ℕ) (tokens s a : List Token) → IsFirst tokens s a → (go : Option PlainModule → Result (List PlainModule) ParseFault)
+IsReadItem : List ℕ → List Token → PlainBody → Type 0
+IsReadItem text s x = (nesting (symbols text s) ≤ 200) × IsWholeItem (symbols text s) x
+
+header_read : ReadBitsAreSaid → (text : List ℕ) (s : List Token) (x : List ℕ × List PlainHead) → IsHeaderOf text s x → IsReadHeader text s x
+unfolding IsReadHeader
+header_read said text s x p = subst (λ (ts : List Symbol). (nesting ts ≤ 200) × IsWholeHeader ts x) (symbols_are_one said text s p.0 p.1) (p.2, p.3)
+
+body_read : ReadBitsAreSaid → (text : List ℕ) (s : List Token) (x : PlainBody) → IsItemOf text s x → IsReadItem text s x
+unfolding IsReadItem
+body_read said text s x p = subst (λ (ts : List Symbol). (nesting ts ≤ 200) × IsWholeItem ts x) (symbols_are_one said text s p.0 p.1) (p.2, (p.3, p.4))
+
+no_header : (said : ReadBitsAreSaid) (text : List ℕ) (s : List Token) → ((x : List ℕ × List PlainHead) → IsHeader (symbols text s) x [] → ⊥) → (next : Place) → IsGood text Outside s next → ⊥
+unfolding IsReadHeader
+no_header said text s h Outside g = g
+no_header said text s h Inside g = h g.0 (header_read said text s g.0 g.1).1
+
+header_outcome : (said : ReadBitsAreSaid) (text : List ℕ) (tokens s a : List Token) → IsFirst tokens s a → AreSymbols text s (symbols text s) → (go : Option PlainModule → Result (List PlainModule) ParseFault)
     → ((next : Option PlainModule) → Outcome text next a (go next)) → (r : Result (List ℕ × List PlainHead) ParseFault) → Judged (symbols text s) (line_of s) (IsWholeHeader (symbols text s)) r
     → Outcome text None tokens (then_read (then_read r (opening s)) (λ y. with_modules y.0 (go y.1)))
 unfolding Outcome
-header_outcome text tokens s a first go ih (Ok x) j = opened_outcome text tokens s a x first j (go (Some (opened s x))) (ih (Some (opened s x)))
-header_outcome text tokens s a first go ih (Err (Statement l)) j = ([], Outside, tokens, (refl, refl), (s, a, first, j.0, no_header text s j.1, j.2))
-header_outcome text tokens s a first go ih (Err Unended) j = elim j [ ]
-header_outcome text tokens s a first go ih (Err (Deep l)) j = ([], Outside, tokens, (refl, refl), (s, a, first, j.0, j.1))
-header_outcome text tokens s a first go ih (Err NoMemory) j = elim j [ ]
+header_outcome said text tokens s a first are go ih (Ok x) j = opened_outcome text tokens s a x first (symbols text s, are, j.0, j.1) (go (Some (opened s x))) (ih (Some (opened s x)))
+header_outcome said text tokens s a first are go ih (Err (Statement l)) j = ([], Outside, tokens, (refl, refl), (s, a, symbols text s, first, are, j.0, no_header said text s j.1, j.2))
+header_outcome said text tokens s a first are go ih (Err Unended) j = elim j [ ]
+header_outcome said text tokens s a first are go ih (Err (Deep l)) j = ([], Outside, tokens, (refl, refl), (s, a, symbols text s, first, are, j.0, j.1))
+header_outcome said text tokens s a first are go ih (Err NoMemory) j = elim j [ ]
 
 closed_outcome : (text : List ℕ) (m : PlainModule) (tokens s a : List Token) → IsFirst tokens s a → IsEnd text s → (r : Result (List PlainModule) ParseFault) → Outcome text None a r
     → Outcome text (Some m) tokens (with_modules (m ∷ []) r)
@@ -209,60 +235,66 @@ more_outcome text m tokens s a body first j (Ok ms) o =
     (record { line = line_of s; body = body } ∷ o.0, o.1, o.2, o.3 ∙ ap (λ z. record m { items = z } ∷ o.2) (append_assoc m.items (record { line = line_of s; body = body } ∷ []) o.0), (s, a, first, j, refl, o.4), o.5)
 more_outcome text m tokens s a body first j (Err e) o = fault_behind text Inside Inside tokens s a e first (body, j) o
 
-no_item : (text : List ℕ) (s : List Token) → is_endmodule (next_kind (symbols text s)) ≡ false → ((x : PlainBody) → IsWholeItem (symbols text s) x → ⊥) → (next : Place) → IsGood text Inside s next → ⊥
-no_item text s e h Outside g = true_false (sym (is_end text s g) ∙ e)
-no_item text s e h Inside g = h g.0 (g.1.1, g.1.2)
+no_item : (said : ReadBitsAreSaid) (text : List ℕ) (s : List Token) → is_endmodule (next_kind (symbols text s)) ≡ false → ((x : PlainBody) → IsWholeItem (symbols text s) x → ⊥) → (next : Place) → IsGood text Inside s next → ⊥
+unfolding IsReadItem
+no_item said text s e h Outside g = true_false (sym (is_end text s g) ∙ e)
+no_item said text s e h Inside g = h g.0 (body_read said text s g.0 g.1).1
 
-item_outcome : (text : List ℕ) (m : PlainModule) (tokens s a : List Token) → IsFirst tokens s a → (go : Option PlainModule → Result (List PlainModule) ParseFault)
+item_outcome : (said : ReadBitsAreSaid) (text : List ℕ) (m : PlainModule) (tokens s a : List Token) → IsFirst tokens s a → AreSymbols text s (symbols text s) → (go : Option PlainModule → Result (List PlainModule) ParseFault)
     → ((next : Option PlainModule) → Outcome text next a (go next)) → (b : Bool) → is_endmodule (next_kind (symbols text s)) ≡ b
     → (r : Result PlainBody ParseFault) → Judged (symbols text s) (line_of s) (IsWholeItem (symbols text s)) r
     → Outcome text (Some m) tokens (then_read (if b then ending m else then_read (then_read r (item_added m (line_of s))) going_on) (λ y. with_modules y.0 (go y.1)))
 unfolding Outcome
-item_outcome text m tokens s a first go ih true e r j = closed_outcome text m tokens s a first (end_is text s first.1 e) (go None) (ih None)
-item_outcome text m tokens s a first go ih false e (Ok body) j =
+item_outcome said text m tokens s a first are go ih true e r j = closed_outcome text m tokens s a first (end_is text s first.1 e) (go None) (ih None)
+item_outcome said text m tokens s a first are go ih false e (Ok body) j =
     let n : PlainModule = with_item m (record { line = line_of s; body = body }) in
-    more_outcome text m tokens s a body first (j.0, j.1.0, j.1.1) (go (Some n)) (ih (Some n))
-item_outcome text m tokens s a first go ih false e (Err (Statement l)) j = ([], Inside, tokens, (refl, refl), (s, a, first, j.0, no_item text s e j.1, j.2))
-item_outcome text m tokens s a first go ih false e (Err Unended) j = elim j [ ]
-item_outcome text m tokens s a first go ih false e (Err (Deep l)) j = ([], Inside, tokens, (refl, refl), (s, a, first, j.0, j.1))
-item_outcome text m tokens s a first go ih false e (Err NoMemory) j = elim j [ ]
+    more_outcome text m tokens s a body first (symbols text s, are, j.0, j.1.0, j.1.1) (go (Some n)) (ih (Some n))
+item_outcome said text m tokens s a first are go ih false e (Err (Statement l)) j = ([], Inside, tokens, (refl, refl), (s, a, symbols text s, first, are, j.0, no_item said text s e j.1, j.2))
+item_outcome said text m tokens s a first are go ih false e (Err Unended) j = elim j [ ]
+item_outcome said text m tokens s a first are go ih false e (Err (Deep l)) j = ([], Inside, tokens, (refl, refl), (s, a, symbols text s, first, are, j.0, j.1))
+item_outcome said text m tokens s a first are go ih false e (Err NoMemory) j = elim j [ ]
 
-outcome_first : (text : List ℕ) (go : Option PlainModule → List Token → Result (List PlainModule) ParseFault) (open_module : Option PlainModule) (tokens : List Token)
-    → ((next : Option PlainModule) (a : List Token) → length a < length tokens → Outcome text next a (go next a))
+outcome_first : (said : ReadBitsAreSaid) (text : List ℕ) (go : Option PlainModule → List Token → Result (List PlainModule) ParseFault) (open_module : Option PlainModule) (tokens : List Token)
+    → AllByRecursion (λ t. IsTokenOf t text) tokens
+    → ((next : Option PlainModule) (a : List Token) → length a < length tokens → AllByRecursion (λ t. IsTokenOf t text) a → Outcome text next a (go next a))
     → (o : Option (List Token × List Token)) → first_statement tokens ≡ o → Outcome text open_module tokens (read_first text open_module tokens o go)
 unfolding read_step opened
-outcome_first text go open_module tokens ih None e = outcome_at_end text open_module tokens (none_is tokens e)
-outcome_first text go None tokens ih (Some (s, a)) e =
+outcome_first said text go open_module tokens all ih None e = outcome_at_end text open_module tokens (none_is tokens e)
+outcome_first said text go None tokens all ih (Some (s, a)) e =
     let first = first_is tokens s a e in
-    header_outcome text tokens s a first (λ next. go next a) (λ next. ih next a (first_shorter tokens s a first)) (read_header_of text s) (header_judged text s)
-outcome_first text go (Some m) tokens ih (Some (s, a)) e =
+    let are = symbols_of_text said text s (statement_of_text text tokens s a e all) in
+    header_outcome said text tokens s a first are (λ next. go next a) (λ next. ih next a (first_shorter tokens s a first) (rest_of_text text tokens s a e all)) (read_header_of text s) (header_judged text s)
+outcome_first said text go (Some m) tokens all ih (Some (s, a)) e =
     let first = first_is tokens s a e in
-    item_outcome text m tokens s a first (λ next. go next a) (λ next. ih next a (first_shorter tokens s a first)) (is_endmodule (next_kind (symbols text s))) refl (read_item_of text s) (item_judged text s)
+    let are = symbols_of_text said text s (statement_of_text text tokens s a e all) in
+    item_outcome said text m tokens s a first are (λ next. go next a) (λ next. ih next a (first_shorter tokens s a first) (rest_of_text text tokens s a e all)) (is_endmodule (next_kind (symbols text s))) refl
+    (read_item_of text s) (item_judged text s)
 
-outcome_from : (text : List ℕ) (n : ℕ) (open_module : Option PlainModule) (tokens : List Token) → length tokens ≤ n → Outcome text open_module tokens (read_from text n open_module tokens)
-outcome_from text zero open_module [] le = outcome_at_end text open_module [] tt
-outcome_from text zero open_module (t ∷ ts) le = absurd (omega arith)
-outcome_from text (suc n) open_module tokens le =
-    outcome_first text (read_from text n) open_module tokens (λ next a less. outcome_from text n next a (omega arith)) (first_statement tokens) refl
+outcome_from : (said : ReadBitsAreSaid) (text : List ℕ) (n : ℕ) (open_module : Option PlainModule) (tokens : List Token) → length tokens ≤ n → AllByRecursion (λ t. IsTokenOf t text) tokens
+    → Outcome text open_module tokens (read_from text n open_module tokens)
+outcome_from said text zero open_module [] le all = outcome_at_end text open_module [] tt
+outcome_from said text zero open_module (t ∷ ts) le all = absurd (omega arith)
+outcome_from said text (suc n) open_module tokens le all =
+    outcome_first said text (read_from text n) open_module tokens all (λ next a less later. outcome_from said text n next a (omega arith) later) (first_statement tokens) refl
 
 outcome_is : (text : List ℕ) (tokens : List Token) (r : Result (List PlainModule) ParseFault) → Outcome text None tokens r → MatchResult r (IsSource text tokens) (IsFault text tokens)
 unfolding Outcome
 outcome_is text tokens (Ok ms) o = o
 outcome_is text tokens (Err e) o = o
 
-pub source_sound : (text : List ℕ) (tokens : List Token) → MatchResult (read_source text tokens) (IsSource text tokens) (IsFault text tokens)
+pub source_sound : ReadBitsAreSaid → (text : List ℕ) (tokens : List Token) → AllByRecursion (λ t. IsTokenOf t text) tokens → MatchResult (read_source text tokens) (IsSource text tokens) (IsFault text tokens)
 unfolding read_source
-source_sound text tokens = outcome_is text tokens (read_from text (length tokens) None tokens) (outcome_from text (length tokens) None tokens (omega arith))
+source_sound said text tokens all = outcome_is text tokens (read_from text (length tokens) None tokens) (outcome_from said text (length tokens) None tokens (omega arith) all)
 
 -- what is a source or a fault is read as it
 
-header_done : (text : List ℕ) (s : List Token) (x : List ℕ × List PlainHead) → IsHeaderOf text s x → read_header_of text s ≡ Ok x
-unfolding read_header_of
+header_done : (text : List ℕ) (s : List Token) (x : List ℕ × List PlainHead) → IsReadHeader text s x → read_header_of text s ≡ Ok x
+unfolding read_header_of IsReadHeader
 header_done text s x p = rw (le-ltb 200 (nesting (symbols text s)) p.0, header_complete (symbols text s) x [] p.1) refl
 
-item_done : (text : List ℕ) (s : List Token) (x : PlainBody) → IsItemOf text s x → read_item_of text s ≡ Ok x
-unfolding read_item_of
-item_done text s x p = rw (le-ltb 200 (nesting (symbols text s)) p.0, item_read (symbols text s) p.0 x (p.1, p.2)) refl
+item_done : (text : List ℕ) (s : List Token) (x : PlainBody) → IsReadItem text s x → read_item_of text s ≡ Ok x
+unfolding read_item_of IsReadItem
+item_done text s x p = rw (le-ltb 200 (nesting (symbols text s)) p.0, item_read (symbols text s) p.0 x p.1) refl
 
 body_no_end : (ts : List Symbol) (x : PlainBody × List Symbol) → read_body levels ts ≡ Some x → is_endmodule (next_kind ts) ≡ false
 unfolding read_body
@@ -274,16 +306,17 @@ body_no_end (SizedNumber b ∷ ts) x h = refl
 body_no_end (PlainNumber n ∷ ts) x h = refl
 body_no_end (Sign m ∷ ts) x h = refl
 
-item_no_end : (text : List ℕ) (s : List Token) (x : PlainBody) → IsItemOf text s x → is_endmodule (next_kind (symbols text s)) ≡ false
-item_no_end text s x p = body_no_end (symbols text s) (x, []) (item_read (symbols text s) p.0 x (p.1, p.2))
+item_no_end : (text : List ℕ) (s : List Token) (x : PlainBody) → IsReadItem text s x → is_endmodule (next_kind (symbols text s)) ≡ false
+unfolding IsReadItem
+item_no_end text s x p = body_no_end (symbols text s) (x, []) (item_read (symbols text s) p.0 x p.1)
 
 -- one good statement
 
-step_header : (text : List ℕ) (s : List Token) (x : List ℕ × List PlainHead) → IsHeaderOf text s x → read_step text None s ≡ Ok ([], Some (opened s x))
+step_header : (text : List ℕ) (s : List Token) (x : List ℕ × List PlainHead) → IsReadHeader text s x → read_step text None s ≡ Ok ([], Some (opened s x))
 unfolding read_step opened
 step_header text s x p = rw (header_done text s x p) refl
 
-step_item : (text : List ℕ) (m : PlainModule) (s : List Token) (body : PlainBody) → IsItemOf text s body
+step_item : (text : List ℕ) (m : PlainModule) (s : List Token) (body : PlainBody) → IsReadItem text s body
     → read_step text (Some m) s ≡ Ok ([], Some (with_item m (record { line = line_of s; body = body })))
 unfolding read_step
 step_item text m s body p = rw (item_no_end text s body p, item_done text s body p) refl
@@ -310,40 +343,40 @@ items_none : (text : List ℕ) (tokens : List Token) (items : List PlainItem) (b
 items_none text tokens [] b le p = omega (arith, first_shorter tokens p.0 b p.1)
 items_none text tokens (i ∷ items) b le p = omega (arith, first_shorter tokens p.0 p.1 p.2)
 
-source_more : (text : List ℕ) (n : ℕ) → Complete text n → (tokens : List Token) (ms : List PlainModule) → length tokens ≤ suc n → IsSource text tokens ms → read_from text (suc n) None tokens ≡ Ok ms
+source_more : (said : ReadBitsAreSaid) (text : List ℕ) (n : ℕ) → Complete text n → (tokens : List Token) (ms : List PlainModule) → length tokens ≤ suc n → IsSource text tokens ms → read_from text (suc n) None tokens ≡ Ok ms
 unfolding plus opened
-source_more text n ih tokens [] le p = rw p refl
-source_more text n ih tokens (m ∷ ms) le p =
+source_more said text n ih tokens [] le p = rw p refl
+source_more said text n ih tokens (m ∷ ms) le p =
     let le' : length p.1 ≤ n = omega (arith, first_shorter tokens p.0 p.1 p.3) in
-    next_read text n None tokens p.0 p.1 [] (Some (opened p.0 (m.name, m.heads))) p.3 (step_header text p.0 (m.name, m.heads) p.4)
+    next_read text n None tokens p.0 p.1 [] (Some (opened p.0 (m.name, m.heads))) p.3 (step_header text p.0 (m.name, m.heads) (header_read said text p.0 (m.name, m.heads) p.4))
     ∙ with_modules-nil (read_from text n (Some (opened p.0 (m.name, m.heads))) p.1)
     ∙ ih.1 (opened p.0 (m.name, m.heads)) p.1 m.items p.2 ms le' p.6 p.7
     ∙ ap (λ z. Ok (record m { line = z } ∷ ms)) (sym p.5)
 
-items_more : (text : List ℕ) (n : ℕ) → Complete text n → (m : PlainModule) (tokens : List Token) (items : List PlainItem) (b : List Token) (rest : List PlainModule) → length tokens ≤ suc n
+items_more : (said : ReadBitsAreSaid) (text : List ℕ) (n : ℕ) → Complete text n → (m : PlainModule) (tokens : List Token) (items : List PlainItem) (b : List Token) (rest : List PlainModule) → length tokens ≤ suc n
     → AreItems text tokens items b → IsSource text b rest → read_from text (suc n) (Some m) tokens ≡ Ok (plus m items ∷ rest)
 unfolding plus
-items_more text n ih m tokens [] b rest le p q =
+items_more said text n ih m tokens [] b rest le p q =
     let le' : length b ≤ n = omega (arith, first_shorter tokens p.0 b p.1) in
     next_read text n (Some m) tokens p.0 b (m ∷ []) None p.1 (step_end text m p.0 p.2)
     ∙ ap (with_modules (m ∷ [])) (ih.0 b rest le' q)
     ∙ ap (λ z. Ok (record m { items = z } ∷ rest)) (sym (append-nil m.items))
-items_more text n ih m tokens (i ∷ items) b rest le p q =
+items_more said text n ih m tokens (i ∷ items) b rest le p q =
     let le' : length p.1 ≤ n = omega (arith, first_shorter tokens p.0 p.1 p.2) in
     let j : PlainItem = record { line = line_of p.0; body = i.body } in
-    next_read text n (Some m) tokens p.0 p.1 [] (Some (with_item m j)) p.2 (step_item text m p.0 i.body p.3)
+    next_read text n (Some m) tokens p.0 p.1 [] (Some (with_item m j)) p.2 (step_item text m p.0 i.body (body_read said text p.0 i.body p.3))
     ∙ with_modules-nil (read_from text n (Some (with_item m j)) p.1)
     ∙ ih.1 (with_item m j) p.1 items b rest le' p.5 q
     ∙ ap (λ z. Ok (record m { items = z } ∷ rest)) (append_assoc m.items (j ∷ []) items)
     ∙ ap (λ z. Ok (record m { items = m.items ++ record { line = z; body = i.body } ∷ items } ∷ rest)) (sym p.4)
 
-complete : (text : List ℕ) (n : ℕ) → Complete text n
-complete text zero = (source_none text, λ m tokens items b rest le p q. absurd (items_none text tokens items b le p))
-complete text (suc n) = (source_more text n (complete text n), items_more text n (complete text n))
+complete : (said : ReadBitsAreSaid) (text : List ℕ) (n : ℕ) → Complete text n
+complete said text zero = (source_none text, λ m tokens items b rest le p q. absurd (items_none text tokens items b le p))
+complete said text (suc n) = (source_more said text n (complete said text n), items_more said text n (complete said text n))
 
-pub source_complete : (text : List ℕ) (tokens : List Token) (ms : List PlainModule) → IsSource text tokens ms → read_source text tokens ≡ Ok ms
+pub source_complete : (said : ReadBitsAreSaid) (text : List ℕ) (tokens : List Token) (ms : List PlainModule) → IsSource text tokens ms → read_source text tokens ≡ Ok ms
 unfolding read_source
-source_complete text tokens ms p = (complete text (length tokens)).0 tokens ms (omega arith) p
+source_complete said text tokens ms p = (complete said text (length tokens)).0 tokens ms (omega arith) p
 
 -- faults
 
@@ -353,7 +386,7 @@ no_first (t ∷ ts) h = rw (h.0, no_first ts h.1) refl
 
 -- a statement at fault in its place
 abbrev IsAtFault : List ℕ → Place → List Token → ParseFault → Type 0
-IsAtFault text place s (Statement line) = (nesting (symbols text s) ≤ 200) × ((next : Place) → IsGood text place s next → ⊥) × (line ≡ line_of s)
+IsAtFault text place s (Statement line) = AreSymbols text s (symbols text s) × (nesting (symbols text s) ≤ 200) × ((next : Place) → IsGood text place s next → ⊥) × (line ≡ line_of s)
 IsAtFault text place s (Deep line) = (200 < nesting (symbols text s)) × (line ≡ line_of s)
 IsAtFault text place s Unended = ⊥
 IsAtFault text place s NoMemory = ⊥
@@ -369,15 +402,15 @@ fault_of ts line is (Err NoMemory) j l e = elim j [ ]
 step_fault : (text : List ℕ) (open_module : Option PlainModule) (s : List Token) (e : ParseFault) → IsStatement s → IsAtFault text (place_of open_module) s e → read_step text open_module s ≡ Err e
 unfolding read_step place_of
 step_fault text None s (Statement l) st p =
-    rw ((fault_of (symbols text s) (line_of s) (IsWholeHeader (symbols text s)) (read_header_of text s) (header_judged text s) l p.2).0 p.0 (λ x h. p.1 Inside (x, (p.0, h)))) refl
+    rw ((fault_of (symbols text s) (line_of s) (IsWholeHeader (symbols text s)) (read_header_of text s) (header_judged text s) l p.3).0 p.1 (λ x h. p.2 Inside (x, (symbols text s, p.0, p.1, h)))) refl
 step_fault text None s (Deep l) st p =
     rw ((fault_of (symbols text s) (line_of s) (IsWholeHeader (symbols text s)) (read_header_of text s) (header_judged text s) l p.1).1 p.0) refl
 step_fault text None s Unended st p = elim p [ ]
 step_fault text None s NoMemory st p = elim p [ ]
 step_fault text (Some m) s (Statement l) st p =
     rw (
-      not_true (is_endmodule (next_kind (symbols text s))) (λ h. p.1 Outside (end_is text s st h)),
-      (fault_of (symbols text s) (line_of s) (IsWholeItem (symbols text s)) (read_item_of text s) (item_judged text s) l p.2).0 p.0 (λ x h. p.1 Inside (x, (p.0, h.0, h.1))),
+      not_true (is_endmodule (next_kind (symbols text s))) (λ h. p.2 Outside (end_is text s st h)),
+      (fault_of (symbols text s) (line_of s) (IsWholeItem (symbols text s)) (read_item_of text s) (item_judged text s) l p.3).0 p.1 (λ x h. p.2 Inside (x, (symbols text s, p.0, p.1, h.0, h.1))),
     ) refl
 step_fault text (Some m) s (Deep l) st p =
     rw (
@@ -406,33 +439,38 @@ at_end_fault None [] (inr h) = absurd (outside_inside h)
 at_end_fault None (t ∷ ts) h = refl
 at_end_fault (Some m) tokens h = refl
 
-wrong_fault : (text : List ℕ) (n : ℕ) (open_module : Option PlainModule) (tokens : List Token) (e : ParseFault) → length tokens ≤ n → IsWrong text (place_of open_module) tokens e
+wrong_fault : (said : ReadBitsAreSaid) (text : List ℕ) (n : ℕ) (open_module : Option PlainModule) (tokens : List Token) (e : ParseFault) → length tokens ≤ n → IsWrong text (place_of open_module) tokens e
     → read_from text n open_module tokens ≡ Err e
-wrong_fault text n open_module tokens (Statement l) le p = first_fault text n open_module tokens p.0 p.1 (Statement l) le p.2 (p.3, p.4, p.5)
-wrong_fault text n open_module tokens (Deep l) le p = first_fault text n open_module tokens p.0 p.1 (Deep l) le p.2 (p.3, p.4)
-wrong_fault text n open_module tokens Unended le p = ended_read text n open_module tokens p.0 ∙ at_end_fault open_module tokens p.1
-wrong_fault text n open_module tokens NoMemory le p = elim p [ ]
+wrong_fault said text n open_module tokens (Statement l) le p =
+    let same : p.2 ≡ symbols text p.0 = symbols_are_one said text p.0 p.2 p.4 in
+    let at : AreSymbols text p.0 (symbols text p.0) × (nesting (symbols text p.0) ≤ 200) = subst (λ (ts : List Symbol). AreSymbols text p.0 ts × (nesting ts ≤ 200)) same (p.4, p.5) in
+    first_fault text n open_module tokens p.0 p.1 (Statement l) le p.3 (at.0, at.1, p.6, p.7)
+wrong_fault said text n open_module tokens (Deep l) le p =
+    let deep : 200 < nesting (symbols text p.0) = subst (λ (ts : List Symbol). 200 < nesting ts) (symbols_are_one said text p.0 p.2 p.4) p.5 in
+    first_fault text n open_module tokens p.0 p.1 (Deep l) le p.3 (deep, p.6)
+wrong_fault said text n open_module tokens Unended le p = ended_read text n open_module tokens p.0 ∙ at_end_fault open_module tokens p.1
+wrong_fault said text n open_module tokens NoMemory le p = elim p [ ]
 
-good_step : (text : List ℕ) (open_module : Option PlainModule) (s : List Token) (next : Place) → IsGood text (place_of open_module) s next
+good_step : (said : ReadBitsAreSaid) (text : List ℕ) (open_module : Option PlainModule) (s : List Token) (next : Place) → IsGood text (place_of open_module) s next
     → (closed : List PlainModule) × (after : Option PlainModule) × (read_step text open_module s ≡ Ok (closed, after)) × (place_of after ≡ next)
 unfolding place_of
-good_step text None s Outside g = elim g [ ]
-good_step text None s Inside g = ([], Some (opened s g.0), step_header text s g.0 g.1, refl)
-good_step text (Some m) s Outside g = (m ∷ [], None, step_end text m s g, refl)
-good_step text (Some m) s Inside g = ([], Some (with_item m (record { line = line_of s; body = g.0 })), step_item text m s g.0 g.1, refl)
+good_step said text None s Outside g = elim g [ ]
+good_step said text None s Inside g = ([], Some (opened s g.0), step_header text s g.0 (header_read said text s g.0 g.1), refl)
+good_step said text (Some m) s Outside g = (m ∷ [], None, step_end text m s g, refl)
+good_step said text (Some m) s Inside g = ([], Some (with_item m (record { line = line_of s; body = g.0 })), step_item text m s g.0 (body_read said text s g.0 g.1), refl)
 
-fault_from : (text : List ℕ) (n : ℕ) (front : List (List Token)) (open_module : Option PlainModule) (tokens : List Token) (behind : Place) (a : List Token) (e : ParseFault) → length tokens ≤ n
+fault_from : (said : ReadBitsAreSaid) (text : List ℕ) (n : ℕ) (front : List (List Token)) (open_module : Option PlainModule) (tokens : List Token) (behind : Place) (a : List Token) (e : ParseFault) → length tokens ≤ n
     → AreGood text (place_of open_module) tokens front behind a → IsWrong text behind a e → read_from text n open_module tokens ≡ Err e
-fault_from text n [] open_module tokens behind a e le p w =
+fault_from said text n [] open_module tokens behind a e le p w =
     let w' : IsWrong text (place_of open_module) tokens e = subst (λ (z : Place × List Token). IsWrong text z.0 z.1 e) (sym (λ i. (p.0 i, p.1 i))) w in
-    wrong_fault text n open_module tokens e le w'
-fault_from text zero (s ∷ ss) open_module tokens behind a e le p w = absurd (omega (arith, first_shorter tokens s p.1 p.2))
-fault_from text (suc n) (s ∷ ss) open_module tokens behind a e le p w =
+    wrong_fault said text n open_module tokens e le w'
+fault_from said text zero (s ∷ ss) open_module tokens behind a e le p w = absurd (omega (arith, first_shorter tokens s p.1 p.2))
+fault_from said text (suc n) (s ∷ ss) open_module tokens behind a e le p w =
     let le' : length p.1 ≤ n = omega (arith, first_shorter tokens s p.1 p.2) in
-    let step = good_step text open_module s p.0 p.3 in
+    let step = good_step said text open_module s p.0 p.3 in
     let q : AreGood text (place_of step.1) p.1 ss behind a = subst (λ (z : Place). AreGood text z p.1 ss behind a) (sym step.3) p.4 in
-    next_read text n open_module tokens s p.1 step.0 step.1 p.2 step.2 ∙ ap (with_modules step.0) (fault_from text n ss step.1 p.1 behind a e le' q w)
+    next_read text n open_module tokens s p.1 step.0 step.1 p.2 step.2 ∙ ap (with_modules step.0) (fault_from said text n ss step.1 p.1 behind a e le' q w)
 
-pub fault_complete : (text : List ℕ) (tokens : List Token) (e : ParseFault) → IsFault text tokens e → read_source text tokens ≡ Err e
+pub fault_complete : (said : ReadBitsAreSaid) (text : List ℕ) (tokens : List Token) (e : ParseFault) → IsFault text tokens e → read_source text tokens ≡ Err e
 unfolding read_source place_of
-fault_complete text tokens e p = fault_from text (length tokens) p.0 None tokens p.1 p.2 e (omega arith) p.3 p.4
+fault_complete said text tokens e p = fault_from said text (length tokens) p.0 None tokens p.1 p.2 e (omega arith) p.3 p.4

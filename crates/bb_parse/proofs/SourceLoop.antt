@@ -58,7 +58,7 @@ first_is tokens s rest h = subst (λ (o : Option (List Token × List Token)). Ma
 pub none_is : (tokens : List Token) → first_statement tokens ≡ None → HaveNoEnd tokens
 none_is tokens h = subst (λ (o : Option (List Token × List Token)). MatchOption o (HaveNoEnd tokens) (λ x. IsFirst tokens x.0 x.1)) h (first_found tokens)
 
-all_parts : (P : Token → Type 0) (s rest : List Token) → AllByRecursion P (s ++ rest) → AllByRecursion P s × AllByRecursion P rest
+pub all_parts : (P : Token → Type 0) (s rest : List Token) → AllByRecursion P (s ++ rest) → AllByRecursion P s × AllByRecursion P rest
 all_parts P [] rest h = (tt, h)
 all_parts P (t ∷ s) rest h = let others = all_parts P s rest h.1 in ((h.0, others.0), others.1)
 

@@ -1,4 +1,5 @@
--- Expressions (IEEE 1364-2005, A.8.3 and A.8.4, in a profile). From the tightest on: a primary, a run of ~, & chains, chains
+-- Expressions (IEEE 1364-2005, A.8.1, A.8.3 to A.8.6, in a profile; the order of precedence is table 5-4, the grouping of
+-- conditionals 5.1.13). From the tightest on: a primary, a run of ~, & chains, chains
 -- of ^ ~^ ^~, | chains, and conditionals. A chain is grouped to the left, a conditional to the right. A rule takes as inner
 -- what may stand in brackets and between ? and :, so that the depth to which these nest is a number. Parentheses leave no trace.
 use Rattle.std.specs.Prelude.{◌≡◌, ◌⊎◌, ℕ, zero, suc, List, [], ◌∷◌, Option, Some, None, Bool}

@@ -1,4 +1,4 @@
--- Items of a module (IEEE 1364-2005, A.1.4, A.3, A.4 and A.6, in a profile). Brackets and conditionals nest to less than
+-- Items of a module (IEEE 1364-2005, A.1.4, A.2, A.3, A.4 and A.6, in a profile). Brackets and conditionals nest to less than
 -- depth levels. A wire declaration may mix names with and without assignment, which the standard does not allow.
 use Rattle.std.specs.Prelude.{◌≡◌, ℕ, Bool, true, false, List, [], ◌∷◌, Option, None}
 use Rattle.bb_ast.specs.declared.module.Gate.{Gate}

@@ -1,10 +1,14 @@
--- Laws that a reader expects: tokens mean one source or have one first fault, and not both; a source is no larger than its
--- list of tokens.
-use Rattle.std.specs.Prelude.{◌≡◌, ◌⊎◌, ◌≤◌, ◌+◌, ℕ, List, length, sum_by}
+-- Laws that a reader expects: tokens mean one source or have one first fault, and not both; a source is well formed, and no
+-- larger than its text.
+use Rattle.std.specs.Prelude.{◌≡◌, ◌⊎◌, ◌≤◌, ◌+◌, ℕ, List, Ok, Err, length, sum_by}
+use Rattle.std.specs.List.{AllByRecursion}
 use Rattle.bb_ast.specs.Syntax.{PlainModule}
+use Rattle.bb_ast.specs.Formed.{IsFormed}
 use Rattle.bb_lex.specs.declared.token.Token.{Token}
+use Rattle.bb_lex.specs.Cut.{AreTokens}
 use Rattle.bb_parse.specs.declared.fault.ParseFault.{ParseFault}
 use Rattle.bb_parse.specs.Sources.{IsSource, IsFault, ReadsAs}
+use Rattle.bb_parse.specs.ReadingSources.{read_source}
 use Rattle.bb_parse.specs.Sizes.{module_size}
 
 abbrev pub SourcesAreOne : Type 0
@@ -13,8 +17,9 @@ SourcesAreOne = (text : List ℕ) (tokens : List Token) (ms ns : List PlainModul
 abbrev pub FaultsAreOne : Type 0
 FaultsAreOne = (text : List ℕ) (tokens : List Token) (e f : ParseFault) → IsFault text tokens e → IsFault text tokens f → e ≡ f
 
+-- the tokens of a text mean a source or have a first fault
 abbrev pub SourceOrFault : Type 0
-SourceOrFault = (text : List ℕ) (tokens : List Token) → ((ms : List PlainModule) × IsSource text tokens ms) ⊎ ((e : ParseFault) × IsFault text tokens e)
+SourceOrFault = (text : List ℕ) (tokens : List Token) → AreTokens text tokens → ((ms : List PlainModule) × IsSource text tokens ms) ⊎ ((e : ParseFault) × IsFault text tokens e)
 
 abbrev pub NotSourceAndFault : Type 0
 NotSourceAndFault = (text : List ℕ) (tokens : List Token) (ms : List PlainModule) (e : ParseFault) → IsSource text tokens ms → IsFault text tokens e → ⊥
@@ -26,3 +31,20 @@ TextsReadOnce = (text : List ℕ) (ms ns : List PlainModule) → ReadsAs text ms
 -- a source is no larger than its list of tokens, even where each module counts two more
 abbrev pub SourcesAreShort : Type 0
 SourcesAreShort = (text : List ℕ) (tokens : List Token) (modules : List PlainModule) → IsSource text tokens modules → sum_by (λ m. 2 + module_size m) modules ≤ length tokens
+
+-- and so no larger than its text has bytes
+abbrev pub TextsAreLong : Type 0
+TextsAreLong = (text : List ℕ) (modules : List PlainModule) → ReadsAs text modules → sum_by (λ m. 2 + module_size m) modules ≤ length text
+
+-- each module that a text reads as is well formed
+abbrev pub SourcesAreFormed : Type 0
+SourcesAreFormed = (text : List ℕ) (modules : List PlainModule) → ReadsAs text modules → AllByRecursion IsFormed modules
+
+-- what read_source computes from the tokens of a text is their source exactly where they have one, and else their first fault
+abbrev pub SourcesAreRead : Type 0
+SourcesAreRead = (text : List ℕ) (tokens : List Token) (modules : List PlainModule) → AreTokens text tokens
+    → (read_source text tokens ≡ Ok modules → IsSource text tokens modules) × (IsSource text tokens modules → read_source text tokens ≡ Ok modules)
+
+abbrev pub FaultsAreRead : Type 0
+FaultsAreRead = (text : List ℕ) (tokens : List Token) (fault : ParseFault) → AreTokens text tokens
+    → (read_source text tokens ≡ Err fault → IsFault text tokens fault) × (IsFault text tokens fault → read_source text tokens ≡ Err fault)

@@ -1,13 +1,30 @@
--- Reading from the left, on lists: what is read and what is left, or none. The functions of the code give what these give;
--- that these find exactly what the grammar has are laws beside the grammar.
-use Rattle.std.specs.Prelude.{ℕ, zero, suc, Bool, false, List, [], ◌∷◌, ◌++◌, Option, Some, None, Result, Ok, Err, ◌≡◌, ◌==◌, length, if◌then◌else◌}
+-- No clause of a public call rests on this file and the other Reading files: they say what functions inside the crate
+-- compute. Reading from the left, on lists: what is read and what is left, or none.
+use Rattle.std.specs.Prelude.{ℕ, zero, suc, Bool, false, List, [], ◌∷◌, ◌++◌, Option, Some, None, Result, Ok, Err, ◌≡◌, ◌==◌, length, map, if◌then◌else◌}
 use Rattle.bb_lex.specs.declared.mark.Mark.{Mark}
 use Rattle.bb_lex.specs.declared.mark.Mark.TheVariants.{LeftRound, RightRound, LeftSquare, RightSquare, LeftBrace, RightBrace, Comma, Semicolon, Colon, Dot, Equals, At, Amp, Bar, Caret, Tilde, Query, LessEqual, TildeCaret, CaretTilde}
 use Rattle.bb_lex.specs.declared.token.Kind.{Kind}
 use Rattle.bb_lex.specs.declared.token.Kind.TheVariants as kinds
+use Rattle.bb_lex.specs.declared.token.Token.{Token}
+use Rattle.bb_lex.specs.Meaning.{name_of, plain_value_of}
+use Rattle.bb_lex.specs.Reading.{sized_bits_of}
 use Rattle.bb_parse.specs.declared.stop.Stop.{Stop}
 use Rattle.bb_parse.specs.declared.stop.Stop.TheVariants.{Amiss, NoMemory}
 use Rattle.bb_parse.specs.Symbols.{Symbol, Identifier, Reserved, SizedNumber, PlainNumber, Sign}
+
+-- the symbol of a token, read from its bytes
+abbrev pub symbol_by : List ℕ → Token → Kind → Symbol
+symbol_by text token kinds.Name = Identifier (name_of token text)
+symbol_by text token (kinds.Word word) = Reserved word
+symbol_by text token kinds.Sized = SizedNumber (sized_bits_of token text)
+symbol_by text token kinds.Plain = PlainNumber (plain_value_of token text)
+symbol_by text token (kinds.Mark mark) = Sign mark
+
+abbrev pub symbol : List ℕ → Token → Symbol
+symbol text token = symbol_by text token token.kind
+
+abbrev pub symbols : List ℕ → List Token → List Symbol
+symbols text tokens = map (symbol text) tokens
 
 -- what is read, and what is left
 abbrev pub Read : Type 0 → Type 0

@@ -1,4 +1,4 @@
--- Reading declarations and headers from the left, on lists.
+-- No clause of a public call rests on this file. Reading declarations and headers from the left, on lists.
 use Rattle.std.specs.Prelude.{ℕ, zero, suc, Bool, List, [], ◌∷◌, Option, Some, None, length, is_some, if◌then◌else◌}
 use Rattle.bb_ast.specs.declared.module.Dir.{Dir}
 use Rattle.bb_ast.specs.declared.module.Dir.TheVariants as dirs

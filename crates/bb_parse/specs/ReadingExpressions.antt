@@ -1,4 +1,4 @@
--- Reading expressions from the left, on lists.
+-- No clause of a public call rests on this file. Reading expressions from the left, on lists.
 use Rattle.std.specs.Prelude.{ℕ, zero, suc, ◌+◌, Bool, false, List, [], ◌∷◌, ◌++◌, Option, Some, None, length, if◌then◌else◌}
 use Rattle.bb_ast.specs.declared.expr.Op.{Op}
 use Rattle.bb_ast.specs.Syntax.{Expression, Net, Bit, Part, Sized, Plain, Concat, Repeat, parts}

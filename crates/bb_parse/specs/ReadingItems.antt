@@ -1,4 +1,4 @@
--- Reading items of a module from the left, on lists.
+-- No clause of a public call rests on this file. Reading items of a module from the left, on lists.
 use Rattle.std.specs.Prelude.{ℕ, Bool, true, false, ◌||◌, List, [], ◌∷◌, Option, Some, None, if◌then◌else◌}
 use Rattle.bb_ast.specs.declared.module.Gate.{Gate}
 use Rattle.bb_ast.specs.declared.module.Gate.TheVariants as gates

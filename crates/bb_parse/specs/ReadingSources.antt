@@ -1,4 +1,4 @@
--- Reading a source statement by statement, on lists.
+-- No clause of a public call rests on this file. Reading a source statement by statement, on lists.
 use Rattle.std.specs.Prelude.{◌≡◌, ℕ, zero, suc, Bool, true, false, List, [], ◌∷◌, ◌++◌, Option, Some, None, Result, Ok, Err, option_map, option_to_list, nat_lt, length, if◌then◌else◌}
 use Rattle.bb_ast.specs.declared.module.Module.{Module}
 use Rattle.bb_ast.specs.Views.{module_view}
@@ -9,10 +9,9 @@ use Rattle.bb_lex.specs.declared.token.Kind.TheVariants as kinds
 use Rattle.bb_lex.specs.declared.token.Token.{Token}
 use Rattle.bb_parse.specs.declared.fault.ParseFault.{ParseFault}
 use Rattle.bb_parse.specs.declared.fault.ParseFault.TheVariants.{Statement, Unended, Deep, NoMemory}
-use Rattle.bb_parse.specs.Symbols.{symbols}
 use Rattle.bb_parse.specs.Nesting.{mark_count, mark_square, nesting}
 use Rattle.bb_parse.specs.Sources.{ends, line_of}
-use Rattle.bb_parse.specs.Reading.{Read, next_kind}
+use Rattle.bb_parse.specs.Reading.{symbols, Read, next_kind}
 use Rattle.bb_parse.specs.ReadingDeclarations.{header_at}
 use Rattle.bb_parse.specs.ReadingItems.{read_body}
 

@@ -11,7 +11,7 @@ use Rattle.bb_lex.specs.declared.token.Token.{Token}
 use Rattle.bb_lex.specs.Cut.{AreTokens}
 use Rattle.bb_parse.specs.declared.fault.ParseFault.{ParseFault}
 use Rattle.bb_parse.specs.declared.fault.ParseFault.TheVariants.{Statement, Unended, Deep, NoMemory}
-use Rattle.bb_parse.specs.Symbols.{Reserved, symbols}
+use Rattle.bb_parse.specs.Symbols.{Symbol, Reserved, AreSymbols}
 use Rattle.bb_parse.specs.Declarations.{IsHeader}
 use Rattle.bb_parse.specs.Items.{IsItem}
 use Rattle.bb_parse.specs.Nesting.{nesting}
@@ -42,15 +42,15 @@ line_of (t ∷ ts) = t.line
 
 -- a statement that nests no deeper than 200 is the header of a module
 abbrev pub IsHeaderOf : List ℕ → List Token → List ℕ × List PlainHead → Type 0
-IsHeaderOf text statement x = (nesting (symbols text statement) ≤ 200) × IsHeader (symbols text statement) x []
+IsHeaderOf text statement x = (ts : List Symbol) × AreSymbols text statement ts × (nesting ts ≤ 200) × IsHeader ts x []
 
 -- a statement that nests no deeper than 200 is an item, at whatever depth of its expressions
 abbrev pub IsItemOf : List ℕ → List Token → PlainBody → Type 0
-IsItemOf text statement body = (nesting (symbols text statement) ≤ 200) × (depth : ℕ) × IsItem depth (symbols text statement) body []
+IsItemOf text statement body = (ts : List Symbol) × AreSymbols text statement ts × (nesting ts ≤ 200) × (depth : ℕ) × IsItem depth ts body []
 
 -- endmodule alone
 abbrev pub IsEnd : List ℕ → List Token → Type 0
-IsEnd text statement = symbols text statement ≡ Reserved words.Endmodule ∷ []
+IsEnd text statement = AreSymbols text statement (Reserved words.Endmodule ∷ [])
 
 -- the items of a module, its endmodule, and what stands behind it
 abbrev pub AreItems : List ℕ → List Token → List PlainItem → List Token → Type 0
@@ -84,8 +84,8 @@ AreGood text place tokens (s ∷ ss) behind rest = (next : Place) × (a : List T
 -- none and tokens are left or a module is open
 abbrev pub IsWrong : List ℕ → Place → List Token → ParseFault → Type 0
 IsWrong text place tokens (Statement line) =
-    (s a : List Token) × IsFirst tokens s a × (nesting (symbols text s) ≤ 200) × ((next : Place) → IsGood text place s next → ⊥) × (line ≡ line_of s)
-IsWrong text place tokens (Deep line) = (s a : List Token) × IsFirst tokens s a × (200 < nesting (symbols text s)) × (line ≡ line_of s)
+    (s a : List Token) × (ts : List Symbol) × IsFirst tokens s a × AreSymbols text s ts × (nesting ts ≤ 200) × ((next : Place) → IsGood text place s next → ⊥) × (line ≡ line_of s)
+IsWrong text place tokens (Deep line) = (s a : List Token) × (ts : List Symbol) × IsFirst tokens s a × AreSymbols text s ts × (200 < nesting ts) × (line ≡ line_of s)
 IsWrong text place tokens Unended = HaveNoEnd tokens × ((tokens ≢ []) ⊎ (place ≡ Inside))
 IsWrong text place tokens NoMemory = ⊥
 

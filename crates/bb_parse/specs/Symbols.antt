@@ -1,12 +1,11 @@
 -- What a token stands for in the grammar: a name's bytes, a reserved word, a number, or a mark. Its place in the text and
 -- its spelling are left behind.
-use Rattle.std.specs.Prelude.{ℕ, List, Bool, map}
+use Rattle.std.specs.Prelude.{◌≡◌, ℕ, List, [], ◌∷◌, Bool}
 use Rattle.bb_lex.specs.declared.keyword.Keyword.{Keyword}
 use Rattle.bb_lex.specs.declared.mark.Mark.{Mark}
-use Rattle.bb_lex.specs.declared.token.Kind.{Kind}
 use Rattle.bb_lex.specs.declared.token.Kind.TheVariants as kinds
 use Rattle.bb_lex.specs.declared.token.Token.{Token}
-use Rattle.bb_lex.specs.Meaning.{name_of, sized_bits_of, plain_value_of}
+use Rattle.bb_lex.specs.Meaning.{name_of, SaysBits, plain_value_of}
 
 pub data Symbol : Type 0 where
   Identifier : List ℕ → Symbol
@@ -15,16 +14,17 @@ pub data Symbol : Type 0 where
   PlainNumber : ℕ → Symbol
   Sign : Mark → Symbol
 
-abbrev pub symbol_by : List ℕ → Token → Kind → Symbol
-symbol_by text token kinds.Name = Identifier (name_of token text)
-symbol_by text token (kinds.Word word) = Reserved word
-symbol_by text token kinds.Sized = SizedNumber (sized_bits_of token text)
-symbol_by text token kinds.Plain = PlainNumber (plain_value_of token text)
-symbol_by text token (kinds.Mark mark) = Sign mark
+-- what a token of a text stands for
+abbrev pub IsSymbol : List ℕ → Token → Symbol → Type 0
+IsSymbol text token (Identifier name) = (token.kind ≡ kinds.Name) × (name ≡ name_of token text)
+IsSymbol text token (Reserved word) = token.kind ≡ kinds.Word word
+IsSymbol text token (SizedNumber bits) = (token.kind ≡ kinds.Sized) × SaysBits token text bits
+IsSymbol text token (PlainNumber n) = (token.kind ≡ kinds.Plain) × (n ≡ plain_value_of token text)
+IsSymbol text token (Sign mark) = token.kind ≡ kinds.Mark mark
 
--- the symbol of a token of that text
-abbrev pub symbol : List ℕ → Token → Symbol
-symbol text token = symbol_by text token token.kind
-
-abbrev pub symbols : List ℕ → List Token → List Symbol
-symbols text tokens = map (symbol text) tokens
+-- one symbol a token, in text order
+abbrev pub AreSymbols : List ℕ → List Token → List Symbol → Type 0
+AreSymbols text [] [] = Unit {0}
+AreSymbols text [] (s ∷ ss) = ⊥
+AreSymbols text (t ∷ ts) [] = ⊥
+AreSymbols text (t ∷ ts) (s ∷ ss) = IsSymbol text t s × AreSymbols text ts ss

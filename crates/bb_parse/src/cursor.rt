@@ -1,17 +1,20 @@
-ghost use Rattle.std.specs.Prelude.{◌≡◌, ◌<◌, ◌^◌, ℕ, List, length, true, false};
+ghost use Rattle.std.specs.Prelude.{◌≡◌, ◌<◌, ◌^◌, ℕ, List, length, true, false, IfOk};
 ghost use Rattle.std.specs.List.{AllByRecursion};
+ghost use Rattle.bb_lex.specs.declared.token.Kind.{Kind};
 ghost use Rattle.bb_lex.specs.Cut.{IsTokenOf};
-ghost use Rattle.bb_parse.specs.Symbols.{Symbol, symbols};
+ghost use Rattle.bb_lex.specs.Reading.{sized_bits_of};
+ghost use Rattle.bb_parse.specs.Symbols.{Symbol};
 ghost use Rattle.bb_parse.specs.Expressions.{level_operator};
-ghost use Rattle.bb_parse.specs.Reading.{Gives, is_next, behind, next_kind, read_mark, read_name, read_sized, read_plain};
+ghost use Rattle.bb_parse.specs.Reading.{symbols, Gives, is_next, behind, next_kind, read_mark, read_name, read_sized, read_plain};
 ghost use Rattle.bb_parse.specs.ReadingExpressions.{begins_repeat, next_operator};
 
 use crate::level::Level;
 use crate::stop::Stop;
 use bb_ast::Op;
 use bb_bits::Name;
+use bb_lex::laws::read_bits_are_said;
 use bb_lex::{Kind, Mark, Token, name_bytes, plain_value, sized_bits};
-use std::alloc::Global;
+use std::alloc::{AllocError, Global};
 use std::marker::Model;
 
 /// The tokens of a text that are still to be read.
@@ -25,7 +28,8 @@ impl<'a> Model for Cursor<'a> {
     ghost use Rattle.std.specs.Prelude.{List, ◌<◌, ◌^◌, length};
     ghost use Rattle.std.specs.List.{AllByRecursion};
     ghost use Rattle.bb_lex.specs.Cut.{IsTokenOf};
-    ghost use Rattle.bb_parse.specs.Symbols.{Symbol, symbols};
+    ghost use Rattle.bb_parse.specs.Symbols.{Symbol};
+    ghost use Rattle.bb_parse.specs.Reading.{symbols};
 
     ghost Value = { List Symbol };
 
@@ -120,7 +124,7 @@ impl<'a> Cursor<'a> {
         if token.kind != Kind::Sized {
             return Err(Stop::Amiss);
         }
-        let bits = sized_bits(alloc, token, self.text)?;
+        let bits = bits_of(alloc, token, self.text)?;
         self.tokens = rest;
         Ok(bits)
     }
@@ -167,6 +171,17 @@ impl<'a> Cursor<'a> {
             _ => None,
         }
     }
+}
+
+/// The bits that a sized number says.
+fn bits_of(alloc: Global, token: &Token, text: &[u8]) -> Result<Vec<bool>, AllocError>
+    requires of_text { IsTokenOf token.now text.now }
+    requires sized { token.now.kind ≡ Kind.Sized }
+    ensures { IfOk result (λ bits. bits.items ≡ sized_bits_of token.now text.now) }
+{
+    read_bits_are_said();
+    let bits = sized_bits(alloc, token, text)?;
+    Ok(bits)
 }
 
 /// The operator that a mark is at the level.

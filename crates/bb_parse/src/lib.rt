@@ -19,6 +19,3 @@ mod stop;
 
 pub use fault::ParseFault;
 pub use reader::source;
-
-#[cfg(test)]
-mod tests;

@@ -5,14 +5,14 @@ ghost use Rattle.bb_ast.specs.Syntax.{PlainModule};
 ghost use Rattle.bb_ast.specs.Views.{module_view, source_view};
 ghost use Rattle.bb_lex.specs.Cut.{IsTokenOf, AreTokens};
 ghost use Rattle.bb_parse.specs.declared.fault.ParseFault.{ParseFault};
-ghost use Rattle.bb_parse.specs.Symbols.{symbols};
 ghost use Rattle.bb_parse.specs.Sources.{line_of, IsSource, IsFault};
-ghost use Rattle.bb_parse.specs.Reading.{next_kind};
+ghost use Rattle.bb_parse.specs.Reading.{symbols, next_kind};
 ghost use Rattle.bb_parse.specs.ReadingSources.{Answers, with_modules, at_end, is_endmodule, then_read, item_added, step_view, read_item_of, read_step, read_source};
 
 use crate::fault::ParseFault;
 use crate::statement::{first, header_of, item_of, line};
 use bb_ast::{Item, Module, Source};
+use bb_lex::laws::{read_bits_are_said, tokens_end_past_their_places, tokens_stand_in_text};
 use bb_lex::{Keyword, Kind, Token};
 use std::alloc::Global;
 
@@ -106,12 +106,12 @@ fn finished(
 }
 
 /// How many tokens there are. Each ends behind its place in the list, so they are fewer than 2 to the power of 32.
-#[tactic(auto, using(crate::proofs::LawProofs::few_tokens))]
 fn count(tokens: &[Token], text: &[u8]) -> usize
     requires { AreTokens text.now tokens.now }
     ensures count { result ≡ length tokens.now }
     ensures small { result < 2 ^ 32 }
 {
+    tokens_end_past_their_places();
     match tokens.last() {
         Some(last) => {
             let end = last.end as usize;
@@ -166,6 +166,8 @@ pub fn source(alloc: Global, tokens: &[Token], text: &[u8]) -> Result<Source, Pa
     ensures only_fault { (first : ParseFault) → IsFault text.now tokens.now first
         → MatchResult result (λ source. ⊥) (λ fault. (fault ≡ first) ⊎ (fault ≡ ParseFault.NoMemory)) }
 {
+    tokens_stand_in_text();
+    read_bits_are_said();
     let count = count(tokens, text);
     read(alloc, tokens, text, count)
 }

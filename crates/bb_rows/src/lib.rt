@@ -5,11 +5,17 @@
 mod example_tests;
 #[cfg(test)]
 mod fault_tests;
+#[cfg(test)]
+mod lex_tests;
 mod memory;
+#[cfg(test)]
+mod narrow_tests;
 #[cfg(test)]
 mod net_tests;
 #[cfg(test)]
 mod outside_tests;
+#[cfg(test)]
+mod parse_tests;
 #[cfg(test)]
 mod reference;
 #[cfg(test)]
