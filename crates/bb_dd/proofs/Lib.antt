@@ -1,5 +1,6 @@
+pub mod Entries
 pub mod Faults
+pub mod Given
 pub mod Halving
 pub mod Recalled
-pub mod Tops
 pub mod Variables

@@ -1,4 +1,5 @@
 pub mod Faults
+pub mod Keys
 pub mod Operations
 pub mod Results
 pub mod State

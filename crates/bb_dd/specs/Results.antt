@@ -1,5 +1,6 @@
 -- What a cached result says, and what a call leaves of store and cache.
-use Rattle.std.specs.Prelude.{◌≡◌, ◌<◌, ℕ, Bool, ◌&&◌, ◌||◌, if◌then◌else◌, List, Contains}
+use Rattle.std.specs.Prelude.{◌≡◌, ◌<◌, ◌≤◌, ℕ, Bool, ◌&&◌, ◌||◌, if◌then◌else◌, List, length, Contains}
+use Rattle.lru.specs.LruCache.{LruCache}
 use Rattle.bb_bits.specs.Truth.{Truth, combined, quantified}
 use Rattle.bb_uniq.specs.declared.store.Ref.{Ref}
 use Rattle.bb_uniq.specs.Nodes.{NodeStore, IsRef, IsStore}
@@ -35,8 +36,15 @@ pub record IsRight (s : NodeStore) (e : Key × Ref) : Type 0 where
 abbrev pub AreRight : NodeStore → List (Key × Ref) → Type 0
 AreRight s entries = (e : Key × Ref) → Contains entries e → IsRight s e
 
--- every Ref is kept, and store and cache are sound
-pub record Leaves (old new : NodeStore) (entries : List (Key × Ref)) : Type 0 where
+-- what operations keep of a cache: it has no fewer entries than before, and no entry of a quantifier that it had not
+pub record KeepsEntries (old new : List (Key × Ref)) : Type 0 where
+  pub no_fewer : length old ≤ length new
+  pub quantified : (all : Bool) (f : Ref) (v : ℕ) (r : Ref) → Contains new (Quantify all f v, r) → Contains old (Quantify all f v, r)
+
+-- every Ref is kept, and store and cache stay sound
+pub record Leaves (old new : NodeStore) (before after : LruCache Key Ref) : Type 0 where
   pub kept : Keeps old new
   pub store : IsStore new
-  pub entries_right : AreRight new entries
+  pub entries_right : AreRight new after.entries
+  pub entries_kept : KeepsEntries before.entries after.entries
+  pub capacity : after.cap ≡ before.cap

@@ -1,54 +1,19 @@
-ghost use Rattle.std.specs.Prelude.{◌≡◌, ◌<◌, ◌≤◌, ◌+◌, ℕ, suc, min, length, IfOk, IsErrOf, OnErr};
+ghost use Rattle.std.specs.Prelude.{◌≡◌, ◌<◌, length, IfOk, IsErrOf, OnErr};
 ghost use Rattle.bb_bits.specs.Truth.{truth_at};
 ghost use Rattle.bb_uniq.specs.Nodes.{IsRef, IsBelow, IsStore, IsNew, Gives};
 ghost use Rattle.bb_uniq.specs.Meaning.{Adds, IsTooMany, Keeps, branch, truth_of};
-ghost use Rattle.bb_uniq.specs.Splits.{top_of, Splits};
 ghost use Rattle.bb_dd.specs.Operations.{value_of};
 ghost use Rattle.bb_dd.specs.Results.{result_table, AreRight, Leaves};
 
-use crate::cache::{look_up, remember};
+use crate::cache::{peek, remember};
+use crate::call::{Call, key_of, standard_call};
+use crate::cofactors::first_cofactors;
 use crate::fault::DdFault;
 use crate::key::{Key, Operation, same_keys};
 use crate::terminal::terminal;
-use bb_uniq::{Ref, Store, View};
+use bb_bits::truth;
+use bb_uniq::{Ref, Store, View, laws};
 use lru::LruCache;
-
-/// The variable at which a diagram stands, and for a leaf the number of variables.
-fn variable_of(store: &Store, r: Ref) -> u32
-    requires { IsRef store.now r.0 }
-    ensures { result ≡ top_of store.now r.0 }
-{
-    match store.view(r) {
-        View::Leaf(_) => store.vars(),
-        View::Node { var, .. } => var,
-    }
-}
-
-/// The two diagrams of later variables: where `var` is 0, and where it is 1.
-fn cofactors(store: &Store, var: u32, r: Ref) -> (Ref, Ref)
-    requires store { IsStore store.now }
-    requires r { IsRef store.now r.0 }
-    requires var { var < store.now.vars }
-    requires first { var ≤ top_of store.now r.0 }
-    ensures { (m : ℕ) → var + suc m ≡ store.now.vars → Splits store.now var m r.0 result.0.0 result.1.0 }
-{
-    match store.view(r) {
-        View::Leaf(_) => (r, r),
-        View::Node { var: own, lo, hi } => if own == var { (lo, hi) } else { (r, r) },
-    }
-}
-
-/// The first variable on which one of three diagrams depends.
-fn first_variable(store: &Store, f: Ref, g: Ref, h: Ref) -> u32
-    requires f { IsRef store.now f.0 }
-    requires g { IsRef store.now g.0 }
-    requires h { IsRef store.now h.0 }
-    ensures { result ≡ min (min (top_of store.now f.0) (top_of store.now g.0)) (top_of store.now h.0) }
-{
-    variable_of(store, f)
-        .min(variable_of(store, g))
-        .min(variable_of(store, h))
-}
 
 /// The node "`hi` where `var` is 1, else `lo`", as the store makes it.
 pub fn make_node(store: &mut Store, var: u32, lo: Ref, hi: Ref) -> Result<Ref, DdFault>
@@ -60,10 +25,12 @@ pub fn make_node(store: &mut Store, var: u32, lo: Ref, hi: Ref) -> Result<Ref, D
     ensures adds { IfOk result (λ r. Adds store.old store.new (branch store.old var lo.0 hi.0) r.0) }
     ensures full { IsErrOf result DdFault.Full → IsNew store.old var lo.0 hi.0 × (length store.old.nodes ≡ store.old.limit) }
     ensures too_many { IsErrOf result DdFault.Full → IsTooMany store.old (branch store.old var lo.0 hi.0) }
+    ensures no_memory { IsErrOf result DdFault.NoMemory → IsNew store.old var lo.0 hi.0 × (length store.old.nodes < store.old.limit) }
     ensures err { OnErr result (store.new ≡ store.old) }
     ensures kept { Keeps store.old store.new }
     ensures store { IsStore store.new }
 {
+    laws::growth();
     let made = store.make(var, lo, hi)?;
     Ok(made)
 }
@@ -74,6 +41,10 @@ pub fn bit_at(store: &Store, f: Ref, point: &[bool]) -> bool
     requires point { length point.now ≡ store.now.vars }
     ensures { result ≡ truth_at (truth_of store.now f.0) point.now }
 {
+    truth::tables();
+    laws::stores();
+    laws::growth();
+    laws::steps();
     let mut r = f;
     loop {
         match store.view(r) {
@@ -85,7 +56,58 @@ pub fn bit_at(store: &Store, f: Ref, point: &[bool]) -> bool
 
 /// The operation on three diagrams, over the later variables first. A result that shows at once or is cached is taken; else
 /// the two halves at the first variable are made, and the node that joins them.
-pub fn apply(
+pub fn apply(store: &mut Store, cache: &mut LruCache<Key, Ref>, asked: Call) -> Result<Ref, DdFault>
+    requires store { IsStore store.old }
+    requires entries { AreRight store.old cache.old.entries }
+    requires f { IsRef store.old asked.f.0 }
+    requires g { IsRef store.old asked.g.0 }
+    requires h { IsRef store.old asked.h.0 }
+    ensures ok { IfOk result (λ r. Adds store.old store.new (result_table store.old (value_of asked.operation) asked.f.0 asked.g.0 asked.h.0) r.0) }
+    ensures full { IsErrOf result DdFault.Full → IsTooMany store.old (result_table store.old (value_of asked.operation) asked.f.0 asked.g.0 asked.h.0) }
+    ensures no_memory { IsErrOf result DdFault.NoMemory → length store.new.nodes < store.new.limit }
+    ensures leaves { Leaves store.old store.new cache.old cache.new }
+{
+    truth::tables();
+    laws::stores();
+    laws::growth();
+    laws::steps();
+    same_keys();
+    let call = standard_call(asked);
+    if let Some(r) = terminal(call.operation, call.f, call.g, call.h) {
+        return Ok(r);
+    }
+    let key = key_of(call);
+    if let Some(r) = peek(cache, &key) {
+        return Ok(r);
+    }
+    let at = first_cofactors(store, call.f, call.g, call.h);
+    let lo = apply(
+        store,
+        cache,
+        Call {
+            operation: call.operation,
+            f: at.f.0,
+            g: at.g.0,
+            h: at.h.0,
+        },
+    )?;
+    let hi = apply(
+        store,
+        cache,
+        Call {
+            operation: call.operation,
+            f: at.f.1,
+            g: at.g.1,
+            h: at.h.1,
+        },
+    )?;
+    let r = store.make(at.var, lo, hi)?;
+    remember(cache, key, r);
+    Ok(r)
+}
+
+/// The operation on three diagrams.
+pub fn operate(
     store: &mut Store,
     cache: &mut LruCache<Key, Ref>,
     operation: Operation,
@@ -100,23 +122,8 @@ pub fn apply(
     requires h { IsRef store.old h.0 }
     ensures ok { IfOk result (λ r. Adds store.old store.new (result_table store.old (value_of operation) f.0 g.0 h.0) r.0) }
     ensures full { IsErrOf result DdFault.Full → IsTooMany store.old (result_table store.old (value_of operation) f.0 g.0 h.0) }
-    ensures leaves { Leaves store.old store.new cache.new.entries }
+    ensures no_memory { IsErrOf result DdFault.NoMemory → length store.new.nodes < store.new.limit }
+    ensures leaves { Leaves store.old store.new cache.old cache.new }
 {
-    same_keys();
-    if let Some(r) = terminal(operation, f, g, h) {
-        return Ok(r);
-    }
-    let key = Key::Apply { operation, f, g, h };
-    if let Some(r) = look_up(cache, &key) {
-        return Ok(r);
-    }
-    let var = first_variable(store, f, g, h);
-    let (f0, f1) = cofactors(store, var, f);
-    let (g0, g1) = cofactors(store, var, g);
-    let (h0, h1) = cofactors(store, var, h);
-    let lo = apply(store, cache, operation, f0, g0, h0)?;
-    let hi = apply(store, cache, operation, f1, g1, h1)?;
-    let r = store.make(var, lo, hi)?;
-    remember(cache, key, r);
-    Ok(r)
+    apply(store, cache, Call { operation, f, g, h })
 }

@@ -1,4 +1,4 @@
-ghost use Rattle.std.specs.Prelude.{◌≡◌, ◌⊎◌, OnOk, OnErr};
+ghost use Rattle.std.specs.Prelude.{◌≡◌, ◌≤◌, ◌⊎◌, length, OnOk, OnErr};
 ghost use Rattle.std.specs.Map.{lookup};
 ghost use Rattle.lru.specs.LruCache.{lru_cache, promoted, put_entries};
 
@@ -6,6 +6,13 @@ use crate::key::Key;
 use bb_bits::NoMemory;
 use bb_uniq::Ref;
 use lru::LruCache;
+
+/// The result that the cache has for a key. The order of use stays, so that a look-up writes nothing.
+pub fn peek(cache: &LruCache<Key, Ref>, key: &Key) -> Option<Ref>
+    ensures { result ≡ lookup (⟦<Key as PartialEq>⟧.eq key.now) cache.now.entries }
+{
+    cache.peek(key).copied()
+}
 
 /// The result that the cache has for a key, which is then the last used.
 pub fn look_up(cache: &mut LruCache<Key, Ref>, key: &Key) -> Option<Ref>
@@ -17,8 +24,11 @@ pub fn look_up(cache: &mut LruCache<Key, Ref>, key: &Key) -> Option<Ref>
 
 /// Puts a result into the cache. Where no memory is found, the cache stays as it is.
 pub fn remember(cache: &mut LruCache<Key, Ref>, key: Key, r: Ref)
-    ensures { (cache.new ≡ cache.old) ⊎ (cache.new ≡ lru_cache (put_entries ⟦<Key as PartialEq>⟧.eq cache.old key r) cache.old.cap) }
+    ensures entries { (cache.new ≡ cache.old) ⊎ (cache.new ≡ lru_cache (put_entries ⟦<Key as PartialEq>⟧.eq cache.old key r) cache.old.cap) }
+    ensures no_fewer { length cache.old.entries ≤ length cache.new.entries }
 {
+    // What every cache keeps: no more entries than its capacity.
+    let _ = cache.len();
     let _ = cache.put(key, r);
 }
 

@@ -5,16 +5,16 @@ ghost use Rattle.bb_bits.specs.Truth.{variable, complement, joined, chosen, quan
 ghost use Rattle.bb_bits.specs.TruthSets.{HasSize};
 ghost use Rattle.bb_uniq.specs.Nodes.{IsRef, IsBelow, IsNew, Gives, view_of};
 ghost use Rattle.bb_uniq.specs.Meaning.{truth_of, branch, Adds, Keeps, IsTooMany, IsHeld, ViewMeans};
-ghost use Rattle.bb_dd.specs.Operations.{differ};
-ghost use Rattle.bb_dd.specs.Results.{quantifier};
+ghost use Rattle.bb_bits.specs.Bits.{xor};
+ghost use Rattle.bb_dd.specs.Results.{quantifier, KeepsEntries};
 ghost use Rattle.bb_dd.specs.State.{DiagramState, IsSound};
 
-use crate::apply::{apply, bit_at, make_node};
+use crate::apply::{bit_at, make_node, operate};
 use crate::cache::{look_up, put};
 use crate::fault::DdFault;
 use crate::key::{Key, Operation, same_keys};
-use bb_bits::NoMemory;
-use bb_uniq::{Ref, Store, View};
+use bb_bits::{NoMemory, truth};
+use bb_uniq::{Ref, Store, View, laws};
 use lru::LruCache;
 use std::alloc::Global;
 use std::marker::Model;
@@ -97,7 +97,8 @@ impl Diagrams {
     ///
     /// # Errors
     ///
-    /// `Full` where the node is new and the store holds as many as it may, `NoMemory` where it is new and memory runs out.
+    /// `Full` where the node is new and the store holds as many as it may, `NoMemory` where it is new, has room and finds no
+    /// memory.
     /// Store and cache are then as before.
     pub fn make(&mut self, var: u32, lo: Ref, hi: Ref) -> Result<Ref, DdFault>
         requires var { var < self.old.store.vars }
@@ -107,6 +108,7 @@ impl Diagrams {
         ensures adds { IfOk result (λ r. Adds self.old.store self.new.store (branch self.old.store var lo.0 hi.0) r.0) }
         ensures full { IsErrOf result DdFault.Full → IsNew self.old.store var lo.0 hi.0 × (length self.old.store.nodes ≡ self.old.store.limit) }
         ensures too_many { IsErrOf result DdFault.Full → IsTooMany self.old.store (branch self.old.store var lo.0 hi.0) }
+        ensures no_memory { IsErrOf result DdFault.NoMemory → IsNew self.old.store var lo.0 hi.0 × (length self.old.store.nodes < self.old.store.limit) }
         ensures err { OnErr result (self.new.store ≡ self.old.store) }
         ensures entries { self.new.entries ≡ self.old.entries }
         ensures capacity { self.new.capacity ≡ self.old.capacity }
@@ -120,7 +122,14 @@ impl Diagrams {
         ensures ok { IfOk result (λ r. Adds self.old.store self.new.store (variable self.old.store.vars v) r.0) }
         ensures full { IsErrOf result DdFault.Full → IsTooMany self.old.store (variable self.old.store.vars v) }
         ensures kept { Keeps self.old.store self.new.store }
+        ensures no_memory { IsErrOf result DdFault.NoMemory → length self.new.store.nodes < self.new.store.limit }
+        ensures entries { self.new.entries ≡ self.old.entries }
+        ensures capacity { self.new.capacity ≡ self.old.capacity }
     {
+        truth::tables();
+        laws::stores();
+        laws::growth();
+        laws::steps();
         make_node(&mut self.store, v, Ref(0), Ref(1))
     }
 
@@ -130,8 +139,11 @@ impl Diagrams {
         ensures ok { IfOk result (λ r. Adds self.old.store self.new.store (complement (truth_of self.old.store f.0)) r.0) }
         ensures full { IsErrOf result DdFault.Full → IsTooMany self.old.store (complement (truth_of self.old.store f.0)) }
         ensures kept { Keeps self.old.store self.new.store }
+        ensures no_memory { IsErrOf result DdFault.NoMemory → length self.new.store.nodes < self.new.store.limit }
+        ensures entries { KeepsEntries self.old.entries self.new.entries }
+        ensures capacity { self.new.capacity ≡ self.old.capacity }
     {
-        apply(&mut self.store, &mut self.cache, Operation::Not, f, f, f)
+        operate(&mut self.store, &mut self.cache, Operation::Not, f, f, f)
     }
 
     /// The conjunction.
@@ -141,8 +153,11 @@ impl Diagrams {
         ensures ok { IfOk result (λ r. Adds self.old.store self.new.store (joined ◌&&◌ (truth_of self.old.store f.0) (truth_of self.old.store g.0)) r.0) }
         ensures full { IsErrOf result DdFault.Full → IsTooMany self.old.store (joined ◌&&◌ (truth_of self.old.store f.0) (truth_of self.old.store g.0)) }
         ensures kept { Keeps self.old.store self.new.store }
+        ensures no_memory { IsErrOf result DdFault.NoMemory → length self.new.store.nodes < self.new.store.limit }
+        ensures entries { KeepsEntries self.old.entries self.new.entries }
+        ensures capacity { self.new.capacity ≡ self.old.capacity }
     {
-        apply(&mut self.store, &mut self.cache, Operation::And, f, g, f)
+        operate(&mut self.store, &mut self.cache, Operation::And, f, g, f)
     }
 
     /// The disjunction.
@@ -152,19 +167,25 @@ impl Diagrams {
         ensures ok { IfOk result (λ r. Adds self.old.store self.new.store (joined ◌||◌ (truth_of self.old.store f.0) (truth_of self.old.store g.0)) r.0) }
         ensures full { IsErrOf result DdFault.Full → IsTooMany self.old.store (joined ◌||◌ (truth_of self.old.store f.0) (truth_of self.old.store g.0)) }
         ensures kept { Keeps self.old.store self.new.store }
+        ensures no_memory { IsErrOf result DdFault.NoMemory → length self.new.store.nodes < self.new.store.limit }
+        ensures entries { KeepsEntries self.old.entries self.new.entries }
+        ensures capacity { self.new.capacity ≡ self.old.capacity }
     {
-        apply(&mut self.store, &mut self.cache, Operation::Or, f, g, f)
+        operate(&mut self.store, &mut self.cache, Operation::Or, f, g, f)
     }
 
     /// The exclusive disjunction: 1 where the two differ.
     pub fn xor(&mut self, f: Ref, g: Ref) -> Result<Ref, DdFault>
         requires f { IsRef self.old.store f.0 }
         requires g { IsRef self.old.store g.0 }
-        ensures ok { IfOk result (λ r. Adds self.old.store self.new.store (joined differ (truth_of self.old.store f.0) (truth_of self.old.store g.0)) r.0) }
-        ensures full { IsErrOf result DdFault.Full → IsTooMany self.old.store (joined differ (truth_of self.old.store f.0) (truth_of self.old.store g.0)) }
+        ensures ok { IfOk result (λ r. Adds self.old.store self.new.store (joined xor (truth_of self.old.store f.0) (truth_of self.old.store g.0)) r.0) }
+        ensures full { IsErrOf result DdFault.Full → IsTooMany self.old.store (joined xor (truth_of self.old.store f.0) (truth_of self.old.store g.0)) }
         ensures kept { Keeps self.old.store self.new.store }
+        ensures no_memory { IsErrOf result DdFault.NoMemory → length self.new.store.nodes < self.new.store.limit }
+        ensures entries { KeepsEntries self.old.entries self.new.entries }
+        ensures capacity { self.new.capacity ≡ self.old.capacity }
     {
-        apply(&mut self.store, &mut self.cache, Operation::Xor, f, g, f)
+        operate(&mut self.store, &mut self.cache, Operation::Xor, f, g, f)
     }
 
     /// The choice: `f` where `c` is 1, else `g`.
@@ -175,8 +196,11 @@ impl Diagrams {
         ensures ok { IfOk result (λ r. Adds self.old.store self.new.store (chosen (truth_of self.old.store c.0) (truth_of self.old.store f.0) (truth_of self.old.store g.0)) r.0) }
         ensures full { IsErrOf result DdFault.Full → IsTooMany self.old.store (chosen (truth_of self.old.store c.0) (truth_of self.old.store f.0) (truth_of self.old.store g.0)) }
         ensures kept { Keeps self.old.store self.new.store }
+        ensures no_memory { IsErrOf result DdFault.NoMemory → length self.new.store.nodes < self.new.store.limit }
+        ensures entries { KeepsEntries self.old.entries self.new.entries }
+        ensures capacity { self.new.capacity ≡ self.old.capacity }
     {
-        apply(&mut self.store, &mut self.cache, Operation::Ite, c, f, g)
+        operate(&mut self.store, &mut self.cache, Operation::Ite, c, f, g)
     }
 
     /// The cached result of quantifying the variable `v` in `f`, by "for all" or by "exists". It is then the last used.

@@ -3,6 +3,8 @@
 
 mod apply;
 mod cache;
+mod call;
+mod cofactors;
 mod diagrams;
 mod fault;
 mod key;
@@ -13,3 +15,4 @@ mod tests;
 pub use bb_uniq::{Ref, View};
 pub use diagrams::Diagrams;
 pub use fault::DdFault;
+pub use key::{Key, Operation, same_keys};

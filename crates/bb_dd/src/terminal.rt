@@ -1,5 +1,6 @@
 ghost use Rattle.std.specs.Prelude.{◌≡◌, ◌<◌, ◌≤◌, ℕ, Bool, true, false, not, ◌&&◌, ◌||◌, if◌then◌else◌, IfSome, IfNone};
-ghost use Rattle.bb_dd.specs.Operations.{value_of, differ};
+ghost use Rattle.bb_bits.specs.Bits.{xor};
+ghost use Rattle.bb_dd.specs.Operations.{value_of};
 ghost use Rattle.bb_dd.specs.Terminals.{Settles, IsGiven};
 
 use crate::key::Operation;
@@ -50,7 +51,7 @@ fn or_terminal(f: Ref, g: Ref) -> Option<Ref>
 
 /// The exclusive disjunction where an operand is false, or both are one.
 fn xor_terminal(f: Ref, g: Ref) -> Option<Ref>
-    ensures value { IfSome result (λ r. Settles (λ a b c. differ a b) f.0 g.0 f.0 r.0) }
+    ensures value { IfSome result (λ r. Settles (λ a b c. xor a b) f.0 g.0 f.0 r.0) }
     ensures given { IfSome result (λ r. IsGiven f.0 g.0 f.0 r.0) }
     ensures none { IfNone result (f.0 < 2 → 2 ≤ g.0) }
 {

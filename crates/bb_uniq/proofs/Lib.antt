@@ -1,3 +1,4 @@
+pub mod Given
 pub mod Growth
 pub mod Held
 pub mod LawLemmas
@@ -5,3 +6,4 @@ pub mod Making
 pub mod PlaceLemmas
 pub mod Steps
 pub mod Tables
+pub mod Tops

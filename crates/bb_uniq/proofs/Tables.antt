@@ -4,7 +4,7 @@ use Rattle.std.specs.Prelude.{MatchOption, slice_get}
 use Rattle.std.proofs.lemmas.Bool.{cases_eq, eq-eqb, ne_eqb, cond_both, cond-true, cond-false}
 use Rattle.std.proofs.lemmas.Option.{slice_get_within}
 use Rattle.bb_bits.specs.Truth.{Truth, Bit, Halves, IsTruthTable, lifted}
-use Rattle.bb_uniq.specs.declared.store.Triple.{Triple}
+use Rattle.bb_uniq.specs.declared.store.Node.{Node}
 use Rattle.bb_uniq.specs.Nodes.{NodeStore, node_at, IsRef, IsBelow, IsStore}
 use Rattle.bb_uniq.specs.Meaning.{halves_by, table_of}
 
@@ -47,15 +47,15 @@ table-suc s m r = refl
 pub table-none : (s : NodeStore) (m r : ℕ) → node_at s.nodes r ≡ None → table s (suc m) r ≡ Halves (table s m r) (table s m r)
 table-none s m r e = table-suc s m r ∙ ap (halves_by s.vars m r (table s m)) e
 
-pub table-here : (s : NodeStore) (m r : ℕ) (node : Triple) → node_at s.nodes r ≡ Some node → node.var + suc m ≡ s.vars → table s (suc m) r ≡ Halves (table s m node.lo) (table s m node.hi)
+pub table-here : (s : NodeStore) (m r : ℕ) (node : Node) → node_at s.nodes r ≡ Some node → node.var + suc m ≡ s.vars → table s (suc m) r ≡ Halves (table s m node.lo) (table s m node.hi)
 table-here s m r node e same =
     table-suc s m r ∙ (ap (halves_by s.vars m r (table s m)) e ∙ cond-true (eqb (node.var + suc m) s.vars) (Halves (table s m node.lo) (table s m node.hi)) (Halves (table s m r) (table s m r)) (eq-eqb (node.var + suc m) s.vars same))
 
-pub table-other : (s : NodeStore) (m r : ℕ) (node : Triple) → node_at s.nodes r ≡ Some node → (node.var + suc m ≡ s.vars → ⊥) → table s (suc m) r ≡ Halves (table s m r) (table s m r)
+pub table-other : (s : NodeStore) (m r : ℕ) (node : Node) → node_at s.nodes r ≡ Some node → (node.var + suc m ≡ s.vars → ⊥) → table s (suc m) r ≡ Halves (table s m r) (table s m r)
 table-other s m r node e other =
     table-suc s m r ∙ (ap (halves_by s.vars m r (table s m)) e ∙ cond-false (eqb (node.var + suc m) s.vars) (Halves (table s m node.lo) (table s m node.hi)) (Halves (table s m r) (table s m r)) (ne_eqb (node.var + suc m) s.vars other))
 
-pub ref_node : (nodes : List Triple) (r : ℕ) → r < length nodes + 2 → node_at nodes r ≡ None → r < 2
+pub ref_node : (nodes : List Node) (r : ℕ) → r < length nodes + 2 → node_at nodes r ≡ None → r < 2
 ref_node nodes zero h e = omega arith
 ref_node nodes (suc zero) h e = omega arith
 ref_node nodes (suc (suc k)) h e =
@@ -64,12 +64,12 @@ ref_node nodes (suc (suc k)) h e =
       | inr some ↦ absurd (let f : Some some.0 ≡ None = sym some.1 ∙ e in cc)
     ]
   where
-    past : (xs : List Triple) (i : ℕ) → i < length xs → slice_get xs i ≡ None → ⊥
+    past : (xs : List Node) (i : ℕ) → i < length xs → slice_get xs i ≡ None → ⊥
     past [] i l e = omega (arith, l)
     past (x ∷ xs) zero l e = cc
     past (x ∷ xs) (suc i) l e = past xs i (omega (arith, l)) e
 
-pub node_ref : (nodes : List Triple) (r : ℕ) (node : Triple) → node_at nodes r ≡ Some node → r < length nodes + 2
+pub node_ref : (nodes : List Node) (r : ℕ) (node : Node) → node_at nodes r ≡ Some node → r < length nodes + 2
 node_ref nodes zero node e = omega arith
 node_ref nodes (suc zero) node e = omega arith
 node_ref nodes (suc (suc k)) node e = let l = slice_get_within nodes k node e in omega (arith, l)
@@ -99,7 +99,7 @@ within_more s k m r h = match_weaker (node_at s.nodes r) (r < 2) (λ node. s.var
 
 -- at the variable of which m follow stands the node, or nothing depends on it
 pub data Shape (s : NodeStore) (m r : ℕ) : Type 0 where
-  Here : (node : Triple) → node_at s.nodes r ≡ Some node → node.var + suc m ≡ s.vars → table s (suc m) r ≡ Halves (table s m node.lo) (table s m node.hi) →
+  Here : (node : Node) → node_at s.nodes r ≡ Some node → node.var + suc m ≡ s.vars → table s (suc m) r ≡ Halves (table s m node.lo) (table s m node.hi) →
       IsWithin s m node.lo → IsWithin s m node.hi → node.lo ≢ node.hi → Shape s m r
   Later : IsWithin s m r → table s (suc m) r ≡ Halves (table s m r) (table s m r) → Shape s m r
 
@@ -133,7 +133,7 @@ pub IsTruthTable-table : (s : NodeStore) (m r : ℕ) → IsTruthTable m (table s
 IsTruthTable-table s zero r = rw (table-zero s r) tt
 IsTruthTable-table s (suc m) r = rw (table-suc s m r) (both (IsTruthTable-table s m) (node_at s.nodes r))
   where
-    both : ((q : ℕ) → IsTruthTable m (table s m q)) → (o : Option Triple) → IsTruthTable (suc m) (halves_by s.vars m r (table s m) o)
+    both : ((q : ℕ) → IsTruthTable m (table s m q)) → (o : Option Node) → IsTruthTable (suc m) (halves_by s.vars m r (table s m) o)
     both h None = (h r, h r)
     both h (Some node) = cond_both (eqb (node.var + suc m) s.vars) (Halves (table s m node.lo) (table s m node.hi)) (Halves (table s m r) (table s m r)) (IsTruthTable (suc m))
         (λ _. (h node.lo, h node.hi)) (λ _. (h r, h r))
@@ -157,8 +157,8 @@ leaf_same (suc (suc r)) q h k e = absurd (omega (arith, h))
 leaf_same zero (suc (suc q)) h k e = absurd (omega (arith, k))
 leaf_same (suc zero) (suc (suc q)) h k e = absurd (omega (arith, k))
 
-same_triple : (a b : Triple) → a.var ≡ b.var → a.lo ≡ b.lo → a.hi ≡ b.hi → a ≡ b
-same_triple a b v l h = rw (v, l, h) refl
+same_fields : (a b : Node) → a.var ≡ b.var → a.lo ≡ b.lo → a.hi ≡ b.hi → a ≡ b
+same_fields a b v l h = rw (v, l, h) refl
 
 -- Refs with one table are one Ref
 pub canonical : (s : NodeStore) → IsStore s → (m r q : ℕ) → IsWithin s m r → IsWithin s m q → table s m r ≡ table s m q → r ≡ q
@@ -170,7 +170,7 @@ canonical s h (suc m) r q w x e = by_shape (canonical s h m) (shape_of s h m r w
         let halves : Halves (table s m a.lo) (table s m a.hi) ≡ Halves (table s m b.lo) (table s m b.hi) = sym table_a ∙ (e ∙ table_b) in
         let lo_same : table s m a.lo ≡ table s m b.lo = cc in
         let hi_same : table s m a.hi ≡ table s m b.hi = cc in
-        let same = same_triple a b (omega (arith, var_a, var_b)) (again a.lo b.lo lo_a lo_b lo_same) (again a.hi b.hi hi_a hi_b hi_same) in
+        let same = same_fields a b (omega (arith, var_a, var_b)) (again a.lo b.lo lo_a lo_b lo_same) (again a.hi b.hi hi_a hi_b hi_same) in
         h.unique r q b (at_a ∙ ap Some same) at_b
     by_shape again (Here a at_a var_a table_a lo_a hi_a differs_a) (Later below table_b) =
         let halves : Halves (table s m a.lo) (table s m a.hi) ≡ Halves (table s m q) (table s m q) = sym table_a ∙ (e ∙ table_b) in

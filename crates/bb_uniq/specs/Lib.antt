@@ -1,5 +1,5 @@
+pub mod Cofactors
 pub mod Laws
 pub mod Meaning
 pub mod Nodes
 pub mod Places
-pub mod Splits

@@ -2,18 +2,18 @@
 -- section 7.1.4). A Ref is a number: 0 is the leaf false, 1 the leaf true, and the nodes follow in the order in which they were made.
 -- A node has a variable, the first one being 0, and two children: lo where the variable is 0, hi where it is 1.
 use Rattle.std.specs.Prelude.{◌≡◌, ◌≢◌, ◌<◌, ◌≤◌, ◌+◌, ℕ, zero, suc, List, [], ◌∷◌, ◌++◌, length, Option, Some, None, MatchOption, slice_get, ◌==◌}
-use Rattle.bb_uniq.specs.declared.store.Triple.{Triple}
+use Rattle.bb_uniq.specs.declared.store.Node.{Node}
 use Rattle.bb_uniq.specs.declared.store.View.{View}
-use Rattle.bb_uniq.specs.declared.store.View.TheVariants.{Leaf, Node}
+use Rattle.bb_uniq.specs.declared.store.View.TheVariants as seen
 
 -- what a store holds: the number of its variables, how many nodes it may hold, and the nodes
 pub record NodeStore : Type 0 where
   pub vars : ℕ
   pub limit : ℕ
-  pub nodes : List Triple
+  pub nodes : List Node
 
 -- the node of a number; the leaves have none
-abbrev pub node_at : List Triple → ℕ → Option Triple
+abbrev pub node_at : List Node → ℕ → Option Node
 node_at nodes zero = None
 node_at nodes (suc zero) = None
 node_at nodes (suc (suc k)) = slice_get nodes k
@@ -27,19 +27,23 @@ abbrev pub IsBelow : NodeStore → ℕ → ℕ → Type 0
 IsBelow s v r = MatchOption (node_at s.nodes r) (r < 2) (λ node. v < node.var)
 
 -- what is seen at a number: the leaf, or the node
-abbrev pub view_by : ℕ → Option Triple → View
-view_by r None = Leaf (r == 1)
-view_by r (Some node) = Node node.var (record { 0 = node.lo }) (record { 0 = node.hi })
+abbrev pub view_by : ℕ → Option Node → View
+view_by r None = seen.Leaf (r == 1)
+view_by r (Some node) = seen.Node node.var (record { 0 = node.lo }) (record { 0 = node.hi })
 
 abbrev pub view_of : NodeStore → ℕ → View
 view_of s r = view_by r (node_at s.nodes r)
 
+-- the store of no node
+abbrev pub empty_store : ℕ → ℕ → NodeStore
+empty_store vars limit = record { vars = vars; limit = limit; nodes = [] }
+
 -- a child has a later variable than its node, the two children of a node differ, and so do any two nodes
 pub record IsStore (s : NodeStore) : Type 0 where
-  pub vars : (r : ℕ) (node : Triple) → node_at s.nodes r ≡ Some node → node.var < s.vars
-  pub below : (r : ℕ) (node : Triple) → node_at s.nodes r ≡ Some node → IsBelow s node.var node.lo × IsBelow s node.var node.hi
-  pub reduced : (r : ℕ) (node : Triple) → node_at s.nodes r ≡ Some node → node.lo ≢ node.hi
-  pub unique : (r q : ℕ) (node : Triple) → node_at s.nodes r ≡ Some node → node_at s.nodes q ≡ Some node → r ≡ q
+  pub vars : (r : ℕ) (node : Node) → node_at s.nodes r ≡ Some node → node.var < s.vars
+  pub below : (r : ℕ) (node : Node) → node_at s.nodes r ≡ Some node → IsBelow s node.var node.lo × IsBelow s node.var node.hi
+  pub reduced : (r : ℕ) (node : Node) → node_at s.nodes r ≡ Some node → node.lo ≢ node.hi
+  pub unique : (r q : ℕ) (node : Node) → node_at s.nodes r ≡ Some node → node_at s.nodes q ≡ Some node → r ≡ q
   pub held : length s.nodes ≤ s.limit
 
 -- the store with one more node

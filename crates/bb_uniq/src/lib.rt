@@ -6,4 +6,4 @@ mod store;
 #[cfg(test)]
 mod tests;
 
-pub use store::{Ref, Store, StoreFault, View};
+pub use store::{Node, Ref, Store, StoreFault, View};

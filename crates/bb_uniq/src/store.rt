@@ -4,9 +4,10 @@ ghost use Rattle.bb_uniq.specs.Nodes.{NodeStore, IsRef, IsBelow, view_of, IsStor
 ghost use Rattle.bb_uniq.specs.Meaning.{IsHeld, Adds, IsTooMany, branch, truth_of, ViewMeans};
 ghost use Rattle.bb_uniq.specs.Places.{Stands, IsAbsent};
 
-use bb_bits::NoMemory;
+use bb_bits::{NoMemory, truth};
 use indexmap::IndexSet;
 use std::alloc::{AllocFailed, Global};
+use std::hash::{Hash, Hasher};
 use std::marker::Model;
 
 /// A diagram of a store: `Ref(0)` is false, `Ref(1)` is true, and the inner nodes follow.
@@ -28,38 +29,58 @@ pub enum StoreFault {
     NoMemory,
 }
 
-impl From<AllocFailed<Triple>> for StoreFault {
+impl From<AllocFailed<Node>> for StoreFault {
     ghost use Rattle.std.specs.Prelude.{◌≡◌};
     ghost use Rattle.bb_uniq.specs.declared.store.StoreFault.TheVariants.{NoMemory};
 
     ghost from_gives = { λ _ e. e ≡ NoMemory };
 
-    fn from(_: AllocFailed<Triple>) -> StoreFault {
+    fn from(_: AllocFailed<Node>) -> StoreFault {
         StoreFault::NoMemory
     }
 }
 
 /// A node: its variable and the numbers of its children.
-#[derive(Clone, Copy, Debug, PartialEq, Eq, Hash)]
-pub struct Triple {
-    var: u32,
-    lo: u32,
-    hi: u32,
+#[derive(Clone, Copy, Debug, PartialEq, Eq)]
+pub struct Node {
+    pub var: u32,
+    pub lo: u32,
+    pub hi: u32,
+}
+
+// One write in place of three, since each look-up hashes a node.
+impl Hash for Node {
+    ghost use Rattle.std.specs.Prelude.{◌+◌, ◌*◌};
+    ghost use Rattle.std.specs.Hash as fed;
+    ghost use Rattle.std.proofs.Common.{rules};
+    ghost use Rattle.std.specs.Cmp.Rules.{hashing};
+
+    ghost hash_input = { λ n. fed.u128 (n.var * 18446744073709551616 + n.lo * 4294967296 + n.hi) };
+
+    ghost respects_eq = { Prim.search (hashing, rules) };
+
+    fn hash<H: Hasher>(&self, state: &mut H) {
+        let fields = self.var as u128 * 18446744073709551616
+            + self.lo as u128 * 4294967296
+            + self.hi as u128;
+        fields.hash(state);
+    }
 }
 
 /// Nodes that compare as equal are one node.
-fn same_triples()
-    ensures same { (a b : Triple) → ⟦<Triple as PartialEq>⟧.eq a b ≡ true → a ≡ b }
-    ensures equal { (a : Triple) → ⟦<Triple as PartialEq>⟧.eq a a ≡ true }
+fn same_nodes()
+    ensures same { (a b : Node) → ⟦<Node as PartialEq>⟧.eq a b ≡ true → a ≡ b }
+    ensures equal { (a : Node) → ⟦<Node as PartialEq>⟧.eq a a ≡ true }
 {}
 
 /// The index of a node. Where it is new and there is room for it, it is put last.
-fn place_of(nodes: &mut IndexSet<Triple>, limit: usize, node: Triple) -> Result<usize, StoreFault>
+fn place_of(nodes: &mut IndexSet<Node>, limit: usize, node: Node) -> Result<usize, StoreFault>
     ensures ok { IfOk result (λ k. Stands nodes.old.keys nodes.new.keys limit node k) }
     ensures full { IsErrOf result StoreFault.Full → (limit ≤ length nodes.old.keys) × IsAbsent nodes.old.keys node }
+    ensures no_memory { IsErrOf result StoreFault.NoMemory → (length nodes.old.keys < limit) × IsAbsent nodes.old.keys node }
     ensures err { OnErr result (nodes.new.keys ≡ nodes.old.keys) }
 {
-    same_triples();
+    same_nodes();
     if nodes.len() < limit {
         return Ok(nodes.insert_full(node)?.0);
     }
@@ -74,7 +95,7 @@ fn place_of(nodes: &mut IndexSet<Triple>, limit: usize, node: Triple) -> Result<
 pub struct Store {
     vars: u32,
     limit: u32,
-    nodes: IndexSet<Triple>,
+    nodes: IndexSet<Node>,
 }
 
 impl Model for Store {
@@ -112,6 +133,9 @@ impl Store {
         ensures nodes { result ≡ length self.now.nodes }
         ensures beads { HasSize (IsHeld self.now) result }
     {
+        truth::tables();
+        truth::beads();
+        truth::sizes();
         self.nodes.len() as u32
     }
 
@@ -130,6 +154,9 @@ impl Store {
         ensures view { result ≡ view_of self.now r.0 }
         ensures table { ViewMeans self.now r.0 result }
     {
+        truth::tables();
+        truth::beads();
+        truth::sizes();
         if r.0 < 2 {
             return View::Leaf(r.0 == 1);
         }
@@ -146,7 +173,8 @@ impl Store {
     ///
     /// # Errors
     ///
-    /// `Full` where the node is new and the store holds as many as it may, `NoMemory` where it is new and memory runs out.
+    /// `Full` where the node is new and the store holds as many as it may, `NoMemory` where it is new, has room and finds no
+    /// memory.
     /// The store is then as before.
     pub fn make(&mut self, var: u32, lo: Ref, hi: Ref) -> Result<Ref, StoreFault>
         requires var { var < self.old.vars }
@@ -162,13 +190,17 @@ impl Store {
 
         ensures full { IsErrOf result StoreFault.Full → IsNew self.old var lo.0 hi.0 × (length self.old.nodes ≡ self.old.limit) }
         ensures too_many { IsErrOf result StoreFault.Full → IsTooMany self.old (branch self.old var lo.0 hi.0) }
+        ensures no_memory { IsErrOf result StoreFault.NoMemory → IsNew self.old var lo.0 hi.0 × (length self.old.nodes < self.old.limit) }
         ensures err { OnErr result (self.new ≡ self.old) }
     {
+        truth::tables();
+        truth::beads();
+        truth::sizes();
         let limit = self.limit as usize;
         if lo == hi {
             return Ok(lo);
         }
-        let node = Triple {
+        let node = Node {
             var,
             lo: lo.0,
             hi: hi.0,

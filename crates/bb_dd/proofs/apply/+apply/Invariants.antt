@@ -1,7 +1,7 @@
 use Rattle.std.proofs.Common.{◌-◌, min}
-use Rattle.bb_uniq.specs.Splits.{top_of}
+use Rattle.bb_uniq.specs.Cofactors.{top_of}
 use Rattle.bb_dd.proofs.apply.+apply.Given as goal
 
 -- how many variables stand from the first one of the three on
 abbrev pub decreases-apply : goal.decreases-apply
-decreases-apply l = let s = l.store.now in s.vars - min (min (top_of s l.f.0) (top_of s l.g.0)) (top_of s l.h.0)
+decreases-apply l = let s = l.store.now in s.vars - min (min (top_of s l.asked.f.0) (top_of s l.asked.g.0)) (top_of s l.asked.h.0)

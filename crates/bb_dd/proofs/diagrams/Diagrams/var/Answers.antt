@@ -22,11 +22,11 @@ returns-clause-ok c =
     let l : c.args.v < s.vars = subst (λ (n : NodeStore). c.args.v < n.vars) (sym e) c.requires in
     subst (λ (n : NodeStore). IfOk c.make_node.result (λ r. Adds n new (variable n.vars c.args.v) r.0)) e
     (IfOk-weaker c.make_node.result (λ r. Adds s new (branch s c.args.v 0 1) r.0) (λ r. Adds s new (variable s.vars c.args.v) r.0)
-    (λ r a. subst (λ (t : Truth). Adds s new t r.0) (branch-leaves s c.args.v l) a) c.make_node.ensures.adds)
+    (λ r a. subst (λ (t : Truth). Adds s new t r.0) (branch-leaves (record { tables = c.tables.ensures; stores = c.stores.ensures; growth = c.growth.ensures; steps = c.steps.ensures }) s c.args.v l) a) c.make_node.ensures.adds)
 
 pub returns-clause-full : goal.returns-clause-full
 returns-clause-full c =
     let s = c.self.inside.store in
     let e : s ≡ c.args.self.now.store = ap (λ (d : DiagramState). d.store) c.self.view_is in
     let l : c.args.v < s.vars = subst (λ (n : NodeStore). c.args.v < n.vars) (sym e) c.requires in
-    λ full. subst (λ (n : NodeStore). IsTooMany n (variable n.vars c.args.v)) e (subst (λ (t : Truth). IsTooMany s t) (branch-leaves s c.args.v l) (c.make_node.ensures.too_many full))
+    λ full. subst (λ (n : NodeStore). IsTooMany n (variable n.vars c.args.v)) e (subst (λ (t : Truth). IsTooMany s t) (branch-leaves (record { tables = c.tables.ensures; stores = c.stores.ensures; growth = c.growth.ensures; steps = c.steps.ensures }) s c.args.v l) (c.make_node.ensures.too_many full))

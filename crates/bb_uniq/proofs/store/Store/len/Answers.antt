@@ -9,4 +9,4 @@ pub returns-clause-beads : goal.returns-clause-beads
 returns-clause-beads c =
     let now = c.args.self.now in
     let e : length now.nodes ≡ c.len.result = sym (ap (λ (s : NodeStore). length s.nodes) c.self.view_is) ∙ sym c.len.ensures.len in
-    subst (λ n. HasSize (IsHeld now) n) e (size_of_held now (subst IsStore c.self.view_is c.self.invariant.0))
+    subst (λ n. HasSize (IsHeld now) n) e (size_of_held (record { tables = c.tables.ensures; beads = c.beads.ensures; sizes = c.sizes.ensures }) now (subst IsStore c.self.view_is c.self.invariant.0))

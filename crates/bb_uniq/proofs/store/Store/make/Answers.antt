@@ -2,7 +2,7 @@ use Rattle.std.proofs.Common.{◌+◌, ◌<◌, ◌≤◌, ◌≡◌, ◌≢◌,
 use Rattle.std.specs.Prelude.{IsErrOf}
 use Rattle.std.proofs.lemmas.Bool.{eqb-true, eqb-false}
 use Rattle.bb_uniq.specs.declared.store.StoreFault.TheVariants.{Full}
-use Rattle.bb_uniq.specs.declared.store.Triple.{Triple}
+use Rattle.bb_uniq.specs.declared.store.Node.{Node}
 use Rattle.bb_uniq.specs.Nodes.{NodeStore, IsStore}
 use Rattle.bb_uniq.specs.Meaning.{Adds, branch}
 use Rattle.bb_uniq.specs.Places.{IsAbsent}
@@ -15,25 +15,25 @@ returns-then-eq-clause-adds c =
     let i = c.self.inside in
     let s : NodeStore = record { vars = i.vars; limit = i.limit; nodes = i.nodes.keys } in
     let same : c.args.lo.0 ≡ c.args.hi.0 = eqb-true c.args.lo.0 c.args.hi.0 (sym c.eq.ensures ∙ c.if-eq.true) in
-    (makes_same s c.args.self.now c.self.view_is c.self.invariant.0 c.args.var c.args.lo.0 c.args.hi.0 c.requires.var c.requires.lo c.requires.hi same).1
+    (makes_same (record { tables = c.tables.ensures; beads = c.beads.ensures; sizes = c.sizes.ensures }) s c.args.self.now c.self.view_is c.self.invariant.0 c.args.var c.args.lo.0 c.args.hi.0 c.requires.var c.requires.lo c.requires.hi same).1
 
 pub returns-then-eq-clause-store : goal.returns-then-eq-clause-store
 returns-then-eq-clause-store c =
     let i = c.self.inside in
     let s : NodeStore = record { vars = i.vars; limit = i.limit; nodes = i.nodes.keys } in
     let same : c.args.lo.0 ≡ c.args.hi.0 = eqb-true c.args.lo.0 c.args.hi.0 (sym c.eq.ensures ∙ c.if-eq.true) in
-    (makes_same s c.args.self.now c.self.view_is c.self.invariant.0 c.args.var c.args.lo.0 c.args.hi.0 c.requires.var c.requires.lo c.requires.hi same).0
+    (makes_same (record { tables = c.tables.ensures; beads = c.beads.ensures; sizes = c.sizes.ensures }) s c.args.self.now c.self.view_is c.self.invariant.0 c.args.var c.args.lo.0 c.args.hi.0 c.requires.var c.requires.lo c.requires.hi same).0
 
 pub returns-in_err-place-clause-too_many : goal.returns-in_err-place-clause-too_many
 returns-in_err-place-clause-too_many c =
     let i = c.self.inside in
     let s : NodeStore = record { vars = i.vars; limit = i.limit; nodes = i.nodes.keys } in
-    let node : Triple = record { var = c.args.var; lo = c.args.lo.0; hi = c.args.hi.0 } in
+    let node : Node = record { var = c.args.var; lo = c.args.lo.0; hi = c.args.hi.0 } in
     let differ : c.args.lo.0 ≢ c.args.hi.0 = eqb-false c.args.lo.0 c.args.hi.0 (sym c.eq.ensures ∙ c.if-eq.false) in
     let told : IsErrOf c.from_residual.result Full → (s.limit ≤ length s.nodes) × IsAbsent s.nodes node = search rules in
     λ full.
     let said = told full in
-    makes_too_many s c.args.self.now c.self.view_is c.self.invariant.0 c.args.var c.args.lo.0 c.args.hi.0 c.requires.var c.requires.lo c.requires.hi differ said.0 said.1
+    makes_too_many (record { tables = c.tables.ensures; beads = c.beads.ensures; sizes = c.sizes.ensures }) s c.args.self.now c.self.view_is c.self.invariant.0 c.args.var c.args.lo.0 c.args.hi.0 c.requires.var c.requires.lo c.requires.hi differ said.0 said.1
 
 pub overflow_cast-result : goal.overflow_cast-result
 overflow_cast-result c =
@@ -56,7 +56,7 @@ made c =
     let i = c.self.inside in
     let s : NodeStore = record { vars = i.vars; limit = i.limit; nodes = i.nodes.keys } in
     let differ : c.args.lo.0 ≢ c.args.hi.0 = eqb-false c.args.lo.0 c.args.hi.0 (sym c.eq.ensures ∙ c.if-eq.false) in
-    makes s c.args.self.now c.self.view_is c.self.invariant.0 c.place_of.new.nodes.keys c.args.var c.args.lo.0 c.args.hi.0 c.in_ok-place.place c.requires.var c.requires.lo c.requires.hi differ c.in_ok-place.ensures.ok
+    makes (record { tables = c.tables.ensures; beads = c.beads.ensures; sizes = c.sizes.ensures }) s c.args.self.now c.self.view_is c.self.invariant.0 c.place_of.new.nodes.keys c.args.var c.args.lo.0 c.args.hi.0 c.in_ok-place.place c.requires.var c.requires.lo c.requires.hi differ c.in_ok-place.ensures.ok
 
 pub invariant_of-self-2 : goal.invariant_of-self-2
 invariant_of-self-2 c = ((made c).0, c.self.invariant.1, c.self.invariant.2)

@@ -1,6 +1,6 @@
 use Rattle.std.proofs.Common.{◌≡◌, rules}
 use Rattle.bb_uniq.specs.declared.store.View.{View}
-use Rattle.bb_uniq.specs.declared.store.View.TheVariants.{Node}
+use Rattle.bb_uniq.specs.declared.store.View.TheVariants as seen
 use Rattle.bb_uniq.specs.Nodes.{NodeStore, view_of}
 use Rattle.bb_uniq.proofs.Making.{leaf_table, view_means_at}
 use Rattle.bb_uniq.proofs.store.Store.view.Goals as goal
@@ -13,6 +13,6 @@ returns-clause-table c =
     let i = c.self.inside in
     let s : NodeStore = record { vars = i.vars; limit = i.limit; nodes = i.nodes.keys } in
     let node = c.index-node.result.now in
-    let v : View = Node node.var (record { 0 = node.lo }) (record { 0 = node.hi }) in
+    let v : View = seen.Node node.var (record { 0 = node.lo }) (record { 0 = node.hi }) in
     let seen : v ≡ view_of c.args.self.now c.args.r.0 = search rules in
-    view_means_at s c.args.self.now c.self.view_is c.self.invariant.0 c.args.r.0 c.requires v seen
+    view_means_at (record { tables = c.tables.ensures; beads = c.beads.ensures; sizes = c.sizes.ensures }) s c.args.self.now c.self.view_is c.self.invariant.0 c.args.r.0 c.requires v seen
