@@ -1,6 +1,7 @@
 -- Two texts have one answer.
 use Rattle.std.proofs.Common.{◌≡◌, ℕ, List, Option, None, sym, ap, ◌∙◌, subst, codes}
 use Rattle.bb_narrow.specs.Designs.{Design}
+use Rattle.bb_parse.specs.Laws.{TextsReadOnce}
 use Rattle.bb_narrow.proofs.Laws.{says_one}
 use Rattle.bb_ladder.specs.declared.fault.TextFault.{TextFault}
 use Rattle.bb_ladder.specs.Refusals.{IsTextFault, fault_words, refusal}
@@ -9,11 +10,11 @@ use Rattle.bb_ladder.specs.Answers.{IsSpec, IsImp, NoSpec, NoImp, HaveEqualPorts
 use Rattle.bb_ladder.proofs.FaultLaws.{fault_once, fault_none}
 use Rattle.bb_ladder.proofs.WorldLawsReport.{report_once}
 
-same_spec : (text : List ℕ) (d e : Design) → IsSpec text d → IsSpec text e → d ≡ e
-same_spec text d e is other = (says_one text d None e None is.0 other.0).0
+same_spec : TextsReadOnce → (text : List ℕ) (d e : Design) → IsSpec text d → IsSpec text e → d ≡ e
+same_spec once text d e is other = (says_one once text d None e None is.0 other.0).0
 
-same_imp : (text : List ℕ) (d e : Design) (s t : Option Design) → IsImp text d s → IsImp text e t → (d ≡ e) × (s ≡ t)
-same_imp text d e s t is other = says_one text d s e t is.0 other.0
+same_imp : TextsReadOnce → (text : List ℕ) (d e : Design) (s t : Option Design) → IsImp text d s → IsImp text e t → (d ≡ e) × (s ≡ t)
+same_imp once text d e s t is other = says_one once text d s e t is.0 other.0
 
 no_spec : (text : List ℕ) (fault : TextFault) (d : Design) → IsTextFault (NoSpec text) text fault → IsSpec text d → ⊥
 no_spec text fault d f is = fault_none (NoSpec text) text fault is.0.0 f is.0.1 d is
@@ -35,27 +36,27 @@ same_reports : (s i d j : Design) (empty other_empty : Option Design) (status : 
 same_reports s i d j empty other_empty status text e f g reports =
     subst (λ z. Reports z i empty status text) (sym e) (subst (λ z. Reports d z empty status text) (sym f) (subst (λ z. Reports d j z status text) (sym g) reports))
 
-pub judged_once : (spec imp : List ℕ) (status other : ℕ) (text more : List ℕ) → Judges spec imp status text → Judges spec imp other more → (status ≡ other) × (text ≡ more)
-judged_once spec imp status other text more (SpecRefused f is p s) (SpecRefused g also q t) =
+pub judged_once : TextsReadOnce → (spec imp : List ℕ) (status other : ℕ) (text more : List ℕ) → Judges spec imp status text → Judges spec imp other more → (status ≡ other) × (text ≡ more)
+judged_once once spec imp status other text more (SpecRefused f is p s) (SpecRefused g also q t) =
     same_refusal (codes "spec") f g status other text more (fault_once (NoSpec spec) spec f g is also) p q s t
-judged_once spec imp status other text more (SpecRefused f is p s) (ImpRefused d reads g also q t) = absurd (no_spec spec f d is reads)
-judged_once spec imp status other text more (SpecRefused f is p s) (PairUnknown d j empty reads also differ q t) = absurd (no_spec spec f d is reads)
-judged_once spec imp status other text more (SpecRefused f is p s) (Judged d j empty reads also equal reports) = absurd (no_spec spec f d is reads)
-judged_once spec imp status other text more (ImpRefused d reads f is p s) (SpecRefused g also q t) = absurd (no_spec spec g d also reads)
-judged_once spec imp status other text more (ImpRefused d reads f is p s) (ImpRefused e more_reads g also q t) =
+judged_once once spec imp status other text more (SpecRefused f is p s) (ImpRefused d reads g also q t) = absurd (no_spec spec f d is reads)
+judged_once once spec imp status other text more (SpecRefused f is p s) (PairUnknown d j empty reads also differ q t) = absurd (no_spec spec f d is reads)
+judged_once once spec imp status other text more (SpecRefused f is p s) (Judged d j empty reads also equal reports) = absurd (no_spec spec f d is reads)
+judged_once once spec imp status other text more (ImpRefused d reads f is p s) (SpecRefused g also q t) = absurd (no_spec spec g d also reads)
+judged_once once spec imp status other text more (ImpRefused d reads f is p s) (ImpRefused e more_reads g also q t) =
     same_refusal (codes "impl") f g status other text more (fault_once (NoImp imp) imp f g is also) p q s t
-judged_once spec imp status other text more (ImpRefused d reads f is p s) (PairUnknown e j empty more_reads also differ q t) = absurd (no_imp imp f j empty is also)
-judged_once spec imp status other text more (ImpRefused d reads f is p s) (Judged e j empty more_reads also equal reports) = absurd (no_imp imp f j empty is also)
-judged_once spec imp status other text more (PairUnknown d i empty reads is differ p s) (SpecRefused g also q t) = absurd (no_spec spec g d also reads)
-judged_once spec imp status other text more (PairUnknown d i empty reads is differ p s) (ImpRefused e more_reads g also q t) = absurd (no_imp imp g i empty also is)
-judged_once spec imp status other text more (PairUnknown d i empty reads is differ p s) (PairUnknown e j again more_reads also never q t) = (p ∙ sym q, s ∙ sym t)
-judged_once spec imp status other text more (PairUnknown d i empty reads is differ p s) (Judged e j again more_reads also equal reports) =
-    let both = same_imp imp j i again empty also is in absurd (differ (same_ports e j d i (same_spec spec e d more_reads reads) both.0 equal))
-judged_once spec imp status other text more (Judged d i empty reads is equal reports) (SpecRefused g also q t) = absurd (no_spec spec g d also reads)
-judged_once spec imp status other text more (Judged d i empty reads is equal reports) (ImpRefused e more_reads g also q t) = absurd (no_imp imp g i empty also is)
-judged_once spec imp status other text more (Judged d i empty reads is equal reports) (PairUnknown e j again more_reads also differ q t) =
-    let both = same_imp imp i j empty again is also in absurd (differ (same_ports d i e j (same_spec spec d e reads more_reads) both.0 equal))
-judged_once spec imp status other text more (Judged d i empty reads is equal reports) (Judged e j again more_reads also fit others) =
-    let both = same_imp imp i j empty again is also in
+judged_once once spec imp status other text more (ImpRefused d reads f is p s) (PairUnknown e j empty more_reads also differ q t) = absurd (no_imp imp f j empty is also)
+judged_once once spec imp status other text more (ImpRefused d reads f is p s) (Judged e j empty more_reads also equal reports) = absurd (no_imp imp f j empty is also)
+judged_once once spec imp status other text more (PairUnknown d i empty reads is differ p s) (SpecRefused g also q t) = absurd (no_spec spec g d also reads)
+judged_once once spec imp status other text more (PairUnknown d i empty reads is differ p s) (ImpRefused e more_reads g also q t) = absurd (no_imp imp g i empty also is)
+judged_once once spec imp status other text more (PairUnknown d i empty reads is differ p s) (PairUnknown e j again more_reads also never q t) = (p ∙ sym q, s ∙ sym t)
+judged_once once spec imp status other text more (PairUnknown d i empty reads is differ p s) (Judged e j again more_reads also equal reports) =
+    let both = same_imp once imp j i again empty also is in absurd (differ (same_ports e j d i (same_spec once spec e d more_reads reads) both.0 equal))
+judged_once once spec imp status other text more (Judged d i empty reads is equal reports) (SpecRefused g also q t) = absurd (no_spec spec g d also reads)
+judged_once once spec imp status other text more (Judged d i empty reads is equal reports) (ImpRefused e more_reads g also q t) = absurd (no_imp imp g i empty also is)
+judged_once once spec imp status other text more (Judged d i empty reads is equal reports) (PairUnknown e j again more_reads also differ q t) =
+    let both = same_imp once imp i j empty again is also in absurd (differ (same_ports d i e j (same_spec once spec d e reads more_reads) both.0 equal))
+judged_once once spec imp status other text more (Judged d i empty reads is equal reports) (Judged e j again more_reads also fit others) =
+    let both = same_imp once imp i j empty again is also in
     report_once d i empty status other text more reads.1 is.1 equal reports
-    (same_reports d i e j empty again other more (same_spec spec d e reads more_reads) both.0 both.1 others)
+    (same_reports d i e j empty again other more (same_spec once spec d e reads more_reads) both.0 both.1 others)

@@ -1,5 +1,5 @@
 -- What the program may answer: a status and a text, given the words, what the files hold, and the reads before and after.
-use Rattle.std.specs.Prelude.{◌≡◌, ℕ, ◌<◌, Bool, false, not, ◌&&◌, ◌==◌, if◌then◌else◌, List, [], ◌∷◌, length, take, Option, None, Some, codes, IfSome}
+use Rattle.std.specs.Prelude.{◌≡◌, ℕ, ◌<◌, Bool, true, false, not, ◌&&◌, ◌==◌, if◌then◌else◌, List, [], ◌∷◌, length, take, Option, None, Some, codes, IfSome}
 use Rattle.bb_narrow.specs.Designs.{Design}
 use Rattle.bb_narrow.specs.Narrow.{Says}
 use Rattle.bb_outside.specs.Counts.{IsRead, Reads, Rose}
@@ -51,15 +51,15 @@ Gives held bytes = IfSome held (λ h. bytes ≡ take READ_LIMIT h)
 
 -- what may be answered after the specification was read: the implementation is read, and its text is judged
 pub data AfterSpec (held : Option (List ℕ)) (name : List ℕ) (before after : Reads) (spec : List ℕ) (status : ℕ) (text : List ℕ) : Type 0 where
-  ImpUnread : IsRead before after name → Rose before.faults after.faults → status ≡ 4 → text ≡ codes "unread impl\n" → AfterSpec held name before after spec status text
-  ImpLong : (imp : List ℕ) → Gives held imp → length imp ≡ READ_LIMIT → IsRead before after name → status ≡ 2 → text ≡ codes "refused impl toolong\n" → AfterSpec held name before after spec status text
-  BothRead : (imp : List ℕ) → Gives held imp → length imp < READ_LIMIT → IsRead before after name → Judges spec imp status text → AfterSpec held name before after spec status text
+  ImpUnread : IsRead before after name true → Rose before.faults after.faults → status ≡ 4 → text ≡ codes "unread impl\n" → AfterSpec held name before after spec status text
+  ImpLong : (imp : List ℕ) → Gives held imp → length imp ≡ READ_LIMIT → IsRead before after name false → status ≡ 2 → text ≡ codes "refused impl toolong\n" → AfterSpec held name before after spec status text
+  BothRead : (imp : List ℕ) → Gives held imp → length imp < READ_LIMIT → IsRead before after name false → Judges spec imp status text → AfterSpec held name before after spec status text
 
 -- what may be answered to the names of two files: the specification is read first
 pub data OfFiles (holds : List ℕ → Option (List ℕ)) (names : List ℕ × List ℕ) (before after : Reads) (status : ℕ) (text : List ℕ) : Type 0 where
-  SpecUnread : IsRead before after names.0 → Rose before.faults after.faults → status ≡ 4 → text ≡ codes "unread spec\n" → OfFiles holds names before after status text
-  SpecLong : (spec : List ℕ) → Gives (holds names.0) spec → length spec ≡ READ_LIMIT → IsRead before after names.0 → status ≡ 2 → text ≡ codes "refused spec toolong\n" → OfFiles holds names before after status text
-  SpecRead : (spec : List ℕ) (between : Reads) → Gives (holds names.0) spec → length spec < READ_LIMIT → IsRead before between names.0
+  SpecUnread : IsRead before after names.0 true → Rose before.faults after.faults → status ≡ 4 → text ≡ codes "unread spec\n" → OfFiles holds names before after status text
+  SpecLong : (spec : List ℕ) → Gives (holds names.0) spec → length spec ≡ READ_LIMIT → IsRead before after names.0 false → status ≡ 2 → text ≡ codes "refused spec toolong\n" → OfFiles holds names before after status text
+  SpecRead : (spec : List ℕ) (between : Reads) → Gives (holds names.0) spec → length spec < READ_LIMIT → IsRead before between names.0 false
       → AfterSpec (holds names.1) names.1 between after spec status text → OfFiles holds names before after status text
 
 -- what may be answered to words, given what the files hold and the reads before the call and after it

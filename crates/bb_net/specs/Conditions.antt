@@ -54,7 +54,7 @@ OneAlwaysWrong spec imp = (x : List Bool) × IsVector imp x × (j : ℕ) × IsOu
 abbrev pub EachSometimesRight : Netlist → Netlist → Type 0
 EachSometimesRight spec imp = (x : List Bool) → IsVector imp x → (j : ℕ) → IsOutput imp j → (z : List Bool) × AreBoxOutputs imp z × IsRight spec imp x (flat imp x z) j
 
--- at the vector x some output is wrong whatever the boxes' outputs are, but not always the same one
+-- at the vector x some output is wrong whatever the boxes' outputs are, which need not be the same one for all of them
 abbrev pub HasAlwaysWrong : Netlist → Netlist → List Bool → Type 0
 HasAlwaysWrong spec imp x = (z : List Bool) → AreBoxOutputs imp z → SomeWrong spec imp x (flat imp x z)
 

@@ -1,6 +1,8 @@
 -- Counts that are kept in a 64-bit number. A count goes up by one at a time and stays at its last value,
 -- 2^64 - 1. So a count that stands there at the end of a call may have been raised in it.
-use Rattle.std.specs.Prelude.{◌≡◌, ◌⊎◌, ◌↔◌, ℕ, ◌+◌, ◌-◌, ◌^◌, ◌<◌, ◌≤◌, min, List, [], ◌∷◌, ◌++◌, Option, option_map}
+use Rattle.std.specs.Prelude.{◌≡◌, ◌⊎◌, ◌↔◌, ℕ, ◌+◌, ◌-◌, ◌^◌, ◌<◌, ◌≤◌, min, Bool, true, false, List, [], ◌∷◌, ◌++◌, Option, option_map, Result, Ok, Err}
+use Rattle.bb_outside.specs.declared.files.FileFault.{FileFault}
+use Rattle.bb_outside.specs.declared.files.FileFault.TheVariants.{Failed, NoMemory}
 
 -- the count after one more
 abbrev pub next_count : ℕ → ℕ
@@ -18,15 +20,21 @@ CountsWhere failed before now = (failed → now ≡ next_count before) × ((fail
 abbrev pub RoseIsGrowth : Type 0
 RoseIsGrowth = (before now : ℕ) → before ≤ now → now < 2 ^ 64 → Rose before now ↔ ((before < now) ⊎ (now ≡ 2 ^ 64 - 1))
 
--- what is known of the reads so far: how many there were and how many of them failed, and, where it is told, the names that were
--- read, in their order
+-- a read gave no bytes for another reason than want of memory
+abbrev pub is_failed : {A : Type 0} → Result A FileFault → Bool
+is_failed (Ok bytes) = false
+is_failed (Err Failed) = true
+is_failed (Err NoMemory) = false
+
+-- what is known of the reads so far: how many there were and how many of them failed, and, where it is told, of which name each
+-- was and whether it failed, in their order
 pub record Reads : Type 0 where
   pub count : ℕ
   pub faults : ℕ
-  pub names : Option (List (List ℕ))
+  pub told : Option (List (List ℕ × Bool))
 
--- from before to after there was one read, of the file of this name
-pub record IsRead (before after : Reads) (name : List ℕ) : Type 0 where
+-- from before to after there was one read, of the file of this name, and it failed or not
+pub record IsRead (before after : Reads) (name : List ℕ) (failed : Bool) : Type 0 where
   pub counted : after.count ≡ next_count before.count
-  pub named : after.names ≡ option_map (λ names. names ++ name ∷ []) before.names
+  pub told : after.told ≡ option_map (λ told. told ++ (name, failed) ∷ []) before.told
   pub later : before.faults ≤ after.faults

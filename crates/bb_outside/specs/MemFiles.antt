@@ -13,9 +13,9 @@ pub record HeldFiles : Type 0 where
   pub reads : ℕ
   pub faults : ℕ
 
--- what a caller over any files sees of the reads; the names that were read are not kept
+-- what a caller over any files sees of the reads; which names were read is not kept
 abbrev pub reads_of : HeldFiles → Reads
-reads_of m = record { count = m.reads; faults = m.faults; names = None }
+reads_of m = record { count = m.reads; faults = m.faults; told = None }
 
 -- names and texts as bytes
 abbrev pub entries : List (String Global × Vec ℕ Global) → List (List ℕ × List ℕ)

@@ -1,6 +1,6 @@
 //! The files of the system.
 ghost use Rattle.std.specs.Prelude.{◌≡◌, ◌≤◌, take, IfOk, IfSome, IsErr, IsErrOf, None, vec_len};
-ghost use Rattle.bb_outside.specs.Counts.{CountsWhere, IsRead, Rose};
+ghost use Rattle.bb_outside.specs.Counts.{CountsWhere, IsRead, Rose, is_failed};
 
 use crate::{FileFault, Files};
 use std::alloc::Global;
@@ -25,13 +25,13 @@ impl<R: rt::Files + Drop> Model for StdFiles<R> {
 
     ghost Value = { Reads };
 
-    ghost view = { λ s. record { count = s.reads; faults = s.faults; names = None } };
+    ghost view = { λ s. record { count = s.reads; faults = s.faults; told = None } };
 }
 
 impl<R: rt::Files + Drop> StdFiles<R> {
     /// The files that this runtime reaches.
     pub fn new(files: R) -> StdFiles<R>
-        ensures { result ≡ record { count = 0; faults = 0; names = None } }
+        ensures { result ≡ record { count = 0; faults = 0; told = None } }
     {
         StdFiles {
             files,
@@ -90,7 +90,7 @@ impl<R: rt::Files + Drop> Files for StdFiles<R> {
         ensures counted { CountsWhere (IsErrOf result FileFault.Failed) self.old.faults self.new.faults }
 
         // What a caller over any files sees.
-        ensures reads { IsRead self.old self.new name.now }
+        ensures reads { IsRead self.old self.new name.now (is_failed result) }
         ensures failed { IsErrOf result FileFault.Failed → Rose self.old.faults self.new.faults }
     {
         self.reads = self.reads.saturating_add(1);

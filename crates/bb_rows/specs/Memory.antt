@@ -10,7 +10,7 @@ holds spec imp name = Some (text_under ((codes "s.v", spec) ∷ (codes "i.v", im
 
 -- nothing was read so far
 abbrev pub none_read : Reads
-none_read = record { count = 0; faults = 0; names = None }
+none_read = record { count = 0; faults = 0; told = None }
 
 -- a status and a text that may be answered to the words over the two files
 abbrev pub MayTell : List (List ℕ) → List ℕ → List ℕ → ℕ → List ℕ → Type 0

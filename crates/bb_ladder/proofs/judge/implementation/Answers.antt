@@ -11,13 +11,13 @@ returns-in_default-clause-fault c =
 pub circuit_of-requires-clause-room : goal.circuit_of-requires-clause-room
 circuit_of-requires-clause-room c =
     let says = rw c.in-Some.is at c.in_ok-designs.ensures.some in
-    let short = says_short c.args.text.now c.in-Some.designs.first c.in-Some.designs.second says in
+    let short = says_short c.texts_are_long.ensures c.args.text.now c.in-Some.designs.first c.in-Some.designs.second says in
     omega (arith, short.0, c.requires)
 
 pub circuit_of-requires-clause-parts : goal.circuit_of-requires-clause-parts
 circuit_of-requires-clause-parts c =
     let says = rw c.in-Some.is at c.in_ok-designs.ensures.some in
-    let short = says_short c.args.text.now c.in-Some.designs.first c.in-Some.designs.second says in
+    let short = says_short c.texts_are_long.ensures c.args.text.now c.in-Some.designs.first c.in-Some.designs.second says in
     omega (arith, short.1, c.requires)
 
 pub returns-in_default-2-clause-fault : goal.returns-in_default-2-clause-fault
@@ -27,6 +27,6 @@ returns-in_default-2-clause-fault c =
     inr (
       reads.0,
       reads.1,
-      imp_none c.args.text.now c.in-Some.designs.first c.in-Some.designs.second _ says (same_copied c.as_ref.result ∙ c.as_ref.ensures.value)
+      imp_none c.texts_read_once.ensures c.args.text.now c.in-Some.designs.first c.in-Some.designs.second _ says (same_copied c.as_ref.result ∙ c.as_ref.ensures.value)
           (rw c.in_default-2.is at c.in_ok-circuit.ensures.none),
     )

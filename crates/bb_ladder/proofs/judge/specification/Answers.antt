@@ -12,25 +12,25 @@ pub returns-then-is_some-clause-fault : goal.returns-then-is_some-clause-fault
 returns-then-is_some-clause-fault c =
     let reads = c.in_ok-designs.ensures.reads in
     let says = rw c.in-Some.is at c.in_ok-designs.ensures.some in
-    inr (reads.0, reads.1, spec_two c.args.text.now c.in-Some.designs.first c.in-Some.designs.second says (sym c.is_some.ensures ∙ c.if-is_some.true))
+    inr (reads.0, reads.1, spec_two c.texts_read_once.ensures c.args.text.now c.in-Some.designs.first c.in-Some.designs.second says (sym c.is_some.ensures ∙ c.if-is_some.true))
 
 pub circuit_of-requires-clause-room : goal.circuit_of-requires-clause-room
 circuit_of-requires-clause-room c =
     let says = rw c.in-Some.is at c.in_ok-designs.ensures.some in
-    let short = says_short c.args.text.now c.in-Some.designs.first c.in-Some.designs.second says in
+    let short = says_short c.texts_are_long.ensures c.args.text.now c.in-Some.designs.first c.in-Some.designs.second says in
     omega (arith, short.0, c.requires)
 
 pub circuit_of-requires-clause-parts : goal.circuit_of-requires-clause-parts
 circuit_of-requires-clause-parts c =
     let says = rw c.in-Some.is at c.in_ok-designs.ensures.some in
-    let short = says_short c.args.text.now c.in-Some.designs.first c.in-Some.designs.second says in
+    let short = says_short c.texts_are_long.ensures c.args.text.now c.in-Some.designs.first c.in-Some.designs.second says in
     omega (arith, short.1, c.requires)
 
 pub returns-in_default-2-clause-fault : goal.returns-in_default-2-clause-fault
 returns-in_default-2-clause-fault c =
     let reads = c.in_ok-designs.ensures.reads in
     let says = rw c.in-Some.is at c.in_ok-designs.ensures.some in
-    inr (reads.0, reads.1, spec_none c.args.text.now c.in-Some.designs.first c.in-Some.designs.second says (rw c.in_default-2.is at c.in_ok-circuit.ensures.none))
+    inr (reads.0, reads.1, spec_none c.texts_read_once.ensures c.args.text.now c.in-Some.designs.first c.in-Some.designs.second says (rw c.in_default-2.is at c.in_ok-circuit.ensures.none))
 
 pub returns-clause-ok : goal.returns-clause-ok
 returns-clause-ok c =
