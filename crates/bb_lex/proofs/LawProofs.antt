@@ -1,11 +1,11 @@
 -- The laws of cuts, token lists and numbers.
 use Rattle.std.proofs.Common.{◌≡◌, ◌⊎◌, ℕ, zero, suc, ◌+◌, ◌*◌, ◌/◌, ◌%◌, ◌^◌, true, false, List, [], ◌∷◌, ◌++◌, length, length-append, map, sym, refl, ap, ◌∙◌, arith, ⊎_elim, inl, inr, eqb-true, eq-eqb, Ok, Err, Result}
-use Rattle.std.specs.Prelude.{◌==◌, ◌&&◌, Vec, IfErr, IsErrAnd}
+use Rattle.std.specs.Prelude.{◌==◌, ◌&&◌, Vec, IfOk, IfErr, MatchResult}
 use Rattle.std.specs.Global.{Global}
 use Rattle.bb_lex.specs.declared.token.Token.{Token}
 use Rattle.bb_lex.specs.declared.fault.LexFault.{LexFault}
 use Rattle.bb_lex.specs.declared.fault.LexFault.TheVariants.{Bad, NoMemory}
-use Rattle.bb_lex.specs.Answers.{IsAnswer}
+use Rattle.bb_lex.specs.Answers.{IsFault, IsAnswer}
 use Rattle.std.proofs.lemmas.Nat.{mod-pow-add}
 use Rattle.std.proofs.lemmas.List.{length-map}
 use Rattle.bb_lex.specs.Numbers.{spelled, number, radix_of, low_bits, bit_value}
@@ -80,15 +80,29 @@ pub low_bits_spell : LowBitsSpell
 low_bits_spell n value = (length-low_bits n value, spelled-low_bits n value)
 
 -- a text with tokens is answered by them unless memory runs out, and so is one that goes wrong
-pub answer_ok : (text : List ℕ) (r : Result (Vec Token Global) LexFault) → IsAnswer text r → (tokens : List Token) → AreTokens text tokens → IfErr r (λ fault. fault ≡ NoMemory)
-answer_ok text (Ok found) is tokens are = tt
-answer_ok text (Err (Bad line)) is tokens are = absurd (not_tokens_and_bad_line text tokens line are is)
-answer_ok text (Err NoMemory) is tokens are = refl
+module _ (text : List ℕ) where
+  pub answer_ok : (r : Result (Vec Token Global) LexFault) → IsAnswer text r → IfOk r (λ found. AreTokens text found.items)
+  answer_ok (Ok found) is = is
+  answer_ok (Err (Bad line)) is = tt
+  answer_ok (Err NoMemory) is = tt
 
-pub answer_bad : (text : List ℕ) (r : Result (Vec Token Global) LexFault) → IsAnswer text r → (line : ℕ) → IsBadOn text line → IsErrAnd r (λ fault. (fault ≡ Bad line) ⊎ (fault ≡ NoMemory))
-answer_bad text (Ok found) is line bad = not_tokens_and_bad_line text found.items line is bad
-answer_bad text (Err (Bad other)) is line bad = inl (ap Bad (bad_lines_are_one text other line is bad))
-answer_bad text (Err NoMemory) is line bad = inr refl
+  pub answer_fault : (r : Result (Vec Token Global) LexFault) → IsAnswer text r → IfErr r (λ fault. (fault ≡ NoMemory) ⊎ IsFault text fault)
+  answer_fault (Ok found) is = tt
+  answer_fault (Err (Bad line)) is = inr is
+  answer_fault (Err NoMemory) is = inl refl
+
+  pub answer_only_ok : (r : Result (Vec Token Global) LexFault) → IsAnswer text r → (tokens : List Token) → AreTokens text tokens
+      → MatchResult r (λ found. found.items ≡ tokens) (λ fault. fault ≡ NoMemory)
+  answer_only_ok (Ok found) is tokens are = tokens_are_one text found.items tokens is are
+  answer_only_ok (Err (Bad line)) is tokens are = absurd (not_tokens_and_bad_line text tokens line are is)
+  answer_only_ok (Err NoMemory) is tokens are = refl
+
+  pub answer_only_fault : (r : Result (Vec Token Global) LexFault) → IsAnswer text r → (first : LexFault) → IsFault text first
+      → MatchResult r (λ found. ⊥) (λ fault. (fault ≡ first) ⊎ (fault ≡ NoMemory))
+  answer_only_fault r is NoMemory bad = elim bad [ ]
+  answer_only_fault (Ok found) is (Bad line) bad = not_tokens_and_bad_line text found.items line is bad
+  answer_only_fault (Err (Bad other)) is (Bad line) bad = inl (ap Bad (bad_lines_are_one text other line is bad))
+  answer_only_fault (Err NoMemory) is (Bad line) bad = inr refl
 
 ends_with : (x y : ℕ) (bytes : List ℕ) → EndsAtFirst x y bytes → (body : List ℕ) × (bytes ≡ body ++ x ∷ y ∷ [])
 ends_with x y [] ends = absurd ends

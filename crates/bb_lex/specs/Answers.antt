@@ -6,10 +6,12 @@ use Rattle.bb_lex.specs.declared.fault.LexFault.{LexFault}
 use Rattle.bb_lex.specs.declared.fault.LexFault.TheVariants.{Bad, NoMemory}
 use Rattle.bb_lex.specs.Cut.{AreTokens, IsBadOn}
 
+-- a fault of the text itself
 abbrev pub IsFault : List ℕ → LexFault → Type 0
 IsFault text (Bad line) = IsBadOn text line
-IsFault text NoMemory = Unit {0}
+IsFault text NoMemory = ⊥
 
 abbrev pub IsAnswer : List ℕ → Result (Vec Token Global) LexFault → Type 0
 IsAnswer text (Ok tokens) = AreTokens text tokens.items
-IsAnswer text (Err fault) = IsFault text fault
+IsAnswer text (Err (Bad line)) = IsBadOn text line
+IsAnswer text (Err NoMemory) = Unit {0}

@@ -1,6 +1,7 @@
-ghost use Rattle.std.specs.Prelude.{◌≡◌, ◌⊎◌, ℕ, ◌<◌, ◌≤◌, ◌^◌, ◌==◌, ◌++◌, List, length, count_by, OnOk, IfOk, IfErr, IsErrAnd};
+ghost use Rattle.std.specs.Prelude.{◌≡◌, ◌⊎◌, ◌<◌, ◌≤◌, ◌^◌, ◌==◌, ◌++◌, List, length, count_by, OnOk, IfOk, IfErr, MatchResult};
 ghost use Rattle.bb_lex.specs.declared.token.Token.{Token};
-ghost use Rattle.bb_lex.specs.Cut.{AreTokens, IsBadOn};
+ghost use Rattle.bb_lex.specs.declared.fault.LexFault.{LexFault};
+ghost use Rattle.bb_lex.specs.Cut.{AreTokens};
 ghost use Rattle.bb_lex.specs.Answers.{IsFault, IsAnswer};
 ghost use Rattle.bb_lex.specs.Reading.{tokens_at};
 
@@ -65,13 +66,16 @@ fn scan(alloc: Global, text: &[u8]) -> Result<Vec<Token>, LexFault>
 /// first place, behind whole pieces, at which no piece begins.
 pub fn tokens(alloc: Global, text: &[u8]) -> Result<Vec<Token>, LexFault>
     requires { length text.now ≤ 33554432 }
-    ensures ok { IfOk result (λ found. AreTokens text.now found.items) }
-    ensures bad { IfErr result (IsFault text.now) }
 
-    // Only want of memory comes between a text and its tokens, or its bad line.
-    ensures only_ok { (list : List Token) → AreTokens text.now list → IfErr result (λ fault. fault ≡ LexFault.NoMemory) }
-    ensures only_bad { (line : ℕ) → IsBadOn text.now line →
-        IsErrAnd result (λ fault. (fault ≡ LexFault.Bad line) ⊎ (fault ≡ LexFault.NoMemory)) }
+    // What is answered is the tokens, or the fault.
+    ensures ok { IfOk result (λ found. AreTokens text.now found.items) }
+    ensures fault { IfErr result (λ fault. (fault ≡ LexFault.NoMemory) ⊎ IsFault text.now fault) }
+
+    // The tokens are answered where there are some, and else the fault, unless memory runs out.
+    ensures only_ok { (list : List Token) → AreTokens text.now list
+        → MatchResult result (λ found. found.items ≡ list) (λ fault. fault ≡ LexFault.NoMemory) }
+    ensures only_fault { (first : LexFault) → IsFault text.now first
+        → MatchResult result (λ found. ⊥) (λ fault. (fault ≡ first) ⊎ (fault ≡ LexFault.NoMemory)) }
 {
     scan(alloc, text)
 }

@@ -82,13 +82,13 @@ module _ (said : ReadBitsAreSaid) (text : List ℕ) (tokens : List Token) where
   answer_fault sound (Err (Deep l)) h = inr (found text tokens (Err (Deep l)) sound h)
   answer_fault sound (Err NoMemory) h = inl refl
 
-  pub answer_only_source : (r : Result Source ParseFault) → Answers source_view r (read_source text tokens) → (ms : List PlainModule) → IsSource text tokens ms
+  pub answer_only_ok : (r : Result Source ParseFault) → Answers source_view r (read_source text tokens) → (ms : List PlainModule) → IsSource text tokens ms
       → MatchResult r (λ s. source_view s ≡ ms) (λ e. e ≡ NoMemory)
-  answer_only_source (Ok s) h ms p = ok_same (source_view s) ms (read_source text tokens) h (source_complete said text tokens ms p)
-  answer_only_source (Err (Statement l)) h ms p = absurd (ok_not_err ms (Statement l) (read_source text tokens) (source_complete said text tokens ms p) h)
-  answer_only_source (Err Unended) h ms p = absurd (ok_not_err ms Unended (read_source text tokens) (source_complete said text tokens ms p) h)
-  answer_only_source (Err (Deep l)) h ms p = absurd (ok_not_err ms (Deep l) (read_source text tokens) (source_complete said text tokens ms p) h)
-  answer_only_source (Err NoMemory) h ms p = refl
+  answer_only_ok (Ok s) h ms p = ok_same (source_view s) ms (read_source text tokens) h (source_complete said text tokens ms p)
+  answer_only_ok (Err (Statement l)) h ms p = absurd (ok_not_err ms (Statement l) (read_source text tokens) (source_complete said text tokens ms p) h)
+  answer_only_ok (Err Unended) h ms p = absurd (ok_not_err ms Unended (read_source text tokens) (source_complete said text tokens ms p) h)
+  answer_only_ok (Err (Deep l)) h ms p = absurd (ok_not_err ms (Deep l) (read_source text tokens) (source_complete said text tokens ms p) h)
+  answer_only_ok (Err NoMemory) h ms p = refl
 
   pub answer_only_fault : (r : Result Source ParseFault) → Answers source_view r (read_source text tokens) → (f : ParseFault) → IsFault text tokens f
       → MatchResult r (λ s. ⊥) (λ e. (e ≡ f) ⊎ (e ≡ NoMemory))

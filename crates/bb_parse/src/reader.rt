@@ -161,7 +161,7 @@ pub fn source(alloc: Global, tokens: &[Token], text: &[u8]) -> Result<Source, Pa
     ensures fault { IfErr result (λ fault. (fault ≡ ParseFault.NoMemory) ⊎ IsFault text.now tokens.now fault) }
 
     // The source is answered where there is one, and else the fault, unless memory runs out.
-    ensures only_source { (modules : List PlainModule) → IsSource text.now tokens.now modules
+    ensures only_ok { (modules : List PlainModule) → IsSource text.now tokens.now modules
         → MatchResult result (λ source. source_view source ≡ modules) (λ fault. fault ≡ ParseFault.NoMemory) }
     ensures only_fault { (first : ParseFault) → IsFault text.now tokens.now first
         → MatchResult result (λ source. ⊥) (λ fault. (fault ≡ first) ⊎ (fault ≡ ParseFault.NoMemory)) }

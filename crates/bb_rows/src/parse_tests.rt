@@ -689,16 +689,51 @@ fn nesting(rt: HostRuntime) -> Result<(), Fail> {
 fn the_first_statement_decides(rt: HostRuntime) -> Result<(), Fail> {
     for (front, turn, back, expected) in [
         // A header nests too, and what is too deep is `deep` whatever else is wrong with it.
-        ("module m", ("(", 200, ")"), ";\nendmodule", "statement line 1"),
+        (
+            "module m",
+            ("(", 200, ")"),
+            ";\nendmodule",
+            "statement line 1",
+        ),
         ("module m", ("(", 201, ")"), ";\nendmodule", "deep line 1"),
         // What comes first is told, too deep or not.
-        ("module m;\nassign y = ", ("(", 201, ")"), ";\nx;\nendmodule", "deep line 2"),
-        ("module m;\nx;\nassign y = ", ("(", 201, ")"), ";\nendmodule", "statement line 2"),
+        (
+            "module m;\nassign y = ",
+            ("(", 201, ")"),
+            ";\nx;\nendmodule",
+            "deep line 2",
+        ),
+        (
+            "module m;\nx;\nassign y = ",
+            ("(", 201, ")"),
+            ";\nendmodule",
+            "statement line 2",
+        ),
         // Behind a lone [ no : counts, and a lone ] opens nothing.
-        ("module m;\nassign y = [", ("b ? c : ", 200, ""), ";\nendmodule", "statement line 2"),
-        ("module m;\nassign y = [", ("b ? c : ", 201, ""), ";\nendmodule", "deep line 2"),
-        ("module m;\nassign y = []", ("b ? c : ", 201, ""), ";\nendmodule", "statement line 2"),
-        ("module m;\nassign y = ]", ("b ? c : ", 201, ""), ";\nendmodule", "statement line 2"),
+        (
+            "module m;\nassign y = [",
+            ("b ? c : ", 200, ""),
+            ";\nendmodule",
+            "statement line 2",
+        ),
+        (
+            "module m;\nassign y = [",
+            ("b ? c : ", 201, ""),
+            ";\nendmodule",
+            "deep line 2",
+        ),
+        (
+            "module m;\nassign y = []",
+            ("b ? c : ", 201, ""),
+            ";\nendmodule",
+            "statement line 2",
+        ),
+        (
+            "module m;\nassign y = ]",
+            ("b ? c : ", 201, ""),
+            ";\nendmodule",
+            "statement line 2",
+        ),
     ] {
         let text = nested(rt.alloc(), front, turn, back)?;
         let found = told(&rt, rt.alloc(), text.as_bytes())?;

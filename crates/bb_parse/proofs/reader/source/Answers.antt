@@ -1,5 +1,5 @@
 -- What was read is the source, or the first fault.
-use Rattle.bb_parse.proofs.ReadLaws.{all_of_text, answer_ok, answer_fault, answer_only_source, answer_only_fault}
+use Rattle.bb_parse.proofs.ReadLaws.{all_of_text, answer_ok, answer_fault, answer_only_ok, answer_only_fault}
 use Rattle.bb_parse.proofs.SourceLaws.{source_sound}
 use Rattle.bb_parse.proofs.reader.source.Goals as goal
 
@@ -18,8 +18,8 @@ returns-clause-fault c =
     let sound = source_sound said c.args.text.now c.args.tokens.now (all_of_text c.tokens_stand_in_text.ensures c.args.text.now c.args.tokens.now c.requires) in
     answer_fault said c.args.text.now c.args.tokens.now sound c.read.result c.read.ensures
 
-pub returns-clause-only_source : goal.returns-clause-only_source
-returns-clause-only_source c = answer_only_source c.read_bits_are_said.ensures c.args.text.now c.args.tokens.now c.read.result c.read.ensures
+pub returns-clause-only_ok : goal.returns-clause-only_ok
+returns-clause-only_ok c = answer_only_ok c.read_bits_are_said.ensures c.args.text.now c.args.tokens.now c.read.result c.read.ensures
 
 pub returns-clause-only_fault : goal.returns-clause-only_fault
 returns-clause-only_fault c = answer_only_fault c.read_bits_are_said.ensures c.args.text.now c.args.tokens.now c.read.result c.read.ensures
