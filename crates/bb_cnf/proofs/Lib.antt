@@ -1,6 +1,8 @@
+pub mod ChainLaws
 pub mod Kept
 pub mod Literals
-pub mod Trail
+pub mod Marked
+pub mod ModelLaws
 pub mod PrintedLines
 pub mod Refuted
 pub mod Soundness

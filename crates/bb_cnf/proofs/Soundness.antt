@@ -2,19 +2,14 @@
 use Rattle.std.proofs.Common.{◌≡◌, zero, suc, IfSome, ◌-◌, ℕ, Bool, true, false, not, ◌&&◌, ◌||◌, if◌then◌else◌, Option, Some, None, IsSomeAnd, option_and_then, List, [], ◌∷◌, ◌++◌, length, map, slice_get, All, Any, refl, sym, ◌∙◌, ap, arith}
 use Rattle.std.specs.List.{list_any}
 use Rattle.std.proofs.lemmas.List.Elements.{All-head, All-tail, All-push, All-map, All-weaker}
-use Rattle.std.proofs.lemmas.List.Folds.{list_any-from_Any}
+use Rattle.std.proofs.lemmas.List.Folds.{list_any-from_Any, Any-from_list_any}
 use Rattle.bb_cnf.proofs.Literals.{same_literal-is, same_literal-itself}
 use Rattle.bb_cnf.specs.declared.clauses.Lit.{Lit}
 use Rattle.bb_cnf.specs.declared.refutation.Step.{Step}
-use Rattle.bb_cnf.specs.Clauses.{Literals, literals_of, plain, negated, same_literal}
-use Rattle.bb_cnf.specs.Chains.{resolvent, resolution, chain, made_by, derived, IsEmpty, EndsEmpty}
-use Rattle.bb_cnf.specs.Truth.{bit_of, Satisfies, RefutationsAreSound}
-
--- one of its literals is true
-pub record IsTrueUnder (v : ℕ → Bool) (c : Literals) : Type 0 where
-  pub literal : Lit
-  pub member : c literal ≡ true
-  pub holds : bit_of v literal ≡ true
+use Rattle.bb_cnf.specs.Clauses.{Literals, literals_of, positive, negated, same_literal}
+use Rattle.bb_cnf.specs.Chains.{resolvent, resolution, chain, made_by, derived, IsEmpty, EndsEmpty, IsRefutation}
+use Rattle.bb_cnf.specs.Truth.{bit_of, IsTrueClause, Satisfies, IsTrueUnder, HaveNoModel}
+use Rattle.bb_cnf.specs.Laws.{SoundnessLaws}
 
 -- a literal of c is true, and it is not m: it is in the resolvent
 pub from_current : (v : ℕ → Bool) (c d : Literals) (m n : Lit) (w : IsTrueUnder v c) → same_literal m w.literal ≡ false → IsTrueUnder v (resolvent c d m n)
@@ -42,10 +37,10 @@ resolvent_true v c d m n opposite w u =
       ] refl
     ] refl
 
-pub opposite_plain : (v : ℕ → Bool) (x : ℕ) → bit_of v (plain x) ≡ true → bit_of v (negated x) ≡ false
-opposite_plain v x h = ap not h
+pub opposite_positive : (v : ℕ → Bool) (x : ℕ) → bit_of v (positive x) ≡ true → bit_of v (negated x) ≡ false
+opposite_positive v x h = ap not h
 
-pub opposite_negated : (v : ℕ → Bool) (x : ℕ) → bit_of v (negated x) ≡ true → bit_of v (plain x) ≡ false
+pub opposite_negated : (v : ℕ → Bool) (x : ℕ) → bit_of v (negated x) ≡ true → bit_of v (positive x) ≡ false
 opposite_negated v x h = grind arith
 
 pub choice_true : (P : Literals → Type 0) (b : Bool) (e : Literals) (o : Option Literals) → P e → IfSome o P → IfSome (if b then Some e else o) P
@@ -54,8 +49,8 @@ choice_true P false e o p q = q
 
 pub resolution_true : (v : ℕ → Bool) (c d : Literals) (x : ℕ) → IsTrueUnder v c → IsTrueUnder v d → IfSome (resolution c d x) (IsTrueUnder v)
 resolution_true v c d x w u =
-    choice_true (IsTrueUnder v) (c (plain x) && d (negated x)) _ _ (resolvent_true v c d (plain x) (negated x) (opposite_plain v x) w u)
-    (choice_true (IsTrueUnder v) (c (negated x) && d (plain x)) _ None (resolvent_true v c d (negated x) (plain x) (opposite_negated v x) w u) tt)
+    choice_true (IsTrueUnder v) (c (positive x) && d (negated x)) _ _ (resolvent_true v c d (positive x) (negated x) (opposite_positive v x) w u)
+    (choice_true (IsTrueUnder v) (c (negated x) && d (positive x)) _ None (resolvent_true v c d (negated x) (positive x) (opposite_negated v x) w u) tt)
 
 pub IfSome-and_then : {A B : Type 0} (P : A → Type 0) (Q : B → Type 0) (f : A → Option B) (o : Option A)
     → IfSome o P → ((a : A) → P a → IfSome (f a) Q) → IfSome (option_and_then f o) Q
@@ -104,9 +99,23 @@ not_both P Q (Some a) p q clash = clash a p q
 pub not_empty : (v : ℕ → Bool) (c : Literals) → IsEmpty c → IsTrueUnder v c → ⊥
 not_empty v c empty w = let clash : false ≡ true = sym (empty w.literal) ∙ w.member in cc
 
-pub refutations_are_sound : RefutationsAreSound
+pub refutations_are_sound : (clauses : List (List Lit)) (steps : List Step) → IsRefutation clauses steps → HaveNoModel clauses
 refutations_are_sound clauses steps refutation v solves =
     not_both EndsEmpty (All (IsTrueUnder v)) (derived (map literals_of clauses) steps) refutation.1
     (derived_true v steps (map literals_of clauses) (all_given_true v clauses solves))
     (λ all ends true_all. not_both IsEmpty (IsTrueUnder v) (slice_get all (length all - 1)) ends
     (IfSome-slice_get (IsTrueUnder v) all (length all - 1) true_all) (not_empty v))
+
+true_given : (v : ℕ → Bool) (lits : List Lit) (l : Lit) → literals_of lits l ≡ true → bit_of v l ≡ true → IsTrueClause v lits
+true_given v lits l member holds =
+    let found = Any-from_list_any (λ m. same_literal m l) lits member in
+    (found.0, found.1, found.2, found.3, bit_of-same v found.1 l found.4 ∙ holds)
+
+pub soundness_laws : SoundnessLaws
+soundness_laws = record {
+  clause = λ v lits. (λ w. true_given v lits w.literal w.member w.holds, λ any. given_true v lits (list_any-from_Any (bit_of v) lits any));
+  resolvent = resolution_true;
+  chain = chain_true;
+  derived = derived_true;
+  refutation = refutations_are_sound;
+}

@@ -4,7 +4,7 @@
 use Rattle.std.specs.Prelude.{◌≡◌, ℕ, ◌-◌, ◌<◌, false, ◌&&◌, if◌then◌else◌, Option, Some, None, IsSomeAnd, option_and_then, List, [], ◌∷◌, ◌++◌, length, map, slice_get}
 use Rattle.bb_cnf.specs.declared.clauses.Lit.{Lit}
 use Rattle.bb_cnf.specs.declared.refutation.Step.{Step}
-use Rattle.bb_cnf.specs.Clauses.{Literals, literals_of, plain, negated, without, union}
+use Rattle.bb_cnf.specs.Clauses.{Literals, literals_of, positive, negated, without, union}
 
 -- one clause has the literal m and the other has n, its negation: each loses its own, and the rest is joined
 abbrev pub resolvent : Literals → Literals → Lit → Lit → Literals
@@ -14,8 +14,8 @@ resolvent c d m n = union (without c m) (without d n)
 -- signs. Where both have it with both signs, c loses x and d loses its negation.
 abbrev pub resolution : Literals → Literals → ℕ → Option Literals
 resolution c d x =
-    if c (plain x) && d (negated x) then Some (resolvent c d (plain x) (negated x))
-    else (if c (negated x) && d (plain x) then Some (resolvent c d (negated x) (plain x)) else None)
+    if c (positive x) && d (negated x) then Some (resolvent c d (positive x) (negated x))
+    else (if c (negated x) && d (positive x) then Some (resolvent c d (negated x) (positive x)) else None)
 
 -- what a chain of resolutions, each a clause's number and a variable, makes of the current clause; None where
 -- no earlier clause has the number, or the resolution is none

@@ -7,8 +7,8 @@ use Rattle.bb_cnf.specs.declared.clauses.Lit.{Lit}
 use mathlib.Core.Bool.{beq}
 
 -- the variable itself, and its negation
-abbrev pub plain : ℕ → Lit
-plain x = record { var = x; neg = false }
+abbrev pub positive : ℕ → Lit
+positive x = record { var = x; neg = false }
 
 abbrev pub negated : ℕ → Lit
 negated x = record { var = x; neg = true }

@@ -1,7 +1,8 @@
 pub mod Chains
 pub mod Clauses
-pub mod Current
+pub mod Laws
 pub mod Lines
 pub mod Marks
+pub mod PartialResolvent
 pub mod Printed
 pub mod Truth

@@ -4,10 +4,10 @@ ghost use Rattle.smallvec.specs.SmallVec.{SmallVec as Items};
 ghost use Rattle.bb_cnf.specs.declared.clauses.Lit.{Lit};
 ghost use Rattle.bb_cnf.specs.Clauses.{literals_of, lists_of};
 ghost use Rattle.bb_cnf.specs.Chains.{chain, made_by, IsRefutation};
-ghost use Rattle.bb_cnf.specs.Current.{held, IsTrailed, sets_of};
+ghost use Rattle.bb_cnf.specs.PartialResolvent.{held, AreListed, sets_of};
 ghost use Rattle.bb_cnf.specs.Truth.{HaveNoModel};
 
-use crate::current::Current;
+use crate::partial_resolvent::PartialResolvent;
 use crate::{Cnf, Lit, NoMemory, Refutation, Step};
 use smallvec::SmallVec;
 use std::alloc::Global;
@@ -31,21 +31,21 @@ fn clause<'a>(
 
 // Resolves along a chain, and says whether each resolution is one.
 fn resolve_along(
-    current: &mut Current,
+    so_far: &mut PartialResolvent,
     given: &[SmallVec<Lit, 4>],
     made: &[SmallVec<Lit, 4>],
     rest: &[(u64, u32)],
 ) -> Result<bool, NoMemory>
-    requires { IsTrailed current.old }
-    ensures made { IfOk result (λ yes. yes ≡ true → chain (sets_of given.now ++ sets_of made.now) (held current.old) rest.now ≡ Some (held current.new)) }
-    ensures none { IfOk result (λ yes. yes ≡ false → chain (sets_of given.now ++ sets_of made.now) (held current.old) rest.now ≡ None) }
-    ensures trailed { OnOk result (IsTrailed current.new) }
+    requires { AreListed so_far.old }
+    ensures made { IfOk result (λ yes. yes ≡ true → chain (sets_of given.now ++ sets_of made.now) (held so_far.old) rest.now ≡ Some (held so_far.new)) }
+    ensures none { IfOk result (λ yes. yes ≡ false → chain (sets_of given.now ++ sets_of made.now) (held so_far.old) rest.now ≡ None) }
+    ensures listed { OnOk result (AreListed so_far.new) }
 {
     for (number, var) in rest {
         let Some(named) = clause(given, made, *number) else {
             return Ok(false);
         };
-        if !current.resolve(named, *var)? {
+        if !so_far.resolve(named, *var)? {
             return Ok(false);
         }
     }
@@ -53,50 +53,50 @@ fn resolve_along(
 }
 
 // Begins with a clause.
-fn begin(current: &mut Current, first: &[Lit]) -> Result<(), NoMemory>
-    requires empty { (l : Lit) → held current.old l ≡ false }
-    requires trailed { IsTrailed current.old }
-    ensures held { OnOk result (held current.new ≡ literals_of first.now) }
-    ensures trailed { OnOk result (IsTrailed current.new) }
+fn begin(so_far: &mut PartialResolvent, first: &[Lit]) -> Result<(), NoMemory>
+    requires empty { (l : Lit) → held so_far.old l ≡ false }
+    requires listed { AreListed so_far.old }
+    ensures held { OnOk result (held so_far.new ≡ literals_of first.now) }
+    ensures listed { OnOk result (AreListed so_far.new) }
 {
-    current.put_all(first)?;
+    so_far.put_all(first)?;
     Ok(())
 }
 
 // Gives out the clause that the chain has come to.
-fn finish(alloc: Global, current: &mut Current) -> Result<SmallVec<Lit, 4>, NoMemory>
-    requires { IsTrailed current.old }
-    ensures given { IfOk result (λ clause. literals_of clause.items ≡ held current.old) }
-    ensures empty { OnOk result ((l : Lit) → held current.new l ≡ false) }
-    ensures trailed { OnOk result (IsTrailed current.new) }
+fn finish(alloc: Global, so_far: &mut PartialResolvent) -> Result<SmallVec<Lit, 4>, NoMemory>
+    requires { AreListed so_far.old }
+    ensures given { IfOk result (λ clause. literals_of clause.items ≡ held so_far.old) }
+    ensures empty { OnOk result ((l : Lit) → held so_far.new l ≡ false) }
+    ensures listed { OnOk result (AreListed so_far.new) }
 {
-    let clause = current.drain(alloc)?;
+    let clause = so_far.drain(alloc)?;
     Ok(clause)
 }
 
 // Makes the clause of a step, if its chain stands.
 fn make(
     alloc: Global,
-    current: &mut Current,
+    so_far: &mut PartialResolvent,
     given: &[SmallVec<Lit, 4>],
     made: &[SmallVec<Lit, 4>],
     step: &Step,
 ) -> Result<Option<SmallVec<Lit, 4>>, NoMemory>
-    requires empty { (l : Lit) → held current.old l ≡ false }
-    requires trailed { IsTrailed current.old }
+    requires empty { (l : Lit) → held so_far.old l ≡ false }
+    requires listed { AreListed so_far.old }
     ensures some { IfOk result (λ next. IfSome next (λ clause. made_by (sets_of given.now ++ sets_of made.now) step.now ≡ Some (literals_of clause.items))) }
     ensures none { IfOk result (λ next. IfNone next (made_by (sets_of given.now ++ sets_of made.now) step.now ≡ None)) }
-    ensures empty { IfOk result (λ next. OnSome next ((l : Lit) → held current.new l ≡ false)) }
-    ensures trailed { IfOk result (λ next. OnSome next (IsTrailed current.new)) }
+    ensures empty { IfOk result (λ next. OnSome next ((l : Lit) → held so_far.new l ≡ false)) }
+    ensures listed { IfOk result (λ next. OnSome next (AreListed so_far.new)) }
 {
     let Some(first) = clause(given, made, step.first) else {
         return Ok(None);
     };
-    begin(current, first)?;
-    if !resolve_along(current, given, made, &step.rest)? {
+    begin(so_far, first)?;
+    if !resolve_along(so_far, given, made, &step.rest)? {
         return Ok(None);
     }
-    let clause = finish(alloc, current)?;
+    let clause = finish(alloc, so_far)?;
     Ok(Some(clause))
 }
 
@@ -115,9 +115,9 @@ fn refutes(alloc: Global, given: &[SmallVec<Lit, 4>], steps: &[Step]) -> Result<
     ensures { IfOk result (λ yes. IsTrue yes ↔ IsRefutation (lists_of given.now) steps.now) }
 {
     let mut made = Vec::new(alloc);
-    let mut current = Current::new(alloc);
+    let mut so_far = PartialResolvent::new(alloc);
     for step in steps {
-        let Some(clause) = make(alloc, &mut current, given, &made, step)? else {
+        let Some(clause) = make(alloc, &mut so_far, given, &made, step)? else {
             return Ok(false);
         };
         made.push(clause)?;
@@ -126,7 +126,7 @@ fn refutes(alloc: Global, given: &[SmallVec<Lit, 4>], steps: &[Step]) -> Result<
 }
 
 /// Is the list a refutation of the clauses: are there steps, does each chain of resolutions stand, and is the
-/// last step's clause empty? It takes time in proportion to the clauses that the chains name.
+/// last step's clause empty?
 pub fn check(alloc: Global, cnf: &Cnf, refutation: &Refutation) -> Result<bool, NoMemory>
     ensures exact { IfOk result (λ yes. IsTrue yes ↔ IsRefutation cnf.now.clauses refutation.now.steps.items) }
     ensures none { IfOk result (λ yes. IsTrue yes → HaveNoModel cnf.now.clauses) }

@@ -1,7 +1,8 @@
 // Literals and lists of clauses.
-ghost use Rattle.std.specs.Prelude.{◌≡◌, ◌≤◌, ◌↔◌, All, IsTrue, IsSome, IfSome, map};
+ghost use Rattle.std.specs.Prelude.{◌≡◌, ◌≤◌, ◌↔◌, All, IsTrue, IsSome, IfSome, OnOk, OnErr, map, [], ◌∷◌, ◌++◌};
 ghost use Rattle.smallvec.specs.SmallVec.{SmallVec as Items};
 
+use crate::NoMemory;
 use smallvec::SmallVec;
 use std::marker::Model;
 
@@ -42,6 +43,24 @@ impl Cnf {
         } else {
             None
         }
+    }
+
+    /// Adds a clause behind the others.
+    pub fn push(&mut self, clause: SmallVec<Lit, 4>) -> Result<(), NoMemory>
+        requires { All (λ l. (1 ≤ l.var) × (l.var ≤ self.old.vars)) clause.items }
+        ensures ok { OnOk result (self.new ≡ record { vars = self.old.vars; clauses = self.old.clauses ++ clause.items ∷ [] }) }
+        ensures err { OnErr result (self.new ≡ self.old) }
+    {
+        self.clauses.push(clause)?;
+        Ok(())
+    }
+
+    /// Raises the number of variables.
+    pub fn raise_vars(&mut self, vars: u32)
+        requires { self.old.vars ≤ vars }
+        ensures { self.new ≡ record { vars = vars; clauses = self.old.clauses } }
+    {
+        self.vars = vars;
     }
 }
 

@@ -1,7 +1,21 @@
-// What a reader expects of the definitions.
-ghost use Rattle.bb_cnf.specs.Truth.{RefutationsAreSound};
+//! What a reader expects of the definitions. Each function has laws as its contract and does nothing.
 
-/// A refutation leaves no assignment that makes all clauses true.
-pub fn refutations_are_sound()
-    ensures { RefutationsAreSound }
+ghost use Rattle.bb_cnf.specs.Laws.{ChainLaws, SoundnessLaws, ModelLaws};
+
+/// Chains and steps, one part after another.
+#[tactic(auto, using(crate::proofs::ChainLaws::chain_laws))]
+pub fn chains()
+    ensures { ChainLaws }
+{}
+
+/// What is derived is true where the given clauses are; so a refutation leaves no assignment that makes all true.
+#[tactic(auto, using(crate::proofs::Soundness::soundness_laws))]
+pub fn refutations()
+    ensures { SoundnessLaws }
+{}
+
+/// Assignments, and models as lists of bits.
+#[tactic(auto, using(crate::proofs::ModelLaws::model_laws))]
+pub fn models()
+    ensures { ModelLaws }
 {}

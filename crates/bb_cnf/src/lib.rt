@@ -4,15 +4,14 @@
 
 mod checker;
 mod clauses;
-mod current;
-mod laws;
+pub mod laws;
 mod marks;
+mod partial_resolvent;
 mod printer;
 mod refutation;
 
 pub use checker::check;
 pub use clauses::{Cnf, Lit};
-pub use laws::refutations_are_sound;
 pub use printer::print;
 pub use refutation::{Refutation, Step};
 pub use std::alloc::AllocError as NoMemory;

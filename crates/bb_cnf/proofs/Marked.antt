@@ -31,13 +31,13 @@ left true s h n = refl
 left false true h n = n
 left false false h n = h
 
--- the other literals are still on the trail
-pub trail_kept : (h h' : Literals) (trail rest : List Lit) (lit : Lit) → ((m : Lit) → h m ≡ true → literals_of trail m ≡ true)
-    → trail ≡ rest ++ lit ∷ [] → ((m : Lit) → h' m ≡ without h lit m) → (m : Lit) → h' m ≡ true → literals_of rest m ≡ true
-trail_kept h h' trail rest lit before trail_is now m held =
+-- the other literals are still on the list
+pub listed_kept : (h h' : Literals) (marked rest : List Lit) (lit : Lit) → ((m : Lit) → h m ≡ true → literals_of marked m ≡ true)
+    → marked ≡ rest ++ lit ∷ [] → ((m : Lit) → h' m ≡ without h lit m) → (m : Lit) → h' m ≡ true → literals_of rest m ≡ true
+listed_kept h h' marked rest lit before marked_is now m held =
     let parts = and_true (h m) (not (same_literal lit m)) (sym (now m) ∙ held) in
     left (literals_of rest m) (same_literal lit m)
-    (sym (literals_of-push rest lit m) ∙ ap (λ xs. literals_of xs m) (sym trail_is) ∙ before m parts.0) parts.1
+    (sym (literals_of-push rest lit m) ∙ ap (λ xs. literals_of xs m) (sym marked_is) ∙ before m parts.0) parts.1
 
 spread : (b t x n : Bool) → ((b || (t && n)) || (x && n)) ≡ (b || ((t || x) && n))
 spread true t x n = refl

@@ -1,0 +1,9 @@
+use Rattle.std.proofs.Common.{◌≡◌, take}
+use Rattle.bb_cnf.specs.declared.clauses.Lit.{Lit}
+use Rattle.bb_cnf.specs.Clauses.{literals_of, union}
+use Rattle.bb_cnf.specs.PartialResolvent.{held, AreListed}
+use Rattle.bb_cnf.proofs.partial_resolvent.PartialResolvent.put_all.Given as goal
+
+abbrev pub invariant-loop-lit : goal.invariant-loop-lit
+invariant-loop-lit l =
+    ((m : Lit) → held l.self m ≡ union (held l.initial.self) (literals_of (take l.lit-index l.lits)) m) × AreListed l.self
