@@ -1,3 +1,4 @@
+pub mod OrderLemmas
 pub mod Steps
 pub mod ChoiceLaws
 pub mod ChoiceTables

@@ -1,6 +1,9 @@
 pub mod Agreement
 pub mod Conditions
+pub mod Loose
+pub mod NetFaults
 pub mod Netlists
+pub mod Orders
 pub mod Pairs
 pub mod Ternary
 pub mod Values

@@ -22,6 +22,13 @@ impl Model for BoxPins {
 }
 
 impl BoxPins {
+    /// The pins of a box with these places.
+    pub fn of(ins: Vec<u32>, outs: Vec<u32>) -> BoxPins
+        ensures pins { result ≡ record { ins = ins.items; outs = outs.items } }
+    {
+        BoxPins { ins, outs }
+    }
+
     /// The places of the cells at the input pins.
     pub fn ins(&self) -> &[u32]
         ensures ins { result.now ≡ self.now.ins }
