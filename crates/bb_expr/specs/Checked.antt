@@ -23,8 +23,8 @@ abbrev pub syntax : ModuleFacts → PlainModule
 syntax c = module_view c.source
 
 -- some text of at most 33,554,432 bytes reads as these modules
-abbrev pub IsRead : List PlainModule → Type 0
-IsRead modules = (text : List ℕ) × (length text ≤ 33554432) × ReadsAs text modules
+abbrev pub HasText : List PlainModule → Type 0
+HasText modules = (text : List ℕ) × (length text ≤ 33554432) × ReadsAs text modules
 
 pub record HasNets (c : ModuleFacts) : Type 0 where
   pub nets : c.nets ≡ nets_of (syntax c)
@@ -32,6 +32,6 @@ pub record HasNets (c : ModuleFacts) : Type 0 where
   pub empty : c.empty ≡ is_empty (syntax c)
 
 pub record IsChecked (modules : List ModuleFacts) : Type 0 where
-  pub read : IsRead (map syntax modules)
+  pub read : HasText (map syntax modules)
   pub sound : IsSound (map syntax modules)
   pub each : All HasNets modules

@@ -1,7 +1,7 @@
 -- What the declarations of a module say of a name (IEEE 1364-2005, 4.2, 4.11 and 12.3, in a profile). A declaration
 -- counts in its whole module, whatever stands before it; where a name is declared twice, the first declaration counts. An
 -- undeclared name in a gate's terminal, in a connection or on the left of assign is a wire of one bit (4.5).
-use Rattle.std.specs.Prelude.{ℕ, Bool, true, false, not, ◌&&◌, ◌||◌, List, [], ◌++◌, map, Option, Some, None, option_map, option_to_list, is_some, unwrap_or}
+use Rattle.std.specs.Prelude.{ℕ, Bool, true, false, not, ◌&&◌, ◌||◌, if◌then◌else◌, List, [], ◌++◌, map, Option, Some, None, option_map, option_to_list, is_some, unwrap_or}
 use Rattle.std.specs.List.{find, filter, flat_map, list_any}
 use Rattle.std.specs.Option.{option_and_then, option_map_or}
 use Rattle.bb_bits.specs.Names.{same_name}
@@ -72,13 +72,13 @@ is_instance m n = option_map_or (λ d. d.instance) (declaration_of m n) false
 abbrev pub range_of : PlainModule → List ℕ → Option Range
 range_of m n = option_and_then (λ d. d.range) (declaration_of m n)
 
--- the first kind that is declared, else a wire
+-- the first kind that is declared, else a wire; an instance has none
 abbrev pub kind_of : PlainModule → List ℕ → NetKind
-kind_of m n = unwrap_or (option_and_then (λ d. d.kind) (find (λ d. same_name d.name n && is_some d.kind) (declarations m))) Wire
+kind_of m n = if is_instance m n then Wire else unwrap_or (option_and_then (λ d. d.kind) (find (λ d. same_name d.name n && is_some d.kind) (declarations m))) Wire
 
--- the first direction that is declared
+-- the first direction that is declared; an instance has none
 abbrev pub direction_of : PlainModule → List ℕ → Option Dir
-direction_of m n = option_and_then (λ d. d.dir) (find (λ d. same_name d.name n && is_some d.dir) (declarations m))
+direction_of m n = if is_instance m n then None else option_and_then (λ d. d.dir) (find (λ d. same_name d.name n && is_some d.dir) (declarations m))
 
 -- a port is a name of the header
 abbrev pub is_port : PlainModule → List ℕ → Bool

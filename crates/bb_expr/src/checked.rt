@@ -1,3 +1,5 @@
+//! A source without faults: its modules with their nets.
+
 ghost use Rattle.std.specs.Prelude.{◌≡◌, map};
 ghost use Rattle.bb_expr.specs.Checked.{module_facts, IsChecked};
 

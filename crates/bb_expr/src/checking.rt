@@ -1,8 +1,10 @@
+//! The faults of a source, or its modules with their nets.
+
 ghost use Rattle.std.specs.Prelude.{◌≡◌, ◌⊎◌, IfOk, IfErr, MatchResult, map};
 ghost use Rattle.bb_ast.specs.Views.{source_view};
 ghost use Rattle.bb_expr.specs.declared.fault.NameFault.{NameFault};
 ghost use Rattle.bb_expr.specs.declared.fault.NameFault.TheVariants.{NoMemory};
-ghost use Rattle.bb_expr.specs.Checked.{IsRead, syntax};
+ghost use Rattle.bb_expr.specs.Checked.{HasText, syntax};
 ghost use Rattle.bb_expr.specs.Faults.{IsSound, IsFirstFault};
 
 use crate::checked::Checked;
@@ -15,7 +17,7 @@ use std::alloc::Global;
 /// Faults come statement by statement in text order. In one statement what is declared twice comes first, then what is not
 /// known, then bits that no net has, then widths, then what may not stand where it stands; and in each of these the leftmost.
 pub fn check(alloc: Global, source: Source) -> Result<Checked, NameFault>
-    requires read { IsRead (source_view source) }
+    requires read { HasText (source_view source) }
 
     // What is answered is the same modules, without a fault, or the first fault.
     ensures ok { IfOk result (λ checked. map syntax checked ≡ source_view source) }

@@ -1,3 +1,5 @@
+//! Why a source is refused.
+
 use bb_bits::Name;
 use std::alloc::{AllocError, AllocFailed};
 use thiserror::Error;

@@ -1,3 +1,5 @@
+//! Expressions as steps on bits.
+
 ghost use Rattle.std.specs.Prelude.{◌≡◌, ◌≤◌, ◌-◌, ◌^◌, IfOk, min};
 ghost use Rattle.bb_ast.specs.Views.{expression};
 ghost use Rattle.bb_expr.specs.Cells.{cell_count};

@@ -1,3 +1,5 @@
+//! The nets of a module.
+
 use bb_ast::{Dir, Range};
 use bb_bits::Name;
 

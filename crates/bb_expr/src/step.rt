@@ -1,3 +1,5 @@
+//! Steps on bits.
+
 /// One step of an expression: a constant, a bit of a net, or an operator on the bits of earlier steps.
 #[derive(Clone, Copy, Debug, PartialEq, Eq)]
 pub enum BitStep {
