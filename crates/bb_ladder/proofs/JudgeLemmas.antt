@@ -4,8 +4,6 @@ use lib.Pointwise.{pointwise}
 use Rattle.bb_bits.specs.Names.{same_name}
 use Rattle.bb_narrow.specs.Designs.{Design}
 use Rattle.bb_narrow.specs.Narrow.{Says}
-use Rattle.bb_parse.specs.Laws.{TextsReadOnce}
-use Rattle.bb_narrow.proofs.Laws.{says_one}
 use Rattle.bb_ladder.specs.declared.circuit.Circuit.{Circuit}
 use Rattle.bb_ladder.specs.declared.fault.TextFault.{TextFault}
 use Rattle.bb_ladder.specs.declared.fault.TextFault.TheVariants.{NoMemory}
@@ -39,9 +37,13 @@ pub is_fault : (none : Type 0) (text : List ℕ) (fault : TextFault) → (fault 
 is_fault none text fault (inl memory) never = absurd (never memory)
 is_fault none text fault (inr is) never = is
 
+-- the law that a text says at most one thing
+abbrev pub SaysOnce : Type 0
+SaysOnce = (text : List ℕ) (f g : Design) (s t : Option Design) → Says text f s → Says text g t → (f ≡ g) × (s ≡ t)
+
 -- a text with an empty module is no specification
-pub spec_two : TextsReadOnce → (text : List ℕ) (f : Design) (s : Option Design) → Says text f s → is_some s ≡ true → NoSpec text
-spec_two once text f s says two d is = let e = (says_one once text f s d None says is.0).1 in let clash : false ≡ true = sym (ap is_some e) ∙ two in cc
+pub spec_two : SaysOnce → (text : List ℕ) (f : Design) (s : Option Design) → Says text f s → is_some s ≡ true → NoSpec text
+spec_two once text f s says two d is = let e = (once text f d s None says is.0).1 in let clash : false ≡ true = sym (ap is_some e) ∙ two in cc
 
 -- a text that says nothing is no circuit
 pub spec_nothing : (text : List ℕ) → ((f : Design) (s : Option Design) → Says text f s → ⊥) → NoSpec text
@@ -53,12 +55,12 @@ imp_nothing text never d empty is = never d empty is.0
 pub says_alone : (text : List ℕ) (d : Design) (s : Option Design) → Says text d s → is_some s ≡ false → Says text d None
 says_alone text d s says none = subst (Says text d) (none_of s none) says
 
-pub spec_none : TextsReadOnce → (text : List ℕ) (d : Design) (s : Option Design) → Says text d s → (IsCircuit d None → ⊥) → NoSpec text
-spec_none once text d s says never e is = never (subst (λ m. IsCircuit m None) (sym (says_one once text d s e None says is.0).0) is.1)
+pub spec_none : SaysOnce → (text : List ℕ) (d : Design) (s : Option Design) → Says text d s → (IsCircuit d None → ⊥) → NoSpec text
+spec_none once text d s says never e is = never (subst (λ m. IsCircuit m None) (sym (once text d e s None says is.0).0) is.1)
 
-pub imp_none : TextsReadOnce → (text : List ℕ) (d : Design) (s box : Option Design) → Says text d s → box ≡ s → (IsCircuit d box → ⊥) → NoImp text
+pub imp_none : SaysOnce → (text : List ℕ) (d : Design) (s box : Option Design) → Says text d s → box ≡ s → (IsCircuit d box → ⊥) → NoImp text
 imp_none once text d s box says e never f t is =
-    let same = says_one once text d s f t says is.0 in
+    let same = once text d f s t says is.0 in
     never (subst (λ m. IsCircuit m box) (sym same.0) (subst (IsCircuit f) (sym (e ∙ same.1)) is.1))
 
 pub same_copied : (r : Option (Bor Design)) → option_map (λ e. e.now) r ≡ option_copied r

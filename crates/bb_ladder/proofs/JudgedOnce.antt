@@ -1,20 +1,19 @@
 -- Two texts have one answer.
 use Rattle.std.proofs.Common.{◌≡◌, ℕ, List, Option, None, sym, ap, ◌∙◌, subst, codes}
 use Rattle.bb_narrow.specs.Designs.{Design}
-use Rattle.bb_parse.specs.Laws.{TextsReadOnce}
-use Rattle.bb_narrow.proofs.Laws.{says_one}
 use Rattle.bb_ladder.specs.declared.fault.TextFault.{TextFault}
 use Rattle.bb_ladder.specs.Refusals.{IsTextFault, fault_words, refusal}
 use Rattle.bb_ladder.specs.Report.{Reports}
 use Rattle.bb_ladder.specs.Answers.{IsSpec, IsImp, NoSpec, NoImp, HaveEqualPorts, Judges, SpecRefused, ImpRefused, PairUnknown, Judged}
+use Rattle.bb_ladder.proofs.JudgeLemmas.{SaysOnce}
 use Rattle.bb_ladder.proofs.FaultLaws.{fault_once, fault_none}
 use Rattle.bb_ladder.proofs.WorldLawsReport.{report_once}
 
-same_spec : TextsReadOnce → (text : List ℕ) (d e : Design) → IsSpec text d → IsSpec text e → d ≡ e
-same_spec once text d e is other = (says_one once text d None e None is.0 other.0).0
+same_spec : SaysOnce → (text : List ℕ) (d e : Design) → IsSpec text d → IsSpec text e → d ≡ e
+same_spec once text d e is other = (once text d e None None is.0 other.0).0
 
-same_imp : TextsReadOnce → (text : List ℕ) (d e : Design) (s t : Option Design) → IsImp text d s → IsImp text e t → (d ≡ e) × (s ≡ t)
-same_imp once text d e s t is other = says_one once text d s e t is.0 other.0
+same_imp : SaysOnce → (text : List ℕ) (d e : Design) (s t : Option Design) → IsImp text d s → IsImp text e t → (d ≡ e) × (s ≡ t)
+same_imp once text d e s t is other = once text d e s t is.0 other.0
 
 no_spec : (text : List ℕ) (fault : TextFault) (d : Design) → IsTextFault (NoSpec text) text fault → IsSpec text d → ⊥
 no_spec text fault d f is = fault_none (NoSpec text) text fault is.0.0 f is.0.1 d is
@@ -36,7 +35,7 @@ same_reports : (s i d j : Design) (empty other_empty : Option Design) (status : 
 same_reports s i d j empty other_empty status text e f g reports =
     subst (λ z. Reports z i empty status text) (sym e) (subst (λ z. Reports d z empty status text) (sym f) (subst (λ z. Reports d j z status text) (sym g) reports))
 
-pub judged_once : TextsReadOnce → (spec imp : List ℕ) (status other : ℕ) (text more : List ℕ) → Judges spec imp status text → Judges spec imp other more → (status ≡ other) × (text ≡ more)
+pub judged_once : SaysOnce → (spec imp : List ℕ) (status other : ℕ) (text more : List ℕ) → Judges spec imp status text → Judges spec imp other more → (status ≡ other) × (text ≡ more)
 judged_once once spec imp status other text more (SpecRefused f is p s) (SpecRefused g also q t) =
     same_refusal (codes "spec") f g status other text more (fault_once (NoSpec spec) spec f g is also) p q s t
 judged_once once spec imp status other text more (SpecRefused f is p s) (ImpRefused d reads g also q t) = absurd (no_spec spec f d is reads)

@@ -12,7 +12,7 @@ use crate::fault::{TextFault, push_fault};
 use crate::read::designs_in;
 use crate::report::compare_circuits;
 use bb_bits::{Name, NoMemory};
-use bb_parse::laws::{texts_are_long, texts_read_once};
+use bb_narrow::{says_at_most_one, text_is_long_enough};
 use std::alloc::Global;
 
 // The circuit of a specification, which has no box.
@@ -21,8 +21,8 @@ fn specification(alloc: Global, text: &[u8]) -> Result<Circuit, TextFault>
     ensures ok { IfOk result (λ circuit. (d : Design) × IsSpec text.now d × IsCircuitOf d None circuit.net circuit.ins.items circuit.outs.items) }
     ensures fault { IfErr result (λ fault. (fault ≡ TextFault.NoMemory) ⊎ IsTextFault (NoSpec text.now) text.now fault) }
 {
-    texts_read_once();
-    texts_are_long();
+    says_at_most_one();
+    text_is_long_enough();
     let Some(designs) = designs_in(alloc, text)? else {
         return Err(TextFault::NotYet);
     };
@@ -41,8 +41,8 @@ fn implementation(alloc: Global, text: &[u8]) -> Result<Circuit, TextFault>
     ensures ok { IfOk result (λ circuit. (d : Design) × (empty : Option Design) × IsImp text.now d empty × IsCircuitOf d empty circuit.net circuit.ins.items circuit.outs.items) }
     ensures fault { IfErr result (λ fault. (fault ≡ TextFault.NoMemory) ⊎ IsTextFault (NoImp text.now) text.now fault) }
 {
-    texts_read_once();
-    texts_are_long();
+    says_at_most_one();
+    text_is_long_enough();
     let Some(designs) = designs_in(alloc, text)? else {
         return Err(TextFault::NotYet);
     };

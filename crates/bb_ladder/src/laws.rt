@@ -9,7 +9,7 @@ ghost use Rattle.bb_ladder.specs.Report.{MayBe, unknown, FailsAt, Reports};
 ghost use Rattle.bb_ladder.specs.Answers.{HaveEqualPorts, Judges};
 ghost use Rattle.bb_ladder.specs.Laws.{settled, FillsBox};
 
-use bb_parse::laws::texts_read_once;
+use bb_narrow::says_at_most_one;
 
 /// Two worlds of a circuit with the same vector have the same bits at every net that has a driver, and so have two worlds in
 /// three values.
@@ -84,5 +84,5 @@ pub fn texts_are_judged_once()
     ensures { (spec imp : List ℕ) (status other : ℕ) (text more : List ℕ)
         → Judges spec imp status text → Judges spec imp other more → (status ≡ other) × (text ≡ more) }
 {
-    texts_read_once();
+    says_at_most_one();
 }

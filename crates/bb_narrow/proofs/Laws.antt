@@ -2,7 +2,6 @@
 use Rattle.std.proofs.Common.{◌≡◌, ℕ, List, [], ◌∷◌, Option, Some, ap, sym, ◌∙◌, subst}
 use Rattle.bb_ast.specs.Syntax.{PlainModule}
 use Rattle.bb_parse.specs.Laws.{TextsReadOnce}
-use Rattle.bb_parse.proofs.LawProofs.{texts_read_once}
 use Rattle.bb_narrow.specs.Designs.{Design}
 use Rattle.bb_narrow.specs.Narrow.{AreDesigns, Alone, WithEmpty, Says, design_of}
 
@@ -29,7 +28,3 @@ pub says_at_most_one : TextsReadOnce → (text : List ℕ) (f : Design) (s : Opt
 says_at_most_one once text f s g t p q =
     let same : q.0 ≡ p.0 = once text q.0 p.0 q.1 p.1 in
     designs_same p.0 f s g t p.2 (subst (λ (modules : List PlainModule). AreDesigns modules g t) same q.2)
-
--- the same, for the proofs of crates above that do not call the law yet
-pub says_one : (text : List ℕ) (f : Design) (s : Option Design) (g : Design) (t : Option Design) → Says text f s → Says text g t → (f ≡ g) × (s ≡ t)
-says_one = says_at_most_one texts_read_once

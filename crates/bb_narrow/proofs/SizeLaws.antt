@@ -7,8 +7,7 @@ use Rattle.std.proofs.lemmas.List.Sums.{sum_by-cons, sum_by-append}
 use Rattle.bb_ast.specs.declared.module.Gate.{Gate}
 use Rattle.bb_ast.specs.Syntax.{Expression, PlainConns, Order, Named, PlainBody, Gates, Calls, PlainItem, PlainModule}
 use Rattle.bb_parse.specs.Laws.{TextsAreLong}
-use Rattle.bb_parse.proofs.LawProofs.{texts_are_long}
-use Rattle.bb_parse.specs.Sizes.{expression_size, optional_size, pair_size, conns_size, gate_size, call_size, item_size, module_size}
+use Rattle.bb_parse.specs.Sizes.{expression_size, optional_size, conns_size, gate_size, call_size, item_size, module_size}
 use Rattle.bb_narrow.specs.Designs.{Design, Part, terminal_count}
 use Rattle.bb_narrow.specs.Narrow.{AreDesigns, Alone, WithEmpty, Says, design_of, parts_of, gate_part, instance_part, place_name, place_names, net_name}
 
@@ -67,7 +66,3 @@ long_enough long text first second p =
     let modules = long text p.0 p.1 in
     let designs = designs_short p.0 first second p.2 in
     (omega arith, omega arith)
-
--- the same, for the proofs of crates above that do not call the law yet
-pub says_short : (text : List ℕ) (first : Design) (second : Option Design) → Says text first second → (length first.ports + 2 + terminal_count first.parts ≤ length text) × (length first.parts ≤ length text)
-says_short = long_enough texts_are_long

@@ -1,5 +1,4 @@
 use Rattle.std.proofs.Common.{◌∙◌, arith, inr}
-use Rattle.bb_narrow.proofs.SizeLaws.{says_short}
 use Rattle.bb_ladder.proofs.JudgeLemmas.{imp_nothing, imp_none, same_copied}
 use Rattle.bb_ladder.proofs.judge.implementation.Goals as goal
 
@@ -11,13 +10,13 @@ returns-in_default-clause-fault c =
 pub circuit_of-requires-clause-room : goal.circuit_of-requires-clause-room
 circuit_of-requires-clause-room c =
     let says = rw c.in-Some.is at c.in_ok-designs.ensures.some in
-    let short = says_short c.texts_are_long.ensures c.args.text.now c.in-Some.designs.first c.in-Some.designs.second says in
+    let short = c.text_is_long_enough.ensures c.args.text.now c.in-Some.designs.first c.in-Some.designs.second says in
     omega (arith, short.0, c.requires)
 
 pub circuit_of-requires-clause-parts : goal.circuit_of-requires-clause-parts
 circuit_of-requires-clause-parts c =
     let says = rw c.in-Some.is at c.in_ok-designs.ensures.some in
-    let short = says_short c.texts_are_long.ensures c.args.text.now c.in-Some.designs.first c.in-Some.designs.second says in
+    let short = c.text_is_long_enough.ensures c.args.text.now c.in-Some.designs.first c.in-Some.designs.second says in
     omega (arith, short.1, c.requires)
 
 pub returns-in_default-2-clause-fault : goal.returns-in_default-2-clause-fault
@@ -27,6 +26,6 @@ returns-in_default-2-clause-fault c =
     inr (
       reads.0,
       reads.1,
-      imp_none c.texts_read_once.ensures c.args.text.now c.in-Some.designs.first c.in-Some.designs.second _ says (same_copied c.as_ref.result ∙ c.as_ref.ensures.value)
+      imp_none c.says_at_most_one.ensures c.args.text.now c.in-Some.designs.first c.in-Some.designs.second _ says (same_copied c.as_ref.result ∙ c.as_ref.ensures.value)
           (rw c.in_default-2.is at c.in_ok-circuit.ensures.none),
     )
