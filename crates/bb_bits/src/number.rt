@@ -1,3 +1,5 @@
+//! The number that bits spell.
+
 ghost use Rattle.std.specs.Prelude.{◌≡◌, ℕ, ◌+◌, ◌*◌, ◌<◌, ◌≤◌, ◌^◌, Bool, if◌then◌else◌, List, [], ◌∷◌, ◌++◌, length};
 ghost use Rattle.bb_bits.specs.Numbers.{number_of, bits_of};
 

@@ -1,3 +1,5 @@
+//! Netlists are built cell by cell.
+
 ghost use Rattle.std.specs.Prelude.{◌≡◌, ◌+◌, ◌<◌, ◌^◌, ◌∷◌, ◌++◌, [], ℕ, All, length, slice_set, vec_len, IfOk, OnOk, OnErr};
 ghost use Rattle.bb_net.specs.Netlists.{box_at, MayFollow, with_pin, with_cell, with_box, with_out};
 

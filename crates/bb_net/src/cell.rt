@@ -1,3 +1,5 @@
+//! The cells of a netlist.
+
 /// A cell of a netlist: a constant, an input, a gate over earlier cells, or an output pin of a box.
 ///
 /// A cell names other cells by their places in the list, counted from 0. `Input(i)` is input `i`, `Mux(c, t, e)` is

@@ -1,3 +1,5 @@
+//! Netlists, and the pins of their boxes.
+
 ghost use Rattle.std.specs.Prelude.{◌≡◌, ◌+◌, ◌<◌, ◌^◌, [], IfOk};
 ghost use Rattle.bb_net.specs.Netlists.{Netlist, Pins, first_cells, IsNetlist};
 

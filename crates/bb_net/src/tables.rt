@@ -1,3 +1,5 @@
+//! Values of a netlist whose boxes hold tables.
+
 ghost use Rattle.std.specs.Prelude.{◌≡◌, ◌+◌, ◌<◌, ◌≤◌, ℕ, All, length, map};
 ghost use Rattle.bb_bits.specs.Numbers.{number_of};
 ghost use Rattle.bb_bits.specs.Tables.{table_bit};

@@ -1,3 +1,5 @@
+//! Values of a netlist in three values.
+
 ghost use Rattle.std.specs.Prelude.{◌≡◌, ◌+◌, ◌<◌, ◌≤◌, ℕ, Bool, List, [], length, map, Option, Some};
 ghost use Rattle.bb_net.specs.Netlists.{Netlist, IsNetlist, IsOrdered, ReadsBefore, cell_at};
 ghost use Rattle.bb_net.specs.Values.{bit_of, value_of, flat};

@@ -1,3 +1,5 @@
+//! Values of a netlist for free box outputs.
+
 ghost use Rattle.std.specs.Prelude.{◌≡◌, ◌≢◌, ◌+◌, ◌<◌, ◌≤◌, ℕ, [], length, slice_index, take, Bool, List};
 ghost use Rattle.bb_net.specs.Netlists.{Netlist, IsOrdered, IsPinAt, ReadsBefore, cell_at};
 ghost use Rattle.bb_net.specs.Values.{bit_of, gate, output_pins, value_of, IsValue, flat};
