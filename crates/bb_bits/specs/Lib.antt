@@ -2,7 +2,7 @@ pub mod Bits
 pub mod Contents
 pub mod Names
 pub mod Numbers
-pub mod TableLaws
+pub mod RowLaws
 pub mod Tables
 pub mod Truth
 pub mod TruthLaws

@@ -6,13 +6,10 @@ use Rattle.std.specs.Prelude.{[], ◌≡◌, ℕ, ◌+◌, ◌<◌, zero, suc, B
 use Rattle.std.specs.List.{range_with_len, slice_index_or}
 use Rattle.bb_bits.specs.Numbers.{number_of}
 use Rattle.bb_bits.specs.Tables.{TableBits, HasAllBits, table_bit}
+pub use Rattle.bb_bits.specs.Bits.{xor}
 use Rattle.bb_net.specs.declared.cell.Cell.{Cell}
 use Rattle.bb_net.specs.declared.cell.Cell.TheVariants.{Const, Input, Not, And, Or, Xor, Mux, BoxOut}
 use Rattle.bb_net.specs.Netlists.{Netlist, Pins, cell_at, box_at}
-
--- 1 where the two bits differ
-abbrev pub xor : Bool → Bool → Bool
-xor a b = if a then not b else b
 
 -- the bit at a place of a list of bits
 abbrev pub bit_of : List Bool → ℕ → Bool

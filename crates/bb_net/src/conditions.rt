@@ -3,7 +3,7 @@
 
 ghost use Rattle.std.specs.Prelude.{◌≡◌, ◌<◌, ◌≤◌, ◌^◌, ◌⊎◌, ℕ, Bool, List, length, All};
 ghost use Rattle.bb_bits.specs.Numbers.{number_of, bits_of};
-ghost use Rattle.bb_bits.specs.TableLaws.{RowsHaveShape, BitsAreChosen, RowsHaveTable};
+ghost use Rattle.bb_bits.specs.RowLaws.{RowsHaveShape, BitsAreChosen, RowsHaveTable};
 ghost use Rattle.bb_net.specs.Netlists.{Netlist, IsNetlist};
 ghost use Rattle.bb_net.specs.Agreement.{IsVector};
 ghost use Rattle.bb_net.specs.Conditions.{KnownWrongAmong, MayBeRightAmong, IsFirstHit, KnownWrongSomewhere, MayBeRightEverywhere, OneAlwaysWrong, EachSometimesRight, SomeAlwaysWrong, AllSometimesRight, SomeChoicesSuit, NoChoicesSuit, SomeTablesAgree, NoTablesAgree};
