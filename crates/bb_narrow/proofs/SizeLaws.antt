@@ -8,7 +8,7 @@ use Rattle.bb_ast.specs.declared.module.Gate.{Gate}
 use Rattle.bb_ast.specs.Syntax.{Expression, PlainConns, Order, Named, PlainBody, Gates, Calls, PlainItem, PlainModule}
 use Rattle.bb_parse.specs.Laws.{TextsAreLong}
 use Rattle.bb_parse.proofs.LawProofs.{texts_are_long}
-use Rattle.bb_parse.specs.Sizes.{expression_size, optional_size, pair_size, conns_size, gate_size, call_size, item_size, module_size}
+use Rattle.bb_parse.specs.Sizes.{expression_size, optional_size, conns_size, gate_size, call_size, item_size, module_size}
 use Rattle.bb_narrow.specs.Designs.{Design, Part, terminal_count}
 use Rattle.bb_narrow.specs.Narrow.{AreDesigns, Alone, WithEmpty, Says, design_of, parts_of, gate_part, instance_part, place_name, place_names, net_name}
 
