@@ -1,5 +1,5 @@
 -- The laws of cuts, token lists and numbers.
-use Rattle.std.proofs.Common.{◌≡◌, ◌⊎◌, ℕ, zero, suc, ◌+◌, ◌*◌, ◌/◌, ◌%◌, ◌^◌, true, false, List, [], ◌∷◌, ◌++◌, length, length-append, map, sym, refl, ap, ◌∙◌, arith, ⊎_elim, inl, inr, eqb-true, eq-eqb, Ok, Err, Result}
+use Rattle.std.proofs.Common.{◌≡◌, ◌⊎◌, ℕ, zero, suc, ◌+◌, ◌*◌, ◌/◌, ◌%◌, ◌^◌, true, List, [], ◌∷◌, ◌++◌, length, length-append, map, sym, refl, ap, ◌∙◌, arith, ⊎_elim, inl, inr, eqb-true, eq-eqb, Ok, Err, Result}
 use Rattle.std.specs.Prelude.{◌==◌, ◌&&◌, Vec, IfOk, IfErr, MatchResult}
 use Rattle.std.specs.Global.{Global}
 use Rattle.bb_lex.specs.declared.token.Token.{Token}
@@ -10,7 +10,7 @@ use Rattle.std.proofs.lemmas.Nat.{mod-pow-add}
 use Rattle.std.proofs.lemmas.List.{length-map}
 use Rattle.bb_lex.specs.Numbers.{spelled, number, radix_of, low_bits, bit_value}
 use Rattle.bb_lex.specs.Reading.{sized_bits_of}
-use Rattle.bb_lex.specs.Cut.{AreTokens, IsBadOn, tokens_behind, line_behind}
+use Rattle.bb_lex.specs.Cut.{AreTokens, tokens_behind, line_behind}
 use Rattle.bb_lex.specs.Laws.{CutsAreOne, TokensAreOne, BadPlacesAreOne, BadLinesAreOne, CutOrBad, NotBoth, TokensOrBadLine, NotTokensAndBadLine, TokensStandInText, TokensRise, LowBitsSpell, EndsAtFirstPlace, TokensEndPastTheirPlaces, TokensAreFew, NamesArePrintable, SizedTokensSayBits, SizedBitsAreOne, SizedBitsFit, PlainValuesFit, ReadBitsAreSaid, ReadPiecesAreLongest, LongestPiecesAreRead, NoneIsReadWhereNoneBegins}
 use Rattle.bb_lex.specs.Skips.{EndsAtFirst}
 use Rattle.bb_lex.proofs.Choices.{cases_of, from_match, left_true, right_true, both_true}

@@ -1,9 +1,8 @@
 -- The bytes of a name are printable, and there are some.
-use Rattle.std.proofs.Common.{◌≡◌, ℕ, ◌<◌, true, false, Option, Some, None, List, [], ◌∷◌, length, sym, ap, ◌∙◌, subst, arith}
+use Rattle.std.proofs.Common.{◌≡◌, ℕ, ◌<◌, true, false, List, [], ◌∷◌, length, sym, subst, arith}
 use Rattle.std.specs.Prelude.{◌==◌, drop}
 use Rattle.std.proofs.lemmas.Bool.Decides.{nat_tests}
 use Rattle.bb_lex.specs.declared.token.Kind.{Kind}
-use Rattle.bb_lex.specs.declared.token.Kind.TheVariants.{Sized, Plain, Mark as MarkKind}
 use Rattle.bb_lex.specs.declared.token.Token.{Token}
 use Rattle.bb_lex.specs.Bytes.{begins_identifier, is_identifier_byte, is_graphic, Each}
 use Rattle.bb_lex.specs.Pieces.{IsIdentifier, IsToken}

@@ -62,7 +62,8 @@ pub record IsBadOn (text : List ℕ) (line : ℕ) : Type 0 where
 abbrev pub bytes_of : Token → List ℕ → List ℕ
 bytes_of token text = slice_range text token.start token.«end»
 
--- a token of that text: its span lies in it, and its bytes are a token of its kind where they stand
+-- a token that could stand in that text: its span lies in it, and its bytes are a token of its kind before what follows them;
+-- whether the cut of the text has it is for AreTokens to say
 pub record IsTokenOf (token : Token) (text : List ℕ) : Type 0 where
   pub in_order : token.start ≤ token.«end»
   pub within : token.«end» ≤ length text

@@ -1,22 +1,20 @@
 -- What the tokens of a text mean is well formed: each rule of the grammar takes well-formed symbols to well-formed syntax.
-use Rattle.std.proofs.Common.{◌≡◌, ℕ, zero, suc, ◌<◌, ◌≤◌, ◌^◌, List, [], ◌∷◌, ◌++◌, Option, Some, None, Bool, true, sym, subst, arith, length, inl, inr, IfSome}
+use Rattle.std.proofs.Common.{◌≡◌, ℕ, zero, suc, ◌≤◌, List, [], ◌∷◌, Option, Some, None, true, sym, subst, arith, length, inl, inr, IfSome}
 use Rattle.std.specs.List.{AllByRecursion}
 use Rattle.std.proofs.lemmas.Bool.Decides.{nat_tests}
 use Rattle.bb_ast.specs.declared.expr.Op.{Op}
 use Rattle.bb_ast.specs.declared.module.Port.{Port}
 use Rattle.bb_ast.specs.declared.module.PortKind.{PortKind}
-use Rattle.bb_ast.specs.declared.module.Range.{Range}
 use Rattle.bb_ast.specs.Syntax.{Expression, Net, Bit, Part, Concat, Repeat, operands, arms, parts}
-use Rattle.bb_ast.specs.Syntax.{PlainConns, Order, Named, PlainBody, Ports, Nets, Regs, Supply, Assign, Gates, Calls, Always, PlainItem, PlainHead, PlainModule}
+use Rattle.bb_ast.specs.Syntax.{Order, Named, PlainBody, Ports, Nets, Regs, Supply, Assign, Gates, Calls, Always, PlainItem, PlainHead, PlainModule}
 use Rattle.bb_ast.specs.Formed.{IsPrintable, IsSmall, IsFormedExpression, AreFormedOperands, AreFormedArms, AreFormedParts, SomeEach, IsFormedRange, IsFormedPort, IsFormedPair, IsFormedAssignment, IsFormedGate, IsFormedConns, IsFormedCall, IsFormedBody, IsFormedHead, IsFormed}
 use Rattle.bb_lex.specs.declared.mark.Mark.TheVariants.{Comma, Query, Colon, RightRound, Equals, LessEqual, Semicolon}
-use Rattle.bb_lex.specs.declared.token.Kind.{Kind}
 use Rattle.bb_lex.specs.declared.token.Kind.TheVariants as kinds
 use Rattle.bb_lex.specs.declared.token.Token.{Token}
 use Rattle.bb_lex.specs.Bytes.{is_graphic, Each}
-use Rattle.bb_lex.specs.Cut.{AreTokens, IsTokenOf}
+use Rattle.bb_lex.specs.Cut.{IsTokenOf}
 use Rattle.bb_lex.specs.Laws.{TokensStandInText, NamesArePrintable, SizedBitsFit, PlainValuesFit}
-use Rattle.bb_lex.specs.Meaning.{name_of, plain_value_of, IsNameOrWord}
+use Rattle.bb_lex.specs.Meaning.{name_of, IsNameOrWord}
 use Rattle.bb_parse.specs.declared.level.Level.{Level}
 use Rattle.bb_parse.specs.declared.level.Level.TheVariants as levels
 use Rattle.bb_parse.specs.Symbols.{Symbol, Identifier, Reserved, SizedNumber, PlainNumber, Sign, IsSymbol, AreSymbols}
@@ -24,7 +22,7 @@ use Rattle.bb_parse.specs.Lists.{Rule, IsName, IsOptional, IsMore, IsList}
 use Rattle.bb_parse.specs.Expressions.{IsSelect, IsPrimary, select, sized, plain, round, concat, repeat, IsSigns, negated, IsUnary, IsOperands, chained, IsChain, IsAndx, IsXorx, IsOrx, IsArms, conditional, IsExpr, IsLval}
 use Rattle.bb_parse.specs.Declarations.{IsRange, IsPortKind, IsPort, IsPlainHead, IsNextPort, IsMoreDeclared, AreDeclared, AreHeads, absent, empty, named, declared, IsHeader}
 use Rattle.bb_parse.specs.Items.{IsAssigned, IsNet, IsAssignment, AreTerminals, IsGate, IsPlace, IsNamed, AreConns, IsCall, IsClock, IsItem}
-use Rattle.bb_parse.specs.Sources.{IsFirst, AreItems, IsSource, ReadsAs}
+use Rattle.bb_parse.specs.Sources.{IsFirst, AreItems, IsSource}
 use Rattle.bb_parse.specs.Laws.{SourcesAreFormed}
 use Rattle.bb_parse.proofs.ReadLaws.{all_of_text}
 use Rattle.bb_parse.proofs.SourceLoop.{all_parts}

@@ -1,5 +1,5 @@
 -- Laws of sources, from what reading finds; and what the public call says, from what it reads.
-use Rattle.std.proofs.Common.{◌≡◌, ◌⊎◌, inl, inr, ℕ, suc, List, [], ◌∷◌, Option, Result, Ok, Err, refl, subst, arith, MatchResult, IfOk, IfErr, All}
+use Rattle.std.proofs.Common.{◌≡◌, ◌⊎◌, inl, inr, ℕ, suc, List, [], ◌∷◌, Result, Ok, Err, refl, subst, arith, MatchResult, IfOk, IfErr, All}
 use Rattle.std.specs.List.{AllByRecursion}
 use Rattle.bb_ast.specs.declared.module.Source.{Source}
 use Rattle.bb_ast.specs.Syntax.{PlainModule}

@@ -1,20 +1,19 @@
 -- A source is no larger than its list of tokens: each rule of the grammar takes as many symbols as its meaning counts.
-use Rattle.std.proofs.Common.{◌≡◌, ℕ, zero, suc, ◌+◌, ◌≤◌, List, [], ◌∷◌, ◌++◌, Option, Some, None, ap, ◌∙◌, arith, length, length-append, inl, inr}
+use Rattle.std.proofs.Common.{◌≡◌, ℕ, zero, suc, ◌+◌, ◌≤◌, List, [], ◌∷◌, Option, Some, None, ap, ◌∙◌, arith, length, length-append, inl, inr}
 use Rattle.std.specs.List.{sum_by}
 use Rattle.std.proofs.lemmas.List.Sums.{sum_by-cons}
 use Rattle.bb_ast.specs.declared.expr.Op.{Op}
 use Rattle.bb_ast.specs.declared.module.Port.{Port}
 use Rattle.bb_ast.specs.declared.module.PortKind.{PortKind}
 use Rattle.bb_ast.specs.declared.module.Range.{Range}
-use Rattle.bb_ast.specs.Syntax.{Expression, Net, Bit, Part, Concat, Repeat, operands, arms, parts}
+use Rattle.bb_ast.specs.Syntax.{Expression, Net, Bit, Part, operands, arms, parts}
 use Rattle.bb_ast.specs.Syntax.{PlainConns, Order, Named, PlainBody, Ports, Nets, Regs, Supply, Assign, Gates, Calls, Always, PlainItem, PlainHead, PlainModule}
-use Rattle.bb_lex.specs.declared.mark.Mark.TheVariants.{Query, Colon, Comma}
+use Rattle.bb_lex.specs.declared.mark.Mark.TheVariants.{Query, Colon}
 use Rattle.bb_lex.specs.declared.token.Token.{Token}
-use Rattle.bb_lex.specs.Cut.{AreTokens}
 use Rattle.bb_lex.specs.Laws.{TokensAreFew}
 use Rattle.bb_parse.specs.declared.level.Level.{Level}
 use Rattle.bb_parse.specs.declared.level.Level.TheVariants as levels
-use Rattle.bb_parse.specs.Symbols.{Symbol, Sign, AreSymbols}
+use Rattle.bb_parse.specs.Symbols.{Symbol, Sign}
 use Rattle.bb_parse.specs.Lists.{Rule, IsName, IsOptional, IsMore, IsList}
 use Rattle.bb_parse.specs.Expressions.{IsSelect, IsPrimary, select, sized, plain, round, concat, repeat, IsSigns, negated, IsUnary, IsOperands, chained, IsChain, IsAndx, IsXorx, IsOrx, IsArms, conditional, IsExpr, IsLval}
 use Rattle.bb_parse.specs.Declarations.{IsRange, IsPortKind, IsPort, IsPlainHead, IsNextPort, IsMoreDeclared, AreDeclared, AreHeads, absent, empty, named, declared, IsHeader}
