@@ -15,6 +15,3 @@ pub use clauses::{Cnf, Lit};
 pub use printer::print;
 pub use refutation::{Refutation, Step};
 pub use std::alloc::AllocError as NoMemory;
-
-#[cfg(test)]
-mod tests;

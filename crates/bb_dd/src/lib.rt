@@ -9,8 +9,6 @@ mod diagrams;
 mod fault;
 mod key;
 mod terminal;
-#[cfg(test)]
-mod tests;
 
 pub use bb_uniq::{Ref, View};
 pub use diagrams::Diagrams;

@@ -2,6 +2,10 @@
 #![tactic(auto)]
 
 #[cfg(test)]
+mod clause_tests;
+#[cfg(test)]
+mod diagram_tests;
+#[cfg(test)]
 mod example_tests;
 #[cfg(test)]
 mod fault_tests;

@@ -3,7 +3,5 @@
 
 pub mod laws;
 mod store;
-#[cfg(test)]
-mod tests;
 
 pub use store::{Node, Ref, Store, StoreFault, View};

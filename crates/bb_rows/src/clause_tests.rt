@@ -1,4 +1,6 @@
-use super::*;
+//! The checker of refutations and the printed lines, through public calls.
+
+use bb_cnf::{Cnf, Lit, Refutation, Step, check, print};
 use smallvec::SmallVec;
 use std::alloc::Global;
 use std::test::Fail;
@@ -100,6 +102,22 @@ fn the_lines_name_clauses_and_variables(rt: HostRuntime) -> Result<(), Fail> {
         )?;
         let want = b"clause 0 1\nclause 1 -1 2\nclause 2 -2\nstep 3 0 1/1 2/2\n";
         assert_eq!(rt; text.as_slice(), want.as_slice());
+    }
+    Ok(())
+}
+
+#[test]
+fn a_formula_grows_by_clauses_and_variables(rt: HostRuntime) -> Result<(), Fail> {
+    let alloc = rt.alloc();
+    let first = Cnf::new(1, clauses(alloc, &[&[1]])?);
+    assert!(rt; first.is_some());
+    if let Some(mut cnf) = first {
+        cnf.raise_vars(2);
+        let mut lits = SmallVec::new(alloc);
+        lits.push(Lit { var: 2, neg: true })?;
+        cnf.push(lits)?;
+        assert_eq!(rt; cnf.vars, 2);
+        assert_eq!(rt; cnf.clauses.len(), 2);
     }
     Ok(())
 }
