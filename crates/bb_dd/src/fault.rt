@@ -5,7 +5,7 @@ use bb_uniq::StoreFault;
 /// Why a diagram is not made.
 #[derive(Clone, Copy, Debug, PartialEq, Eq)]
 pub enum DdFault {
-    /// The beads that are held, with those of the result, are more than the limit.
+    /// With its result the store would hold more beads than its limit.
     Full,
     NoMemory,
 }

@@ -22,7 +22,7 @@ module_facts c = record { source = c.module; nets = c.nets.items; index = c.inde
 abbrev pub syntax : ModuleFacts → PlainModule
 syntax c = module_view c.source
 
--- some text of at most 33,554,432 bytes reads as these modules
+-- the modules are those of a text that is no longer than a file may be
 abbrev pub HasText : List PlainModule → Type 0
 HasText modules = (text : List ℕ) × (length text ≤ 33554432) × ReadsAs text modules
 

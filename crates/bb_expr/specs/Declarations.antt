@@ -1,5 +1,5 @@
 -- What the declarations of a module say of a name (IEEE 1364-2005, 4.2, 4.11 and 12.3, in a profile). A declaration
--- counts in its whole module, whatever stands before it; where a name is declared twice, the first declaration counts. An
+-- counts for the module as a whole, also for what stands earlier; where a name is declared twice, the first declaration counts. An
 -- undeclared name in a gate's terminal, in a connection or on the left of assign is a wire of one bit (4.5).
 use Rattle.std.specs.Prelude.{ℕ, Bool, true, false, not, ◌&&◌, ◌||◌, if◌then◌else◌, List, [], ◌++◌, map, Option, Some, None, option_map, option_to_list, is_some, unwrap_or}
 use Rattle.std.specs.List.{find, filter, flat_map, list_any}

@@ -14,8 +14,8 @@ use std::alloc::Global;
 
 /// The modules of a source with their nets, or the first fault of the source.
 ///
-/// Faults come statement by statement in text order. In one statement what is declared twice comes first, then what is not
-/// known, then bits that no net has, then widths, then what may not stand where it stands; and in each of these the leftmost.
+/// The statements are looked at one after another. In each, what is declared twice comes first, then what is not known,
+/// then bits that no net has, then widths, then what may not stand where it stands; and in each of these the leftmost.
 pub fn check(alloc: Global, source: Source) -> Result<Checked, NameFault>
     requires read { HasText (source_view source) }
 

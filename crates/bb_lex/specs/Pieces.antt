@@ -44,7 +44,7 @@ abbrev pub kind_of_word : Option Keyword → Kind
 kind_of_word None = Name
 kind_of_word (Some keyword) = Word keyword
 
--- a run of decimal digits and _ that begins with a digit
+-- a digit, and then digits and _
 abbrev pub IsDecimalRun : List ℕ → Type 0
 IsDecimalRun [] = ⊥
 IsDecimalRun (b ∷ bytes) = (is_ascii_digit b ≡ true) × Each is_decimal_byte bytes

@@ -7,7 +7,7 @@ use crate::{FileFault, Files};
 use std::alloc::Global;
 use std::marker::Model;
 
-/// Files in memory. A name that is not in the list holds the empty text, and of two equal names the first counts.
+/// Files in memory. Looking up an unknown name gives the empty text, and of files with one name the first is found.
 #[derive(Debug, Drop)]
 pub struct MemFiles {
     files: Vec<(String, Vec<u8>)>,

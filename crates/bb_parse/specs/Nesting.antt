@@ -1,5 +1,5 @@
--- How deep a statement nests: the greatest value of a counter over its symbols. ( { and ? add one; ) and } take one away, and
--- so does : outside square brackets. Neither the counter nor that of square brackets falls below 0.
+-- How deep a statement nests: the greatest value of a counter over its symbols. It is raised by ( { and ? and lowered by ) and },
+-- and by : where no [ is open. Neither this counter nor the one of open square brackets falls below 0.
 use Rattle.std.specs.Prelude.{ℕ, ◌+◌, ◌-◌, ◌==◌, List, [], ◌∷◌, max, if◌then◌else◌}
 use Rattle.bb_lex.specs.declared.mark.Mark.{Mark}
 use Rattle.bb_lex.specs.declared.mark.Mark.TheVariants.{LeftRound, RightRound, LeftSquare, RightSquare, LeftBrace, RightBrace, Colon, Query}
