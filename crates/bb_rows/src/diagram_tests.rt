@@ -88,7 +88,7 @@ fn four_bits(d: &Diagrams, f: Ref) -> [bool; 4]
 }
 
 #[test]
-fn each_operation_at_the_four_points(rt: HostRuntime) -> Result<(), Fail> {
+fn complement_and_disjunction_at_the_four_points(rt: HostRuntime) -> Result<(), Fail> {
     let mut d = Diagrams::start(rt.alloc(), 2, 10, 1)?;
     let a = d.var(0)?;
     let b = d.var(1)?;
@@ -104,6 +104,14 @@ fn each_operation_at_the_four_points(rt: HostRuntime) -> Result<(), Fail> {
             hi: Ref(1)
         }
     );
+    Ok(())
+}
+
+#[test]
+fn exclusive_disjunction_at_the_four_points(rt: HostRuntime) -> Result<(), Fail> {
+    let mut d = Diagrams::start(rt.alloc(), 2, 10, 1)?;
+    let a = d.var(0)?;
+    let b = d.var(1)?;
     let f = d.xor(a, b)?;
     assert_eq!(rt; four_bits(&d, f), [false, true, true, false]);
     Ok(())
