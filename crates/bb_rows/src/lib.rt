@@ -2,30 +2,16 @@
 #![tactic(auto)]
 
 #[cfg(test)]
-mod clause_tests;
-#[cfg(test)]
-mod diagram_tests;
-#[cfg(test)]
 mod example_tests;
 #[cfg(test)]
 mod fault_tests;
-#[cfg(test)]
-mod lex_tests;
 mod memory;
 #[cfg(test)]
-mod narrow_tests;
-#[cfg(test)]
-mod net_tests;
-#[cfg(test)]
 mod outside_tests;
-#[cfg(test)]
-mod parse_tests;
 #[cfg(test)]
 mod reference;
 #[cfg(test)]
 mod reference_tests;
-#[cfg(test)]
-mod table_tests;
 #[cfg(test)]
 mod tests;
 

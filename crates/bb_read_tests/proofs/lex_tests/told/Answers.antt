@@ -2,7 +2,7 @@ use Rattle.std.proofs.Common.{List, sym, subst}
 use Rattle.std.specs.Prelude.{All}
 use Rattle.bb_lex.specs.declared.token.Token.{Token}
 use Rattle.bb_lex.specs.Cut.{IsTokenOf}
-use Rattle.bb_rows.proofs.lex_tests.told.Goals as goal
+use Rattle.bb_read_tests.proofs.lex_tests.told.Goals as goal
 
 pub tell_all-requires : goal.tell_all-requires
 tell_all-requires c =

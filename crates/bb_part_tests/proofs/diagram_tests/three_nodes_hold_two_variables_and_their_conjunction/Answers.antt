@@ -1,4 +1,4 @@
-use Rattle.bb_rows.proofs.diagram_tests.three_nodes_hold_two_variables_and_their_conjunction.Goals as goal
+use Rattle.bb_part_tests.proofs.diagram_tests.three_nodes_hold_two_variables_and_their_conjunction.Goals as goal
 
 pub xor-requires-clause-f : goal.xor-requires-clause-f
 xor-requires-clause-f g c = c.ite.ensures.kept.refs c.in_ok-a.a.0 (c.and.ensures.kept.refs c.in_ok-a.a.0 (c.var-2.ensures.kept.refs c.in_ok-a.a.0 c.in_ok-a.ensures.ok.ref))

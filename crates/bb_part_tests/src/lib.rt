@@ -1,0 +1,11 @@
+//! Tests of tables, nets, diagrams and clauses, through the public calls of their crates.
+#![tactic(auto)]
+
+#[cfg(test)]
+mod clause_tests;
+#[cfg(test)]
+mod diagram_tests;
+#[cfg(test)]
+mod net_tests;
+#[cfg(test)]
+mod table_tests;

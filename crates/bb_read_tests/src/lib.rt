@@ -1,0 +1,9 @@
+//! Tests of the crates that read texts, through their public calls.
+#![tactic(auto)]
+
+#[cfg(test)]
+mod lex_tests;
+#[cfg(test)]
+mod narrow_tests;
+#[cfg(test)]
+mod parse_tests;
