@@ -3,6 +3,7 @@
 #![tactic(auto)]
 
 mod expr;
+pub mod laws;
 mod module;
 
 pub use expr::{Expr, Op};

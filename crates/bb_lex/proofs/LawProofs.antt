@@ -9,7 +9,7 @@ use Rattle.bb_lex.specs.Answers.{IsFault, IsAnswer}
 use Rattle.std.proofs.lemmas.Nat.{mod-pow-add}
 use Rattle.std.proofs.lemmas.List.{length-map}
 use Rattle.bb_lex.specs.Numbers.{spelled, number, radix_of, low_bits, bit_value}
-use Rattle.bb_lex.specs.Reading.{sized_bits_of}
+use Rattle.bb_lex.specs.Reading.Numbers.{sized_bits_of}
 use Rattle.bb_lex.specs.Cut.{AreTokens, tokens_behind, line_behind}
 use Rattle.bb_lex.specs.Laws.{CutsAreOne, TokensAreOne, BadPlacesAreOne, BadLinesAreOne, CutOrBad, NotBoth, TokensOrBadLine, NotTokensAndBadLine, TokensStandInText, TokensRise, LowBitsSpell, EndsAtFirstPlace, TokensEndPastTheirPlaces, TokensAreFew, NamesArePrintable, SizedTokensSayBits, SizedBitsAreOne, SizedBitsFit, PlainValuesFit, ReadBitsAreSaid, ReadPiecesAreLongest, LongestPiecesAreRead, NoneIsReadWhereNoneBegins}
 use Rattle.bb_lex.specs.Skips.{EndsAtFirst}

@@ -1,6 +1,10 @@
 ghost use Rattle.std.specs.Prelude.{◌≡◌, option_copied};
 ghost use Rattle.bb_lex.specs.Pieces.{kind_of_word};
-ghost use Rattle.bb_lex.specs.Reading.{at_white, behind_escaped, skipped, token_of, identifier_at, round_at, opened_by, piece_at, seen};
+ghost use Rattle.bb_lex.specs.Reading.Found.{skipped, token_of, seen};
+ghost use Rattle.bb_lex.specs.Reading.Words.{identifier_at};
+ghost use Rattle.bb_lex.specs.Reading.Skips.{at_white, behind_escaped};
+ghost use Rattle.bb_lex.specs.Reading.Marks.{round_at};
+ghost use Rattle.bb_lex.specs.Reading.Pieces.{opened_by, piece_at};
 
 use crate::class::{Class, Opening, is_of, opening_of, past, run};
 use crate::keyword::Keyword;

@@ -12,9 +12,10 @@ use Rattle.bb_lex.specs.declared.mark.Mark.TheVariants.{Comma, Colon, Tilde, Que
 use Rattle.bb_parse.specs.declared.level.Level.{Level}
 use Rattle.bb_parse.specs.declared.level.Level.TheVariants as levels
 use Rattle.bb_parse.specs.Symbols.{Symbol}
-use Rattle.bb_parse.specs.Reading.{Read, is_next, behind, with_front, read_mark, read_more}
-use Rattle.bb_parse.specs.ReadingDeclarations.{read_ansi, read_ansi_more}
-use Rattle.bb_parse.specs.ReadingExpressions.{next_operator, read_operands, read_level, read_arms, with_arms, read_signs, plus_signs}
+use Rattle.bb_parse.specs.Reading.Symbols.{is_next, behind}
+use Rattle.bb_parse.specs.Reading.Steps.{Read, with_front, read_mark, read_more}
+use Rattle.bb_parse.specs.Reading.Declarations.{read_ansi, read_ansi_more}
+use Rattle.bb_parse.specs.Reading.Expressions.{next_operator, read_operands, read_level, read_arms, with_arms, read_signs, plus_signs}
 
 pub with_front-nil : {A : Type 0} (r : Read (List A)) → with_front [] r ≡ r
 with_front-nil None = refl

@@ -8,8 +8,8 @@ use Rattle.bb_parse.specs.declared.level.Level.{Level}
 use Rattle.bb_parse.specs.declared.level.Level.TheVariants as levels
 use Rattle.bb_parse.specs.Symbols.{Symbol, Identifier, Reserved, SizedNumber, PlainNumber, Sign}
 use Rattle.bb_parse.specs.Expressions.{level_operator}
-use Rattle.bb_parse.specs.Reading.{mark_number, is_next, behind}
-use Rattle.bb_parse.specs.ReadingExpressions.{next_operator}
+use Rattle.bb_parse.specs.Reading.Symbols.{mark_number, is_next, behind}
+use Rattle.bb_parse.specs.Reading.Expressions.{next_operator}
 
 mark_numbered : ℕ → Mark
 mark_numbered n =

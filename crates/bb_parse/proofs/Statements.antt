@@ -7,8 +7,8 @@ use Rattle.bb_lex.specs.declared.token.Token.{Token}
 use Rattle.bb_parse.specs.Symbols.{Symbol, Identifier, Reserved, SizedNumber, PlainNumber, Sign}
 use Rattle.bb_parse.specs.Nesting.{mark_count, mark_square, count_behind, square_behind, greatest_from}
 use Rattle.bb_parse.specs.Sources.{ends}
-use Rattle.bb_parse.specs.Reading.{next_kind, behind}
-use Rattle.bb_parse.specs.ReadingSources.{with_token, first_statement, count_at, square_at}
+use Rattle.bb_parse.specs.Reading.Symbols.{next_kind, behind}
+use Rattle.bb_parse.specs.Reading.Sources.{with_token, first_statement, count_at, square_at}
 
 -- with these tokens in front of a statement
 abbrev pub with_tokens : List Token → Option (List Token × List Token) → Option (List Token × List Token)

@@ -8,7 +8,7 @@ use Rattle.bb_lex.specs.declared.token.Token.{Token}
 use Rattle.bb_lex.specs.Cut.{AreTokens}
 use Rattle.bb_parse.specs.declared.fault.ParseFault.{ParseFault}
 use Rattle.bb_parse.specs.Sources.{IsSource, IsFault, ReadsAs}
-use Rattle.bb_parse.specs.ReadingSources.{read_source}
+use Rattle.bb_parse.specs.Reading.Sources.{read_source}
 use Rattle.bb_parse.specs.Sizes.{module_size}
 
 abbrev pub SourcesAreOne : Type 0

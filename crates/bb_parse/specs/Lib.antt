@@ -4,11 +4,7 @@ pub mod Expressions
 pub mod Declarations
 pub mod Items
 pub mod Reading
-pub mod ReadingExpressions
-pub mod ReadingDeclarations
-pub mod ReadingItems
 pub mod Sizes
 pub mod Laws
 pub mod Nesting
 pub mod Sources
-pub mod ReadingSources

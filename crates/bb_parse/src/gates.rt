@@ -1,7 +1,7 @@
 ghost use Rattle.std.specs.Prelude.{◌≡◌, ℕ, List, map};
 ghost use Rattle.bb_ast.specs.Views.{expression, gate_view, body_view};
-ghost use Rattle.bb_parse.specs.Reading.{Gives, read_list};
-ghost use Rattle.bb_parse.specs.ReadingItems.{read_optional_name, read_terms, read_gate, read_gates, gate_of, gates_at};
+ghost use Rattle.bb_parse.specs.Reading.Steps.{Gives, read_list};
+ghost use Rattle.bb_parse.specs.Reading.Items.{read_optional_name, read_terms, read_gate, read_gates, gate_of, gates_at};
 
 use crate::cursor::Cursor;
 use crate::expr::expr;
@@ -26,7 +26,7 @@ fn optional_name(alloc: Global, cursor: &mut Cursor<'_>) -> Result<Option<Name>,
 }
 
 /// The terminals of a gate: two expressions or more, with commas between.
-#[tactic(auto, using(crate::proofs::Loops::terms_looping), unfolding(crate::specs::ReadingItems::read_terms))]
+#[tactic(auto, using(crate::proofs::Loops::terms_looping), unfolding(crate::specs::Reading::Items::read_terms))]
 fn terms(alloc: Global, cursor: &mut Cursor<'_>, depth: u32) -> Result<SmallVec<Expr, 4>, Stop>
     ensures { Gives (λ terms. map expression terms.items) result cursor.new (read_terms depth cursor.old) }
 {
@@ -47,7 +47,7 @@ fn terms(alloc: Global, cursor: &mut Cursor<'_>, depth: u32) -> Result<SmallVec<
 }
 
 /// A gate's name, if it has one, and its terminals.
-#[tactic(auto, unfolding(crate::specs::ReadingItems::read_gate))]
+#[tactic(auto, unfolding(crate::specs::Reading::Items::read_gate))]
 fn gate(alloc: Global, cursor: &mut Cursor<'_>, depth: u32) -> Result<GateCall, Stop>
     ensures { Gives gate_view result cursor.new (read_gate depth cursor.old) }
 {
@@ -77,7 +77,7 @@ fn gate_list(alloc: Global, cursor: &mut Cursor<'_>, depth: u32) -> Result<Vec<G
 }
 
 /// Gates of one function, behind its word.
-#[tactic(auto, unfolding(crate::specs::ReadingItems::read_gates))]
+#[tactic(auto, unfolding(crate::specs::Reading::Items::read_gates))]
 fn gates(alloc: Global, cursor: &mut Cursor<'_>, depth: u32, gate: Gate) -> Result<Body, Stop>
     ensures { Gives body_view result cursor.new (read_gates gate depth cursor.old) }
 {

@@ -1,7 +1,7 @@
 ghost use Rattle.std.specs.Prelude.{◌≡◌, ℕ, List, map};
 ghost use Rattle.bb_ast.specs.Views.{expression, arm_view, named_view, body_view};
-ghost use Rattle.bb_parse.specs.Reading.{Gives, read_list};
-ghost use Rattle.bb_parse.specs.ReadingItems.{read_net, read_nets, read_assignment, read_assign, edge_of, read_clock, read_event, read_always, worded, read_body};
+ghost use Rattle.bb_parse.specs.Reading.Steps.{Gives, read_list};
+ghost use Rattle.bb_parse.specs.Reading.Items.{read_net, read_nets, read_assignment, read_assign, edge_of, read_clock, read_event, read_always, worded, read_body};
 
 use crate::cursor::Cursor;
 use crate::decl::{optional_range, ports, regs, supply};
@@ -16,7 +16,7 @@ use bb_lex::{Keyword, Kind, Mark};
 use std::alloc::Global;
 
 /// A net's name, with the expression that is assigned to it or none.
-#[tactic(auto, unfolding(crate::specs::ReadingItems::read_net))]
+#[tactic(auto, unfolding(crate::specs::Reading::Items::read_net))]
 fn net(alloc: Global, cursor: &mut Cursor<'_>, depth: u32) -> Result<(Name, Option<Expr>), Stop>
     ensures { Gives named_view result cursor.new (read_net depth cursor.old) }
 {
@@ -51,7 +51,7 @@ fn net_list(
 }
 
 /// Nets, behind `wire`.
-#[tactic(auto, unfolding(crate::specs::ReadingItems::read_nets))]
+#[tactic(auto, unfolding(crate::specs::Reading::Items::read_nets))]
 fn nets(alloc: Global, cursor: &mut Cursor<'_>, depth: u32) -> Result<Body, Stop>
     ensures { Gives body_view result cursor.new (read_nets depth cursor.old) }
 {
@@ -62,7 +62,7 @@ fn nets(alloc: Global, cursor: &mut Cursor<'_>, depth: u32) -> Result<Body, Stop
 }
 
 /// A left side, `=` and a right side.
-#[tactic(auto, unfolding(crate::specs::ReadingItems::read_assignment))]
+#[tactic(auto, unfolding(crate::specs::Reading::Items::read_assignment))]
 fn assignment(alloc: Global, cursor: &mut Cursor<'_>, depth: u32) -> Result<(Expr, Expr), Stop>
     ensures { Gives arm_view result cursor.new (read_assignment depth cursor.old) }
 {
@@ -95,7 +95,7 @@ fn assignments(
 }
 
 /// Assignments, behind `assign`.
-#[tactic(auto, unfolding(crate::specs::ReadingItems::read_assign))]
+#[tactic(auto, unfolding(crate::specs::Reading::Items::read_assign))]
 fn assign(alloc: Global, cursor: &mut Cursor<'_>, depth: u32) -> Result<Body, Stop>
     ensures { Gives body_view result cursor.new (read_assign depth cursor.old) }
 {
@@ -116,7 +116,7 @@ fn edge(kind: Option<Kind>) -> Option<bool>
 }
 
 /// A clock: a net or one bit of it.
-#[tactic(auto, unfolding(crate::specs::ReadingItems::read_clock))]
+#[tactic(auto, unfolding(crate::specs::Reading::Items::read_clock))]
 fn clock(alloc: Global, cursor: &mut Cursor<'_>) -> Result<Expr, Stop>
     ensures { Gives expression result cursor.new (read_clock cursor.old) }
 {
@@ -130,7 +130,7 @@ fn clock(alloc: Global, cursor: &mut Cursor<'_>) -> Result<Expr, Stop>
 }
 
 /// The edge and the clock, behind `always`: `@ ( posedge clock )`.
-#[tactic(auto, unfolding(crate::specs::ReadingItems::read_event))]
+#[tactic(auto, unfolding(crate::specs::Reading::Items::read_event))]
 fn event(alloc: Global, cursor: &mut Cursor<'_>) -> Result<(bool, Expr), Stop>
     ensures { Gives (λ x. (x.0, expression x.1)) result cursor.new (read_event cursor.old) }
 {
@@ -146,7 +146,7 @@ fn event(alloc: Global, cursor: &mut Cursor<'_>) -> Result<(bool, Expr), Stop>
 }
 
 /// A register, behind `always`.
-#[tactic(auto, unfolding(crate::specs::ReadingItems::read_always))]
+#[tactic(auto, unfolding(crate::specs::Reading::Items::read_always))]
 fn always(alloc: Global, cursor: &mut Cursor<'_>, depth: u32) -> Result<Body, Stop>
     ensures { Gives body_view result cursor.new (read_always depth cursor.old) }
 {
@@ -188,7 +188,7 @@ fn worded_item(
 }
 
 /// An item of a module.
-#[tactic(auto, unfolding(crate::specs::ReadingItems::read_body))]
+#[tactic(auto, unfolding(crate::specs::Reading::Items::read_body))]
 pub(crate) fn body(alloc: Global, cursor: &mut Cursor<'_>, depth: u32) -> Result<Body, Stop>
     ensures { Gives body_view result cursor.new (read_body depth cursor.old) }
 {

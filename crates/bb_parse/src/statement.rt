@@ -5,7 +5,7 @@ ghost use Rattle.bb_ast.specs.Views.{head_view, body_view};
 ghost use Rattle.bb_lex.specs.Cut.{IsTokenOf};
 ghost use Rattle.bb_parse.specs.Nesting.{nesting};
 ghost use Rattle.bb_parse.specs.Sources.{ends, line_of};
-ghost use Rattle.bb_parse.specs.ReadingSources.{Answers, count_at, square_at, first_statement, read_header_of, read_item_of};
+ghost use Rattle.bb_parse.specs.Reading.Sources.{Answers, count_at, square_at, first_statement, read_header_of, read_item_of};
 
 use crate::cursor::Cursor;
 use crate::fault::ParseFault;
@@ -110,7 +110,7 @@ fn depth(cursor: &mut Cursor<'_>) -> u32
 }
 
 /// The header of a module.
-#[tactic(auto, unfolding(crate::specs::ReadingSources::read_header_of))]
+#[tactic(auto, unfolding(crate::specs::Reading::Sources::read_header_of))]
 pub(crate) fn header_of(
     alloc: Global,
     statement: &[Token],
@@ -138,7 +138,7 @@ pub(crate) fn header_of(
 }
 
 /// An item of a module.
-#[tactic(auto, unfolding(crate::specs::ReadingSources::read_item_of))]
+#[tactic(auto, unfolding(crate::specs::Reading::Sources::read_item_of))]
 pub(crate) fn item_of(alloc: Global, statement: &[Token], text: &[u8]) -> Result<Body, ParseFault>
     requires of_text { AllByRecursion (λ token. IsTokenOf token text.now) statement.now }
     requires small { length statement.now < 2 ^ 32 }

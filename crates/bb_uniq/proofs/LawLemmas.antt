@@ -13,6 +13,7 @@ use Rattle.bb_uniq.proofs.Held.{no_bead, size_of_held}
 use Rattle.bb_uniq.proofs.Making.{IsStore-empty, leaf_table, one_ref, view_means, adds}
 use Rattle.bb_uniq.proofs.Steps.{below_from_table, too_many_first, too_many_second, parts, too_many_last, adds_joined}
 use Rattle.bb_uniq.proofs.Tops.{top_below, inner_top, cofactors}
+use Rattle.bb_uniq.proofs.Views.{leaf_seen, children_differ, branch_at_point}
 
 module _ (given : Given) where
   pub store_laws : StoreLaws
@@ -21,6 +22,9 @@ module _ (given : Given) where
     table_size = λ s r. IsTruthTable-table s s.vars r;
     leaf_table = λ s r l. leaf_table s s.vars r l;
     view_means = view_means given;
+    leaf_seen = leaf_seen;
+    children_differ = children_differ;
+    branch_at_point = branch_at_point given;
     one_ref = one_ref;
     below_is_ref = below_ref;
     top_below = top_below;

@@ -7,3 +7,4 @@ pub mod PlaceLemmas
 pub mod Steps
 pub mod Tables
 pub mod Tops
+pub mod Views

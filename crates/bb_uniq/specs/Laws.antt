@@ -1,8 +1,10 @@
 -- What a reader expects of stores: of one store, of stores that grow, of the step of a recursion over cofactors, and of the
 -- beads that a sequence of calls leaves.
-use Rattle.std.specs.Prelude.{◌≡◌, ◌<◌, ◌≤◌, ◌+◌, ◌==◌, ℕ, suc, List, [], ◌∷◌, All, Contains}
-use Rattle.bb_bits.specs.Truth.{Truth, Halves, IsTruthTable, lifted, constant, IsBeadOfAny}
+use Rattle.std.specs.Prelude.{◌≡◌, ◌≢◌, ◌<◌, ◌≤◌, ◌+◌, ◌==◌, ℕ, suc, Bool, false, if◌then◌else◌, List, [], ◌∷◌, length, slice_index_or, All, Contains}
+use Rattle.bb_bits.specs.Truth.{Truth, Halves, IsTruthTable, truth_at, lifted, constant, IsBeadOfAny}
 use Rattle.bb_bits.specs.TruthSets.{HasMoreThan, HasAtMost}
+use Rattle.bb_uniq.specs.declared.store.Ref.{Ref}
+use Rattle.bb_uniq.specs.declared.store.View.TheVariants as seen
 use Rattle.bb_uniq.specs.Nodes.{NodeStore, IsStore, IsRef, IsBelow, view_of, empty_store}
 use Rattle.bb_uniq.specs.Meaning.{truth_of, branch, IsHeld, HoldsBeadsOf, Keeps, Adds, IsTooMany, ViewMeans}
 use Rattle.bb_uniq.specs.Cofactors.{top_of, lo_seen, hi_seen, AreCofactors, IsReady}
@@ -15,6 +17,12 @@ pub record StoreLaws : Type 0 where
   pub table_size : (s : NodeStore) (r : ℕ) → IsTruthTable s.vars (truth_of s r)
   pub leaf_table : (s : NodeStore) (r : ℕ) → r < 2 → truth_of s r ≡ constant s.vars (r == 1)
   pub view_means : (s : NodeStore) → IsStore s → (r : ℕ) → IsRef s r → ViewMeans s r (view_of s r)
+  -- a leaf is 0 or 1 as its bit is, and the children of a node differ
+  pub leaf_seen : (s : NodeStore) (r : ℕ) (b : Bool) → IsRef s r → view_of s r ≡ seen.Leaf b → r ≡ (if b then 1 else 0)
+  pub children_differ : (s : NodeStore) → IsStore s → (r v : ℕ) (lo hi : Ref) → view_of s r ≡ seen.Node v lo hi → lo.0 ≢ hi.0
+  -- a point leads from a node to the child for its variable's value
+  pub branch_at_point : (s : NodeStore) (v lo hi : ℕ) (point : List Bool) → v < s.vars → length point ≡ s.vars
+      → truth_at (branch s v lo hi) point ≡ (if slice_index_or point v false then truth_at (truth_of s hi) point else truth_at (truth_of s lo) point)
   -- Refs with one table are one Ref
   pub one_ref : (s : NodeStore) → IsStore s → (r q : ℕ) → IsRef s r → IsRef s q → truth_of s r ≡ truth_of s q → r ≡ q
   -- what stands below a variable is a Ref, and its own variable is later; a Ref that is no leaf has a variable

@@ -2,8 +2,8 @@
 use Rattle.std.proofs.Common.{◌≡◌, ◌∙◌, ◌+◌, ◌-◌, true, sym, ap, refl, map}
 use Rattle.bb_ast.specs.Views.{expression, arm_view}
 use Rattle.bb_lex.specs.declared.mark.Mark.TheVariants.{Query}
-use Rattle.bb_parse.specs.Reading.{is_next, behind}
-use Rattle.bb_parse.specs.ReadingExpressions.{read_expr, read_arms, with_arms, conditional_from}
+use Rattle.bb_parse.specs.Reading.Symbols.{is_next, behind}
+use Rattle.bb_parse.specs.Reading.Expressions.{read_expr, read_arms, with_arms, conditional_from}
 use Rattle.bb_parse.proofs.Loops.{arms_next}
 use Rattle.bb_parse.proofs.expr.+expr.Goals as goal
 

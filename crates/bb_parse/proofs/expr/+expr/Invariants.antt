@@ -1,7 +1,7 @@
 use Rattle.std.proofs.Common.{◌≡◌, ◌+◌, ◌-◌, ◌*◌, map}
 use Rattle.bb_ast.specs.Views.{expression, operand_view, arm_view}
-use Rattle.bb_parse.specs.Reading.{with_front, read_list, read_more}
-use Rattle.bb_parse.specs.ReadingExpressions.{read_expr, read_level, read_operand, read_operands, read_arms, read_conditional, with_arms, chain_from, conditional_from}
+use Rattle.bb_parse.specs.Reading.Steps.{with_front, read_list, read_more}
+use Rattle.bb_parse.specs.Reading.Expressions.{read_expr, read_level, read_operand, read_operands, read_arms, read_conditional, with_arms, chain_from, conditional_from}
 use Rattle.bb_parse.proofs.Measures.{tightness}
 use Rattle.bb_parse.proofs.expr.+expr.Given as goal
 

@@ -9,9 +9,10 @@ use Rattle.bb_lex.specs.declared.mark.Mark.TheVariants.{LeftRound, RightRound, L
 use Rattle.bb_lex.specs.declared.token.Kind.{Kind}
 use Rattle.bb_lex.specs.declared.token.Kind.TheVariants as kinds
 use Rattle.bb_parse.specs.Symbols.{Symbol, Identifier, Reserved, SizedNumber, PlainNumber, Sign}
-use Rattle.bb_parse.specs.Reading.{Read, ◌>>=◌, is_next, behind, next_kind, read_mark, read_name, read_plain, with_front, read_list}
-use Rattle.bb_parse.specs.ReadingExpressions.{read_expr, read_lval}
-use Rattle.bb_parse.specs.ReadingDeclarations.{taken, read_optional_range, read_ports, read_regs, read_supply}
+use Rattle.bb_parse.specs.Reading.Symbols.{is_next, behind, next_kind}
+use Rattle.bb_parse.specs.Reading.Steps.{Read, ◌>>=◌, read_mark, read_name, read_plain, with_front, read_list}
+use Rattle.bb_parse.specs.Reading.Expressions.{read_expr, read_lval}
+use Rattle.bb_parse.specs.Reading.Declarations.{taken, read_optional_range, read_ports, read_regs, read_supply}
 
 unfoldable pub read_net : ℕ → List Symbol → Read (List ℕ × Option Expression)
 read_net depth ts = read_name ts >>= (λ n. if is_next Equals n.1 then read_expr depth (behind n.1) >>= (λ e. Some ((n.0, Some e.0), e.1)) else Some ((n.0, None), n.1))

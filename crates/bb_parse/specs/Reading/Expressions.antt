@@ -10,7 +10,8 @@ use Rattle.bb_parse.specs.declared.level.Level.{Level}
 use Rattle.bb_parse.specs.declared.level.Level.TheVariants as levels
 use Rattle.bb_parse.specs.Symbols.{Symbol, Identifier, Reserved, SizedNumber, PlainNumber, Sign}
 use Rattle.bb_parse.specs.Expressions.{level_operator, negated, chained, conditional}
-use Rattle.bb_parse.specs.Reading.{Read, ◌>>=◌, is_next, behind, next_kind, read_mark, read_name, read_sized, read_plain, with_front, read_list}
+use Rattle.bb_parse.specs.Reading.Symbols.{is_next, behind, next_kind}
+use Rattle.bb_parse.specs.Reading.Steps.{Read, ◌>>=◌, read_mark, read_name, read_sized, read_plain, with_front, read_list}
 
 -- behind a name and [
 unfoldable pub read_index : List ℕ → List Symbol → Read Expression

@@ -12,7 +12,8 @@ use Rattle.bb_lex.specs.declared.mark.Mark.TheVariants.{LeftRound, RightRound, L
 use Rattle.bb_lex.specs.declared.token.Kind.{Kind}
 use Rattle.bb_lex.specs.declared.token.Kind.TheVariants as kinds
 use Rattle.bb_parse.specs.Symbols.{Symbol}
-use Rattle.bb_parse.specs.Reading.{Read, ◌>>=◌, is_next, behind, next_kind, read_mark, read_name, read_plain, with_front, read_list}
+use Rattle.bb_parse.specs.Reading.Symbols.{is_next, behind, next_kind}
+use Rattle.bb_parse.specs.Reading.Steps.{Read, ◌>>=◌, read_mark, read_name, read_plain, with_front, read_list}
 
 -- what the next symbol is, taken
 abbrev pub taken : {A : Type 0} → Option A → List Symbol → Read A

@@ -11,9 +11,10 @@ use Rattle.bb_parse.specs.declared.fault.ParseFault.{ParseFault}
 use Rattle.bb_parse.specs.declared.fault.ParseFault.TheVariants.{Statement, Unended, Deep, NoMemory}
 use Rattle.bb_parse.specs.Nesting.{mark_count, mark_square, nesting}
 use Rattle.bb_parse.specs.Sources.{ends, line_of}
-use Rattle.bb_parse.specs.Reading.{symbols, Read, next_kind}
-use Rattle.bb_parse.specs.ReadingDeclarations.{header_at}
-use Rattle.bb_parse.specs.ReadingItems.{read_body}
+use Rattle.bb_parse.specs.Reading.Symbols.{symbols, next_kind}
+use Rattle.bb_parse.specs.Reading.Steps.{Read}
+use Rattle.bb_parse.specs.Reading.Declarations.{header_at}
+use Rattle.bb_parse.specs.Reading.Items.{read_body}
 
 -- What a function returned is what reading gives, unless memory ran out.
 abbrev pub Answers : {X Y : Type 0} → (X → Y) → Result X ParseFault → Result Y ParseFault → Type 0
