@@ -6,7 +6,7 @@ use Rattle.bb_uniq.specs.Nodes.{NodeStore, IsRef, IsBelow, IsStore, view_of}
 use Rattle.bb_uniq.specs.Meaning.{Keeps, Adds, IsTooMany, truth_of}
 use Rattle.bb_uniq.specs.Cofactors.{variable_seen, top_of, lo_seen, hi_seen, AreCofactors, IsReady}
 use Rattle.bb_dd.specs.Results.{result_table}
-use Rattle.bb_dd.specs.Terminals.{Settles, IsGiven, IsSameResult}
+use Rattle.bb_dd.specs.Terminals.{Settles, IsGiven}
 use Rattle.bb_dd.proofs.Given.{Given}
 
 -- what is given is of the store
@@ -26,11 +26,6 @@ result_kept old new kept op f g h f_ref g_ref h_ref =
 
 top_kept : (old new : NodeStore) → Keeps old new → (r : ℕ) → IsRef old r → top_of new r ≡ top_of old r
 top_kept old new kept r ref = ap₂ variable_seen kept.vars (kept.views r ref)
-
-top_of_leaf : (s : NodeStore) (r : ℕ) → r < 2 → top_of s r ≡ s.vars
-top_of_leaf s zero l = refl
-top_of_leaf s (suc zero) l = refl
-top_of_leaf s (suc (suc r)) l = absurd (omega (arith, l))
 
 -- the tables of the halves of t at the variable v, with the operands that make them
 pub record Halved (s : NodeStore) (op : Bool → Bool → Bool → Bool) (t : Truth) (v m f0 g0 h0 f1 g1 h1 : ℕ) : Type 0 where
@@ -65,16 +60,9 @@ module _ (given : Given) where
       let one_bit : truth_at (truth_of s 1) point ≡ true = ap (λ t. truth_at t point) (given.stores.leaf_table s 1 (omega arith)) ∙ given.tables.constant_at_point s.vars true point long in
       settles (λ q. truth_at (truth_of s q) point) zero_bit one_bit ∙ sym (result_at s op f g h point long))
 
-  -- calls with the same bits have one table
-  pub same_table : (s : NodeStore) (op : Bool → Bool → Bool → Bool) (f g h : ℕ) (other : Bool → Bool → Bool → Bool) (i j k : ℕ) → IsSameResult op f g h other i j k → result_table s other i j k ≡ result_table s op f g h
-  same_table s op f g h other i j k same =
-      given.tables.points_fix_table s.vars (result_table s other i j k) (result_table s op f g h) (result_size s other i j k) (result_size s op f g h) (λ point long.
-      let zero_bit : truth_at (truth_of s 0) point ≡ false = ap (λ t. truth_at t point) (given.stores.leaf_table s 0 (omega arith)) ∙ given.tables.constant_at_point s.vars false point long in
-      let one_bit : truth_at (truth_of s 1) point ≡ true = ap (λ t. truth_at t point) (given.stores.leaf_table s 1 (omega arith)) ∙ given.tables.constant_at_point s.vars true point long in
-      result_at s other i j k point long ∙ (same (λ q. truth_at (truth_of s q) point) zero_bit one_bit ∙ sym (result_at s op f g h point long)))
-
-  pub adds_terminal : (s : NodeStore) → IsStore s → (op : Bool → Bool → Bool → Bool) (f g h r : ℕ) (t : Truth) → result_table s op f g h ≡ t → IsRef s f → IsRef s g → IsRef s h → Settles op f g h r → IsGiven f g h r → Adds s s t r
-  adds_terminal s sound op f g h r t e f_ref g_ref h_ref settles told = given.growth.adds_nothing s sound t r (given_ref s f g h r f_ref g_ref h_ref told) (settled_table s op f g h r settles ∙ e)
+  pub adds_terminal : (s : NodeStore) → IsStore s → (op : Bool → Bool → Bool → Bool) (f g h r : ℕ) → IsRef s f → IsRef s g → IsRef s h → Settles op f g h r → IsGiven f g h r → Adds s s (result_table s op f g h) r
+  adds_terminal s sound op f g h r f_ref g_ref h_ref settles told =
+      given.growth.adds_nothing s sound (result_table s op f g h) r (given_ref s f g h r f_ref g_ref h_ref told) (settled_table s op f g h r settles)
 
   -- where no result shows at once, some operand has a variable
   first_within : (s : NodeStore) → IsStore s → (f g h v : ℕ) → IsRef s f → IsRef s g → (f < 2 → g < 2 → ⊥) → v ≡ min (min (top_of s f) (top_of s g)) (top_of s h) → v < s.vars
@@ -92,11 +80,11 @@ module _ (given : Given) where
   cofactors_read s sound v m r lo hi level ref l e =
       subst (λ q. AreCofactors s v m r q hi) (sym e.0) (subst (λ q. AreCofactors s v m r (lo_seen v r (view_of s r)) q) (sym e.1) (given.steps.cofactors s sound v m r level ref l))
 
-  pub halved : (s : NodeStore) → IsStore s → (op : Bool → Bool → Bool → Bool) (t : Truth) (v f g h f0 g0 h0 f1 g1 h1 : ℕ) → result_table s op f g h ≡ t → IsRef s f → IsRef s g → IsRef s h → (f < 2 → g < 2 → ⊥) →
+  pub halved : (s : NodeStore) → IsStore s → (op : Bool → Bool → Bool → Bool) (v f g h f0 g0 h0 f1 g1 h1 : ℕ) → IsRef s f → IsRef s g → IsRef s h → (f < 2 → g < 2 → ⊥) →
       v ≡ min (min (top_of s f) (top_of s g)) (top_of s h) →
       (f0 ≡ lo_seen v f (view_of s f)) × (f1 ≡ hi_seen v f (view_of s f)) → (g0 ≡ lo_seen v g (view_of s g)) × (g1 ≡ hi_seen v g (view_of s g)) → (h0 ≡ lo_seen v h (view_of s h)) × (h1 ≡ hi_seen v h (view_of s h)) →
-      Halved s op t v (s.vars - v - 1) f0 g0 h0 f1 g1 h1
-  halved s sound op t v f g h f0 g0 h0 f1 g1 h1 e f_ref g_ref h_ref inner least at_f at_g at_h =
+      Halved s op (result_table s op f g h) v (s.vars - v - 1) f0 g0 h0 f1 g1 h1
+  halved s sound op v f g h f0 g0 h0 f1 g1 h1 f_ref g_ref h_ref inner least at_f at_g at_h =
       let inside = first_within s sound f g h v f_ref g_ref inner least in
       let m : ℕ = s.vars - v - 1 in
       let level : v + suc m ≡ s.vars = omega (arith, inside) in
@@ -109,7 +97,7 @@ module _ (given : Given) where
         second = combined op x.second y.second z.second;
         first_size = given.tables.combined_size m op x.first y.first z.first x.first_size y.first_size z.first_size;
         second_size = given.tables.combined_size m op x.second y.second z.second x.second_size y.second_size z.second_size;
-        whole = sym e ∙ (three op x.whole y.whole z.whole ∙ given.tables.combined_lifted v op (Halves x.first x.second) (Halves y.first y.second) (Halves z.first z.second));
+        whole = three op x.whole y.whole z.whole ∙ given.tables.combined_lifted v op (Halves x.first x.second) (Halves y.first y.second) (Halves z.first z.second);
         first_is = three op x.lo_table y.lo_table z.lo_table ∙ given.tables.combined_lifted (suc v) op x.first y.first z.first;
         second_is = three op x.hi_table y.hi_table z.hi_table ∙ given.tables.combined_lifted (suc v) op x.second y.second z.second;
         f0_below = x.lo_below;
@@ -122,18 +110,6 @@ module _ (given : Given) where
     where
       three : (op : Bool → Bool → Bool → Bool) {a b c d e i : Truth} → a ≡ d → b ≡ e → c ≡ i → combined op a b c ≡ combined op d e i
       three op p q r = rw (p, q, r) refl
-
-  -- an operand that is given stands no earlier than the first of those it is taken from
-  pub top_of_given : (s : NodeStore) → IsStore s → (f g h r : ℕ) → IsRef s f → IsGiven f g h r → min (min (top_of s f) (top_of s g)) (top_of s h) ≤ top_of s r
-  top_of_given s sound f g h r f_ref (inl leaf) =
-      let top = top_of_leaf s r leaf in
-      elim (cases_lt f 2) [
-        | inl l ↦ let e = top_of_leaf s f l in omega (arith, top, e)
-        | inr node ↦ let l = given.stores.inner_top s sound f f_ref node in omega (arith, top, l)
-      ]
-  top_of_given s sound f g h r f_ref (inr (inl e)) = let k = ap (top_of s) e in omega (arith, k)
-  top_of_given s sound f g h r f_ref (inr (inr (inl e))) = let k = ap (top_of s) e in omega (arith, k)
-  top_of_given s sound f g h r f_ref (inr (inr (inr e))) = let k = ap (top_of s) e in omega (arith, k)
 
   -- the measure falls to operands below
   pub falls : (old new : NodeStore) → Keeps old new → (v n a b c : ℕ) → n ≤ v → v < old.vars → IsBelow old v a → IsBelow old v b → IsBelow old v c →

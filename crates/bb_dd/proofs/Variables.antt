@@ -19,13 +19,6 @@ module _ (given : Given) where
       ap₂ (λ x y. chosen (variable s.vars v) x y) (given.stores.leaf_table s 1 (omega arith)) (given.stores.leaf_table s 0 (omega arith))
       ∙ chosen-constants s.vars (variable s.vars v) (given.tables.variable_size s.vars v l)
 
-  -- the bit of a branch is that of the child that the point leads to
-  pub branch_at_point : (s : NodeStore) (v lo hi : ℕ) (point : List Bool) → v < s.vars → length point ≡ s.vars →
-      truth_at (branch s v lo hi) point ≡ cond (get_or point v false) (truth_at (truth_of s hi) point) (truth_at (truth_of s lo) point)
-  branch_at_point s v lo hi point l long =
-      given.tables.combined_at_point s.vars (λ a b c. cond a b c) (variable s.vars v) (truth_of s hi) (truth_of s lo) point (given.tables.variable_size s.vars v l) (given.stores.table_size s hi) (given.stores.table_size s lo) long
-      ∙ ap (λ b. cond b (truth_at (truth_of s hi) point) (truth_at (truth_of s lo) point)) (given.tables.variable_at_point s.vars v point l long)
-
   -- the steps of a walk along a point
   pub leaf_at_point : (s : NodeStore) (r : ℕ) (b : Bool) (point : List Bool) → truth_of s r ≡ constant s.vars b → length point ≡ s.vars → b ≡ truth_at (truth_of s r) point
   leaf_at_point s r b point e long = sym (ap (λ t. truth_at t point) e ∙ given.tables.constant_at_point s.vars b point long)
@@ -35,11 +28,11 @@ module _ (given : Given) where
   step_to_hi s r v lo hi point l e long bit =
       let x = truth_at (truth_of s hi) point in
       let y = truth_at (truth_of s lo) point in
-      sym (ap (λ t. truth_at t point) e ∙ (branch_at_point s v lo hi point l long ∙ ap (λ b. cond b x y) bit))
+      sym (ap (λ t. truth_at t point) e ∙ (given.stores.branch_at_point s v lo hi point l long ∙ ap (λ b. cond b x y) bit))
 
   pub step_to_lo : (s : NodeStore) (r v lo hi : ℕ) (point : List Bool) → v < s.vars → truth_of s r ≡ branch s v lo hi → length point ≡ s.vars → get_or point v false ≡ false →
       truth_at (truth_of s lo) point ≡ truth_at (truth_of s r) point
   step_to_lo s r v lo hi point l e long bit =
       let x = truth_at (truth_of s hi) point in
       let y = truth_at (truth_of s lo) point in
-      sym (ap (λ t. truth_at t point) e ∙ (branch_at_point s v lo hi point l long ∙ ap (λ b. cond b x y) bit))
+      sym (ap (λ t. truth_at t point) e ∙ (given.stores.branch_at_point s v lo hi point l long ∙ ap (λ b. cond b x y) bit))

@@ -5,10 +5,6 @@ use Rattle.std.specs.Prelude.{◌≡◌, ◌<◌, ◌⊎◌, ℕ, Bool, true, fa
 abbrev pub Settles : (Bool → Bool → Bool → Bool) → ℕ → ℕ → ℕ → ℕ → Type 0
 Settles op f g h r = (bit : ℕ → Bool) → bit 0 ≡ false → bit 1 ≡ true → bit r ≡ op (bit f) (bit g) (bit h)
 
--- both calls have one result, whichever bit each diagram has
-abbrev pub IsSameResult : (Bool → Bool → Bool → Bool) → ℕ → ℕ → ℕ → (Bool → Bool → Bool → Bool) → ℕ → ℕ → ℕ → Type 0
-IsSameResult op f g h other i j k = (bit : ℕ → Bool) → bit 0 ≡ false → bit 1 ≡ true → other (bit i) (bit j) (bit k) ≡ op (bit f) (bit g) (bit h)
-
 -- r is a leaf or one of the operands
 abbrev pub IsGiven : ℕ → ℕ → ℕ → ℕ → Type 0
 IsGiven f g h r = (r < 2) ⊎ ((r ≡ f) ⊎ ((r ≡ g) ⊎ (r ≡ h)))

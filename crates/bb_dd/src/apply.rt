@@ -6,7 +6,7 @@ ghost use Rattle.bb_dd.specs.Operations.{value_of};
 ghost use Rattle.bb_dd.specs.Results.{result_table, AreRight, Leaves};
 
 use crate::cache::{peek, remember};
-use crate::call::{Call, key_of, standard_call};
+use crate::call::{Call, key_of};
 use crate::cofactors::first_cofactors;
 use crate::fault::DdFault;
 use crate::key::{Key, Operation, same_keys};
@@ -56,14 +56,14 @@ pub fn bit_at(store: &Store, f: Ref, point: &[bool]) -> bool
 
 /// The operation on three diagrams, over the later variables first. A result that shows at once or is cached is taken; else
 /// the two halves at the first variable are made, and the node that joins them.
-pub fn apply(store: &mut Store, cache: &mut LruCache<Key, Ref>, asked: Call) -> Result<Ref, DdFault>
+pub fn apply(store: &mut Store, cache: &mut LruCache<Key, Ref>, call: Call) -> Result<Ref, DdFault>
     requires store { IsStore store.old }
     requires entries { AreRight store.old cache.old.entries }
-    requires f { IsRef store.old asked.f.0 }
-    requires g { IsRef store.old asked.g.0 }
-    requires h { IsRef store.old asked.h.0 }
-    ensures ok { IfOk result (λ r. Adds store.old store.new (result_table store.old (value_of asked.operation) asked.f.0 asked.g.0 asked.h.0) r.0) }
-    ensures full { IsErrOf result DdFault.Full → IsTooMany store.old (result_table store.old (value_of asked.operation) asked.f.0 asked.g.0 asked.h.0) }
+    requires f { IsRef store.old call.f.0 }
+    requires g { IsRef store.old call.g.0 }
+    requires h { IsRef store.old call.h.0 }
+    ensures ok { IfOk result (λ r. Adds store.old store.new (result_table store.old (value_of call.operation) call.f.0 call.g.0 call.h.0) r.0) }
+    ensures full { IsErrOf result DdFault.Full → IsTooMany store.old (result_table store.old (value_of call.operation) call.f.0 call.g.0 call.h.0) }
     ensures no_memory { IsErrOf result DdFault.NoMemory → length store.new.nodes < store.new.limit }
     ensures leaves { Leaves store.old store.new cache.old cache.new }
 {
@@ -72,7 +72,6 @@ pub fn apply(store: &mut Store, cache: &mut LruCache<Key, Ref>, asked: Call) -> 
     laws::growth();
     laws::steps();
     same_keys();
-    let call = standard_call(asked);
     if let Some(r) = terminal(call.operation, call.f, call.g, call.h) {
         return Ok(r);
     }

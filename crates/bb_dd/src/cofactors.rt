@@ -25,15 +25,6 @@ fn cofactors_at(seen: View, var: u32, r: Ref) -> (Ref, Ref)
     }
 }
 
-/// What stands at a diagram, where it is known what stands at another.
-fn view_again(store: &Store, r: Ref, other: Ref, seen: View) -> View
-    requires r { IsRef store.now r.0 }
-    requires other { seen ≡ view_of store.now other.0 }
-    ensures { result ≡ view_of store.now r.0 }
-{
-    if r == other { seen } else { store.view(r) }
-}
-
 /// Three diagrams at the first variable on which one of them depends.
 #[derive(Clone, Copy)]
 pub struct Cofactors {
@@ -55,8 +46,8 @@ pub fn first_cofactors(store: &Store, f: Ref, g: Ref, h: Ref) -> Cofactors
 {
     let vars = store.vars();
     let at_f = store.view(f);
-    let at_g = view_again(store, g, f, at_f);
-    let at_h = view_again(store, h, f, at_f);
+    let at_g = store.view(g);
+    let at_h = store.view(h);
     let var = variable_of(vars, at_f)
         .min(variable_of(vars, at_g))
         .min(variable_of(vars, at_h));

@@ -12,34 +12,16 @@ use Rattle.bb_dd.specs.declared.key.Key.TheVariants.{Apply, Quantify}
 use Rattle.bb_dd.specs.Operations.{value_of}
 use Rattle.bb_dd.specs.Results.{result_table, AreRight, Leaves, IsRight}
 use Rattle.bb_dd.proofs.Given.{Given}
-use Rattle.bb_dd.proofs.Halving.{given_ref, adds_terminal, same_table, Halved, halved, top_of_given, falls, refused_first, refused_second, both, result_kept}
+use Rattle.bb_dd.proofs.Halving.{adds_terminal, Halved, halved, falls, refused_first, refused_second, both, result_kept}
 use Rattle.bb_dd.proofs.Recalled.{IsRight-found, AreRight-kept, AreRight-put}
 use Rattle.bb_dd.proofs.Entries.{keeps_self, keeps_then, quantified_put}
 use Rattle.bb_dd.proofs.Faults.{full_result}
 use Rattle.bb_dd.proofs.apply.+apply.Goals as goal
-use Rattle.bb_dd.proofs.apply.+apply.Goals.{After-standard_call-call, After-first_cofactors-at, In_ok-lo, In_ok-hi, In_ok-r}
-
-laws : (t : ℕ) (c : After-standard_call-call t) → Given
-laws t c = record { tables = c.tables.ensures; stores = c.stores.ensures; growth = c.growth.ensures; steps = c.steps.ensures }
-
--- the operands of the call that is made are of the store, and have the table that is asked for
-f_ref : (t : ℕ) (c : After-standard_call-call t) → IsRef c.args.store.now c.standard_call-call.result.f.0
-f_ref t c = given_ref c.args.store.now c.args.asked.f.0 c.args.asked.g.0 c.args.asked.h.0 c.standard_call-call.result.f.0 c.requires.f c.requires.g c.requires.h c.standard_call-call.ensures.f
-
-g_ref : (t : ℕ) (c : After-standard_call-call t) → IsRef c.args.store.now c.standard_call-call.result.g.0
-g_ref t c = given_ref c.args.store.now c.args.asked.f.0 c.args.asked.g.0 c.args.asked.h.0 c.standard_call-call.result.g.0 c.requires.f c.requires.g c.requires.h c.standard_call-call.ensures.g
-
-h_ref : (t : ℕ) (c : After-standard_call-call t) → IsRef c.args.store.now c.standard_call-call.result.h.0
-h_ref t c = given_ref c.args.store.now c.args.asked.f.0 c.args.asked.g.0 c.args.asked.h.0 c.standard_call-call.result.h.0 c.requires.f c.requires.g c.requires.h c.standard_call-call.ensures.h
-
-same : (t : ℕ) (c : After-standard_call-call t) → result_table c.args.store.now (value_of c.standard_call-call.result.operation) c.standard_call-call.result.f.0 c.standard_call-call.result.g.0 c.standard_call-call.result.h.0 ≡ (result_table c.args.store.now (value_of c.args.asked.operation) c.args.asked.f.0 c.args.asked.g.0 c.args.asked.h.0)
-same t c =
-    same_table (laws t c) c.args.store.now (value_of c.args.asked.operation) c.args.asked.f.0 c.args.asked.g.0 c.args.asked.h.0 (value_of c.standard_call-call.result.operation) c.standard_call-call.result.f.0 c.standard_call-call.result.g.0 c.standard_call-call.result.h.0 c.standard_call-call.ensures.same
+use Rattle.bb_dd.proofs.apply.+apply.Goals.{After-first_cofactors-at, In_ok-lo, In_ok-hi, In_ok-r}
 
 pub returns-in-Some-clause-ok : goal.returns-in-Some-clause-ok
 returns-in-Some-clause-ok t c =
-    let at = (goal.at.returns-in-Some-clause-ok t c).After-standard_call-call in
-    adds_terminal (laws t at) c.args.store.now c.requires.store (value_of c.standard_call-call.result.operation) c.standard_call-call.result.f.0 c.standard_call-call.result.g.0 c.standard_call-call.result.h.0 c.in-Some.r.0 (result_table c.args.store.now (value_of c.args.asked.operation) c.args.asked.f.0 c.args.asked.g.0 c.args.asked.h.0) (same t at) (f_ref t at) (g_ref t at) (h_ref t at) c.in-Some.ensures.value c.in-Some.ensures.given
+    adds_terminal (record { tables = c.tables.ensures; stores = c.stores.ensures; growth = c.growth.ensures; steps = c.steps.ensures }) c.args.store.now c.requires.store (value_of c.args.call.operation) c.args.call.f.0 c.args.call.g.0 c.args.call.h.0 c.in-Some.r.0 c.requires.f c.requires.g c.requires.h c.in-Some.ensures.value c.in-Some.ensures.given
 
 pub returns-in-Some-clause-leaves : goal.returns-in-Some-clause-leaves
 returns-in-Some-clause-leaves t c =
@@ -47,11 +29,10 @@ returns-in-Some-clause-leaves t c =
 
 pub returns-in-Some-peek-clause-ok : goal.returns-in-Some-peek-clause-ok
 returns-in-Some-peek-clause-ok t c =
-    let at = (goal.at.returns-in-Some-peek-clause-ok t c).After-standard_call-call in
     let s = c.args.store.now in
     let found = IsRight-found s _ c.same_keys.ensures.same c.args.cache.now.entries c.key_of-key.result c.in-Some-peek.r c.requires.entries (sym c.in-Some-peek.ensures) in
     let right = subst (λ (k : Key). IsRight s (k, c.in-Some-peek.r)) c.key_of-key.ensures found in
-    c.growth.ensures.adds_nothing s c.requires.store (result_table c.args.store.now (value_of c.args.asked.operation) c.args.asked.f.0 c.args.asked.g.0 c.args.asked.h.0) c.in-Some-peek.r.0 right.ref (right.table ∙ same t at)
+    c.growth.ensures.adds_nothing s c.requires.store (result_table c.args.store.now (value_of c.args.call.operation) c.args.call.f.0 c.args.call.g.0 c.args.call.h.0) c.in-Some-peek.r.0 right.ref right.table
 
 pub returns-in-Some-peek-clause-leaves : goal.returns-in-Some-peek-clause-leaves
 returns-in-Some-peek-clause-leaves t c =
@@ -60,34 +41,11 @@ returns-in-Some-peek-clause-leaves t c =
 laws_at : (t : ℕ) (c : After-first_cofactors-at t) → Given
 laws_at t c = record { tables = c.tables.ensures; stores = c.stores.ensures; growth = c.growth.ensures; steps = c.steps.ensures }
 
--- the same after the cofactors were read
-f_ref_at : (t : ℕ) (c : After-first_cofactors-at t) → IsRef c.args.store.now c.standard_call-call.result.f.0
-f_ref_at t c = given_ref c.args.store.now c.args.asked.f.0 c.args.asked.g.0 c.args.asked.h.0 c.standard_call-call.result.f.0 c.requires.f c.requires.g c.requires.h c.standard_call-call.ensures.f
-
-g_ref_at : (t : ℕ) (c : After-first_cofactors-at t) → IsRef c.args.store.now c.standard_call-call.result.g.0
-g_ref_at t c = given_ref c.args.store.now c.args.asked.f.0 c.args.asked.g.0 c.args.asked.h.0 c.standard_call-call.result.g.0 c.requires.f c.requires.g c.requires.h c.standard_call-call.ensures.g
-
-h_ref_at : (t : ℕ) (c : After-first_cofactors-at t) → IsRef c.args.store.now c.standard_call-call.result.h.0
-h_ref_at t c = given_ref c.args.store.now c.args.asked.f.0 c.args.asked.g.0 c.args.asked.h.0 c.standard_call-call.result.h.0 c.requires.f c.requires.g c.requires.h c.standard_call-call.ensures.h
-
-same_at : (t : ℕ) (c : After-first_cofactors-at t) → result_table c.args.store.now (value_of c.standard_call-call.result.operation) c.standard_call-call.result.f.0 c.standard_call-call.result.g.0 c.standard_call-call.result.h.0 ≡ (result_table c.args.store.now (value_of c.args.asked.operation) c.args.asked.f.0 c.args.asked.g.0 c.args.asked.h.0)
-same_at t c =
-    same_table (laws_at t c) c.args.store.now (value_of c.args.asked.operation) c.args.asked.f.0 c.args.asked.g.0 c.args.asked.h.0 (value_of c.standard_call-call.result.operation) c.standard_call-call.result.f.0 c.standard_call-call.result.g.0 c.standard_call-call.result.h.0 c.standard_call-call.ensures.same
-
 -- the halves of the result at the first variable
-halves : (t : ℕ) (c : After-first_cofactors-at t) → Halved c.args.store.now (value_of c.standard_call-call.result.operation) (result_table c.args.store.now (value_of c.args.asked.operation) c.args.asked.f.0 c.args.asked.g.0 c.args.asked.h.0) c.first_cofactors-at.result.var (c.args.store.now.vars - c.first_cofactors-at.result.var - 1) c.first_cofactors-at.result.f.0.0 c.first_cofactors-at.result.g.0.0 c.first_cofactors-at.result.h.0.0 c.first_cofactors-at.result.f.1.0 c.first_cofactors-at.result.g.1.0 c.first_cofactors-at.result.h.1.0
+halves : (t : ℕ) (c : After-first_cofactors-at t) → Halved c.args.store.now (value_of c.args.call.operation) (result_table c.args.store.now (value_of c.args.call.operation) c.args.call.f.0 c.args.call.g.0 c.args.call.h.0) c.first_cofactors-at.result.var (c.args.store.now.vars - c.first_cofactors-at.result.var - 1) c.first_cofactors-at.result.f.0.0 c.first_cofactors-at.result.g.0.0 c.first_cofactors-at.result.h.0.0 c.first_cofactors-at.result.f.1.0 c.first_cofactors-at.result.g.1.0 c.first_cofactors-at.result.h.1.0
 halves t c =
-    halved (laws_at t c) c.args.store.now c.requires.store (value_of c.standard_call-call.result.operation) (result_table c.args.store.now (value_of c.args.asked.operation) c.args.asked.f.0 c.args.asked.g.0 c.args.asked.h.0) c.first_cofactors-at.result.var c.standard_call-call.result.f.0 c.standard_call-call.result.g.0 c.standard_call-call.result.h.0 c.first_cofactors-at.result.f.0.0 c.first_cofactors-at.result.g.0.0 c.first_cofactors-at.result.h.0.0 c.first_cofactors-at.result.f.1.0 c.first_cofactors-at.result.g.1.0 c.first_cofactors-at.result.h.1.0
-    (same_at t c) (f_ref_at t c) (g_ref_at t c) (h_ref_at t c) c.in_default.ensures.none c.first_cofactors-at.ensures.var c.first_cofactors-at.ensures.f c.first_cofactors-at.ensures.g c.first_cofactors-at.ensures.h
-
--- they begin no earlier than the operands that were asked for
-no_earlier : (t : ℕ) (c : After-first_cofactors-at t) → min (min (top_of c.args.store.now c.args.asked.f.0) (top_of c.args.store.now c.args.asked.g.0)) (top_of c.args.store.now c.args.asked.h.0) ≤ c.first_cofactors-at.result.var
-no_earlier t c =
-    let s = c.args.store.now in
-    let i = top_of_given (laws_at t c) s c.requires.store c.args.asked.f.0 c.args.asked.g.0 c.args.asked.h.0 c.standard_call-call.result.f.0 c.requires.f c.standard_call-call.ensures.f in
-    let j = top_of_given (laws_at t c) s c.requires.store c.args.asked.f.0 c.args.asked.g.0 c.args.asked.h.0 c.standard_call-call.result.g.0 c.requires.f c.standard_call-call.ensures.g in
-    let k = top_of_given (laws_at t c) s c.requires.store c.args.asked.f.0 c.args.asked.g.0 c.args.asked.h.0 c.standard_call-call.result.h.0 c.requires.f c.standard_call-call.ensures.h in
-    omega (arith, i, j, k, c.first_cofactors-at.ensures.var)
+    halved (laws_at t c) c.args.store.now c.requires.store (value_of c.args.call.operation) c.first_cofactors-at.result.var c.args.call.f.0 c.args.call.g.0 c.args.call.h.0 c.first_cofactors-at.result.f.0.0 c.first_cofactors-at.result.g.0.0 c.first_cofactors-at.result.h.0.0 c.first_cofactors-at.result.f.1.0 c.first_cofactors-at.result.g.1.0 c.first_cofactors-at.result.h.1.0
+    c.requires.f c.requires.g c.requires.h c.in_default.ensures.none c.first_cofactors-at.ensures.var c.first_cofactors-at.ensures.f c.first_cofactors-at.ensures.g c.first_cofactors-at.ensures.h
 
 pub apply-requires : goal.apply-requires
 apply-requires t c =
@@ -98,8 +56,8 @@ apply-requires t c =
     let f0 = c.first_cofactors-at.result.f.0.0 in
     let g0 = c.first_cofactors-at.result.g.0.0 in
     let h0 = c.first_cofactors-at.result.h.0.0 in
-    let n = min (min (top_of s c.args.asked.f.0) (top_of s c.args.asked.g.0)) (top_of s c.args.asked.h.0) in
-    let fall = falls given s s (c.growth.ensures.keeps_self s) c.first_cofactors-at.result.var n f0 g0 h0 (no_earlier t at) (omega (arith, x.level)) x.f0_below x.g0_below x.h0_below in
+    let n = min (min (top_of s c.args.call.f.0) (top_of s c.args.call.g.0)) (top_of s c.args.call.h.0) in
+    let fall = falls given s s (c.growth.ensures.keeps_self s) c.first_cofactors-at.result.var n f0 g0 h0 (omega (arith, at.first_cofactors-at.ensures.var)) (omega (arith, x.level)) x.f0_below x.g0_below x.h0_below in
     let less : s.vars - min (min (top_of s f0) (top_of s g0)) (top_of s h0) < t = omega (arith, c.decreases, fall) in
     (less, (c.requires.store, (c.requires.entries, (c.stores.ensures.below_is_ref s c.first_cofactors-at.result.var f0 x.f0_below, (c.stores.ensures.below_is_ref s c.first_cofactors-at.result.var g0 x.g0_below, c.stores.ensures.below_is_ref s c.first_cofactors-at.result.var h0 x.h0_below)))))
 
@@ -107,8 +65,8 @@ pub returns-in_err-lo-clause-full : goal.returns-in_err-lo-clause-full
 returns-in_err-lo-clause-full t c =
     let at = (goal.at.returns-in_err-lo-clause-full t c).After-first_cofactors-at in
     let s = c.args.store.now in
-    let told : IsErrOf c.from_residual.result Full → IsTooMany s (result_table s (value_of c.standard_call-call.result.operation) c.first_cofactors-at.result.f.0.0 c.first_cofactors-at.result.g.0.0 c.first_cofactors-at.result.h.0.0) = search rules in
-    λ full. refused_first (laws_at t at) s (value_of c.standard_call-call.result.operation) (result_table c.args.store.now (value_of c.args.asked.operation) c.args.asked.f.0 c.args.asked.g.0 c.args.asked.h.0) c.first_cofactors-at.result.var (c.args.store.now.vars - c.first_cofactors-at.result.var - 1) c.first_cofactors-at.result.f.0.0 c.first_cofactors-at.result.g.0.0 c.first_cofactors-at.result.h.0.0 c.first_cofactors-at.result.f.1.0 c.first_cofactors-at.result.g.1.0 c.first_cofactors-at.result.h.1.0 (halves t at) (told full)
+    let told : IsErrOf c.from_residual.result Full → IsTooMany s (result_table s (value_of c.args.call.operation) c.first_cofactors-at.result.f.0.0 c.first_cofactors-at.result.g.0.0 c.first_cofactors-at.result.h.0.0) = search rules in
+    λ full. refused_first (laws_at t at) s (value_of c.args.call.operation) (result_table c.args.store.now (value_of c.args.call.operation) c.args.call.f.0 c.args.call.g.0 c.args.call.h.0) c.first_cofactors-at.result.var (c.args.store.now.vars - c.first_cofactors-at.result.var - 1) c.first_cofactors-at.result.f.0.0 c.first_cofactors-at.result.g.0.0 c.first_cofactors-at.result.h.0.0 c.first_cofactors-at.result.f.1.0 c.first_cofactors-at.result.g.1.0 c.first_cofactors-at.result.h.1.0 (halves t at) (told full)
 
 pub apply-requires-2 : goal.apply-requires-2
 apply-requires-2 t c =
@@ -121,8 +79,8 @@ apply-requires-2 t c =
     let f1 = c.first_cofactors-at.result.f.1.0 in
     let g1 = c.first_cofactors-at.result.g.1.0 in
     let h1 = c.first_cofactors-at.result.h.1.0 in
-    let n = min (min (top_of s c.args.asked.f.0) (top_of s c.args.asked.g.0)) (top_of s c.args.asked.h.0) in
-    let fall = falls given s mid left.kept c.first_cofactors-at.result.var n f1 g1 h1 (no_earlier t at) (omega (arith, x.level)) x.f1_below x.g1_below x.h1_below in
+    let n = min (min (top_of s c.args.call.f.0) (top_of s c.args.call.g.0)) (top_of s c.args.call.h.0) in
+    let fall = falls given s mid left.kept c.first_cofactors-at.result.var n f1 g1 h1 (omega (arith, at.first_cofactors-at.ensures.var)) (omega (arith, x.level)) x.f1_below x.g1_below x.h1_below in
     let less : mid.vars - min (min (top_of mid f1) (top_of mid g1)) (top_of mid h1) < t = omega (arith, c.decreases, fall) in
     let ref : (r : ℕ) → IsBelow s c.first_cofactors-at.result.var r → IsRef mid r = λ r b. left.kept.refs r (c.stores.ensures.below_is_ref s c.first_cofactors-at.result.var r b) in
     (less, (left.store, (left.entries_right, (ref f1 x.f1_below, (ref g1 x.g1_below, ref h1 x.h1_below)))))
@@ -132,8 +90,8 @@ returns-in_err-hi-clause-full t c =
     let at = (goal.at.returns-in_err-hi-clause-full t c).After-first_cofactors-at in
     let s = c.args.store.now in
     let mid = c.apply.new.store in
-    let told : IsErrOf c.from_residual-in_err-hi.result Full → IsTooMany mid (result_table mid (value_of c.standard_call-call.result.operation) c.first_cofactors-at.result.f.1.0 c.first_cofactors-at.result.g.1.0 c.first_cofactors-at.result.h.1.0) = search rules in
-    λ full. refused_second (laws_at t at) s (value_of c.standard_call-call.result.operation) (result_table c.args.store.now (value_of c.args.asked.operation) c.args.asked.f.0 c.args.asked.g.0 c.args.asked.h.0) c.first_cofactors-at.result.var (c.args.store.now.vars - c.first_cofactors-at.result.var - 1) c.first_cofactors-at.result.f.0.0 c.first_cofactors-at.result.g.0.0 c.first_cofactors-at.result.h.0.0 c.first_cofactors-at.result.f.1.0 c.first_cofactors-at.result.g.1.0 c.first_cofactors-at.result.h.1.0 (halves t at) mid c.in_ok-lo.lo.0 c.in_ok-lo.ensures.ok (told full)
+    let told : IsErrOf c.from_residual-in_err-hi.result Full → IsTooMany mid (result_table mid (value_of c.args.call.operation) c.first_cofactors-at.result.f.1.0 c.first_cofactors-at.result.g.1.0 c.first_cofactors-at.result.h.1.0) = search rules in
+    λ full. refused_second (laws_at t at) s (value_of c.args.call.operation) (result_table c.args.store.now (value_of c.args.call.operation) c.args.call.f.0 c.args.call.g.0 c.args.call.h.0) c.first_cofactors-at.result.var (c.args.store.now.vars - c.first_cofactors-at.result.var - 1) c.first_cofactors-at.result.f.0.0 c.first_cofactors-at.result.g.0.0 c.first_cofactors-at.result.h.0.0 c.first_cofactors-at.result.f.1.0 c.first_cofactors-at.result.g.1.0 c.first_cofactors-at.result.h.1.0 (halves t at) mid c.in_ok-lo.lo.0 c.in_ok-lo.ensures.ok (told full)
 
 pub returns-in_err-hi-clause-leaves : goal.returns-in_err-hi-clause-leaves
 returns-in_err-hi-clause-leaves t c =
@@ -160,10 +118,10 @@ left_by_both t c =
       capacity = left.capacity ∙ first.capacity;
     }
 
-joined : (t : ℕ) (c : In_ok-hi t) → Halved c.args.store.now (value_of c.standard_call-call.result.operation) (result_table c.args.store.now (value_of c.args.asked.operation) c.args.asked.f.0 c.args.asked.g.0 c.args.asked.h.0) c.first_cofactors-at.result.var (c.args.store.now.vars - c.first_cofactors-at.result.var - 1) c.first_cofactors-at.result.f.0.0 c.first_cofactors-at.result.g.0.0 c.first_cofactors-at.result.h.0.0 c.first_cofactors-at.result.f.1.0 c.first_cofactors-at.result.g.1.0 c.first_cofactors-at.result.h.1.0 →
-    IsReady c.args.store.now c.apply-2.new.store c.first_cofactors-at.result.var (result_table c.args.store.now (value_of c.args.asked.operation) c.args.asked.f.0 c.args.asked.g.0 c.args.asked.h.0) c.in_ok-lo.lo.0 c.in_ok-hi.hi.0
+joined : (t : ℕ) (c : In_ok-hi t) → Halved c.args.store.now (value_of c.args.call.operation) (result_table c.args.store.now (value_of c.args.call.operation) c.args.call.f.0 c.args.call.g.0 c.args.call.h.0) c.first_cofactors-at.result.var (c.args.store.now.vars - c.first_cofactors-at.result.var - 1) c.first_cofactors-at.result.f.0.0 c.first_cofactors-at.result.g.0.0 c.first_cofactors-at.result.h.0.0 c.first_cofactors-at.result.f.1.0 c.first_cofactors-at.result.g.1.0 c.first_cofactors-at.result.h.1.0 →
+    IsReady c.args.store.now c.apply-2.new.store c.first_cofactors-at.result.var (result_table c.args.store.now (value_of c.args.call.operation) c.args.call.f.0 c.args.call.g.0 c.args.call.h.0) c.in_ok-lo.lo.0 c.in_ok-hi.hi.0
 joined t c x =
-    both (record { tables = c.tables.ensures; stores = c.stores.ensures; growth = c.growth.ensures; steps = c.steps.ensures }) c.args.store.now (value_of c.standard_call-call.result.operation) (result_table c.args.store.now (value_of c.args.asked.operation) c.args.asked.f.0 c.args.asked.g.0 c.args.asked.h.0) c.first_cofactors-at.result.var (c.args.store.now.vars - c.first_cofactors-at.result.var - 1) c.first_cofactors-at.result.f.0.0 c.first_cofactors-at.result.g.0.0 c.first_cofactors-at.result.h.0.0 c.first_cofactors-at.result.f.1.0 c.first_cofactors-at.result.g.1.0 c.first_cofactors-at.result.h.1.0 x
+    both (record { tables = c.tables.ensures; stores = c.stores.ensures; growth = c.growth.ensures; steps = c.steps.ensures }) c.args.store.now (value_of c.args.call.operation) (result_table c.args.store.now (value_of c.args.call.operation) c.args.call.f.0 c.args.call.g.0 c.args.call.h.0) c.first_cofactors-at.result.var (c.args.store.now.vars - c.first_cofactors-at.result.var - 1) c.first_cofactors-at.result.f.0.0 c.first_cofactors-at.result.g.0.0 c.first_cofactors-at.result.h.0.0 c.first_cofactors-at.result.f.1.0 c.first_cofactors-at.result.g.1.0 c.first_cofactors-at.result.h.1.0 x
     c.apply.new.store c.apply-2.new.store c.in_ok-hi.ensures.leaves.store c.in_ok-lo.lo.0 c.in_ok-hi.hi.0 c.in_ok-lo.ensures.ok c.in_ok-hi.ensures.ok
 
 pub make-requires-clause-var : goal.make-requires-clause-var
@@ -184,17 +142,17 @@ returns-in_err-r-clause-full t c =
     let p = err_from_is_err_and c.from_residual-in_err-r.result c.from_residual-in_err-r.ensures.1 in
     λ full.
     let told : IsTooMany last (branch last c.first_cofactors-at.result.var c.in_ok-lo.lo.0 c.in_ok-hi.hi.0) = c.in_err-r.ensures.too_many (full_result c.from_residual-in_err-r.result p.0 c.in_err-r.field-0.0 p.1 p.2 full) in
-    c.steps.ensures.node_refused s last c.first_cofactors-at.result.var (result_table c.args.store.now (value_of c.args.asked.operation) c.args.asked.f.0 c.args.asked.g.0 c.args.asked.h.0) c.in_ok-lo.lo.0 c.in_ok-hi.hi.0 (joined t ((goal.at.returns-in_err-r-clause-full t c).In_ok-hi) (halves t ((goal.at.returns-in_err-r-clause-full t c).After-first_cofactors-at))) told
+    c.steps.ensures.node_refused s last c.first_cofactors-at.result.var (result_table c.args.store.now (value_of c.args.call.operation) c.args.call.f.0 c.args.call.g.0 c.args.call.h.0) c.in_ok-lo.lo.0 c.in_ok-hi.hi.0 (joined t ((goal.at.returns-in_err-r-clause-full t c).In_ok-hi) (halves t ((goal.at.returns-in_err-r-clause-full t c).After-first_cofactors-at))) told
 
 pub returns-in_err-r-clause-leaves : goal.returns-in_err-r-clause-leaves
 returns-in_err-r-clause-leaves t c =
     subst (λ (n : NodeStore). Leaves c.args.store.now n c.args.cache.now c.apply-2.new.cache) (sym c.in_err-r.ensures.err) (left_by_both t ((goal.at.returns-in_err-r-clause-leaves t c).In_ok-hi))
 
 -- the result, in the store with its node
-made : (t : ℕ) (c : In_ok-r t) → IsReady c.args.store.now c.apply-2.new.store c.first_cofactors-at.result.var (result_table c.args.store.now (value_of c.args.asked.operation) c.args.asked.f.0 c.args.asked.g.0 c.args.asked.h.0) c.in_ok-lo.lo.0 c.in_ok-hi.hi.0 →
-    Adds c.args.store.now c.make.new.self (result_table c.args.store.now (value_of c.args.asked.operation) c.args.asked.f.0 c.args.asked.g.0 c.args.asked.h.0) c.in_ok-r.r.0
+made : (t : ℕ) (c : In_ok-r t) → IsReady c.args.store.now c.apply-2.new.store c.first_cofactors-at.result.var (result_table c.args.store.now (value_of c.args.call.operation) c.args.call.f.0 c.args.call.g.0 c.args.call.h.0) c.in_ok-lo.lo.0 c.in_ok-hi.hi.0 →
+    Adds c.args.store.now c.make.new.self (result_table c.args.store.now (value_of c.args.call.operation) c.args.call.f.0 c.args.call.g.0 c.args.call.h.0) c.in_ok-r.r.0
 made t c ready =
-    c.steps.ensures.made c.args.store.now c.apply-2.new.store c.make.new.self c.in_ok-r.ensures.store c.first_cofactors-at.result.var (result_table c.args.store.now (value_of c.args.asked.operation) c.args.asked.f.0 c.args.asked.g.0 c.args.asked.h.0) c.in_ok-lo.lo.0 c.in_ok-hi.hi.0 c.in_ok-r.r.0 ready c.in_ok-r.ensures.adds
+    c.steps.ensures.made c.args.store.now c.apply-2.new.store c.make.new.self c.in_ok-r.ensures.store c.first_cofactors-at.result.var (result_table c.args.store.now (value_of c.args.call.operation) c.args.call.f.0 c.args.call.g.0 c.args.call.h.0) c.in_ok-lo.lo.0 c.in_ok-hi.hi.0 c.in_ok-r.r.0 ready c.in_ok-r.ensures.adds
 
 pub returns-clause-ok : goal.returns-clause-ok
 returns-clause-ok t c =
@@ -207,18 +165,18 @@ returns-clause-leaves t c =
     let s = c.args.store.now in
     let last = c.apply-2.new.store in
     let new = c.make.new.self in
-    let op = (value_of c.standard_call-call.result.operation) in
-    let call = c.standard_call-call.result in
+    let op = (value_of c.args.call.operation) in
+    let call = c.args.call in
     let added = made t at.In_ok-r (joined t at.In_ok-hi (halves t at.After-first_cofactors-at)) in
     let key : Key = Apply call.operation call.f call.g call.h in
     let before = AreRight-kept last new c.in_ok-r.ensures.adds.kept c.apply-2.new.cache.entries c.in_ok-hi.ensures.leaves.entries_right in
-    let i = f_ref t at.After-standard_call-call in
-    let j = g_ref t at.After-standard_call-call in
-    let k = h_ref t at.After-standard_call-call in
+    let i = c.requires.f in
+    let j = c.requires.g in
+    let k = c.requires.h in
     let fresh : IsRight new (key, c.in_ok-r.r) = record {
       operands = (added.kept.refs call.f.0 i, added.kept.refs call.g.0 j, added.kept.refs call.h.0 k);
       ref = added.ref;
-      table = added.table ∙ (sym (same t at.After-standard_call-call) ∙ sym (result_kept s new added.kept op call.f.0 call.g.0 call.h.0 i j k));
+      table = added.table ∙ sym (result_kept s new added.kept op call.f.0 call.g.0 call.h.0 i j k);
     } in
     let left = left_by_both t at.In_ok-hi in
     let put = c.remember.ensures.entries in

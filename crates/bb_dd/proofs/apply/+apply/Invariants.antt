@@ -4,4 +4,4 @@ use Rattle.bb_dd.proofs.apply.+apply.Given as goal
 
 -- how many variables stand from the first one of the three on
 abbrev pub decreases-apply : goal.decreases-apply
-decreases-apply l = let s = l.store.now in s.vars - min (min (top_of s l.asked.f.0) (top_of s l.asked.g.0)) (top_of s l.asked.h.0)
+decreases-apply l = let s = l.store.now in s.vars - min (min (top_of s l.call.f.0) (top_of s l.call.g.0)) (top_of s l.call.h.0)

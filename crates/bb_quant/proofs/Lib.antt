@@ -1,0 +1,4 @@
+pub mod Given
+pub mod FirstBits
+pub mod Quantifying
+pub mod Walks
