@@ -10,3 +10,14 @@ pub mod ValueLaws
 pub mod BuildLemmas
 pub mod TernLemmas
 pub mod TableLemmas
+pub mod PlaceLists
+pub mod WalkLemmas
+pub mod PlacedCells
+pub mod BuiltCells
+pub mod Queues
+pub mod Rearranged
+pub mod RearrangedValues
+pub mod PlacingSteps
+pub mod LookedAt
+pub mod BoxSteps
+pub mod OrderedLists

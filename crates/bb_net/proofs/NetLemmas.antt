@@ -15,10 +15,10 @@ pub length-first_cells : (n : ℕ) → length (first_cells n) ≡ n + 2
 length-first_cells n = let e = length-map-range_with_len Input 0 n in omega (arith, e)
 
 -- a constant or an input
-abbrev IsSource : ℕ → Cell → Type 0
+abbrev pub IsSource : ℕ → Cell → Type 0
 IsSource n c = ((b : Bool) × (c ≡ Const b)) ⊎ ((i : ℕ) × (i < n) × (c ≡ Input i))
 
-first_is : (n place : ℕ) → IsSource n (cell_at (first_cells n) place)
+pub first_is : (n place : ℕ) → IsSource n (cell_at (first_cells n) place)
 first_is n zero = inl (false, refl)
 first_is n (suc zero) = inl (true, refl)
 first_is n (suc (suc k)) = elim (cases_lt k n) [
@@ -26,7 +26,7 @@ first_is n (suc (suc k)) = elim (cases_lt k n) [
   | inr past ↦ inl (false, get_or_past (map Input (range_with_len 0 n)) k (Const false) (omega (arith, length-map-range_with_len Input 0 n)))
 ]
 
-source_reads : (n place : ℕ) (boxes : List Pins) (c : Cell) → IsSource n c → ReadsBefore n boxes place c
+pub source_reads : (n place : ℕ) (boxes : List Pins) (c : Cell) → IsSource n c → ReadsBefore n boxes place c
 source_reads n place boxes (Const b) h = tt
 source_reads n place boxes (Input i) h = elim h [ inl p ↦ cc (p.1) | inr p ↦ let s : p.0 ≡ i = cc (p.2) in omega (arith, p.1, s) ]
 source_reads n place boxes (Not a) h = elim h [ inl p ↦ cc (p.1) | inr p ↦ cc (p.2) ]
@@ -36,7 +36,7 @@ source_reads n place boxes (Xor a b) h = elim h [ inl p ↦ cc (p.1) | inr p ↦
 source_reads n place boxes (Mux a b d) h = elim h [ inl p ↦ cc (p.1) | inr p ↦ cc (p.2) ]
 source_reads n place boxes (BoxOut a b) h = elim h [ inl p ↦ cc (p.1) | inr p ↦ cc (p.2) ]
 
-source_no_box : {P : Type 0} (n b p : ℕ) (c : Cell) → IsSource n c → c ≡ BoxOut b p → P
+pub source_no_box : {P : Type 0} (n b p : ℕ) (c : Cell) → IsSource n c → c ≡ BoxOut b p → P
 source_no_box n b p c h e = elim h [ inl q ↦ cc (q.1, e) | inr q ↦ cc (q.2, e) ]
 
 -- the constants and inputs alone are a netlist

@@ -5,7 +5,10 @@ pub mod NetFaults
 pub mod Netlists
 pub mod Orders
 pub mod Pairs
+pub mod Placings
+pub mod Rearrangements
 pub mod Ternary
 pub mod Values
+pub mod Walks
 pub use Rattle.bb_bits.specs.Numbers
 pub use Rattle.bb_bits.specs.Tables

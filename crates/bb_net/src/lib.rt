@@ -1,16 +1,25 @@
 //! Netlists of numbered cells with boxes whose contents are open, and the values of their cells.
 #![tactic(auto)]
 
+mod advancing;
+mod beginning;
 mod build;
 mod cell;
+mod components;
 mod conditions;
 mod loose;
 mod net;
+mod numbering;
 mod ordering;
 mod pair;
+mod parts;
+mod placing;
+mod ranks;
+mod rearranging;
 mod tables;
 mod tern;
 mod value;
+mod walks;
 
 pub use cell::Cell;
 pub use conditions::{choices_are_tables, conditions_hold_or_not, conditions_weaken, hit_or_none};
@@ -18,5 +27,6 @@ pub use loose::{Loose, LooseCell};
 pub use net::{BoxPins, Net};
 pub use ordering::{NetFault, Ordered, order, order_has_no_walk, order_keeps_values};
 pub use pair::{BoxName, OutName, Pair};
+pub use rearranging::rearranged_keeps_values;
 pub use tern::{known_is_value, known_without_boxes, tern_exists, tern_is_unique};
 pub use value::{value_exists, value_is_unique};

@@ -1,11 +1,19 @@
 //! Cells in any order, put in an order in which each reads only earlier ones.
 
-ghost use Rattle.std.specs.Prelude.{IfOk, IfErr};
+ghost use Rattle.std.specs.Prelude.{◌≡◌, ◌<◌, ◌++◌, [], ℕ, All, length, map, IfOk, IfErr, IfSome, IfNone, OnOk};
+ghost use Rattle.std.specs.BinaryHeap.{heap_items};
 ghost use Rattle.bb_net.specs.Loose.{IsLoose};
 ghost use Rattle.bb_net.specs.Orders.{IsOrderOf, OrderKeepsValues, OrderHasNoWalk};
 ghost use Rattle.bb_net.specs.NetFaults.{IsFaultOf};
+ghost use Rattle.bb_net.specs.Placings.{IsAt, IsOpen, IsPlaced, IsPlacing, place_of};
 
+use crate::advancing::look_at_all;
+use crate::beginning::{begin, everyone};
+use crate::numbering::place_boxes;
+use crate::placing::Placing;
+use crate::walks::least_on_walk;
 use crate::{Loose, Net};
+use bb_bits::NoMemory;
 use std::alloc::AllocError;
 
 /// A netlist whose cells are those of a list in any order, and for each box its number in the list.
@@ -34,14 +42,85 @@ impl From<AllocError> for NetFault {
     }
 }
 
+// The first cell that has no place.
+fn first_unplaced(to: &[Option<u32>]) -> Option<usize>
+    ensures some { IfSome result (λ k. (k < length to.now) × IsOpen to.now k) }
+    ensures none { IfNone result ((k : ℕ) → k < length to.now → IsPlaced to.now k) }
+{
+    for (k, place) in to.iter().enumerate() {
+        if place.is_none() {
+            return Some(k);
+        }
+    }
+    None
+}
+
+// The fault of a list of which a cell found no place.
+fn closed_walk(loose: &Loose, s: &Placing) -> Result<NetFault, NoMemory>
+    requires placing { IsPlacing loose.now s.now [] [] }
+    requires settled { s.now.fresh.items ≡ [] }
+    requires none_ready { heap_items s.now.ready ≡ [] }
+    requires open { (k : ℕ) × (k < length loose.now.cells) × IsOpen s.now.to.items k }
+    ensures fault { IfOk result (IsFaultOf loose.now) }
+{
+    match least_on_walk(loose, &s.to)? {
+        Some(place) => Ok(NetFault::Loop { place }),
+        None => unreachable!(),
+    }
+}
+
+// Adds the outputs of a list to a netlist in which each of its cells has its place.
+fn add_outs(net: &mut Net, outs: &[u32], to: &[Option<u32>]) -> Result<(), NoMemory>
+    requires there { All (λ k. k < length to.now) outs.now }
+    requires placed { (k place : ℕ) → IsAt to.now k place → place < length net.old.cells }
+    requires whole { (k : ℕ) → k < length to.now → IsPlaced to.now k }
+    ensures ok { OnOk result (net.new ≡ record net.old { outs = net.old.outs ++ map (place_of to.now) outs.now }) }
+{
+    for k in outs {
+        net.add_out(to[*k as usize].unwrap_or(0))?;
+    }
+    Ok(())
+}
+
+// The netlist of a list each of whose cells has its place.
+fn finish(loose: &Loose, s: Placing) -> Result<Ordered, NoMemory>
+    requires placing { IsPlacing loose.now s [] [] }
+    requires settled { s.fresh.items ≡ [] }
+    requires none_ready { heap_items s.ready ≡ [] }
+    requires whole { (k : ℕ) → k < length loose.now.cells → IsPlaced s.to.items k }
+    ensures ok { IfOk result (λ ordered. IsOrderOf loose.now ordered.net ordered.boxes.items) }
+{
+    let Placing {
+        mut net,
+        to,
+        numbers,
+        ..
+    } = s;
+    net.keeps_its_order();
+    add_outs(&mut net, loose.output_places(), &to)?;
+    Ok(Ordered {
+        net,
+        boxes: numbers,
+    })
+}
+
 /// The cells in an order in which each reads only earlier ones, or the least place on a closed walk.
+///
+/// This is Kahn's algorithm: a cell gets its place as soon as its operands have theirs. A cell waits for one open operand at
+/// a time, and a box for one input pin, so that operands need not be counted. The time is proportional to the numbers of
+/// cells, pins and operands, but for the heap of the boxes that are ready.
 pub fn order(loose: &Loose) -> Result<Ordered, NetFault>
     requires { IsLoose loose.now }
     ensures ok { IfOk result (λ ordered. IsOrderOf loose.now ordered.net ordered.boxes.items) }
     ensures err { IfErr result (λ fault. IsFaultOf loose.now fault) }
 {
-    let _ = loose;
-    Err(NetFault::NoMemory)
+    let mut s = begin(loose)?;
+    look_at_all(loose, &mut s, &everyone(loose)?)?;
+    place_boxes(loose, &mut s)?;
+    match first_unplaced(&s.to) {
+        None => Ok(finish(loose, s)?),
+        Some(_) => Err(closed_walk(loose, &s)?),
+    }
 }
 
 /// The values of an ordered netlist are the only solution of the equations of the list that was ordered.

@@ -1,0 +1,7 @@
+use Rattle.bb_net.proofs.WalkLemmas.{IsMarked-take}
+use Rattle.bb_net.proofs.walks.mark_all.Goals as goal
+
+pub loop-place-preserved : goal.loop-place-preserved
+loop-place-preserved c =
+    IsMarked-take c.args.places.now c.loop-place.place-index c.args.seen.now c.args.stack.now.items c.loop-place.seen c.loop-place.stack.items c.mark.new.seen c.mark.new.stack.items
+    c.loop-place-test.true c.loop-place.invariant c.in_ok-mark.ensures.ok

@@ -1,0 +1,188 @@
+//! Strong components of a list of cells, by Tarjan's algorithm.
+//!
+//! Their numbers only save searches for closed walks. They are checked before they are used, so no clause speaks of them
+//! here.
+
+ghost use Rattle.std.specs.Prelude.{◌≡◌, slice_index};
+ghost use Rattle.bb_net.specs.Loose.{IsLoose};
+
+use crate::{Loose, LooseCell};
+use bb_bits::NoMemory;
+
+/// A cell of a list, or a box of it.
+///
+/// Boxes count on their own, since each output pin of a box reads all its input pins.
+#[derive(Clone, Copy, Debug, PartialEq, Eq)]
+enum Node {
+    Cell(u32),
+    Box(u32),
+}
+
+/// A number for each cell and for each box.
+#[derive(Drop)]
+pub(crate) struct Ranks {
+    pub(crate) cells: Vec<u32>,
+    pub(crate) boxes: Vec<u32>,
+}
+
+// The number of a cell or a box.
+pub(crate) fn rank_at(ranks: &[u32], at: u32) -> u32
+    ensures rank { result ≡ slice_index ranks.now at }
+{
+    ranks.get(at as usize).copied().unwrap_or(0)
+}
+
+fn set_rank(ranks: &mut [u32], at: u32, rank: u32) {
+    if let Some(old) = ranks.get_mut(at as usize) {
+        *old = rank;
+    }
+}
+
+impl Ranks {
+    fn zero(loose: &Loose) -> Result<Ranks, NoMemory> {
+        let alloc = loose.allocator();
+        Ok(Ranks {
+            cells: vec![in alloc; 0; loose.cell_count()]?,
+            boxes: vec![in alloc; 0; loose.box_count()]?,
+        })
+    }
+
+    fn get(&self, node: Node) -> u32 {
+        match node {
+            Node::Cell(k) => rank_at(&self.cells, k),
+            Node::Box(b) => rank_at(&self.boxes, b),
+        }
+    }
+
+    fn set(&mut self, node: Node, rank: u32) {
+        match node {
+            Node::Cell(k) => set_rank(&mut self.cells, k, rank),
+            Node::Box(b) => set_rank(&mut self.boxes, b, rank),
+        }
+    }
+}
+
+/// A search in depth: when each node was found, the first node found to which it leads, its component, the nodes found
+/// that have no component yet, and the path from the root with the number of operands looked at.
+#[derive(Drop)]
+struct Search {
+    found: Ranks,
+    low: Ranks,
+    ranks: Ranks,
+    open: Vec<Node>,
+    path: Vec<(Node, usize)>,
+    time: u32,
+    components: u32,
+}
+
+// The node that a node reads as operand i.
+fn read(loose: &Loose, node: Node, i: usize) -> Option<Node> {
+    match node {
+        Node::Cell(k) => match loose.cells.get(k as usize)? {
+            LooseCell::Const(_) | LooseCell::Input(_) => None,
+            LooseCell::Not(a) | LooseCell::Copy(a) => nth(&[*a], i),
+            LooseCell::And(a, b) | LooseCell::Or(a, b) | LooseCell::Xor(a, b) => nth(&[*a, *b], i),
+            LooseCell::Mux(c, t, e) => nth(&[*c, *t, *e], i),
+            LooseCell::BoxOut(b, _) if i == 0 => Some(Node::Box(*b)),
+            LooseCell::BoxOut(_, _) => None,
+        },
+        Node::Box(b) => nth(loose.boxes.get(b as usize)?.ins(), i),
+    }
+}
+
+fn nth(places: &[u32], i: usize) -> Option<Node> {
+    let place = places.get(i)?;
+    Some(Node::Cell(*place))
+}
+
+impl Search {
+    fn find(&mut self, node: Node) -> Result<(), NoMemory> {
+        self.time = self.time.saturating_add(1);
+        self.found.set(node, self.time);
+        self.low.set(node, self.time);
+        self.open.push(node)?;
+        self.path.push((node, 0))?;
+        Ok(())
+    }
+
+    fn lower(&mut self, node: Node, low: u32) {
+        let least = self.low.get(node).min(low);
+        self.low.set(node, least);
+    }
+
+    // Goes from a node to one that it reads.
+    fn follow(&mut self, node: Node, next: Node) -> Result<(), NoMemory> {
+        let found = self.found.get(next);
+        if found == 0 {
+            return self.find(next);
+        }
+        if self.ranks.get(next) == 0 {
+            self.lower(node, found);
+        }
+        Ok(())
+    }
+
+    // The open nodes from this one on are a component.
+    fn close(&mut self, node: Node) {
+        self.components = self.components.saturating_add(1);
+        while let Some(next) = self.open.pop() {
+            self.ranks.set(next, self.components);
+            if next == node {
+                break;
+            }
+        }
+    }
+
+    // All that a node reads was looked at.
+    fn leave(&mut self, node: Node) {
+        let low = self.low.get(node);
+        if low == self.found.get(node) {
+            self.close(node);
+        }
+        if let Some((parent, _)) = self.path.last() {
+            let parent = *parent;
+            self.lower(parent, low);
+        }
+    }
+
+    // Searches from a cell.
+    fn search(&mut self, loose: &Loose, root: Node) -> Result<(), NoMemory> {
+        self.find(root)?;
+        for _ in 0..u64::MAX {
+            let Some((node, i)) = self.path.pop() else {
+                break;
+            };
+            match read(loose, node, i) {
+                Some(next) => {
+                    self.path.push((node, i.saturating_add(1)))?;
+                    self.follow(node, next)?;
+                }
+                None => self.leave(node),
+            }
+        }
+        Ok(())
+    }
+}
+
+// The numbers of the components, in an order in which what a node reads has no greater number than the node.
+pub(crate) fn components(loose: &Loose) -> Result<Ranks, NoMemory>
+    requires list { IsLoose loose.now }
+{
+    let alloc = loose.allocator();
+    let mut search = Search {
+        found: Ranks::zero(loose)?,
+        low: Ranks::zero(loose)?,
+        ranks: Ranks::zero(loose)?,
+        open: Vec::new(alloc),
+        path: Vec::new(alloc),
+        time: 0,
+        components: 0,
+    };
+    for k in 0..loose.cell_count() as u32 {
+        let root = Node::Cell(k);
+        if search.found.get(root) == 0 {
+            search.search(loose, root)?;
+        }
+    }
+    Ok(search.ranks)
+}

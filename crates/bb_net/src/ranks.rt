@@ -1,0 +1,66 @@
+//! Numbers that tell cells apart from closed walks: along a walk of dependence they never rise.
+
+ghost use Rattle.std.specs.Prelude.{◌≡◌, ◌+◌, ◌<◌, ◌≤◌, ℕ, true, All, Contains, length, slice_index};
+ghost use Rattle.bb_net.specs.Netlists.{box_at};
+ghost use Rattle.bb_net.specs.Loose.{IsLoose, loose_at, operands};
+ghost use Rattle.bb_net.specs.Walks.{BoxesRise, CellsRise};
+
+use crate::components::{Ranks, rank_at};
+use crate::{Loose, LooseCell};
+
+// A number above the ranks of some cells.
+fn above(ranks: &[u32], places: &[u32]) -> u64
+    ensures above { (a : ℕ) → Contains places.now a → slice_index ranks.now a < result }
+{
+    let mut above = 0;
+    for a in places {
+        above = above.max(u64::from(rank_at(ranks, *a)) + 1);
+    }
+    above
+}
+
+// A number above the ranks of the operands of a cell.
+pub(crate) fn above_operands(loose: &Loose, ranks: &Ranks, place: u32) -> u64
+    requires list { IsLoose loose.now }
+    requires there { place < length loose.now.cells }
+    requires rise { BoxesRise loose.now ranks.now.cells.items ranks.now.boxes.items }
+    ensures above { (a : ℕ) → Contains (operands loose.now.boxes (loose_at loose.now place)) a → slice_index ranks.now.cells.items a < result }
+{
+    match loose.cell(place) {
+        LooseCell::Const(_) | LooseCell::Input(_) => 0,
+        LooseCell::Not(a) | LooseCell::Copy(a) => above(&ranks.cells, &[a]),
+        LooseCell::And(a, b) | LooseCell::Or(a, b) | LooseCell::Xor(a, b) => above(
+            &ranks.cells,
+            &[a, b],
+        ),
+        LooseCell::Mux(c, t, e) => above(&ranks.cells, &[c, t, e]),
+        LooseCell::BoxOut(b, _) => u64::from(rank_at(&ranks.boxes, b)) + 1,
+    }
+}
+
+// Whether no input pin of a box has a greater rank than the box.
+pub(crate) fn boxes_rise(loose: &Loose, ranks: &Ranks) -> bool
+    requires list { IsLoose loose.now }
+    ensures rise { result ≡ true → BoxesRise loose.now ranks.now.cells.items ranks.now.boxes.items }
+{
+    for b in 0..loose.box_count() as u32 {
+        if above(&ranks.cells, loose.pins(b).ins()) > u64::from(rank_at(&ranks.boxes, b)) + 1 {
+            return false;
+        }
+    }
+    true
+}
+
+// Whether no operand of a cell has a greater rank than the cell.
+pub(crate) fn cells_rise(loose: &Loose, ranks: &Ranks) -> bool
+    requires list { IsLoose loose.now }
+    requires rise { BoxesRise loose.now ranks.now.cells.items ranks.now.boxes.items }
+    ensures rise { result ≡ true → CellsRise loose.now ranks.now.cells.items }
+{
+    for k in 0..loose.cell_count() as u32 {
+        if above_operands(loose, ranks, k) > u64::from(rank_at(&ranks.cells, k)) + 1 {
+            return false;
+        }
+    }
+    true
+}
