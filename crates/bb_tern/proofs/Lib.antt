@@ -1,0 +1,6 @@
+pub mod DrawLemmas
+pub mod LaneLemmas
+pub mod Passes
+pub mod PackLemmas
+pub mod Hits
+pub mod FirstHits

@@ -1,0 +1,11 @@
+//! Patterns, and their simulation in three values.
+#![tactic(auto)]
+
+mod drawing;
+mod lanes;
+mod packing;
+mod passing;
+mod simulation;
+
+pub use drawing::patterns;
+pub use simulation::{Hit, simulate};
