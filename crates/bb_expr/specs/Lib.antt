@@ -13,4 +13,13 @@ pub mod Lowered
 pub mod Checked
 pub mod Standing
 pub mod Steady
+pub mod Fit
+pub mod FitLaws
+pub mod Shares
+pub mod Growing
 pub mod Laws
+pub mod Summaries
+pub mod Implicit
+pub mod Indexed
+pub mod Firsts
+pub mod NetLists

@@ -1,12 +1,20 @@
 //! A source without faults: its modules with their nets.
 
-ghost use Rattle.std.specs.Prelude.{◌≡◌, map};
-ghost use Rattle.bb_expr.specs.Checked.{module_facts, IsChecked};
+ghost use Rattle.std.specs.Prelude.{◌≡◌, ◌<◌, ◌^◌, length, map, IfOk};
+ghost use Rattle.bb_ast.specs.Views.{module_view};
+ghost use Rattle.bb_expr.specs.Checked.{module_facts, syntax, HasText, HasNets, IsChecked};
+ghost use Rattle.bb_expr.specs.Faults.{IsSound};
+ghost use Rattle.bb_expr.specs.Nets.{net_names};
 
+use crate::indexed::IndexedModule;
 use crate::net::NetInfo;
+use crate::nets::{is_empty_module, nets_in};
+use crate::sources::IndexedSource;
 use bb_ast::Module;
-use bb_bits::Name;
+use bb_bits::{Name, NoMemory};
+use bb_parse::laws::texts_are_long;
 use indexmap::IndexMap;
+use std::alloc::Global;
 use std::marker::Model;
 
 /// A module with its nets in net order, the place of each net by its name, and whether the module is empty.
@@ -39,7 +47,37 @@ impl Model for Checked {
     ghost invariant = { λ c. IsChecked (map module_facts c.modules.items) };
 }
 
+/// A module with its nets.
+fn checked_module(alloc: Global, of: IndexedModule) -> Result<CheckedModule, NoMemory>
+    requires few { length (net_names (module_view of)) < 2 ^ 32 }
+    ensures source { IfOk result (λ c. c.module ≡ of) }
+    ensures nets { IfOk result (λ c. HasNets (module_facts c)) }
+{
+    let nets = nets_in(alloc, &of)?;
+    let empty = is_empty_module(&of);
+    Ok(CheckedModule {
+        module: of.into_module(),
+        nets: nets.all,
+        index: nets.index,
+        empty,
+    })
+}
+
 impl Checked {
+    /// The modules of a source without faults.
+    pub(crate) fn new(alloc: Global, source: IndexedSource) -> Result<Checked, NoMemory>
+        requires read { HasText (map module_view source) }
+        requires sound { IsSound (map module_view source) }
+        ensures ok { IfOk result (λ checked. map syntax checked ≡ map module_view source) }
+    {
+        texts_are_long();
+        let mut modules = Vec::new(alloc);
+        for of in source.into_modules() {
+            modules.push(checked_module(alloc, of)?)?;
+        }
+        Ok(Checked { modules })
+    }
+
     /// The modules, in the order of the source. Each is kept with its nets, and no rule on names is broken.
     pub fn modules(&self) -> &[CheckedModule]
         ensures modules { map module_facts result.now ≡ self.now }

@@ -1,16 +1,29 @@
 //! The faults of a source, or its modules with their nets.
 
 ghost use Rattle.std.specs.Prelude.{◌≡◌, ◌⊎◌, IfOk, IfErr, MatchResult, map};
-ghost use Rattle.bb_ast.specs.Views.{source_view};
+ghost use Rattle.bb_ast.specs.Views.{module_view, source_view};
 ghost use Rattle.bb_expr.specs.declared.fault.NameFault.{NameFault};
 ghost use Rattle.bb_expr.specs.declared.fault.NameFault.TheVariants.{NoMemory};
 ghost use Rattle.bb_expr.specs.Checked.{HasText, syntax};
-ghost use Rattle.bb_expr.specs.Faults.{IsSound, IsFirstFault};
+ghost use Rattle.bb_expr.specs.Faults.{IsSound, IsFirstFault, faults_of};
+ghost use Rattle.bb_expr.specs.Firsts.{Answers};
 
 use crate::checked::Checked;
 use crate::fault::NameFault;
+use crate::faults::check_module;
+use crate::sources::IndexedSource;
 use bb_ast::Source;
 use std::alloc::Global;
+
+/// The first fault of a source.
+fn check_modules(alloc: Global, source: &IndexedSource) -> Result<(), NameFault>
+    ensures { Answers result (faults_of (map module_view source.now)) }
+{
+    for (place, of) in source.modules().iter().enumerate() {
+        check_module(alloc, source, of, place)?;
+    }
+    Ok(())
+}
 
 /// The modules of a source with their nets, or the first fault of the source.
 ///
@@ -29,7 +42,7 @@ pub fn check(alloc: Global, source: Source) -> Result<Checked, NameFault>
     ensures only_fault { (first : NameFault) → IsFirstFault (source_view source) first
         → MatchResult result (λ checked. ⊥) (λ fault. (fault ≡ first) ⊎ (fault ≡ NoMemory)) }
 {
-    let _ = alloc;
-    let _ = source;
-    Err(NameFault::NoMemory)
+    let indexed = IndexedSource::new(alloc, source)?;
+    check_modules(alloc, &indexed)?;
+    Ok(Checked::new(alloc, indexed)?)
 }

@@ -43,3 +43,34 @@ pub fn cells_are_counted()
 pub fn wider_adds_zeros()
     ensures { WiderAddsZeros }
 {}
+
+ghost use Rattle.bb_expr.specs.FitLaws.{StandingIsFit, NamesAreNets, PartsStand, NetNamesDiffer, AssignableIsNets};
+
+/// What stands in a checked module is fit, with all that stands in it.
+pub fn standing_is_fit()
+    ensures { StandingIsFit }
+{
+    bb_parse::laws::sources_are_formed();
+}
+
+/// The names in what stands in a checked module are names of nets, each with its place.
+pub fn names_are_nets()
+    ensures { NamesAreNets }
+{
+    bb_parse::laws::sources_are_formed();
+}
+
+/// What stands in an expression of a module stands in the module.
+pub fn parts_stand()
+    ensures { PartsStand }
+{}
+
+/// No two nets of a module have one name.
+pub fn net_names_differ()
+    ensures { NetNamesDiffer }
+{}
+
+/// What may be assigned has no cells, and at its own width bits of nets alone.
+pub fn assignable_is_nets()
+    ensures { AssignableIsNets }
+{}

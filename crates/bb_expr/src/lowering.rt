@@ -1,16 +1,32 @@
 //! Expressions as steps on bits.
 
-ghost use Rattle.std.specs.Prelude.{◌≡◌, ◌≤◌, ◌-◌, ◌^◌, IfOk, min};
-ghost use Rattle.bb_ast.specs.Views.{expression};
-ghost use Rattle.bb_expr.specs.Cells.{cell_count};
+ghost use Rattle.std.specs.Prelude.{◌≡◌, ◌≤◌, ◌+◌, ◌-◌, ◌*◌, ◌^◌, Bool, true, false, List, length, map, sum, sum_by, All, IfOk};
+ghost use Rattle.bb_ast.specs.Syntax.{Net, Part};
+ghost use Rattle.bb_ast.specs.Views.{expression, operand_view, arm_view};
+ghost use Rattle.bb_expr.specs.declared.net.NetInfo.{NetInfo};
+ghost use Rattle.bb_expr.specs.declared.step.BitStep.{BitStep};
+ghost use Rattle.bb_expr.specs.Cells.{Made, without_cells, made, cell_count};
+ghost use Rattle.bb_expr.specs.Checked.{module_facts};
+ghost use Rattle.bb_expr.specs.Fit.{HasNet, AreFit, ranges_in};
+ghost use Rattle.bb_expr.specs.Growing.{Adds, beside, chained_on, arms_on, most_steps};
+ghost use Rattle.bb_expr.specs.Lists.{extended};
 ghost use Rattle.bb_expr.specs.Lowered.{IsLowered, HasValue};
+ghost use Rattle.bb_expr.specs.Ranges.{has_bits, distance, range_width, place_of};
+ghost use Rattle.bb_expr.specs.Shares.{own_cells, operand_cells, arm_cells};
 ghost use Rattle.bb_expr.specs.Standing.{StandsAt, nets_at, ranges_at};
+ghost use Rattle.bb_expr.specs.Terms.{Const};
 ghost use Rattle.bb_expr.specs.Widths.{own_width};
 
-use crate::checked::Checked;
-use crate::step::Lowered;
-use bb_ast::Expr;
-use bb_bits::NoMemory;
+use crate::cell_count::{cells, is_odd};
+use crate::checked::{Checked, CheckedModule};
+use crate::laws;
+use crate::operators::{any_bit, copied, inverted, operate, select};
+use crate::rows::{constants, extended, net_bits, number_bits};
+use crate::scope::{place_of, range_of};
+use crate::step::{BitStep, Lowered};
+use crate::width::{range_width, total_width, width_of};
+use bb_ast::{Expr, Op, Range};
+use bb_bits::{Name, NoMemory};
 use std::alloc::Global;
 
 /// An expression of a module as steps on bits, at a width that is at least its own.
@@ -32,9 +48,216 @@ pub fn lower(
         IsLowered (nets_at checked.now «module») (ranges_at checked.now «module») (expression expr.now) width l.steps.items l.bits.items) }
     ensures value { IfOk result (λ l.
         HasValue (nets_at checked.now «module») (ranges_at checked.now «module») (expression expr.now) width l.steps.items l.bits.items) }
+
+    // Each use of a bit or a constant is a step, and they are no more than this.
+    ensures few { IfOk result (λ l.
+        length l.steps.items ≤ width + 3 * cell_count (ranges_at checked.now «module») (expression expr.now) width) }
 {
-    let _ = alloc;
-    let _ = module;
-    let _ = width;
-    Err(NoMemory)
+    laws::standing_is_fit();
+    let count = cells(checked, module, expr, width);
+    let scope = &checked.modules()[module as usize];
+    // The list is allocated once, since so many steps suffice.
+    let mut steps = Vec::with_capacity(alloc, width as usize + 3 * count as usize)?;
+    let bits = lower_at(alloc, scope, &mut steps, expr, width)?;
+    Ok(Lowered { steps, bits })
+}
+
+/// The place of an index of a net among its bits, from the leftmost on.
+fn first_place(range: Option<Range>, index: u32) -> u32
+    ensures { result ≡ place_of range index }
+{
+    match range {
+        Some(range) => range.left.abs_diff(index),
+        None => 0,
+    }
+}
+
+/// A whole net.
+fn net(
+    alloc: Global,
+    scope: &CheckedModule,
+    steps: &mut Vec<BitStep>,
+    name: &Name,
+    width: u32,
+) -> Result<Vec<u32>, NoMemory>
+    requires has { HasNet (module_facts scope.now) name.now }
+    requires own { range_width (ranges_in (module_facts scope.now) name.now) ≤ width }
+    requires width { width ≤ 65536 }
+    requires room { length steps.old.items + width ≤ 2 ^ 32 }
+    ensures { IfOk result (λ bits. Adds scope.now.nets.items (made (ranges_in (module_facts scope.now)) (Net name.now) width) steps.old.items steps.new.items bits.items) }
+{
+    let count = range_width(range_of(scope, name));
+    let bits = net_bits(alloc, steps, place_of(scope, name), 0, count)?;
+    extended(alloc, steps, &bits, width)
+}
+
+/// The bits of a net from an index to another.
+fn part(
+    alloc: Global,
+    scope: &CheckedModule,
+    steps: &mut Vec<BitStep>,
+    name: &Name,
+    left: u32,
+    right: u32,
+    width: u32,
+) -> Result<Vec<u32>, NoMemory>
+    requires has { HasNet (module_facts scope.now) name.now }
+    requires bits { has_bits (ranges_in (module_facts scope.now) name.now) left right ≡ true }
+    requires own { distance left right + 1 ≤ width }
+    requires width { width ≤ 65536 }
+    requires room { length steps.old.items + width ≤ 2 ^ 32 }
+    ensures { IfOk result (λ bits. Adds scope.now.nets.items (made (ranges_in (module_facts scope.now)) (Part name.now left right) width) steps.old.items steps.new.items bits.items) }
+{
+    let from = first_place(range_of(scope, name), left);
+    let count = left.abs_diff(right) + 1;
+    let bits = net_bits(alloc, steps, place_of(scope, name), from, count)?;
+    extended(alloc, steps, &bits, width)
+}
+
+/// A number by its bits.
+fn number(
+    alloc: Global,
+    steps: &mut Vec<BitStep>,
+    bits: &[bool],
+    width: u32,
+) -> Result<Vec<u32>, NoMemory>
+    requires own { length bits.now ≤ width }
+    requires room { length steps.old.items + width ≤ 2 ^ 32 }
+    ensures { (nets : List NetInfo) → IfOk result (λ places.
+        Adds nets (without_cells (extended (Const false) width (map Const bits.now))) steps.old.items steps.new.items places.items) }
+{
+    let places = constants(alloc, steps, bits)?;
+    extended(alloc, steps, &places, width)
+}
+
+/// The steps of an expression at a width, and its bits. Recursion goes as deep as the expression nests.
+#[cycle(lowering)]
+fn lower_at(
+    alloc: Global,
+    scope: &CheckedModule,
+    steps: &mut Vec<BitStep>,
+    expr: &Expr,
+    width: u32,
+) -> Result<Vec<u32>, NoMemory>
+    requires fit { AreFit (module_facts scope.now) (expression expr.now) }
+    requires own { own_width (ranges_in (module_facts scope.now)) (expression expr.now) ≤ width }
+    requires width { width ≤ 65536 }
+    requires room { length steps.old.items + most_steps width (cell_count (ranges_in (module_facts scope.now)) (expression expr.now) width) ≤ 2 ^ 32 }
+    ensures { IfOk result (λ bits. Adds scope.now.nets.items (made (ranges_in (module_facts scope.now)) (expression expr.now) width) steps.old.items steps.new.items bits.items) }
+{
+    match expr {
+        Expr::Net(name) => net(alloc, scope, steps, name, width),
+        Expr::Bit(name, index) => part(alloc, scope, steps, name, *index, *index, width),
+        Expr::Part(name, left, right) => part(alloc, scope, steps, name, *left, *right, width),
+        Expr::Sized(bits) => number(alloc, steps, bits, width),
+        Expr::Plain(value) => {
+            let bits = number_bits(alloc, *value)?;
+            number(alloc, steps, &bits, width)
+        }
+        Expr::Not(count, operand) => {
+            let bits = lower_at(alloc, scope, steps, operand, width)?;
+            if is_odd(*count) {
+                inverted(alloc, steps, &bits)
+            } else {
+                Ok(bits)
+            }
+        }
+        Expr::Chain(first, rest) => {
+            let bits = lower_at(alloc, scope, steps, first, width)?;
+            chain(alloc, scope, steps, bits, rest, width)
+        }
+        Expr::Cond(all, last) => {
+            let bits = lower_at(alloc, scope, steps, last, width)?;
+            conditional(alloc, scope, steps, bits, all, width)
+        }
+        Expr::Concat(all) => {
+            let bits = side_by_side(alloc, scope, steps, all)?;
+            extended(alloc, steps, &bits, width)
+        }
+        Expr::Repeat(count, all) => {
+            let bits = side_by_side(alloc, scope, steps, all)?;
+            let copies = copied(alloc, &bits, *count)?;
+            extended(alloc, steps, &copies, width)
+        }
+    }
+}
+
+/// The operands of a chain behind the first, each with the bits of those before it.
+#[cycle(lowering)]
+fn chain(
+    alloc: Global,
+    scope: &CheckedModule,
+    steps: &mut Vec<BitStep>,
+    first: Vec<u32>,
+    rest: &[(Op, Expr)],
+    width: u32,
+) -> Result<Vec<u32>, NoMemory>
+    requires fit { All (λ x. AreFit (module_facts scope.now) x.1) (map operand_view rest.now) }
+    requires owns { All (λ x. own_width (ranges_in (module_facts scope.now)) x.1 ≤ width) (map operand_view rest.now) }
+    requires width { width ≤ 65536 }
+    requires first { length first.items ≡ width }
+    requires room { length steps.old.items + 3 * sum_by (operand_cells (ranges_in (module_facts scope.now)) width) (map operand_view rest.now) ≤ 2 ^ 32 }
+    ensures { (m : Made) (old : List BitStep) → Adds scope.now.nets.items m old steps.old.items first.items
+        → IfOk result (λ bits. Adds scope.now.nets.items (chained_on (ranges_in (module_facts scope.now)) width m (map operand_view rest.now)) old steps.new.items bits.items) }
+{
+    let mut bits = first;
+    for (op, operand) in rest {
+        let right = lower_at(alloc, scope, steps, operand, width)?;
+        bits = operate(alloc, steps, *op, &bits, &right)?;
+    }
+    Ok(bits)
+}
+
+/// Conditions with their values, from the last one on, each before what is chosen where it does not hold.
+#[cycle(lowering)]
+fn conditional(
+    alloc: Global,
+    scope: &CheckedModule,
+    steps: &mut Vec<BitStep>,
+    last: Vec<u32>,
+    all: &[(Expr, Expr)],
+    width: u32,
+) -> Result<Vec<u32>, NoMemory>
+    requires fit { All (λ x. AreFit (module_facts scope.now) x.0 × AreFit (module_facts scope.now) x.1) (map arm_view all.now) }
+    requires owns { All (λ x. own_width (ranges_in (module_facts scope.now)) x.1 ≤ width) (map arm_view all.now) }
+    requires width { width ≤ 65536 }
+    requires some { 1 ≤ width }
+    requires last { length last.items ≡ width }
+    requires room { length steps.old.items + 3 * sum_by (arm_cells (ranges_in (module_facts scope.now)) width) (map arm_view all.now) ≤ 2 ^ 32 }
+    ensures { (m : Made) (old : List BitStep) → Adds scope.now.nets.items m old steps.old.items last.items
+        → IfOk result (λ bits. Adds scope.now.nets.items (arms_on (ranges_in (module_facts scope.now)) width m (map arm_view all.now)) old steps.new.items bits.items) }
+{
+    let mut bits = last;
+    for turn in 0..all.len() {
+        let (condition, value) = &all[all.len() - 1 - turn];
+        let own = width_of(scope, condition);
+        let tested = lower_at(alloc, scope, steps, condition, own)?;
+        let any = any_bit(steps, &tested)?;
+        let chosen = lower_at(alloc, scope, steps, value, width)?;
+        bits = select(alloc, steps, any, &chosen, &bits)?;
+    }
+    Ok(bits)
+}
+
+/// Parts side by side, each at its own width.
+#[cycle(lowering)]
+fn side_by_side(
+    alloc: Global,
+    scope: &CheckedModule,
+    steps: &mut Vec<BitStep>,
+    all: &[Expr],
+) -> Result<Vec<u32>, NoMemory>
+    requires fit { All (AreFit (module_facts scope.now)) (map expression all.now) }
+    requires width { sum (map (own_width (ranges_in (module_facts scope.now))) (map expression all.now)) ≤ 65536 }
+    requires room { length steps.old.items + most_steps (sum_by (own_width (ranges_in (module_facts scope.now))) (map expression all.now))
+        (sum_by (own_cells (ranges_in (module_facts scope.now))) (map expression all.now)) ≤ 2 ^ 32 }
+    ensures { IfOk result (λ bits. Adds scope.now.nets.items (beside (ranges_in (module_facts scope.now)) (map expression all.now)) steps.old.items steps.new.items bits.items) }
+{
+    let mut bits = Vec::with_capacity(alloc, total_width(scope, all) as usize)?;
+    for part in all {
+        let own = width_of(scope, part);
+        let more = lower_at(alloc, scope, steps, part, own)?;
+        bits.extend_from_slice(&more)?;
+    }
+    Ok(bits)
 }

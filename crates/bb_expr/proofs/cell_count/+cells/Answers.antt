@@ -1,0 +1,221 @@
+-- What an operand needs, and that the cells of operands are added up.
+use Rattle.std.proofs.Common.{◌≡◌, ◌+◌, ◌-◌, ◌*◌, map, sym, ap, ◌∙◌, subst, arith, rules}
+use Rattle.std.specs.Prelude.{◌^◌, All, sum_by, min}
+use Rattle.bb_ast.specs.Views.{expression, operand_view, arm_view}
+use Rattle.bb_ast.specs.declared.expr.Expr.{the_lemmas}
+use Rattle.bb_expr.specs.Cells.{op_cells, cell_count}
+use Rattle.bb_expr.specs.Checked.{module_facts}
+use Rattle.bb_expr.specs.Fit.{AreFit, ranges_in}
+use Rattle.bb_expr.specs.Shares.{capped, own_cells, operand_cells, arm_cells}
+use Rattle.bb_expr.specs.Widths.{own_width}
+use Rattle.bb_expr.proofs.ViewLemmas.{expression-not, expression-chain, expression-cond, expression-concat, expression-repeat}
+use Rattle.bb_expr.proofs.OperandLemmas.{fit-here, fit-not, fit-first, fit-operands, fit-arms, fit-last, fit-parts, fit-copied}
+use Rattle.bb_expr.proofs.ShareLemmas.{chain-cells, cond-cells, concat-cells, repeat-cells, two-shares, operand-share, arm-share, share-more, share-all, op-small}
+use Rattle.bb_expr.proofs.Loops.{All-here}
+use Rattle.bb_expr.proofs.cell_count.+cells.Goals as goal
+
+pub cells_at-cells_at-inner-requires : goal.cells_at-cells_at-inner-requires
+cells_at-cells_at-inner-requires t c =
+    let m = module_facts c.args.scope.now in (
+      search (rules, the_lemmas),
+      (
+        subst (λ e. AreFit m (expression e)) (sym c.deref.ensures)
+            (fit-not m c.in-Not.count (expression c.in-Not.operand.value) (subst (AreFit m) (expression-not c.args.expr.now c.in-Not.count c.in-Not.operand c.in-Not.is) c.requires.fit)),
+        c.requires.width,
+      ),
+    )
+
+pub cells_at-cells_at-requires : goal.cells_at-cells_at-requires
+cells_at-cells_at-requires t c =
+    let m = module_facts c.args.scope.now in (
+      search (rules, the_lemmas),
+      (
+        subst (λ e. AreFit m (expression e)) (sym c.deref-in-Chain.ensures)
+            (fit-first m (expression c.in-Chain.first.value) (map operand_view c.in-Chain.rest.items)
+            (subst (AreFit m) (expression-chain c.args.expr.now c.in-Chain.first c.in-Chain.rest c.in-Chain.is) c.requires.fit)),
+        c.requires.width,
+      ),
+    )
+
+pub cells_at-operand_cells-requires : goal.cells_at-operand_cells-requires
+cells_at-operand_cells-requires t c =
+    let m = module_facts c.args.scope.now in (
+      search (rules, the_lemmas),
+      (
+        subst (λ xs. All (λ x. AreFit m x.1) (map operand_view xs)) (sym c.deref-in-Chain-2.ensures.value)
+            (fit-operands m (expression c.in-Chain.first.value) (map operand_view c.in-Chain.rest.items)
+            (subst (AreFit m) (expression-chain c.args.expr.now c.in-Chain.first c.in-Chain.rest c.in-Chain.is) c.requires.fit)),
+        c.requires.width,
+      ),
+    )
+
+pub cells_at-arm_cells-requires : goal.cells_at-arm_cells-requires
+cells_at-arm_cells-requires t c =
+    let m = module_facts c.args.scope.now in (
+      search (rules, the_lemmas),
+      (
+        subst (λ xs. All (λ x. AreFit m x.0 × AreFit m x.1) (map arm_view xs)) (sym c.deref-in-Cond.ensures.value)
+            (fit-arms m (map arm_view c.in-Cond.all.items) (expression c.in-Cond.last.value)
+            (subst (AreFit m) (expression-cond c.args.expr.now c.in-Cond.all c.in-Cond.last c.in-Cond.is) c.requires.fit)),
+        c.requires.width,
+      ),
+    )
+
+pub cells_at-cells_at-requires-in-Cond : goal.cells_at-cells_at-requires-in-Cond
+cells_at-cells_at-requires-in-Cond t c =
+    let m = module_facts c.args.scope.now in (
+      search (rules, the_lemmas),
+      (
+        subst (λ e. AreFit m (expression e)) (sym c.deref-in-Cond-2.ensures)
+            (fit-last m (map arm_view c.in-Cond.all.items) (expression c.in-Cond.last.value)
+            (subst (AreFit m) (expression-cond c.args.expr.now c.in-Cond.all c.in-Cond.last c.in-Cond.is) c.requires.fit)),
+        c.requires.width,
+      ),
+    )
+
+pub cells_at-part_cells-requires : goal.cells_at-part_cells-requires
+cells_at-part_cells-requires t c =
+    let m = module_facts c.args.scope.now in (
+      search (rules, the_lemmas),
+      subst (λ xs. All (AreFit m) (map expression xs)) (sym c.deref-in-Concat.ensures.value)
+          (fit-parts m (map expression c.in-Concat.all.items) (subst (AreFit m) (expression-concat c.args.expr.now c.in-Concat.all c.in-Concat.is) c.requires.fit)),
+    )
+
+pub cells_at-part_cells-requires-in-Repeat : goal.cells_at-part_cells-requires-in-Repeat
+cells_at-part_cells-requires-in-Repeat t c =
+    let m = module_facts c.args.scope.now in (
+      search (rules, the_lemmas),
+      subst (λ xs. All (AreFit m) (map expression xs)) (sym c.deref-in-Repeat.ensures.value)
+          (fit-copied m c.in-Repeat.field-0 (map expression c.in-Repeat.all.items) (subst (AreFit m) (expression-repeat c.args.expr.now c.in-Repeat.field-0 c.in-Repeat.all c.in-Repeat.is) c.requires.fit)),
+    )
+
+pub cells_at-returns-in-Chain : goal.cells_at-returns-in-Chain
+cells_at-returns-in-Chain t c =
+    let m = module_facts c.args.scope.now in
+    let view = expression-chain c.args.expr.now c.in-Chain.first c.in-Chain.rest c.in-Chain.is in
+    two-shares (2 ^ 64 - 1) (cell_count (ranges_in m) (expression c.in-Chain.first.value) c.args.width) (sum_by (operand_cells (ranges_in m) c.args.width) (map operand_view c.in-Chain.rest.items))
+    c.cells_at.result c.operand_cells.result c.saturating_add-in-Chain.result
+    (c.cells_at.ensures ∙ ap (λ e. capped (cell_count (ranges_in m) (expression e) c.args.width)) c.deref-in-Chain.ensures)
+    (c.operand_cells.ensures ∙ ap (λ xs. capped (sum_by (operand_cells (ranges_in m) c.args.width) (map operand_view xs))) c.deref-in-Chain-2.ensures.value)
+    c.saturating_add-in-Chain.ensures
+    ∙ ap capped (sym (ap (λ e. cell_count (ranges_in m) e c.args.width) view ∙ chain-cells (ranges_in m) (expression c.in-Chain.first.value) (map operand_view c.in-Chain.rest.items) c.args.width))
+
+pub cells_at-returns-in-Cond : goal.cells_at-returns-in-Cond
+cells_at-returns-in-Cond t c =
+    let m = module_facts c.args.scope.now in
+    let view = expression-cond c.args.expr.now c.in-Cond.all c.in-Cond.last c.in-Cond.is in
+    two-shares (2 ^ 64 - 1) (sum_by (arm_cells (ranges_in m) c.args.width) (map arm_view c.in-Cond.all.items)) (cell_count (ranges_in m) (expression c.in-Cond.last.value) c.args.width)
+    c.arm_cells.result c.cells_at-in-Cond.result c.saturating_add-in-Cond.result
+    (c.arm_cells.ensures ∙ ap (λ xs. capped (sum_by (arm_cells (ranges_in m) c.args.width) (map arm_view xs))) c.deref-in-Cond.ensures.value)
+    (c.cells_at-in-Cond.ensures ∙ ap (λ e. capped (cell_count (ranges_in m) (expression e) c.args.width)) c.deref-in-Cond-2.ensures)
+    c.saturating_add-in-Cond.ensures
+    ∙ ap capped (sym (ap (λ e. cell_count (ranges_in m) e c.args.width) view ∙ cond-cells (ranges_in m) (map arm_view c.in-Cond.all.items) (expression c.in-Cond.last.value) c.args.width))
+
+pub cells_at-returns-in-Concat : goal.cells_at-returns-in-Concat
+cells_at-returns-in-Concat t c =
+    let m = module_facts c.args.scope.now in
+    let view = expression-concat c.args.expr.now c.in-Concat.all c.in-Concat.is in
+    c.part_cells.ensures ∙ ap (λ xs. capped (sum_by (own_cells (ranges_in m)) (map expression xs))) c.deref-in-Concat.ensures.value
+    ∙ ap capped (sym (ap (λ e. cell_count (ranges_in m) e c.args.width) view ∙ concat-cells (ranges_in m) (map expression c.in-Concat.all.items) c.args.width))
+
+pub cells_at-returns-in-Repeat : goal.cells_at-returns-in-Repeat
+cells_at-returns-in-Repeat t c =
+    let m = module_facts c.args.scope.now in
+    let view = expression-repeat c.args.expr.now c.in-Repeat.field-0 c.in-Repeat.all c.in-Repeat.is in
+    c.part_cells-in-Repeat.ensures ∙ ap (λ xs. capped (sum_by (own_cells (ranges_in m)) (map expression xs))) c.deref-in-Repeat.ensures.value
+    ∙ ap capped (sym (ap (λ e. cell_count (ranges_in m) e c.args.width) view ∙ repeat-cells (ranges_in m) c.in-Repeat.field-0 (map expression c.in-Repeat.all.items) c.args.width))
+
+pub operand_cells-cells_at-inner-requires : goal.operand_cells-cells_at-inner-requires
+operand_cells-cells_at-inner-requires t c = (
+  search (rules, the_lemmas),
+  (
+    All-here (λ x. AreFit (module_facts c.args.scope.now) x.1) operand_view c.args.rest.now c.loop-op.op-index c.loop-op-item.result c.loop-op-test.true c.loop-op-item.is c.requires.fit,
+    c.requires.width,
+  ),
+)
+
+pub operand_cells-loop-op-preserved : goal.operand_cells-loop-op-preserved
+operand_cells-loop-op-preserved t c =
+    let m = module_facts c.args.scope.now in
+    let gates : c.from.result ≡ op_cells c.loop-op-item.result.0 * c.args.width = c.from.ensures ∙ ap (λ n. n * c.args.width) c.op_cells.ensures in
+    share-more (operand_cells (ranges_in m) c.args.width) operand_view c.args.rest.now c.loop-op.op-index c.loop-op-item.result (2 ^ 64 - 1)
+    c.loop-op.total c.saturating_add.result c.saturating_add-total.result c.loop-op-test.true c.loop-op-item.is c.loop-op.invariant
+    (operand-share (2 ^ 64 - 1) (cell_count (ranges_in m) (expression c.loop-op-item.result.1) c.args.width) (op_cells c.loop-op-item.result.0 * c.args.width) c.cells_at-inner.result c.saturating_add.result
+    c.cells_at-inner.ensures (omega (arith, op-small c.loop-op-item.result.0 c.args.width, c.requires.width)) (subst (λ n. c.saturating_add.result ≡ min (c.cells_at-inner.result + n) (2 ^ 64 - 1)) gates c.saturating_add.ensures))
+    c.saturating_add-total.ensures
+
+pub operand_cells-returns : goal.operand_cells-returns
+operand_cells-returns t c =
+    share-all (operand_cells (ranges_in (module_facts c.args.scope.now)) c.args.width) operand_view c.args.rest.now c.loop-op.op-index (2 ^ 64 - 1) c.loop-op.total c.loop-op-test.false c.loop-op.invariant
+
+pub arm_cells-width_of-own-requires : goal.arm_cells-width_of-own-requires
+arm_cells-width_of-own-requires t c =
+    let m = module_facts c.args.scope.now in
+    record { fit = (All-here (λ x. AreFit m x.0 × AreFit m x.1) arm_view c.args.all.now c.loop-condition.condition-index c.loop-condition-item.result c.loop-condition-test.true c.loop-condition-item.is c.requires.fit).0 }
+
+pub arm_cells-cells_at-requires : goal.arm_cells-cells_at-requires
+arm_cells-cells_at-requires t c =
+    let m = module_facts c.args.scope.now in
+    let fit = All-here (λ x. AreFit m x.0 × AreFit m x.1) arm_view c.args.all.now c.loop-condition.condition-index c.loop-condition-item.result c.loop-condition-test.true c.loop-condition-item.is c.requires.fit in (
+      search (rules, the_lemmas),
+      (fit.0, omega (arith, c.width_of-own.ensures, (fit-here m (expression c.loop-condition-item.result.0) fit.0).bounded)),
+    )
+
+pub arm_cells-cells_at-requires-in-loop-condition : goal.arm_cells-cells_at-requires-in-loop-condition
+arm_cells-cells_at-requires-in-loop-condition t c =
+    let m = module_facts c.args.scope.now in
+    let fit = All-here (λ x. AreFit m x.0 × AreFit m x.1) arm_view c.args.all.now c.loop-condition.condition-index c.loop-condition-item.result c.loop-condition-test.true c.loop-condition-item.is c.requires.fit in
+    (search (rules, the_lemmas), (fit.1, c.requires.width))
+
+pub arm_cells-overflow_sub-own : goal.arm_cells-overflow_sub-own
+arm_cells-overflow_sub-own t c =
+    let m = module_facts c.args.scope.now in
+    let fit = All-here (λ x. AreFit m x.0 × AreFit m x.1) arm_view c.args.all.now c.loop-condition.condition-index c.loop-condition-item.result c.loop-condition-test.true c.loop-condition-item.is c.requires.fit in
+    omega (arith, c.width_of-own.ensures, (fit-here m (expression c.loop-condition-item.result.0) fit.0).some)
+
+pub arm_cells-overflow_add-own : goal.arm_cells-overflow_add-own
+arm_cells-overflow_add-own t c =
+    let m = module_facts c.args.scope.now in
+    let fit = All-here (λ x. AreFit m x.0 × AreFit m x.1) arm_view c.args.all.now c.loop-condition.condition-index c.loop-condition-item.result c.loop-condition-test.true c.loop-condition-item.is c.requires.fit in
+    omega (arith, c.width_of-own.ensures, (fit-here m (expression c.loop-condition-item.result.0) fit.0).bounded, c.requires.width)
+
+pub arm_cells-loop-condition-preserved : goal.arm_cells-loop-condition-preserved
+arm_cells-loop-condition-preserved t c =
+    let m = module_facts c.args.scope.now in
+    let condition = expression c.loop-condition-item.result.0 in
+    let value = expression c.loop-condition-item.result.1 in
+    let own = own_width (ranges_in m) condition in
+    let fit = All-here (λ x. AreFit m x.0 × AreFit m x.1) arm_view c.args.all.now c.loop-condition.condition-index c.loop-condition-item.result c.loop-condition-test.true c.loop-condition-item.is c.requires.fit in
+    let rest : c.from.result ≡ (own - 1) + c.args.width = c.from.ensures ∙ ap (λ n. (n - 1) + c.args.width) c.width_of-own.ensures in
+    share-more (arm_cells (ranges_in m) c.args.width) arm_view c.args.all.now c.loop-condition.condition-index c.loop-condition-item.result (2 ^ 64 - 1)
+    c.loop-condition.total c.saturating_add.result c.saturating_add-total.result c.loop-condition-test.true c.loop-condition-item.is c.loop-condition.invariant
+    (arm-share (2 ^ 64 - 1) (own_cells (ranges_in m) condition) (cell_count (ranges_in m) value c.args.width) own c.args.width c.cells_at.result c.cells_at-in-loop-condition.result c.saturating_add-inner.result c.saturating_add.result
+    (c.cells_at.ensures ∙ ap (λ n. capped (cell_count (ranges_in m) condition n)) c.width_of-own.ensures) c.cells_at-in-loop-condition.ensures c.saturating_add-inner.ensures
+    (omega (arith, (fit-here m condition fit.0).bounded, c.requires.width)) (subst (λ n. c.saturating_add.result ≡ min (c.saturating_add-inner.result + n) (2 ^ 64 - 1)) rest c.saturating_add.ensures))
+    c.saturating_add-total.ensures
+
+pub arm_cells-returns : goal.arm_cells-returns
+arm_cells-returns t c =
+    share-all (arm_cells (ranges_in (module_facts c.args.scope.now)) c.args.width) arm_view c.args.all.now c.loop-condition.condition-index (2 ^ 64 - 1) c.loop-condition.total c.loop-condition-test.false c.loop-condition.invariant
+
+pub part_cells-loop-part-preserved : goal.part_cells-loop-part-preserved
+part_cells-loop-part-preserved t c =
+    let m = module_facts c.args.scope.now in
+    share-more (own_cells (ranges_in m)) expression c.args.all.now c.loop-part.part-index c.part-item.result (2 ^ 64 - 1)
+    c.loop-part.total c.cells_at.result c.saturating_add-total.result c.loop-part-test.true c.part-item.is c.loop-part.invariant
+    (c.cells_at.ensures ∙ ap (λ n. capped (cell_count (ranges_in m) (expression c.part-item.result) n)) c.width_of-own.ensures) c.saturating_add-total.ensures
+
+pub part_cells-width_of-own-requires : goal.part_cells-width_of-own-requires
+part_cells-width_of-own-requires t c = record {
+  fit = All-here (AreFit (module_facts c.args.scope.now)) expression c.args.all.now c.loop-part.part-index c.part-item.result c.loop-part-test.true c.part-item.is c.requires.fit;
+}
+
+pub part_cells-cells_at-requires : goal.part_cells-cells_at-requires
+part_cells-cells_at-requires t c =
+    let m = module_facts c.args.scope.now in
+    let fit = All-here (AreFit m) expression c.args.all.now c.loop-part.part-index c.part-item.result c.loop-part-test.true c.part-item.is c.requires.fit in
+    (search (rules, the_lemmas), (fit, omega (arith, c.width_of-own.ensures, (fit-here m (expression c.part-item.result) fit).bounded)))
+
+pub part_cells-returns : goal.part_cells-returns
+part_cells-returns t c =
+    share-all (own_cells (ranges_in (module_facts c.args.scope.now))) expression c.args.all.now c.loop-part.part-index (2 ^ 64 - 1) c.loop-part.total c.loop-part-test.false c.loop-part.invariant

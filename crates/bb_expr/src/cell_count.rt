@@ -1,0 +1,116 @@
+//! How many cells expressions make.
+
+ghost use Rattle.std.specs.Prelude.{◌≡◌, ◌≤◌, ◌+◌, ◌*◌, ◌-◌, ◌^◌, min, map, sum_by, All};
+ghost use Rattle.bb_ast.specs.Views.{expression, operand_view, arm_view};
+ghost use Rattle.bb_expr.specs.Cells.{is_odd, op_cells, cell_count};
+ghost use Rattle.bb_expr.specs.Checked.{module_facts};
+ghost use Rattle.bb_expr.specs.Fit.{AreFit, ranges_in};
+ghost use Rattle.bb_expr.specs.Shares.{capped, own_cells, operand_cells, arm_cells};
+ghost use Rattle.bb_expr.specs.Standing.{StandsAt, ranges_at};
+ghost use Rattle.bb_expr.specs.Widths.{own_width};
+
+use crate::checked::{Checked, CheckedModule};
+use crate::laws;
+use crate::width::width_of;
+use bb_ast::{Expr, Op};
+
+/// The number of cells that an expression of a module makes at a width that is at least its own, or 2^64 - 1 where it is greater.
+pub fn cells(checked: &Checked, module: u32, expr: &Expr, width: u32) -> u64
+    requires stands { StandsAt checked.now «module» (expression expr.now) }
+    requires own { own_width (ranges_at checked.now «module») (expression expr.now) ≤ width }
+    requires width { width ≤ 65536 }
+    ensures { result ≡ min (2 ^ 64 - 1) (cell_count (ranges_at checked.now «module») (expression expr.now) width) }
+{
+    laws::standing_is_fit();
+    cells_at(&checked.modules()[module as usize], expr, width)
+}
+
+/// Whether so many complements are one.
+pub(crate) fn is_odd(count: u32) -> bool
+    ensures { result ≡ is_odd count }
+{
+    count % 2 == 1
+}
+
+/// The cells of an operator for each bit.
+fn op_cells(op: Op) -> u32
+    ensures { result ≡ op_cells op }
+{
+    match op {
+        Op::And | Op::Or | Op::Xor => 1,
+        Op::Xnor => 2,
+    }
+}
+
+/// The cells of an expression at a width. Recursion goes as deep as the expression nests.
+#[cycle(cells)]
+fn cells_at(scope: &CheckedModule, expr: &Expr, width: u32) -> u64
+    requires fit { AreFit (module_facts scope.now) (expression expr.now) }
+    requires width { width ≤ 65536 }
+    ensures { result ≡ capped (cell_count (ranges_in (module_facts scope.now)) (expression expr.now) width) }
+{
+    match expr {
+        Expr::Not(count, operand) => {
+            let inner = cells_at(scope, operand, width);
+            if is_odd(*count) {
+                inner.saturating_add(u64::from(width))
+            } else {
+                inner
+            }
+        }
+        Expr::Chain(first, rest) => {
+            cells_at(scope, first, width).saturating_add(operand_cells(scope, rest, width))
+        }
+        Expr::Cond(all, last) => {
+            arm_cells(scope, all, width).saturating_add(cells_at(scope, last, width))
+        }
+        Expr::Concat(all) => part_cells(scope, all),
+        Expr::Repeat(_, all) => part_cells(scope, all),
+        _ => 0,
+    }
+}
+
+/// The cells of the operators of a chain and of their right operands.
+#[cycle(cells)]
+fn operand_cells(scope: &CheckedModule, rest: &[(Op, Expr)], width: u32) -> u64
+    requires fit { All (λ x. AreFit (module_facts scope.now) x.1) (map operand_view rest.now) }
+    requires width { width ≤ 65536 }
+    ensures { result ≡ capped (sum_by (operand_cells (ranges_in (module_facts scope.now)) width) (map operand_view rest.now)) }
+{
+    let mut total = 0u64;
+    for (op, operand) in rest {
+        let inner = cells_at(scope, operand, width);
+        total = total.saturating_add(inner.saturating_add(u64::from(op_cells(*op) * width)));
+    }
+    total
+}
+
+/// The cells of conditions and their values, and what chooses between these and the rest.
+#[cycle(cells)]
+fn arm_cells(scope: &CheckedModule, all: &[(Expr, Expr)], width: u32) -> u64
+    requires fit { All (λ x. AreFit (module_facts scope.now) x.0 × AreFit (module_facts scope.now) x.1) (map arm_view all.now) }
+    requires width { width ≤ 65536 }
+    ensures { result ≡ capped (sum_by (arm_cells (ranges_in (module_facts scope.now)) width) (map arm_view all.now)) }
+{
+    let mut total = 0u64;
+    for (condition, value) in all {
+        let own = width_of(scope, condition);
+        let inner = cells_at(scope, condition, own).saturating_add(cells_at(scope, value, width));
+        total = total.saturating_add(inner.saturating_add(u64::from(own - 1 + width)));
+    }
+    total
+}
+
+/// The cells of parts, each at its own width.
+#[cycle(cells)]
+fn part_cells(scope: &CheckedModule, all: &[Expr]) -> u64
+    requires fit { All (AreFit (module_facts scope.now)) (map expression all.now) }
+    ensures { result ≡ capped (sum_by (own_cells (ranges_in (module_facts scope.now))) (map expression all.now)) }
+{
+    let mut total = 0u64;
+    for part in all {
+        let own = width_of(scope, part);
+        total = total.saturating_add(cells_at(scope, part, own));
+    }
+    total
+}

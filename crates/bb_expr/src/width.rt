@@ -1,0 +1,94 @@
+//! Own widths of expressions.
+
+ghost use Rattle.std.specs.Prelude.{◌≡◌, ◌≤◌, map, sum, All};
+ghost use Rattle.bb_ast.specs.Views.{expression, operand_view, arm_view};
+ghost use Rattle.bb_expr.specs.Checked.{module_facts};
+ghost use Rattle.bb_expr.specs.Fit.{AreFit, ranges_in};
+ghost use Rattle.bb_expr.specs.Ranges.{distance, range_width};
+ghost use Rattle.bb_expr.specs.Standing.{StandsAt, ranges_at};
+ghost use Rattle.bb_expr.specs.Widths.{own_width, greatest};
+
+use crate::checked::{Checked, CheckedModule};
+use crate::laws;
+use crate::scope::range_of;
+use bb_ast::{Expr, Op, Range};
+
+/// The width of an expression of a module by itself.
+pub fn own_width(checked: &Checked, module: u32, expr: &Expr) -> u32
+    requires { StandsAt checked.now «module» (expression expr.now) }
+    ensures { result ≡ own_width (ranges_at checked.now «module») (expression expr.now) }
+{
+    laws::standing_is_fit();
+    width_of(&checked.modules()[module as usize], expr)
+}
+
+/// How many bits a net with this range has, or one without a range.
+pub(crate) fn range_width(range: Option<Range>) -> u32
+    requires { range_width range ≤ 65536 }
+    ensures { result ≡ range_width range }
+{
+    match range {
+        Some(range) => range.left.abs_diff(range.right) + 1,
+        None => 1,
+    }
+}
+
+/// The width of an expression by itself. Recursion goes as deep as the expression nests.
+#[cycle(width)]
+pub(crate) fn width_of(scope: &CheckedModule, expr: &Expr) -> u32
+    requires fit { AreFit (module_facts scope.now) (expression expr.now) }
+    ensures { result ≡ own_width (ranges_in (module_facts scope.now)) (expression expr.now) }
+{
+    match expr {
+        Expr::Net(name) => range_width(range_of(scope, name)),
+        Expr::Bit(_, _) => 1,
+        Expr::Part(_, left, right) => left.abs_diff(*right) + 1,
+        Expr::Sized(bits) => bits.len() as u32,
+        Expr::Plain(_) => 32,
+        Expr::Not(_, operand) => width_of(scope, operand),
+        Expr::Chain(first, rest) => width_of(scope, first).max(widest_operand(scope, rest)),
+        Expr::Cond(all, last) => widest_value(scope, all).max(width_of(scope, last)),
+        Expr::Concat(all) => total_width(scope, all),
+        Expr::Repeat(count, all) => *count * total_width(scope, all),
+    }
+}
+
+/// The greatest width among the right operands of a chain.
+#[cycle(width)]
+fn widest_operand(scope: &CheckedModule, rest: &[(Op, Expr)]) -> u32
+    requires fit { All (λ x. AreFit (module_facts scope.now) x.1) (map operand_view rest.now) }
+    ensures { result ≡ greatest (map (λ x. own_width (ranges_in (module_facts scope.now)) x.1) (map operand_view rest.now)) }
+{
+    let mut widest = 0;
+    for (_, operand) in rest {
+        widest = widest.max(width_of(scope, operand));
+    }
+    widest
+}
+
+/// The greatest width among the values of conditions.
+#[cycle(width)]
+fn widest_value(scope: &CheckedModule, all: &[(Expr, Expr)]) -> u32
+    requires fit { All (λ x. AreFit (module_facts scope.now) x.1) (map arm_view all.now) }
+    ensures { result ≡ greatest (map (λ x. own_width (ranges_in (module_facts scope.now)) x.1) (map arm_view all.now)) }
+{
+    let mut widest = 0;
+    for (_, value) in all {
+        widest = widest.max(width_of(scope, value));
+    }
+    widest
+}
+
+/// How wide parts are side by side.
+#[cycle(width)]
+pub(crate) fn total_width(scope: &CheckedModule, all: &[Expr]) -> u32
+    requires fit { All (AreFit (module_facts scope.now)) (map expression all.now) }
+    requires bounded { sum (map (own_width (ranges_in (module_facts scope.now))) (map expression all.now)) ≤ 65536 }
+    ensures { result ≡ sum (map (own_width (ranges_in (module_facts scope.now))) (map expression all.now)) }
+{
+    let mut total = 0;
+    for part in all {
+        total += width_of(scope, part);
+    }
+    total
+}
