@@ -1,0 +1,13 @@
+//! Elaboration: the hierarchy of a checked source as one flat netlist with named inputs, registers, outputs and boxes.
+#![tactic(auto)]
+
+mod callees;
+mod elaborating;
+mod fault;
+mod flat;
+pub mod laws;
+mod top;
+
+pub use elaborating::elaborate;
+pub use fault::ElabFault;
+pub use flat::{Flat, FlatParts, Reg};
