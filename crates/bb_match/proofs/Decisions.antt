@@ -1,0 +1,196 @@
+-- Of each cause it can be told whether it holds; so two netlists fit or have a first refusal.
+use Rattle.std.proofs.Common.{◌≡◌, ◌≢◌, ◌⊎◌, ℕ, ◌+◌, ◌<◌, Bool, true, false, true≢false, List, [], ◌∷◌, All, Contains, Option, Some, None, refl, sym, ap, subst, ◌∙◌, inl, inr, arith}
+use Rattle.std.specs.Prelude.{IsSome}
+use Rattle.std.proofs.lemmas.Bool.{cases_lt}
+use Rattle.std.proofs.lemmas.List.Elements.{All-contains, All-cons, All-nil}
+use Rattle.std.proofs.lemmas.Slice.Eq.{bytes_eq-Decides}
+use Rattle.bb_bits.specs.Names.{same_name}
+use Rattle.bb_net.specs.Pairs.{BoxTexts}
+use Rattle.bb_elab.specs.declared.flat.Reg.{Reg}
+use Rattle.bb_elab.specs.Closures.{IsFirst}
+use Rattle.bb_elab.specs.Flats.{FlatNet}
+use Rattle.bb_match.specs.declared.fault.MatchFault.{MatchFault}
+use Rattle.bb_match.specs.CutPoints.{register_texts, clock_text}
+use Rattle.bb_match.specs.Refusals.{IsMissing, IsFirstMissing, AreAmong, HasNoClock, IsFirstWithoutClock, HaveClocks, IsClockedApart, IsFirstClockedApart, AreClockedAlike, most_pins, input_and_pin_count, Cause, Box, SpecInput, SpecOutput, ImpInput, ImpOutput, SpecRegister, ImpRegister, SpecClock, ImpClock, Clocks, Pins, rank, fault_of, IsTold, IsAbsent, Fit, IsFirstRefusal}
+use Rattle.bb_match.specs.Laws.{FitOrRefused}
+use Rattle.bb_match.proofs.Firsts.{less_or_same, first_there, contains_here, contains_there, contains_cases, none_in_nil}
+use Rattle.bb_match.proofs.RefusalLaws.{none_is_not_some, cause_at, at_rank}
+
+-- equality of texts
+
+pub decide_text : (a b : List ℕ) → (a ≡ b) ⊎ (a ≢ b)
+decide_text a b = by (same_name a b) refl
+  where
+    by : (t : Bool) → same_name a b ≡ t → (a ≡ b) ⊎ (a ≢ b)
+    by true e = inl ((bytes_eq-Decides a b).0 e)
+    by false e = inr (λ same. true≢false (sym ((bytes_eq-Decides a b).1 same) ∙ e))
+
+pub decide_bool : (a b : Bool) → (a ≡ b) ⊎ (a ≢ b)
+decide_bool true true = inl refl
+decide_bool false false = inl refl
+decide_bool true false = inr true≢false
+decide_bool false true = inr (λ e. true≢false (sym e))
+
+some_one : {A : Type 0} (d a b : A) → Some a ≡ Some b → a ≡ b
+some_one d a b e = cc e
+
+decide_optional : (a b : Option (List ℕ)) → (a ≡ b) ⊎ (a ≢ b)
+decide_optional None None = inl refl
+decide_optional None (Some y) = inr (λ e. cc e)
+decide_optional (Some x) None = inr (λ e. cc e)
+decide_optional (Some x) (Some y) = elim (decide_text x y) [ inl e ↦ inl (ap Some e) | inr n ↦ inr (λ e. n (some_one x x y e)) ]
+
+decide_among : (texts : List (List ℕ)) (n : List ℕ) → IsMissing texts n ⊎ Contains texts n
+decide_among [] n = inl (none_in_nil n)
+decide_among (x ∷ xs) n = by (decide_text x n) (decide_among xs n)
+  where
+    by : (x ≡ n) ⊎ (x ≢ n) → IsMissing xs n ⊎ Contains xs n → IsMissing (x ∷ xs) n ⊎ Contains (x ∷ xs) n
+    by (inl e) rest = inr (subst (Contains (x ∷ xs)) e (contains_here x xs))
+    by (inr off) (inr has) = inr (contains_there x xs n has)
+    by (inr off) (inl lacks) = inl (λ has. elim (contains_cases x xs n has) [ inl e ↦ off e | inr more ↦ lacks more ])
+
+-- the first of a list of which something holds, or the opposite holds of all
+pub first_or_all : {A : Type 0} (P Q : A → Type 0) → ((x : A) → P x → Q x → ⊥) → ((x : A) → P x ⊎ Q x) → (xs : List A) → ((x : A) × IsFirst P xs x) ⊎ All Q xs
+first_or_all P Q clash decide [] = inr (All-nil Q)
+first_or_all P Q clash decide (x ∷ xs) = by (decide x) (first_or_all P Q clash decide xs)
+  where
+    by : P x ⊎ Q x → ((y : _) × IsFirst P xs y) ⊎ All Q xs → ((y : _) × IsFirst P (x ∷ xs) y) ⊎ All Q (x ∷ xs)
+    by (inl p) rest = inl (x, record { before = []; after = xs; stands = refl; holds = p; earlier = λ y has q. none_in_nil y has })
+    by (inr q) (inr all) = inr (All-cons Q x xs q all)
+    by (inr q) (inl f) = inl (
+      f.0,
+      record {
+        before = x ∷ f.1.before;
+        after = f.1.after;
+        stands = ap (λ l. x ∷ l) f.1.stands;
+        holds = f.1.holds;
+        earlier = λ y has p. elim (contains_cases x f.1.before y has) [ inl e ↦ clash x (subst P (sym e) p) q | inr more ↦ f.1.earlier y more p ];
+      },
+    )
+
+missing : (texts others : List (List ℕ)) → ((n : List ℕ) × IsFirstMissing texts others n) ⊎ AreAmong texts others
+missing texts others = first_or_all (IsMissing others) (Contains others) (λ n lacks has. lacks has) (decide_among others) texts
+
+decide_clock : (r : Reg) → HasNoClock r ⊎ IsSome r.clock
+decide_clock r = by r.clock refl
+  where
+    by : (o : Option ℕ) → r.clock ≡ o → HasNoClock r ⊎ IsSome r.clock
+    by None e = inl e
+    by (Some k) e = inr (subst IsSome (sym e) refl)
+
+without_clock : (f : FlatNet) → ((n : List ℕ) × IsFirstWithoutClock f n) ⊎ HaveClocks f
+without_clock f = elim (first_or_all HasNoClock (λ r. IsSome r.clock) (λ r none some. none_is_not_some r.clock none some) decide_clock f.regs) [ inl x ↦ inl (x.0.text, (x.0, x.1, refl)) | inr all ↦ inr all ]
+
+-- the registers of one text have one clock
+
+IsOther : FlatNet → FlatNet → Reg → Reg → Type 0
+IsOther f g r q = (q.text ≡ r.text) × ((q.falling ≢ r.falling) ⊎ (clock_text g q ≢ clock_text f r))
+
+IsAlike : FlatNet → FlatNet → Reg → Reg → Type 0
+IsAlike f g r q = q.text ≡ r.text → (q.falling ≡ r.falling) × (clock_text g q ≡ clock_text f r)
+
+other_not_alike : (f g : FlatNet) (r q : Reg) → IsOther f g r q → IsAlike f g r q → ⊥
+unfolding IsOther IsAlike
+other_not_alike f g r q other alike = elim other.1 [ inl edge ↦ edge (alike other.0).0 | inr clock ↦ clock (alike other.0).1 ]
+
+other_or_alike : (f g : FlatNet) (r q : Reg) → IsOther f g r q ⊎ IsAlike f g r q
+unfolding IsOther IsAlike
+other_or_alike f g r q = by (decide_text q.text r.text) (decide_bool q.falling r.falling) (decide_optional (clock_text g q) (clock_text f r))
+  where
+    by : (q.text ≡ r.text) ⊎ (q.text ≢ r.text) → (q.falling ≡ r.falling) ⊎ (q.falling ≢ r.falling) → (clock_text g q ≡ clock_text f r) ⊎ (clock_text g q ≢ clock_text f r)
+        → ((q.text ≡ r.text) × ((q.falling ≢ r.falling) ⊎ (clock_text g q ≢ clock_text f r))) ⊎ (q.text ≡ r.text → (q.falling ≡ r.falling) × (clock_text g q ≡ clock_text f r))
+    by (inr off) edge clock = inr (λ e. absurd (off e))
+    by (inl e) (inr edge) clock = inl (e, inl edge)
+    by (inl e) (inl edge) (inr clock) = inl (e, inr clock)
+    by (inl e) (inl edge) (inl clock) = inr (λ same. (edge, clock))
+
+AreAlike : FlatNet → FlatNet → Reg → Type 0
+AreAlike f g r = All (IsAlike f g r) g.regs
+
+apart_not_alike : (f g : FlatNet) (r : Reg) → IsClockedApart f g r → AreAlike f g r → ⊥
+unfolding AreAlike IsOther
+apart_not_alike f g r apart alike = other_not_alike f g r apart.0 (apart.2, apart.3) (All-contains (IsAlike f g r) g.regs apart.0 alike apart.1)
+
+apart_or_alike : (f g : FlatNet) (r : Reg) → IsClockedApart f g r ⊎ AreAlike f g r
+unfolding AreAlike IsOther
+apart_or_alike f g r = elim (first_or_all (IsOther f g r) (IsAlike f g r) (other_not_alike f g r) (other_or_alike f g r) g.regs) [
+  | inl x ↦ inl (x.0, first_there (IsOther f g r) g.regs x.0 x.1, x.1.holds.0, x.1.holds.1)
+  | inr all ↦ inr all
+]
+
+clocked_apart : (f g : FlatNet) → ((n : List ℕ) × IsFirstClockedApart f g n) ⊎ AreClockedAlike f g
+unfolding AreAlike IsAlike
+clocked_apart f g = elim (first_or_all (IsClockedApart f g) (AreAlike f g) (apart_not_alike f g) (apart_or_alike f g) f.regs) [
+  | inl x ↦ inl (x.0.text, (x.0, x.1, refl))
+  | inr all ↦ inr (λ r q has there. All-contains (IsAlike f g r) g.regs q (All-contains (AreAlike f g) f.regs r all has) there)
+]
+
+first_box : (boxes : List BoxTexts) → ((box : BoxTexts) × (rest : List BoxTexts) × (boxes ≡ box ∷ rest)) ⊎ (boxes ≡ [])
+first_box [] = inr refl
+first_box (b ∷ rest) = inl (b, rest, refl)
+
+pub told_or_absent : (spec imp : FlatNet) (cause : Cause) → ((n : List ℕ) × IsTold spec imp cause n) ⊎ IsAbsent spec imp cause
+told_or_absent spec imp Box = elim (first_box spec.boxes) [ inl x ↦ inl (x.0.path, (x.0, x.1, x.2, refl)) | inr none ↦ inr none ]
+told_or_absent spec imp SpecInput = missing spec.ins imp.ins
+told_or_absent spec imp SpecOutput = missing spec.outs imp.outs
+told_or_absent spec imp ImpInput = missing imp.ins spec.ins
+told_or_absent spec imp ImpOutput = missing imp.outs spec.outs
+told_or_absent spec imp SpecRegister = missing (register_texts spec) (register_texts imp)
+told_or_absent spec imp ImpRegister = missing (register_texts imp) (register_texts spec)
+told_or_absent spec imp SpecClock = without_clock spec
+told_or_absent spec imp ImpClock = without_clock imp
+told_or_absent spec imp Clocks = clocked_apart spec imp
+told_or_absent spec imp Pins = elim (cases_lt most_pins (input_and_pin_count imp)) [ inl many ↦ inl ([], many) | inr few ↦ inr few ]
+
+-- cause after cause
+
+-- no cause before this rank holds
+pub NoneBefore : FlatNet → FlatNet → ℕ → Type 0
+NoneBefore spec imp n = (other : Cause) → rank other < n → IsAbsent spec imp other
+
+pub none_at_first : (spec imp : FlatNet) → NoneBefore spec imp 0
+unfolding NoneBefore
+none_at_first spec imp other lt = absurd (omega (arith, lt))
+
+pub none_more : (spec imp : FlatNet) (cause : Cause) → NoneBefore spec imp (rank cause) → IsAbsent spec imp cause → NoneBefore spec imp (rank cause + 1)
+unfolding NoneBefore
+none_more spec imp cause before absent other lt = elim (less_or_same (rank other) (rank cause)) [
+  | inl h ↦ before other h
+  | inr more ↦ elim more [
+    | inl h ↦ absurd (omega (arith, h, lt))
+    | inr e ↦ let same : other ≡ cause = sym (at_rank other) ∙ ap cause_at e ∙ at_rank cause in subst (IsAbsent spec imp) (sym same) absent
+  ]
+]
+
+pub refused : (spec imp : FlatNet) (cause : Cause) (n : List ℕ) → NoneBefore spec imp (rank cause) → IsTold spec imp cause n → IsFirstRefusal spec imp (fault_of cause n)
+unfolding NoneBefore
+refused spec imp cause n before told = record { cause = cause; name = n; is = refl; told = told; earlier = before }
+
+pub fit_from : (spec imp : FlatNet) → NoneBefore spec imp 11 → Fit spec imp
+unfolding NoneBefore
+fit_from spec imp before cause = before cause (below cause)
+  where
+    below : (c : Cause) → rank c < 11
+    below Box = omega arith
+    below SpecInput = omega arith
+    below SpecOutput = omega arith
+    below ImpInput = omega arith
+    below ImpOutput = omega arith
+    below SpecRegister = omega arith
+    below ImpRegister = omega arith
+    below SpecClock = omega arith
+    below ImpClock = omega arith
+    below Clocks = omega arith
+    below Pins = omega arith
+
+pub fit_or_refused : FitOrRefused
+fit_or_refused spec imp = step Box (none_at_first spec imp) (λ b0. step SpecInput b0 (λ b1. step SpecOutput b1 (λ b2. step ImpInput b2 (λ b3. step ImpOutput b3 (λ b4. step SpecRegister b4 (λ b5. step ImpRegister b5 (λ b6. step SpecClock b6 (λ b7. step ImpClock b7 (λ b8. step Clocks b8 (λ b9. step Pins b9 (λ b. inl (fit_from spec imp b))))))))))))
+  where
+    Answer : Type 0
+    Answer = Fit spec imp ⊎ ((fault : MatchFault) × IsFirstRefusal spec imp fault)
+
+    step : (cause : Cause) → NoneBefore spec imp (rank cause) → (NoneBefore spec imp (rank cause + 1) → Answer) → Answer
+    step cause before next = elim (told_or_absent spec imp cause) [
+      | inl told ↦ inr (fault_of cause told.0, refused spec imp cause told.0 before told.1)
+      | inr absent ↦ next (none_more spec imp cause before absent)
+    ]

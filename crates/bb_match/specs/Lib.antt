@@ -1,0 +1,4 @@
+pub mod CutPoints
+pub mod Laws
+pub mod Pairing
+pub mod Refusals

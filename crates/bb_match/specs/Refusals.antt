@@ -1,0 +1,139 @@
+-- Why two flat netlists cannot be laid beside each other. They have to have the same inputs, outputs and registers by their
+-- texts, each register with the same clock at the same edge, so that they can be compared output by output and next state by next
+-- state; the specification has to be complete. There are eleven causes in one order, and the first that holds is told, with a
+-- name. For each cause stands here when it holds and which name is told of it, and beside it what holds where it does not.
+use Rattle.std.specs.Prelude.{◌≡◌, ◌≢◌, ◌⊎◌, ℕ, ◌+◌, ◌<◌, ◌≤◌, List, [], ◌∷◌, All, Contains, IsSome, None}
+use Rattle.bb_net.specs.Pairs.{BoxTexts, pin_count}
+use Rattle.bb_elab.specs.declared.flat.Reg.{Reg}
+use Rattle.bb_elab.specs.Closures.{IsFirst}
+use Rattle.bb_elab.specs.Flats.{FlatNet}
+use Rattle.bb_match.specs.declared.fault.MatchFault.{MatchFault}
+use Rattle.bb_match.specs.declared.fault.MatchFault.TheVariants as faults
+use Rattle.bb_match.specs.CutPoints.{register_texts, clock_text}
+
+-- texts of one list that the other lacks
+
+abbrev pub IsMissing : List (List ℕ) → List ℕ → Type 0
+IsMissing others text = Contains others text → ⊥
+
+abbrev pub IsFirstMissing : List (List ℕ) → List (List ℕ) → List ℕ → Type 0
+IsFirstMissing texts others text = IsFirst (IsMissing others) texts text
+
+abbrev pub AreAmong : List (List ℕ) → List (List ℕ) → Type 0
+AreAmong texts others = All (Contains others) texts
+
+-- registers whose clock is no input
+
+abbrev pub HasNoClock : Reg → Type 0
+HasNoClock r = r.clock ≡ None
+
+abbrev pub IsFirstWithoutClock : FlatNet → List ℕ → Type 0
+IsFirstWithoutClock f text = (r : Reg) × IsFirst HasNoClock f.regs r × (text ≡ r.text)
+
+abbrev pub HaveClocks : FlatNet → Type 0
+HaveClocks f = All (λ r. IsSome r.clock) f.regs
+
+-- a register of the one that the other has with another edge, or with a clock of another text
+
+abbrev pub IsClockedApart : FlatNet → FlatNet → Reg → Type 0
+IsClockedApart f g r = (q : Reg) × Contains g.regs q × (q.text ≡ r.text) × ((q.falling ≢ r.falling) ⊎ (clock_text g q ≢ clock_text f r))
+
+abbrev pub IsFirstClockedApart : FlatNet → FlatNet → List ℕ → Type 0
+IsFirstClockedApart f g text = (r : Reg) × IsFirst (IsClockedApart f g) f.regs r × (text ≡ r.text)
+
+abbrev pub AreClockedAlike : FlatNet → FlatNet → Type 0
+AreClockedAlike f g = (r q : Reg) → Contains f.regs r → Contains g.regs q → q.text ≡ r.text → (q.falling ≡ r.falling) × (clock_text g q ≡ clock_text f r)
+
+-- inputs, registers and all pins of boxes
+
+abbrev pub most_pins : ℕ
+most_pins = 2048
+
+abbrev pub input_and_pin_count : FlatNet → ℕ
+input_and_pin_count f = f.net.inputs + pin_count f.net.boxes
+
+pub data Cause : Type 0 where
+  -- the specification has a box: the first in the order of the netlist
+  Box : Cause
+  -- an input or an output that the other lacks: inputs, then outputs of the specification, then those of the implementation
+  SpecInput : Cause
+  SpecOutput : Cause
+  ImpInput : Cause
+  ImpOutput : Cause
+  -- a register that the other lacks
+  SpecRegister : Cause
+  ImpRegister : Cause
+  -- a register whose clock is no input
+  SpecClock : Cause
+  ImpClock : Cause
+  -- a register of both with another edge or another clock
+  Clocks : Cause
+  Pins : Cause
+
+-- their order
+abbrev pub rank : Cause → ℕ
+rank Box = 0
+rank SpecInput = 1
+rank SpecOutput = 2
+rank ImpInput = 3
+rank ImpOutput = 4
+rank SpecRegister = 5
+rank ImpRegister = 6
+rank SpecClock = 7
+rank ImpClock = 8
+rank Clocks = 9
+rank Pins = 10
+
+-- the refusal for a cause, told with a name
+abbrev pub fault_of : Cause → List ℕ → MatchFault
+fault_of Box n = faults.SpecBox n
+fault_of SpecInput n = faults.PortDiffers n
+fault_of SpecOutput n = faults.PortDiffers n
+fault_of ImpInput n = faults.PortDiffers n
+fault_of ImpOutput n = faults.PortDiffers n
+fault_of SpecRegister n = faults.RegDiffers n
+fault_of ImpRegister n = faults.RegDiffers n
+fault_of SpecClock n = faults.ClockNotInput n
+fault_of ImpClock n = faults.ClockNotInput n
+fault_of Clocks n = faults.ClockDiffers n
+fault_of Pins n = faults.TooManyPins
+
+-- the cause holds, and this name is told
+abbrev pub IsTold : FlatNet → FlatNet → Cause → List ℕ → Type 0
+IsTold spec imp Box n = (box : BoxTexts) × (rest : List BoxTexts) × (spec.boxes ≡ box ∷ rest) × (n ≡ box.path)
+IsTold spec imp SpecInput n = IsFirstMissing spec.ins imp.ins n
+IsTold spec imp SpecOutput n = IsFirstMissing spec.outs imp.outs n
+IsTold spec imp ImpInput n = IsFirstMissing imp.ins spec.ins n
+IsTold spec imp ImpOutput n = IsFirstMissing imp.outs spec.outs n
+IsTold spec imp SpecRegister n = IsFirstMissing (register_texts spec) (register_texts imp) n
+IsTold spec imp ImpRegister n = IsFirstMissing (register_texts imp) (register_texts spec) n
+IsTold spec imp SpecClock n = IsFirstWithoutClock spec n
+IsTold spec imp ImpClock n = IsFirstWithoutClock imp n
+IsTold spec imp Clocks n = IsFirstClockedApart spec imp n
+IsTold spec imp Pins n = most_pins < input_and_pin_count imp
+
+-- what holds where the cause does not
+abbrev pub IsAbsent : FlatNet → FlatNet → Cause → Type 0
+IsAbsent spec imp Box = spec.boxes ≡ []
+IsAbsent spec imp SpecInput = AreAmong spec.ins imp.ins
+IsAbsent spec imp SpecOutput = AreAmong spec.outs imp.outs
+IsAbsent spec imp ImpInput = AreAmong imp.ins spec.ins
+IsAbsent spec imp ImpOutput = AreAmong imp.outs spec.outs
+IsAbsent spec imp SpecRegister = AreAmong (register_texts spec) (register_texts imp)
+IsAbsent spec imp ImpRegister = AreAmong (register_texts imp) (register_texts spec)
+IsAbsent spec imp SpecClock = HaveClocks spec
+IsAbsent spec imp ImpClock = HaveClocks imp
+IsAbsent spec imp Clocks = AreClockedAlike spec imp
+IsAbsent spec imp Pins = input_and_pin_count imp ≤ most_pins
+
+-- they fit: there is no cause to refuse them
+abbrev pub Fit : FlatNet → FlatNet → Type 0
+Fit spec imp = (cause : Cause) → IsAbsent spec imp cause
+
+-- the first refusal: a cause holds, and none before it
+pub record IsFirstRefusal (spec imp : FlatNet) (fault : MatchFault) : Type 0 where
+  pub cause : Cause
+  pub name : List ℕ
+  pub is : fault ≡ fault_of cause name
+  pub told : IsTold spec imp cause name
+  pub earlier : (other : Cause) → rank other < rank cause → IsAbsent spec imp other

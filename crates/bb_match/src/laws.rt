@@ -1,0 +1,18 @@
+//! Laws of these definitions. Each function has a law as its contract and does nothing.
+
+ghost use Rattle.bb_match.specs.Laws.{NotFitAndRefused, FirstRefusalsAreOne, FitOrRefused};
+
+/// No two netlists fit and are refused.
+pub fn not_fit_and_refused()
+    ensures { NotFitAndRefused }
+{}
+
+/// Two netlists have one first refusal at most.
+pub fn first_refusals_are_one()
+    ensures { FirstRefusalsAreOne }
+{}
+
+/// Two netlists fit or have a first refusal.
+pub fn fit_or_refused()
+    ensures { FitOrRefused }
+{}

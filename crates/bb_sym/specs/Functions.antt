@@ -1,0 +1,133 @@
+-- The Boolean functions that a check by diagrams makes, as truth tables; a check holds exactly their beads (Knuth, The Art of
+-- Computer Programming, volume 4A, 7.1.4). Each variable is one of them. Where functions are folded by an operation, the first is
+-- joined with the second, that with the third, and so on, and each result is one of the list.
+use Rattle.std.specs.Prelude.{ℕ, zero, suc, ◌+◌, ◌-◌, Bool, true, false, not, ◌&&◌, ◌||◌, List, [], ◌∷◌, ◌++◌, length, map, take, drop, slice_index, Option, Some, None}
+use Rattle.std.specs.List.{flat_map, list_any, range_with_len}
+use Rattle.bb_bits.specs.Bits.{xor}
+use Rattle.bb_bits.specs.Truth.{Truth, Bit, Halves, variable, quantified_block}
+use Rattle.bb_net.specs.declared.cell.Cell.{Cell}
+use Rattle.bb_net.specs.declared.cell.Cell.TheVariants.{Const, Input, Not, And, Or, Xor, Mux, BoxOut}
+use Rattle.bb_net.specs.Netlists.{Netlist, cell_at}
+use Rattle.bb_net.specs.Values.{bit_of, flat, output_pins}
+use Rattle.bb_net.specs.Ternary.{tern, tern_of}
+
+-- a function of bits, the first variable first
+abbrev pub Function : Type 0
+Function = List Bool → Bool
+
+-- its truth table for so many variables
+abbrev pub table : ℕ → Function → Truth
+table zero f = Bit (f [])
+table (suc n) f = Halves (table n (λ x. f (false ∷ x))) (table n (λ x. f (true ∷ x)))
+
+abbrev pub tables : ℕ → List Function → List Truth
+tables n fs = map (table n) fs
+
+abbrev pub variables : ℕ → List Truth
+variables n = map (variable n) (range_with_len 0 n)
+
+abbrev pub inverse : Function → Function
+inverse f = λ x. not (f x)
+
+abbrev pub both : Function → Function → Function
+both f g = λ x. f x && g x
+
+abbrev pub either : Function → Function → Function
+either f g = λ x. f x || g x
+
+abbrev pub differ : Function → Function → Function
+differ f g = λ x. xor (f x) (g x)
+
+-- the places of the cells of a netlist, and the numbers of its outputs
+abbrev pub places : Netlist → List ℕ
+places net = range_with_len 0 (length net.cells)
+
+abbrev pub outputs : Netlist → List ℕ
+outputs net = range_with_len 0 (length net.outs)
+
+-- Where boxes are unknown, the variables are the inputs.
+
+-- the bit of a cell of the specification
+abbrev pub spec_bit : Netlist → ℕ → Function
+spec_bit spec place = λ x. bit_of (flat spec x []) place
+
+abbrev pub is_one : Option Bool → Bool
+is_one None = false
+is_one (Some b) = b
+
+abbrev pub is_zero : Option Bool → Bool
+is_zero None = false
+is_zero (Some b) = not b
+
+-- whether the value of a cell of the implementation is known to be 1, and whether it is known to be 0
+abbrev pub known_one : Netlist → ℕ → Function
+known_one imp place = λ x. is_one (tern_of (tern imp x) place)
+
+abbrev pub known_zero : Netlist → ℕ → Function
+known_zero imp place = λ x. is_zero (tern_of (tern imp x) place)
+
+-- what is chosen of t where c holds and of e where d holds, or what both have, after that of which it is made
+abbrev pub chosen_functions : Function → Function → Function → Function → List Function
+chosen_functions c d t e = both c t ∷ both d e ∷ both t e ∷ either (both c t) (both d e) ∷ either (either (both c t) (both d e)) (both t e) ∷ []
+
+-- the functions of a cell, by whether its operands are known to be 1, or 0
+abbrev pub cell_functions : (ℕ → Function) → (ℕ → Function) → Cell → List Function
+cell_functions high low (Const b) = (λ x. b) ∷ (λ x. not b) ∷ []
+cell_functions high low (Input i) = (λ x. bit_of x i) ∷ (λ x. not (bit_of x i)) ∷ []
+cell_functions high low (BoxOut b p) = (λ x. false) ∷ []
+cell_functions high low (Not a) = low a ∷ high a ∷ []
+cell_functions high low (And a b) = both (high a) (high b) ∷ either (low a) (low b) ∷ []
+cell_functions high low (Or a b) = either (high a) (high b) ∷ both (low a) (low b) ∷ []
+cell_functions high low (Xor a b) =
+    both (high a) (low b) ∷ both (low a) (high b) ∷ either (both (high a) (low b)) (both (low a) (high b)) ∷
+    both (high a) (high b) ∷ both (low a) (low b) ∷ either (both (high a) (high b)) (both (low a) (low b)) ∷ []
+cell_functions high low (Mux c t e) = chosen_functions (high c) (low c) (high t) (high e) ++ chosen_functions (high c) (low c) (low t) (low e)
+
+-- those of an output, by the bit that is wanted: known 1 where 0 is wanted, known 0 where 1 is, and either
+abbrev pub mismatches : Function → Function → Function → List Function
+mismatches wanted high low = inverse wanted ∷ both high (inverse wanted) ∷ both low wanted ∷ either (both high (inverse wanted)) (both low wanted) ∷ []
+
+abbrev pub symbolic_functions : Netlist → Netlist → List Truth
+symbolic_functions spec imp =
+    let high = known_one imp in
+    let low = known_zero imp in
+    variables imp.inputs ++ tables imp.inputs (
+    map (spec_bit spec) (places spec)
+    ++ flat_map (λ place. cell_functions high low (cell_at imp.cells place)) (places imp)
+    ++ flat_map (λ j. mismatches (spec_bit spec (slice_index spec.outs j)) (high (slice_index imp.outs j)) (low (slice_index imp.outs j))) (outputs imp))
+
+-- Where boxes may give any bits, the variables are the inputs and then the output pins of the boxes, box after box.
+
+abbrev pub variable_count : Netlist → ℕ
+variable_count imp = imp.inputs + output_pins imp.boxes
+
+abbrev pub wanted_bit : Netlist → ℕ → ℕ → Function
+wanted_bit spec inputs place = λ p. bit_of (flat spec (take inputs p) []) place
+
+abbrev pub imp_bit : Netlist → ℕ → Function
+imp_bit imp place = λ p. bit_of (flat imp (take imp.inputs p) (drop imp.inputs p)) place
+
+-- an output is wrong
+abbrev pub is_wrong : Netlist → Netlist → ℕ → Function
+is_wrong spec imp j = differ (wanted_bit spec imp.inputs (slice_index spec.outs j)) (imp_bit imp (slice_index imp.outs j))
+
+-- the variables and the bits of all cells
+abbrev pub plain_functions : Netlist → Netlist → List Truth
+plain_functions spec imp = variables (variable_count imp) ++ tables (variable_count imp) (map (wanted_bit spec imp.inputs) (places spec) ++ map (imp_bit imp) (places imp))
+
+-- a function, with the output pins of all boxes quantified by "for all", and with those from each pin on
+abbrev pub for_all_pins : Netlist → Truth → List Truth
+for_all_pins imp t = map (λ k. quantified_block ◌&&◌ (imp.inputs + k) (output_pins imp.boxes - k) t) (range_with_len 0 (output_pins imp.boxes))
+
+abbrev pub local_functions : Netlist → Netlist → List Truth
+local_functions spec imp = plain_functions spec imp ++ flat_map (λ j. let t = table (variable_count imp) (is_wrong spec imp j) in t ∷ for_all_pins imp t) (outputs imp)
+
+-- one of the first outputs is wrong
+abbrev pub some_wrong : Netlist → Netlist → ℕ → Function
+some_wrong spec imp count = λ p. list_any (λ j. is_wrong spec imp j p) (range_with_len 0 count)
+
+abbrev pub output_functions : Netlist → Netlist → List Truth
+output_functions spec imp =
+    plain_functions spec imp
+    ++ tables (variable_count imp) (map (is_wrong spec imp) (outputs imp) ++ map (λ j. some_wrong spec imp (j + 1)) (outputs imp))
+    ++ for_all_pins imp (table (variable_count imp) (some_wrong spec imp (length imp.outs)))

@@ -1,0 +1,14 @@
+//! The checks of an implementation with boxes that look at every input vector by decision diagrams.
+#![tactic(auto)]
+
+mod all_outputs;
+mod each_output;
+mod fault;
+mod found;
+mod unknown;
+
+pub use all_outputs::output;
+pub use each_output::local;
+pub use fault::RungFault;
+pub use found::Found;
+pub use unknown::symbolic;
