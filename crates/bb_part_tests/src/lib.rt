@@ -8,4 +8,10 @@ mod diagram_tests;
 #[cfg(test)]
 mod net_tests;
 #[cfg(test)]
+mod order_tests;
+#[cfg(test)]
+mod pattern_tests;
+#[cfg(test)]
+mod quantifier_tests;
+#[cfg(test)]
 mod table_tests;

@@ -1,0 +1,26 @@
+//! Cells in any order, through public calls.
+
+use bb_net::{Cell, Loose, LooseCell, order};
+use std::test::Fail;
+
+// The output is a copy of a complement that stands behind it.
+#[test]
+fn a_copy_stands_where_its_cell_stands(rt: HostRuntime) -> Result<(), Fail> {
+    let alloc = rt.alloc();
+    let mut cells = Vec::new(alloc);
+    cells.push(LooseCell::Const(false))?;
+    cells.push(LooseCell::Const(true))?;
+    cells.push(LooseCell::Input(0))?;
+    cells.push(LooseCell::Copy(4))?;
+    cells.push(LooseCell::Not(2))?;
+    let loose = Loose::of(1, cells, Vec::new(alloc), vec![in alloc; 3]?);
+    match order(&loose) {
+        Ok(ordered) => {
+            assert_eq!(rt; ordered.net.cells().len(), 4);
+            assert_eq!(rt; ordered.net.cells()[3], Cell::Not(2));
+            assert_eq!(rt; ordered.net.outs(), [3].as_slice());
+        }
+        Err(_) => assert!(rt; false),
+    }
+    Ok(())
+}

@@ -1,0 +1,36 @@
+//! Quantifiers and least points, through public calls.
+
+use bb_dd::Diagrams;
+use bb_quant::{exists, forall, least};
+use bb_uniq::Ref;
+use std::test::Fail;
+
+#[test]
+fn quantifiers_of_a_disjunction(rt: HostRuntime) -> Result<(), Fail> {
+    let mut d = Diagrams::start(rt.alloc(), 2, 3, 4)?;
+    let a = d.var(0)?;
+    let b = d.var(1)?;
+    let either = d.or(a, b)?;
+    assert_eq!(rt; forall(&mut d, either, 0)?, b);
+    assert_eq!(rt; exists(&mut d, either, 0)?, Ref(1));
+    assert_eq!(rt; forall(&mut d, either, 1)?, a);
+    assert_eq!(rt; d.len(), 3);
+    Ok(())
+}
+
+#[test]
+fn the_least_point_with_given_first_bits(rt: HostRuntime) -> Result<(), Fail> {
+    let mut d = Diagrams::start(rt.alloc(), 2, 3, 4)?;
+    let a = d.var(0)?;
+    let b = d.var(1)?;
+    let either = d.or(a, b)?;
+    let mut point = [true, true];
+    assert!(rt; least(&d, either, true, 0, &mut point));
+    assert_eq!(rt; point, [false, true]);
+    point = [true, true];
+    assert!(rt; least(&d, either, true, 1, &mut point));
+    assert_eq!(rt; point, [true, false]);
+    assert!(rt; !least(&d, either, false, 1, &mut point));
+    assert_eq!(rt; point, [true, false]);
+    Ok(())
+}
