@@ -66,7 +66,7 @@ any_from b (c ∷ bits) e = by (same_bit b c) refl e (any_from b bits)
     by true on h rest = subst (Contains (c ∷ bits)) (sym (same_bit_is b c on)) (contains_here c bits)
     by false off h rest = contains_there c bits b (rest h)
 
-from_numbered : {A : Type 0} (a : ℕ) (xs : List A) (z : ℕ × A) → Contains (enumerate_from a xs) z → Contains xs z.1
+pub from_numbered : {A : Type 0} (a : ℕ) (xs : List A) (z : ℕ × A) → Contains (enumerate_from a xs) z → Contains xs z.1
 from_numbered a [] z has = absurd (none_in_nil z has)
 from_numbered a (y ∷ ys) z has = by (contains_cases (a, y) (enumerate_from (a + 1) ys) z has) (from_numbered (a + 1) ys z)
   where
