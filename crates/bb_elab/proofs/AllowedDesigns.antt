@@ -9,20 +9,26 @@ use Rattle.bb_ast.specs.Gates.{output_count}
 use Rattle.bb_ast.specs.Syntax.{Expression, Net, PlainConns, Order, Named, PlainBody, Ports, Nets, Regs, Supply, Assign, Gates, Calls, Always, PlainItem, PlainModule}
 use Rattle.bb_expr.specs.Faults.{is_input}
 use Rattle.bb_expr.specs.Spots.{Pin, module_named}
-use Rattle.bb_bits.specs.Contents.{Contents}
-use Rattle.bb_elab.specs.Hierarchy.{Design, Scope, scopes, is_box}
+use Rattle.bb_bits.specs.Contents.{Contents, HasShape}
+use Rattle.bb_elab.specs.Hierarchy.{Design, Scope, scopes, is_box, boxes}
+use Rattle.bb_elab.specs.NetBits.{input_bits, output_bits}
 use Rattle.bb_elab.specs.Contexts.{width_of}
 use Rattle.bb_elab.specs.Constructs.{Construct, Assignment, GateInstance, Register, SupplyNet, InputConnection, OutputConnection, BoxContents, initial_construct, gate_construct, connection, connections, body_constructs, constructs_at, parts}
 use Rattle.bb_elab.specs.Refusals.{Depth, Size, IsShallow, IsSmall}
 use Rattle.bb_elab.specs.DrivenWorlds.{IsLegal}
+use Rattle.bb_elab.specs.Laws.{BitsAreThere, ScopesAreEnds}
 use Rattle.bb_elab.specs.ListLaws.{IsAllowed, ListsAreLoose}
-use Rattle.bb_elab.proofs.CauseDecisions.{from_flat, from_map}
+use Rattle.bb_elab.specs.Texts.{path_text}
+use Rattle.bb_elab.specs.Worlds.{FitDesign}
+use Rattle.bb_elab.proofs.CauseDecisions.{all_from, from_flat, from_map}
 use Rattle.bb_elab.proofs.ListedSources.{IsWired}
 use Rattle.bb_elab.proofs.LooseLists.{loose}
-use Rattle.bb_elab.proofs.SoundBits.{nets_there}
+use Rattle.bb_elab.proofs.ScopeLaws.{paths_lead_to_scopes}
+use Rattle.bb_elab.proofs.SoundBits.{nets_there, sound_bits_are_there}
 use Rattle.bb_elab.proofs.SoundConstructs.{sound_constructs_are_legal}
+use Rattle.bb_elab.proofs.SoundNames.{sound_texts_have_names_apart}
 use Rattle.bb_elab.proofs.SoundSpots.{source_there}
-use Rattle.bb_elab.proofs.TopLaws.{contains_cases, none_in_nil}
+use Rattle.bb_elab.proofs.TopLaws.{contains_cases, none_in_nil, keeps}
 
 -- of all by recursion
 each_of : {A : Type 0} (P : A → Type 0) (xs : List A) → AllByRecursion P xs → (x : A) → Contains xs x → P x
@@ -33,7 +39,7 @@ each_of P (y ∷ ys) all x has = by (contains_cases y ys x has) (each_of P ys al
     by (inl e) rest = subst P e all.0
     by (inr more) rest = rest more
 
--- a gate has inputs, where it does not have only outputs
+-- what stands in an item: no contents of a box, and gates that have inputs
 HasInputs : Construct → Type 0
 HasInputs (GateInstance gate outs ins) = 1 ≤ length ins
 HasInputs (Assignment left right) = Unit {0}
@@ -41,7 +47,7 @@ HasInputs (Register r) = Unit {0}
 HasInputs (SupplyNet high n) = Unit {0}
 HasInputs (InputConnection i pin e) = Unit {0}
 HasInputs (OutputConnection i pin e) = Unit {0}
-HasInputs BoxContents = Unit {0}
+HasInputs BoxContents = ⊥
 
 gate_inputs : (gate : Gate) (terms : List Expression) → 2 ≤ length terms → HasInputs (gate_construct gate terms)
 unfolding HasInputs
@@ -117,23 +123,13 @@ module _ (d : Design) (allowed : IsAllowed d) where
       let same : y.0 ≡ c = ap (λ (u : Scope × Construct). u.1) y.2 in
       (subst (Contains (scopes d)) scope z.1, subst (λ u. Contains (constructs_at d.text u) c) scope (subst (Contains (constructs_at d.text z.0)) same y.1))
 
-  inputs_there : (s : Scope) (c : Construct) → Contains (parts d) (s, c) → HasInputs c
-  unfolding HasInputs
-  inputs_there s c has = by (is_box s) (part_parts s c has).1
-    where
-      item_inputs : Contains (flat_map (λ item. body_constructs d.text item.body) s.source.items) c → HasInputs c
-      item_inputs h =
-          let item = from_flat (λ (item : PlainItem). body_constructs d.text item.body) s.source.items c h in
-          let formed = each_of IsFormed d.text allowed.formed s.source (source_there d s allowed.top (part_parts s c has).0) in
-          body_inputs d.text item.0.body (each_of (λ (item : PlainItem). IsFormedBody item.body) s.source.items formed.2 item.0 item.1) c item.2
-
-      box : (BoxContents ≡ c) ⊎ Contains [] c → HasInputs c
-      box (inl e) = subst HasInputs e tt
-      box (inr none) = absurd (none_in_nil c none)
-
-      by : (b : Bool) → Contains (if b then BoxContents ∷ [] else flat_map (λ item. body_constructs d.text item.body) s.source.items) c → HasInputs c
-      by true h = box (contains_cases BoxContents [] c h)
-      by false h = item_inputs h
+  inputs_there : (s : Scope) (c : Construct) → Contains (parts d) (s, c) → is_box s ≡ false → HasInputs c
+  inputs_there s c has plain =
+      let p = part_parts s c has in
+      let h = subst (λ b. Contains (if b then BoxContents ∷ [] else flat_map (λ item. body_constructs d.text item.body) s.source.items) c) plain p.1 in
+      let item = from_flat (λ (item : PlainItem). body_constructs d.text item.body) s.source.items c h in
+      let formed = each_of IsFormed d.text allowed.formed s.source (source_there d s allowed.top p.0) in
+      body_inputs d.text item.0.body (each_of (λ (item : PlainItem). IsFormedBody item.body) s.source.items formed.2 item.0 item.1) c item.2
 
   no_contents : Contents
   no_contents path = []
@@ -155,16 +151,46 @@ module _ (d : Design) (allowed : IsAllowed d) where
       let p = part_parts s (GateInstance gate outs ins) has in
       let plain = not_box s (GateInstance gate outs ins) (λ e. box_is_gate e) p.1 in
       let legal = sound_constructs_are_legal d.text no_contents s allowed.faultless (source_there d s allowed.top p.0) plain in
-      (inputs_there s (GateInstance gate outs ins) has, (All-contains (IsLegal no_contents s) (constructs_at d.text s) (GateInstance gate outs ins) legal p.1).1)
+      (inputs_there s (GateInstance gate outs ins) has plain, (All-contains (IsLegal no_contents s) (constructs_at d.text s) (GateInstance gate outs ins) legal p.1).1)
     where
       box_is_gate : BoxContents ≡ GateInstance gate outs ins → ⊥
       box_is_gate e = grind (arith, e)
+
+  boxes_there : (s : Scope) → Contains (parts d) (s, BoxContents) → Contains (boxes d) s
+  unfolding HasInputs
+  boxes_there s has = by (is_box s) refl
+    where
+      by : (b : Bool) → is_box s ≡ b → Contains (boxes d) s
+      by true e = keeps is_box (scopes d) s (part_parts s BoxContents has).0 e
+      by false e = absurd (inputs_there s BoxContents has e)
 
   pub wired : IsWired d
   wired = record {
     pins = λ s i pin e has. let p = part_parts s (OutputConnection i pin e) has in (nets_there d.text d.top allowed.faultless allowed.top shallow s p.0 (OutputConnection i pin e) p.1).1;
     gates = gates_there;
+    boxed = boxes_there;
   }
+
+  pub ends : ScopesAreEnds d
+  ends = paths_lead_to_scopes d allowed.top (sound_texts_have_names_apart d.text allowed.faultless)
+
+  pub bits_there : BitsAreThere d
+  bits_there = sound_bits_are_there d.text d.top allowed.faultless allowed.top shallow
+
+  -- every construct is legal, where the contents fit
+  pub legal : (contents : Contents) → FitDesign d contents → All (λ x. IsLegal contents x.0 x.1) (parts d)
+  legal contents fit = all_from (λ (x : Scope × Construct). IsLegal contents x.0 x.1) (parts d) (λ x has. one x.0 x.1 has)
+    where
+      one : (s : Scope) (c : Construct) → Contains (parts d) (s, c) → IsLegal contents s c
+      one s c has = by (is_box s) refl
+        where
+          box : is_box s ≡ true → (BoxContents ≡ c) ⊎ Contains [] c → IsLegal contents s c
+          box e (inl same) = subst (IsLegal contents s) same (All-contains (λ s. HasShape (length (input_bits s)) (length (output_bits s)) (contents (path_text s.path))) (boxes d) s fit (keeps is_box (scopes d) s (part_parts s c has).0 e))
+          box e (inr none) = absurd (none_in_nil c none)
+
+          by : (b : Bool) → is_box s ≡ b → IsLegal contents s c
+          by true e = box e (contains_cases BoxContents [] c (subst (λ b. Contains (if b then BoxContents ∷ [] else flat_map (λ item. body_constructs d.text item.body) s.source.items) c) e (part_parts s c has).1))
+          by false e = All-contains (IsLegal contents s) (constructs_at d.text s) c (sound_constructs_are_legal d.text contents s allowed.faultless (source_there d s allowed.top (part_parts s c has).0) e) (part_parts s c has).1
 
 pub lists_are_loose : ListsAreLoose
 lists_are_loose d lowering l allowed lowered list = loose d lowering l list lowered (wired d allowed) (small d allowed)

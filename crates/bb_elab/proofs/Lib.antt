@@ -9,6 +9,8 @@ pub mod Firsts
 pub mod KnownNets
 pub mod Levels
 pub mod ListFronts
+pub mod ListValues
+pub mod ListWorlds
 pub mod ListedPlaces
 pub mod ListedSources
 pub mod LooseLists

@@ -27,6 +27,7 @@ use Rattle.bb_elab.proofs.WorldExists.{from_find, from_numbered}
 pub record IsWired (d : Design) : Type 0 where
   pub pins : (s : Scope) (i : List ℕ) (pin : Pin) (e : Expression) → Contains (parts d) (s, OutputConnection i pin e) → (b : Bit) → Contains (pin_bits (path_to s.path i) pin) b → Contains (net_order d) b
   pub gates : (s : Scope) (gate : Gate) (outs ins : List Expression) → Contains (parts d) (s, GateInstance gate outs ins) → (1 ≤ length ins) × All (λ e. width_of s e ≡ 1) ins
+  pub boxed : (s : Scope) → Contains (parts d) (s, BoxContents) → Contains (boxes d) s
 
 -- terminals are taken at their own width
 abbrev with_widths : Scope → List Expression → List (Expression × ℕ)
