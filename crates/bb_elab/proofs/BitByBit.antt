@@ -73,7 +73,7 @@ by_terms contents w path bits terms e = through (zipped (bit_in w) (bit_of (w pa
 pub low-map : {A B : Type 0} (f : A → B) (n : ℕ) (xs : List A) → map f (low_bits n xs) ≡ low_bits n (map f xs)
 low-map f n xs = sym (drop-map f (length xs - n) xs) ∙ ap (λ k. drop (k - n) (map f xs)) (sym (length-map xs f))
 
-low-length : {A : Type 0} (n : ℕ) (xs : List A) → n ≤ length xs → length (low_bits n xs) ≡ n
+pub low-length : {A : Type 0} (n : ℕ) (xs : List A) → n ≤ length xs → length (low_bits n xs) ≡ n
 low-length n xs fits = length-drop (length xs - n) xs ∙ omega (arith, fits)
 
 -- gates of terms and of bits

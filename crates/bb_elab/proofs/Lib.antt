@@ -14,7 +14,9 @@ pub mod ListWorlds
 pub mod ListedPlaces
 pub mod ListedSources
 pub mod LooseLists
+pub mod ListedData
 pub mod NamedTops
+pub mod NextStates
 pub mod Operators
 pub mod PartBits
 pub mod ReadingLaw
@@ -26,6 +28,7 @@ pub mod SoundModules
 pub mod SoundNames
 pub mod SoundRefusals
 pub mod SoundSpots
+pub mod StandingNets
 pub mod TermNets
 pub mod TextLaws
 pub mod TopLaws

@@ -79,7 +79,7 @@ module _ (d : Design) (lowering : Lowering) (l : LooseList) (list : IsListOf d l
     whole_same : (n : ℕ) (e : Expression) (width : ℕ) → Contains (enumerate_from 0 (lowered_in (s, c))) (n, (e, width)) → map v (step_places lowering k n) ≡ map (term_bit (w s.path)) (made_in s e width).bits
     whole_same n e width there = expression_value d lowering l list lowered wired contents x bits value k s c has n e width there
 
-    low_same : (m n : ℕ) (e : Expression) (width : ℕ) → Contains (enumerate_from 0 (lowered_in (s, c))) (n, (e, width)) → map v (low_bits m (step_places lowering k n)) ≡ map (term_bit (w s.path)) (low_bits m (made_in s e width).bits)
+    pub low_same : (m n : ℕ) (e : Expression) (width : ℕ) → Contains (enumerate_from 0 (lowered_in (s, c))) (n, (e, width)) → map v (low_bits m (step_places lowering k n)) ≡ map (term_bit (w s.path)) (low_bits m (made_in s e width).bits)
     low_same m n e width there = low-map v m (step_places lowering k n) ∙ ap (low_bits m) (whole_same n e width there) ∙ sym (low-map (term_bit (w s.path)) m (made_in s e width).bits)
 
   pins_same : (path : List (List ℕ)) (pin : Pin) → map v (map NetBit (pin_bits path pin)) ≡ map (term_bit (w path)) (map (λ (b : Bit). term.Net b.net b.place) (pin_bits path pin))
