@@ -19,3 +19,4 @@ pub mod Flats
 pub mod Stands
 pub mod Refusals
 pub mod Laws
+pub mod ListLaws

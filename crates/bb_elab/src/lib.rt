@@ -6,6 +6,7 @@ mod elaborating;
 mod fault;
 mod flat;
 pub mod laws;
+pub mod list_laws;
 mod top;
 
 pub use elaborating::elaborate;

@@ -1,0 +1,58 @@
+-- Laws that link the list of cells of a design, and a flat netlist that stands for it, with the worlds of the design.
+use Rattle.std.specs.Prelude.{◌≡◌, ℕ, Bool, List, [], ◌++◌, map, Contains, slice_index_or}
+use Rattle.std.specs.List.{AllByRecursion}
+use Rattle.bb_ast.specs.Formed.{IsFormed}
+use Rattle.bb_bits.specs.Contents.{Contents, output_bit}
+use Rattle.bb_expr.specs.Faults.{IsSound}
+use Rattle.bb_net.specs.Loose.{LooseList, IsLoose, IsLooseValue}
+use Rattle.bb_net.specs.Netlists.{IsNetlist}
+use Rattle.bb_net.specs.Values.{bit_of, value_of}
+use Rattle.bb_elab.specs.Flats.{FlatNet}
+use Rattle.bb_elab.specs.Hierarchy.{Design}
+use Rattle.bb_elab.specs.NetBits.{top_inputs}
+use Rattle.bb_elab.specs.Places.{NetBit, Numbering, Lowering, IsLowering, IsListOf}
+use Rattle.bb_elab.specs.Refusals.{IsSoundDesign}
+use Rattle.bb_elab.specs.Registers.{registers}
+use Rattle.bb_elab.specs.Stands.{box_number, StandsFor}
+use Rattle.bb_elab.specs.Texts.{path_text, bit_text}
+use Rattle.bb_elab.specs.Worlds.{World, Vector, TopInput, State, HasVector, IsWorld, FitDesign, outputs_in}
+
+-- the design is one of a well-formed text without faults, and there is no cause to refuse it
+pub record IsAllowed (d : Design) : Type 0 where
+  pub formed : AllByRecursion IsFormed d.text
+  pub faultless : IsSound d.text
+  pub top : Contains d.text d.top
+  pub sound : IsSoundDesign d
+
+-- the list of cells of a design can be put in order: its places are there, and the pins of boxes are cells
+abbrev pub ListsAreLoose : Type 0
+ListsAreLoose = (d : Design) (lowering : Lowering) (l : LooseList) → IsAllowed d → IsLowering d lowering → IsListOf d lowering l → IsLoose l
+
+-- the bits of a vector, in the order of the inputs of a flat netlist
+abbrev pub input_bits_of : Design → Vector → List Bool
+input_bits_of d x = map (λ b. x (TopInput (bit_text d b))) (top_inputs d) ++ map (λ r. x (State (bit_text d r.bit))) (registers d)
+
+-- what the boxes give, by their numbers in elaboration order, where they have these contents
+abbrev pub given_by_contents : Design → Contents → ℕ → ℕ → List Bool → Bool
+given_by_contents d contents b p ins = output_bit (contents (path_text (box_number d b).path)) ins p
+
+-- each bit of a net has the bit at its place in the list
+abbrev pub world_at : Numbering → List Bool → World
+world_at number bits path n k = bit_of bits (number (NetBit (record { path = path; net = n; place = k })))
+
+-- bits that meet the equations of the list of cells make a world of the vector
+abbrev pub ListsGiveWorlds : Type 0
+ListsGiveWorlds = (d : Design) (lowering : Lowering) (l : LooseList) → IsAllowed d → IsLowering d lowering → (list : IsListOf d lowering l)
+    → (contents : Contents) (x : Vector) (bits : List Bool) → FitDesign d contents → IsLooseValue l (input_bits_of d x) (given_by_contents d contents) bits
+    → IsWorld d contents (world_at list.number bits) × HasVector d x (world_at list.number bits)
+
+-- what the boxes of a flat netlist give, where each has the contents of its path
+abbrev pub given_in : FlatNet → Contents → ℕ → ℕ → List Bool → Bool
+given_in f contents b p ins = output_bit (contents (slice_index_or f.boxes b (record { path = []; ins = []; outs = [] })).path) ins p
+
+-- each vector and all contents have a world; and in every world of the vector the cut outputs have the bits that a netlist gives
+-- which stands for the design
+abbrev pub StandingNetsGiveOutputs : Type 0
+StandingNetsGiveOutputs = (d : Design) (f : FlatNet) → IsAllowed d → IsNetlist f.net → StandsFor d f → (contents : Contents) (x : Vector) → FitDesign d contents
+    → ((w : World) × IsWorld d contents w × HasVector d x w)
+    × ((w : World) → IsWorld d contents w → HasVector d x w → map (λ o. o.1) (outputs_in d w) ≡ map (bit_of (value_of f.net (input_bits_of d x) (given_in f contents))) f.net.outs)
