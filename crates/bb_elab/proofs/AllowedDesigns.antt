@@ -1,5 +1,5 @@
 -- What holds of a design that is not refused, of a well-formed text without faults.
-use Rattle.std.proofs.Common.{◌≡◌, ◌⊎◌, ℕ, ◌+◌, ◌≤◌, Bool, true, false, if◌then◌else◌, List, [], ◌∷◌, map, flat_map, length, All, Contains, Option, Some, None, refl, ap, subst, inl, inr, arith, length-drop}
+use Rattle.std.proofs.Common.{sym, ◌∙◌, ◌≡◌, ◌⊎◌, ℕ, ◌+◌, ◌≤◌, Bool, true, false, if◌then◌else◌, List, [], ◌∷◌, flat_map, length, All, Contains, Option, Some, None, refl, subst, inl, inr, arith, length-drop}
 use Rattle.std.specs.List.{AllByRecursion, enumerate_from}
 use Rattle.std.proofs.lemmas.List.Elements.{All-contains}
 use Rattle.bb_ast.specs.declared.module.Gate.{Gate}
@@ -10,18 +10,18 @@ use Rattle.bb_ast.specs.Syntax.{Expression, Net, PlainConns, Order, Named, Plain
 use Rattle.bb_expr.specs.Faults.{is_input}
 use Rattle.bb_expr.specs.Spots.{Pin, module_named}
 use Rattle.bb_bits.specs.Contents.{Contents, HasShape}
-use Rattle.bb_elab.specs.Hierarchy.{Design, Scope, scopes, is_box, boxes}
+use Rattle.bb_elab.specs.Hierarchy.{Design, Scope, scopes, is_box, boxes, top_of}
 use Rattle.bb_elab.specs.NetBits.{input_bits, output_bits}
 use Rattle.bb_elab.specs.Contexts.{width_of}
 use Rattle.bb_elab.specs.Constructs.{Construct, Assignment, GateInstance, Register, SupplyNet, InputConnection, OutputConnection, BoxContents, initial_construct, gate_construct, connection, connections, body_constructs, constructs_at, parts}
-use Rattle.bb_elab.specs.Refusals.{Depth, Size, IsShallow, IsSmall}
+use Rattle.bb_elab.specs.Refusals.{Depth, Size, IsShallow, IsSmall, IsSoundDesign, design_on}
 use Rattle.bb_elab.specs.DrivenWorlds.{IsLegal}
 use Rattle.bb_elab.specs.Laws.{BitsAreThere, ScopesAreEnds}
-use Rattle.bb_elab.specs.ListLaws.{IsAllowed, ListsAreLoose}
+use Rattle.bb_elab.specs.ListLaws.{IsAllowed, ListsAreLoose, SoundTextsAreAllowed}
 use Rattle.bb_elab.specs.Texts.{path_text}
 use Rattle.bb_elab.specs.Worlds.{FitDesign}
 use Rattle.bb_elab.proofs.CauseDecisions.{all_from, from_flat, from_map}
-use Rattle.bb_elab.proofs.ListedSources.{IsWired}
+use Rattle.bb_elab.proofs.ListedSources.{IsWired, part_of}
 use Rattle.bb_elab.proofs.LooseLists.{loose}
 use Rattle.bb_elab.proofs.ScopeLaws.{paths_lead_to_scopes}
 use Rattle.bb_elab.proofs.SoundBits.{nets_there, sound_bits_are_there}
@@ -29,6 +29,8 @@ use Rattle.bb_elab.proofs.SoundConstructs.{sound_constructs_are_legal}
 use Rattle.bb_elab.proofs.SoundNames.{sound_texts_have_names_apart}
 use Rattle.bb_elab.proofs.SoundSpots.{source_there}
 use Rattle.bb_elab.proofs.TopLaws.{contains_cases, none_in_nil, keeps}
+use Rattle.bb_elab.proofs.NamedTops.{tops_are_meant}
+use Rattle.std.proofs.lemmas.Option.{same_Some}
 
 -- of all by recursion
 each_of : {A : Type 0} (P : A → Type 0) (xs : List A) → AllByRecursion P xs → (x : A) → Contains xs x → P x
@@ -114,18 +116,9 @@ module _ (d : Design) (allowed : IsAllowed d) where
   pub small : IsSmall d
   small = allowed.sound Size
 
-  -- a part is a construct of its scope
-  pub part_parts : (s : Scope) (c : Construct) → Contains (parts d) (s, c) → Contains (scopes d) s × Contains (constructs_at d.text s) c
-  part_parts s c has =
-      let z = from_flat (λ s. map (λ c. (s, c)) (constructs_at d.text s)) (scopes d) (s, c) has in
-      let y = from_map {B = Scope × Construct} (λ c. (z.0, c)) (constructs_at d.text z.0) (s, c) z.2 in
-      let scope : z.0 ≡ s = ap (λ (u : Scope × Construct). u.0) y.2 in
-      let same : y.0 ≡ c = ap (λ (u : Scope × Construct). u.1) y.2 in
-      (subst (Contains (scopes d)) scope z.1, subst (λ u. Contains (constructs_at d.text u) c) scope (subst (Contains (constructs_at d.text z.0)) same y.1))
-
   inputs_there : (s : Scope) (c : Construct) → Contains (parts d) (s, c) → is_box s ≡ false → HasInputs c
   inputs_there s c has plain =
-      let p = part_parts s c has in
+      let p = part_of d s c has in
       let h = subst (λ b. Contains (if b then BoxContents ∷ [] else flat_map (λ item. body_constructs d.text item.body) s.source.items) c) plain p.1 in
       let item = from_flat (λ (item : PlainItem). body_constructs d.text item.body) s.source.items c h in
       let formed = each_of IsFormed d.text allowed.formed s.source (source_there d s allowed.top p.0) in
@@ -148,7 +141,7 @@ module _ (d : Design) (allowed : IsAllowed d) where
   gates_there : (s : Scope) (gate : Gate) (outs ins : List Expression) → Contains (parts d) (s, GateInstance gate outs ins) → (1 ≤ length ins) × All (λ e. width_of s e ≡ 1) ins
   unfolding HasInputs
   gates_there s gate outs ins has =
-      let p = part_parts s (GateInstance gate outs ins) has in
+      let p = part_of d s (GateInstance gate outs ins) has in
       let plain = not_box s (GateInstance gate outs ins) (λ e. box_is_gate e) p.1 in
       let legal = sound_constructs_are_legal d.text no_contents s allowed.faultless (source_there d s allowed.top p.0) plain in
       (inputs_there s (GateInstance gate outs ins) has plain, (All-contains (IsLegal no_contents s) (constructs_at d.text s) (GateInstance gate outs ins) legal p.1).1)
@@ -161,12 +154,12 @@ module _ (d : Design) (allowed : IsAllowed d) where
   boxes_there s has = by (is_box s) refl
     where
       by : (b : Bool) → is_box s ≡ b → Contains (boxes d) s
-      by true e = keeps is_box (scopes d) s (part_parts s BoxContents has).0 e
+      by true e = keeps is_box (scopes d) s (part_of d s BoxContents has).0 e
       by false e = absurd (inputs_there s BoxContents has e)
 
   pub wired : IsWired d
   wired = record {
-    pins = λ s i pin e has. let p = part_parts s (OutputConnection i pin e) has in (nets_there d.text d.top allowed.faultless allowed.top shallow s p.0 (OutputConnection i pin e) p.1).1;
+    pins = λ s i pin e has. let p = part_of d s (OutputConnection i pin e) has in (nets_there d.text d.top allowed.faultless allowed.top shallow s p.0 (OutputConnection i pin e) p.1).1;
     gates = gates_there;
     boxed = boxes_there;
   }
@@ -185,12 +178,24 @@ module _ (d : Design) (allowed : IsAllowed d) where
       one s c has = by (is_box s) refl
         where
           box : is_box s ≡ true → (BoxContents ≡ c) ⊎ Contains [] c → IsLegal contents s c
-          box e (inl same) = subst (IsLegal contents s) same (All-contains (λ s. HasShape (length (input_bits s)) (length (output_bits s)) (contents (path_text s.path))) (boxes d) s fit (keeps is_box (scopes d) s (part_parts s c has).0 e))
+          box e (inl same) = subst (IsLegal contents s) same (All-contains (λ s. HasShape (length (input_bits s)) (length (output_bits s)) (contents (path_text s.path))) (boxes d) s fit (keeps is_box (scopes d) s (part_of d s c has).0 e))
           box e (inr none) = absurd (none_in_nil c none)
 
           by : (b : Bool) → is_box s ≡ b → IsLegal contents s c
-          by true e = box e (contains_cases BoxContents [] c (subst (λ b. Contains (if b then BoxContents ∷ [] else flat_map (λ item. body_constructs d.text item.body) s.source.items) c) e (part_parts s c has).1))
-          by false e = All-contains (IsLegal contents s) (constructs_at d.text s) c (sound_constructs_are_legal d.text contents s allowed.faultless (source_there d s allowed.top (part_parts s c has).0) e) (part_parts s c has).1
+          by true e = box e (contains_cases BoxContents [] c (subst (λ b. Contains (if b then BoxContents ∷ [] else flat_map (λ item. body_constructs d.text item.body) s.source.items) c) e (part_of d s c has).1))
+          by false e = All-contains (IsLegal contents s) (constructs_at d.text s) c (sound_constructs_are_legal d.text contents s allowed.faultless (source_there d s allowed.top (part_of d s c has).0) e) (part_of d s c has).1
 
 pub lists_are_loose : ListsAreLoose
 lists_are_loose d lowering l allowed lowered list = loose d lowering l list lowered (wired d allowed) (small d allowed)
+
+pub sound_texts_are_allowed : SoundTextsAreAllowed
+sound_texts_are_allowed text name top formed faultless sound named = record {
+  formed = formed;
+  faultless = faultless;
+  top = meant name named;
+  sound = subst (λ t. IsSoundDesign (design_on text t)) (same_Some sound.0 top (sym sound.1 ∙ named)) sound.2;
+}
+  where
+    meant : (name : Option (List ℕ)) → top_of text name ≡ Some top → Contains text top
+    meant None e = (tops_are_meant text None top e).there
+    meant (Some n) e = (tops_are_meant text (Some n) top e).there

@@ -89,7 +89,7 @@ decide_not (inr n) = inl n
 decide_undriven : (d : Design) (b : Bit) → Decision (IsUndriven d b)
 decide_undriven d b = decide_both (decide_read d b) (decide_not (decide_contains decide_bit (driven_bits d) b))
 
-less_or_not : (m n : ℕ) → (m < n) ⊎ (n ≤ m)
+pub less_or_not : (m n : ℕ) → (m < n) ⊎ (n ≤ m)
 less_or_not m n = from (less_or_same m n)
   where
     from : (m < n) ⊎ ((n < m) ⊎ (m ≡ n)) → (m < n) ⊎ (n ≤ m)

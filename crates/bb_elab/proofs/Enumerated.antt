@@ -39,11 +39,6 @@ module _ {A : Type 0} where
   from_drop (suc n) [] x has = has
   from_drop (suc n) (y ∷ ys) x has = contains_there y ys x (from_drop n ys x has)
 
-  pub element_there : (xs : List A) (j : ℕ) (d : A) → j < length xs → Contains xs (get_or xs j d)
-  element_there [] j d fits = absurd (omega (arith, fits))
-  element_there (y ∷ ys) zero d fits = contains_here y ys
-  element_there (y ∷ ys) (suc j) d fits = contains_there y ys (get_or ys j d) (element_there ys j d (omega (arith, fits)))
-
 module _ {A B C D : Type 0} (f : B → D) (g : C → D) where
   -- where a list lies beside each of two whose elements have the same bits, place by place, its elements meet such ones
   pub zip_across : (xs : List A) (ys : List B) (zs : List C) → map f ys ≡ map g zs → (x : A) (y : B) → Contains (zip xs ys) (x, y) → (z : C) × Contains (zip xs zs) (x, z) × (f y ≡ g z)

@@ -13,18 +13,19 @@ use Rattle.bb_expr.specs.declared.step.BitStep.TheVariants as steps
 use Rattle.bb_expr.specs.Lowered.{Reads, step_term, term_within, term_at}
 use Rattle.bb_expr.specs.Nets.{nets_of}
 use Rattle.bb_expr.specs.Terms.{Term, bit_of as term_bit}
+use Rattle.bb_expr.specs.Terms as term
 use Rattle.bb_net.specs.declared.loose.LooseCell.{LooseCell}
 use Rattle.bb_net.specs.declared.loose.LooseCell.TheVariants as cell
 use Rattle.bb_net.specs.Loose.{LooseList, loose_gate, IsLooseValue}
 use Rattle.bb_net.specs.Netlists.{Pins, box_at}
 use Rattle.bb_net.specs.Values.{bit_of}
 use Rattle.bb_elab.specs.Hierarchy.{Design, Scope, root, boxes}
-use Rattle.bb_elab.specs.NetBits.{Bit, net_order, input_bits, output_bits}
+use Rattle.bb_elab.specs.NetBits.{Bit, net_order, input_bits, output_bits, pin_bits}
 use Rattle.bb_elab.specs.Contexts.{width_of, made_in}
 use Rattle.bb_elab.specs.Constructs.{Construct, GateInstance, parts}
 use Rattle.bb_elab.specs.Drivers.{terminal_terms}
 use Rattle.bb_elab.specs.GateFunctions.{on_bits, joins, joined, inverts, gate_gives}
-use Rattle.bb_elab.specs.ListLaws.{input_bits_of, given_by_contents, world_at}
+use Rattle.bb_elab.specs.ListLaws.{vector_bits, given_by_contents, world_at}
 use Rattle.bb_elab.specs.Places.{Place, Constant, Input, NetBit, Step, Joined, Inverted, BoxPin, lowered_in, Lowering, IsLowering, step_places, terminal_place, joined_place, gate_place, given, place_in, step_cell, net_place, join_cell, IsListOf}
 use Rattle.bb_elab.specs.Registers.{cut_bits}
 use Rattle.bb_elab.specs.Stands.{box_number}
@@ -33,6 +34,7 @@ use Rattle.bb_elab.specs.Worlds.{World, Vector, bits_in}
 use Rattle.bb_elab.proofs.Enumerated.{enumerated_from, numbered_at}
 use Rattle.bb_elab.proofs.ListedPlaces.{IsListed, lowered_at, listed_cell, listed_below, constant_listed, input_listed, net_listed, pin_listed, step_listed, joined_listed, inverted_listed, box_is}
 use Rattle.bb_elab.proofs.ListedSources.{IsWired, terminal_there, part_there}
+use Rattle.bb_expr.specs.Spots.{Pin}
 
 -- of lists of one element
 only_one : {A : Type 0} (xs : List A) (d : A) → length xs ≡ 1 → xs ≡ get_or xs 0 d ∷ []
@@ -41,7 +43,7 @@ only_one (x ∷ []) d e = refl
 only_one (x ∷ y ∷ xs) d e = absurd (omega (arith, e))
 
 module _ (d : Design) (lowering : Lowering) (l : LooseList) (list : IsListOf d lowering l) (lowered : IsLowering d lowering) (wired : IsWired d)
-    (contents : Contents) (x : Vector) (bits : List Bool) (value : IsLooseValue l (input_bits_of d x) (given_by_contents d contents) bits) where
+    (contents : Contents) (x : Vector) (bits : List Bool) (value : IsLooseValue l (vector_bits d x) (given_by_contents d contents) bits) where
   -- the bit at a place
   abbrev pub at : Place → Bool
   at p = bit_of bits (list.number p)
@@ -50,7 +52,7 @@ module _ (d : Design) (lowering : Lowering) (l : LooseList) (list : IsListOf d l
   world = world_at list.number bits
 
   abbrev gives : LooseCell → Bool
-  gives c = loose_gate l.boxes (input_bits_of d x) (given_by_contents d contents) (bit_of bits) c
+  gives c = loose_gate l.boxes (vector_bits d x) (given_by_contents d contents) (bit_of bits) c
 
   equation : (p : Place) (c : LooseCell) → IsListed d lowering l list p c → at p ≡ gives c
   equation p c has = value.each (list.number p) (listed_below d lowering l list p c has) ∙ ap gives (listed_cell d lowering l list p c has)
@@ -58,7 +60,7 @@ module _ (d : Design) (lowering : Lowering) (l : LooseList) (list : IsListOf d l
   pub constant_value : (b : Bool) → at (Constant b) ≡ b
   constant_value b = equation (Constant b) (cell.Const b) (constant_listed d lowering l list b)
 
-  pub input_value : (i : ℕ) → i < length (cut_bits d) → at (Input i) ≡ get_or (input_bits_of d x) i false
+  pub input_value : (i : ℕ) → i < length (cut_bits d) → at (Input i) ≡ get_or (vector_bits d x) i false
   input_value i fits = equation (Input i) (cell.Input i) (input_listed d lowering l list i fits)
 
   pub net_value : (b : Bit) → Contains (net_order d) b → at (NetBit b) ≡ at (place_in (given d lowering) b)
@@ -78,6 +80,15 @@ module _ (d : Design) (lowering : Lowering) (l : LooseList) (list : IsListOf d l
       equation (BoxPin b p) (cell.BoxOut b p) (pin_listed d lowering l list b s has p y there)
       ∙ ap (λ (u : Scope). output_bit (contents (path_text u.path)) (map (bit_of bits) (box_at l.boxes b).ins) p) scope
       ∙ ap (λ i. output_bit (contents (path_text s.path)) i p) ins
+
+  -- the pins of a connection have the bits that they have in the world
+  pub pins_same : (path : List (List ℕ)) (pin : Pin) → map at (map NetBit (pin_bits path pin)) ≡ map (term_bit (world path)) (map (λ (b : Bit). term.Net b.net b.place) (pin_bits path pin))
+  pins_same path pin = from (range_with_len 0 pin.width)
+    where
+      from : (ks : List ℕ) → map at (map NetBit (map (λ k. record { path = path; net = pin.name; place = k }) ks))
+          ≡ map (term_bit (world path)) (map (λ (b : Bit). term.Net b.net b.place) (map (λ k. record { path = path; net = pin.name; place = k }) ks))
+      from [] = refl
+      from (k ∷ ks) = ap (λ r. world path pin.name k ∷ r) (from ks)
 
   module _ (k : ℕ) (s : Scope) (c : Construct) (has : Contains (enumerate_from 0 (parts d)) (k, (s, c))) (n : ℕ) where
     -- a step has the bit of its operator, where the steps that it reads have theirs

@@ -1,12 +1,11 @@
 -- Bits that meet the equations of the list of cells of a design make a world of it: each driven bit has what its source gives.
 use Rattle.std.proofs.Common.{◌≡◌, ◌≢◌, ◌⊎◌, ℕ, ◌<◌, Bool, true, false, if◌then◌else◌, List, [], ◌∷◌, ◌++◌, map, flat_map, find, length, get_or, zip, AllPairs, Contains, refl, sym, ap, ap₂, ◌∙◌, subst, inl, inr, arith}
-use Rattle.std.specs.List.{enumerate_from, list_any, range_with_len}
+use Rattle.std.specs.List.{enumerate_from, list_any}
 use Rattle.std.specs.Option.{option_map_or}
 use Rattle.std.proofs.lemmas.List.{map-append, get_or-map}
 use Rattle.std.proofs.lemmas.List.Elements.{All-contains, Contains-append_cases, Contains-append_left, Contains-append_right}
 use Rattle.bb_ast.specs.Syntax.{Expression}
 use Rattle.bb_bits.specs.Contents.{Contents, output_bit}
-use Rattle.bb_expr.specs.Spots.{Pin}
 use Rattle.bb_expr.specs.Terms.{Term, bit_of as term_bit}
 use Rattle.bb_expr.specs.Terms as term
 use Rattle.bb_net.specs.Loose.{LooseList, IsLooseValue}
@@ -18,8 +17,8 @@ use Rattle.bb_elab.specs.Drivers.{Source, Free, Made, Box, Drive, driven, driven
 use Rattle.bb_elab.specs.DrivenWorlds.{Gives, IsGiven, IsDrivenWorld, ConstructsHoldBitByBit}
 use Rattle.bb_elab.specs.GateFunctions.{on_terms, gate_gives}
 use Rattle.bb_elab.specs.Laws.{BitsAreThere}
-use Rattle.bb_elab.specs.ListLaws.{input_bits_of, given_by_contents, ListsGiveWorlds}
-use Rattle.bb_elab.specs.Places.{Place, Constant, Input, NetBit, BoxPin, lowered_in, Lowering, IsLowering, step_places, gate_place, given_at, given_by_box, given, IsListOf}
+use Rattle.bb_elab.specs.ListLaws.{vector_bits, given_by_contents, ListsGiveWorlds}
+use Rattle.bb_elab.specs.Places.{Place, Constant, Input, BoxPin, lowered_in, Lowering, IsLowering, step_places, gate_place, given_at, given_by_box, given, IsListOf}
 use Rattle.bb_elab.specs.Refusals.{TwoDrivers, Cycle, AreDrivenOnce, IsAcyclic}
 use Rattle.bb_elab.specs.Registers.{RegisterBit, stored_at, stored, registers, cut_bits}
 use Rattle.bb_elab.specs.Texts.{path_text, bit_text}
@@ -30,7 +29,7 @@ use Rattle.bb_elab.proofs.CauseDecisions.{all_from, from_flat, from_map}
 use Rattle.bb_elab.proofs.Enumerated.{enumerated_from, zip_across}
 use Rattle.bb_elab.proofs.Levels.{contains-map}
 use Rattle.bb_elab.proofs.ListedSources.{IsWired}
-use Rattle.bb_elab.proofs.ListValues.{at, world, constant_value, input_value, net_value, pin_value, expression_value, gate_value}
+use Rattle.bb_elab.proofs.ListValues.{at, world, constant_value, input_value, net_value, pin_value, expression_value, gate_value, pins_same}
 use Rattle.bb_elab.proofs.ReadingLaw.{into_flat}
 use Rattle.bb_elab.proofs.TopLaws.{contains_here, contains_there, none_in_nil, kept_from}
 use Rattle.bb_elab.proofs.WorldBits.{worlds_are_driven}
@@ -38,7 +37,7 @@ use Rattle.bb_elab.proofs.WorldExists.{tops_first, apart_append, drive_once, any
 use Rattle.bb_elab.proofs.WorldLaws.{same_bit_is, same_bit_self, find_there, numbered_there, free_stored, stored_register}
 
 module _ (d : Design) (lowering : Lowering) (l : LooseList) (list : IsListOf d lowering l) (lowered : IsLowering d lowering) (wired : IsWired d)
-    (contents : Contents) (x : Vector) (bits : List Bool) (value : IsLooseValue l (input_bits_of d x) (given_by_contents d contents) bits) where
+    (contents : Contents) (x : Vector) (bits : List Bool) (value : IsLooseValue l (vector_bits d x) (given_by_contents d contents) bits) where
   abbrev v : Place → Bool
   v = at d lowering l list lowered wired contents x bits value
 
@@ -82,14 +81,6 @@ module _ (d : Design) (lowering : Lowering) (l : LooseList) (list : IsListOf d l
     pub low_same : (m n : ℕ) (e : Expression) (width : ℕ) → Contains (enumerate_from 0 (lowered_in (s, c))) (n, (e, width)) → map v (low_bits m (step_places lowering k n)) ≡ map (term_bit (w s.path)) (low_bits m (made_in s e width).bits)
     low_same m n e width there = low-map v m (step_places lowering k n) ∙ ap (low_bits m) (whole_same n e width there) ∙ sym (low-map (term_bit (w s.path)) m (made_in s e width).bits)
 
-  pins_same : (path : List (List ℕ)) (pin : Pin) → map v (map NetBit (pin_bits path pin)) ≡ map (term_bit (w path)) (map (λ (b : Bit). term.Net b.net b.place) (pin_bits path pin))
-  pins_same path pin = from (range_with_len 0 pin.width)
-    where
-      from : (ks : List ℕ) → map v (map NetBit (map (λ k. record { path = path; net = pin.name; place = k }) ks))
-          ≡ map (term_bit (w path)) (map (λ (b : Bit). term.Net b.net b.place) (map (λ k. record { path = path; net = pin.name; place = k }) ks))
-      from [] = refl
-      from (k ∷ ks) = ap (λ r. w path pin.name k ∷ r) (from ks)
-
   -- what gives a bit of a construct is what drives it
   given_meets : (k : ℕ) (s : Scope) (c : Construct) → Contains (enumerate_from 0 (parts d)) (k, (s, c)) → (y : Bit × Place) → Contains (given_at lowering (k, (s, c))) y → (z : Drive) × Contains (drives_at (s, c)) z × Meets y z
   unfolding SourceGives
@@ -107,7 +98,7 @@ module _ (d : Design) (lowering : Lowering) (l : LooseList) (list : IsListOf d l
       (driven (Made s.path (term.Const high)) b.0, contains-map (driven (Made s.path (term.Const high))) (bits_named s n) b.0 b.1, (ap (λ (u : Bit × Place). u.0) b.2, ap (λ (u : Bit × Place). v u.1) (sym b.2) ∙ constant_value d lowering l list lowered wired contents x bits value high))
   given_meets k s (InputConnection i pin e) has y here = sides_meet k s (InputConnection i pin e) has s.path (pin_bits (path_to s.path i) pin) _ _
       (whole_same k s (InputConnection i pin e) has 0 e (width_of s e) (contains_here (0, (e, width_of s e)) [])) y here
-  given_meets k s (OutputConnection i pin e) has y here = sides_meet k s (OutputConnection i pin e) has (path_to s.path i) (written_bits s e) _ _ (pins_same (path_to s.path i) pin) y here
+  given_meets k s (OutputConnection i pin e) has y here = sides_meet k s (OutputConnection i pin e) has (path_to s.path i) (written_bits s e) _ _ (pins_same d lowering l list lowered wired contents x bits value (path_to s.path i) pin) y here
   given_meets k s BoxContents has y here = absurd (none_in_nil y here)
 
   -- and what drives it in the design, but for inputs and boxes, is there
@@ -125,7 +116,7 @@ module _ (d : Design) (lowering : Lowering) (l : LooseList) (list : IsListOf d l
       inl ((b.0, Constant high), contains-map {B = Bit × Place} (λ b. (b, Constant high)) (bits_named s n) b.0 b.1, ap (λ (u : Drive). u.bit) b.2)
   given_found k s (InputConnection i pin e) has z here = inl (sides_found k s (InputConnection i pin e) has s.path (pin_bits (path_to s.path i) pin) _ _
       (whole_same k s (InputConnection i pin e) has 0 e (width_of s e) (contains_here (0, (e, width_of s e)) [])) z here)
-  given_found k s (OutputConnection i pin e) has z here = inl (sides_found k s (OutputConnection i pin e) has (path_to s.path i) (written_bits s e) _ _ (pins_same (path_to s.path i) pin) z here)
+  given_found k s (OutputConnection i pin e) has z here = inl (sides_found k s (OutputConnection i pin e) has (path_to s.path i) (written_bits s e) _ _ (pins_same d lowering l list lowered wired contents x bits value (path_to s.path i) pin) z here)
   given_found k s BoxContents has z here = inr (inr refl)
 
   module _ (there : BitsAreThere d) (once : AreDrivenOnce d) (acyclic : IsAcyclic d) where
@@ -157,7 +148,7 @@ module _ (d : Design) (lowering : Lowering) (l : LooseList) (list : IsListOf d l
     state_value r has = ap (λ t. if t then x (TopInput (bit_text d r.bit)) else x (State (bit_text d r.bit))) (not_top r.bit (state_driven r has))
 
     -- the inputs of the list have the bits of the vector
-    cut_same : input_bits_of d x ≡ map cut_value (cut_bits d)
+    cut_same : vector_bits d x ≡ map cut_value (cut_bits d)
     cut_same = ap₂ ◌++◌ (tops (top_inputs d) (λ b has. has)) (states (registers d) (λ r has. has)) ∙ sym (map-append cut_value (top_inputs d) (map (λ r. r.bit) (registers d)))
       where
         tops : (all : List Bit) → ((b : Bit) → Contains all b → Contains (top_inputs d) b) → map (λ b. x (TopInput (bit_text d b))) all ≡ map cut_value all

@@ -11,7 +11,7 @@ use Rattle.bb_elab.specs.Hierarchy.{Design, Scope}
 use Rattle.bb_elab.specs.NetBits.{Bit, same_bit, net_order, written_bits}
 use Rattle.bb_elab.specs.Contexts.{width_of, context_width, low_bits, value_in}
 use Rattle.bb_elab.specs.Constructs.{Construct, Assignment, GateInstance, Register, SupplyNet, InputConnection, OutputConnection, BoxContents, parts}
-use Rattle.bb_elab.specs.ListLaws.{input_bits_of, given_by_contents}
+use Rattle.bb_elab.specs.ListLaws.{vector_bits, given_by_contents}
 use Rattle.bb_elab.specs.Places.{Place, Constant, Lowering, IsLowering, step_places, data_at, place_in, IsListOf}
 use Rattle.bb_elab.specs.Registers.{RegisterBit, stored_at, stored, registers}
 use Rattle.bb_elab.specs.Worlds.{World, Vector, next_bit}
@@ -32,7 +32,7 @@ zip_append R (x ∷ xs) [] us vs first second = absurd first
 zip_append R (x ∷ xs) (y ∷ ys) us vs first second = (first.0, zip_append R xs ys us vs first.1 second)
 
 module _ (values : ValuesHaveWidth) (cells : MadeHasValue) (d : Design) (lowering : Lowering) (l : LooseList) (list : IsListOf d lowering l) (lowered : IsLowering d lowering) (wired : IsWired d)
-    (contents : Contents) (x : Vector) (bits : List Bool) (value : IsLooseValue l (input_bits_of d x) (given_by_contents d contents) bits) where
+    (contents : Contents) (x : Vector) (bits : List Bool) (value : IsLooseValue l (vector_bits d x) (given_by_contents d contents) bits) where
   abbrev v : Place → Bool
   v = at d lowering l list lowered wired contents x bits value
 

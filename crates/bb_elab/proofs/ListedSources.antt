@@ -1,27 +1,57 @@
 -- What gives a bit is listed: the places that drive the bits of nets, those of the data of registers, and what the operators of
 -- gates join. For this the pins of connections have to be bits of the design, and gates have to have inputs of one bit.
-use Rattle.std.proofs.Common.{◌≡◌, ◌⊎◌, ℕ, zero, suc, ◌-◌, ◌<◌, ◌≤◌, Bool, true, false, if◌then◌else◌, List, [], ◌++◌, map, flat_map, find, length, get_or, zip, All, Contains, Option, Some, None, refl, ap, ◌∙◌, subst, inl, inr, arith}
-use Rattle.std.specs.List.{enumerate_from}
+use Rattle.std.proofs.Common.{sym, ◌≡◌, ◌⊎◌, ℕ, zero, suc, ◌-◌, ◌<◌, ◌≤◌, Bool, true, false, if◌then◌else◌, List, [], ◌++◌, map, flat_map, find, length, get_or, zip, All, Contains, Option, Some, None, refl, ap, ◌∙◌, subst, inl, inr, arith}
+use Rattle.std.specs.List.{enumerate_from, range_with_len}
 use Rattle.std.specs.Option.{option_map_or}
 use Rattle.std.proofs.lemmas.List.{length-map, get_or-map, get_or_default}
-use Rattle.std.proofs.lemmas.List.Elements.{All-contains, Contains-append_cases}
+use Rattle.std.proofs.lemmas.List.Elements.{All-contains, Contains-append_cases, Contains-get_or}
 use Rattle.bb_ast.specs.declared.module.Gate.{Gate}
 use Rattle.bb_ast.specs.Syntax.{Expression, Plain}
+use Rattle.bb_expr.specs.declared.step.BitStep.TheVariants as steps
+use Rattle.bb_expr.specs.Lowered.{Reads, name_at}
+use Rattle.bb_expr.specs.Nets.{net_of, nets_of}
+use Rattle.bb_expr.specs.Ranges.{range_width}
 use Rattle.bb_expr.specs.Spots.{Pin}
 use Rattle.bb_net.specs.Loose.{LooseList}
-use Rattle.bb_elab.specs.Hierarchy.{Design, Scope, path_to, boxes}
-use Rattle.bb_elab.specs.NetBits.{Bit, same_bit, net_order, output_bits, pin_bits, bits_named, written_bits}
+use Rattle.bb_elab.specs.Hierarchy.{Design, Scope, path_to, boxes, scopes}
+use Rattle.bb_elab.specs.NetBits.{Bit, same_bit, net_order, output_bits, pin_bits, bits_named, written_bits, bits_of_net}
 use Rattle.bb_elab.specs.Contexts.{width_of, context_width, low_bits}
-use Rattle.bb_elab.specs.Constructs.{Construct, Assignment, GateInstance, Register, SupplyNet, InputConnection, OutputConnection, BoxContents, parts}
+use Rattle.bb_elab.specs.Constructs.{Construct, Assignment, GateInstance, Register, SupplyNet, InputConnection, OutputConnection, BoxContents, parts, constructs_at}
 use Rattle.bb_elab.specs.GateFunctions.{inverts}
 use Rattle.bb_elab.specs.Registers.{cut_bits}
 use Rattle.bb_elab.specs.Places.{Place, Constant, Input, NetBit, Step, Joined, Inverted, BoxPin, lowered_in, Lowering, IsLowering, step_places, terminal_place, joined_place, gate_place, given_at, given_by_box, given, data_at, place_in, IsListOf}
 use Rattle.bb_elab.proofs.CauseDecisions.{from_flat, from_map}
-use Rattle.bb_elab.proofs.Enumerated.{enumerated_from, numbered_at, element_there, from_drop}
+use Rattle.bb_elab.proofs.Enumerated.{enumerated_from, numbered_at, from_drop}
 use Rattle.bb_elab.proofs.ListedPlaces.{lowered_at, listed_below, constant_listed, input_listed, net_listed, pin_listed, step_listed, joined_listed, inverted_listed}
 use Rattle.bb_elab.proofs.PartBits.{zip_parts}
 use Rattle.bb_elab.proofs.TopLaws.{contains_here, none_in_nil}
 use Rattle.bb_elab.proofs.WorldExists.{from_find, from_numbered}
+use Rattle.std.specs.Prelude.{IfSome, slice_get}
+use Rattle.std.proofs.lemmas.Option.{slice_get-get_or}
+use Rattle.bb_expr.specs.declared.net.NetInfo.{NetInfo}
+use Rattle.bb_elab.proofs.KnownNets.{range_there, scope_there}
+use Rattle.bb_elab.proofs.Levels.{contains-map}
+use Rattle.bb_elab.proofs.ReadingLaw.{into_flat}
+
+-- a part is a construct of its scope
+pub part_of : (d : Design) (s : Scope) (c : Construct) → Contains (parts d) (s, c) → Contains (scopes d) s × Contains (constructs_at d.text s) c
+part_of d s c has =
+    let z = from_flat (λ s. map (λ c. (s, c)) (constructs_at d.text s)) (scopes d) (s, c) has in
+    let y = from_map {B = Scope × Construct} (λ c. (z.0, c)) (constructs_at d.text z.0) (s, c) z.2 in
+    let scope : z.0 ≡ s = ap (λ (u : Scope × Construct). u.0) y.2 in
+    let same : y.0 ≡ c = ap (λ (u : Scope × Construct). u.1) y.2 in
+    (subst (Contains (scopes d)) scope z.1, subst (λ u. Contains (constructs_at d.text u) c) scope (subst (Contains (constructs_at d.text z.0)) same y.1))
+
+-- a step reads bits of nets of the scope
+pub net_bit_of_step : (d : Design) (s : Scope) (n i : ℕ) → Contains (scopes d) s → Reads (nets_of s.source) 0 (steps.Net n i) → Contains (net_order d) (record { path = s.path; net = name_at (nets_of s.source) n; place = i })
+net_bit_of_step d s n i has reads =
+    let nets = nets_of s.source in
+    let net = get_or nets n (net_of s.source []) in
+    let got : slice_get nets n ≡ Some net = slice_get-get_or nets n (net_of s.source []) reads.0 in
+    let fits : i < range_width net.range = subst (λ o. IfSome o (λ (x : NetInfo). i < range_width x.range)) got reads.1 in
+    let name : name_at nets n ≡ net.name = ap (λ o. option_map_or (λ (x : NetInfo). x.name) o []) got in
+    subst (λ m. Contains (net_order d) (record { path = s.path; net = m; place = i })) (sym name) (scope_there d s _ has (into_flat (bits_of_net s.path) nets net _ (Contains-get_or nets n (net_of s.source []) reads.0)
+    (contains-map (λ k. record { path = s.path; net = net.name; place = k }) (range_with_len 0 (range_width net.range)) i (range_there 0 (range_width net.range) i (omega arith) (omega (arith, fits))))))
 
 -- what the places of a design need
 pub record IsWired (d : Design) : Type 0 where
@@ -79,7 +109,7 @@ module _ (d : Design) (lowering : Lowering) (l : LooseList) (list : IsListOf d l
     terminal_in x fits =
         let e = terminal_there s ins x fits shape.1 in
         let low = lowered_at d lowering lowered k s (GateInstance gate outs ins) has x e.0 1 e.1 in
-        step_in k s (GateInstance gate outs ins) has x e.0 1 e.1 (get_or (lowering k x).bits 0 0) (element_there (lowering k x).bits 0 0 (omega (arith, low.width)))
+        step_in k s (GateInstance gate outs ins) has x e.0 1 e.1 (get_or (lowering k x).bits 0 0) (Contains-get_or (lowering k x).bits 0 0 (omega (arith, low.width)))
 
     pub joined_in : (x : ℕ) → x < length ins → IsIn (joined_place lowering k x)
     joined_in zero fits = terminal_in 0 fits

@@ -1,9 +1,6 @@
 -- The list of cells of a design can be put in order.
-use Rattle.std.proofs.Common.{◌≡◌, ◌⊎◌, ℕ, suc, ◌+◌, ◌-◌, ◌<◌, ◌≤◌, Bool, true, false, if◌then◌else◌, List, [], ◌∷◌, ◌++◌, map, flat_map, filter, length, get_or, All, Contains, sym, ap, ◌∙◌, subst, inl, inr, arith}
-use Rattle.std.specs.Prelude.{IfSome, Some, slice_get}
+use Rattle.std.proofs.Common.{refl, not, ◌≡◌, ◌⊎◌, ℕ, ◌+◌, ◌-◌, ◌<◌, ◌≤◌, Bool, true, false, if◌then◌else◌, List, [], ◌∷◌, ◌++◌, map, flat_map, length, get_or, All, Contains, sym, ap, ◌∙◌, subst, inl, inr, arith}
 use Rattle.std.specs.List.{enumerate_from, range_with_len}
-use Rattle.std.specs.Option.{option_map_or}
-use Rattle.std.proofs.lemmas.Option.{slice_get-get_or}
 use Rattle.std.proofs.lemmas.List.{length-map, get_or_past}
 use Rattle.std.proofs.lemmas.List.Elements.{All-contains, All-nil, All-cons, Contains-append_cases}
 use Rattle.bb_ast.specs.declared.module.Gate.{Gate}
@@ -11,51 +8,28 @@ use Rattle.bb_ast.specs.declared.module.Gate.TheVariants as gates
 use Rattle.bb_ast.specs.Syntax.{Plain}
 use Rattle.bb_expr.specs.declared.step.BitStep.{BitStep}
 use Rattle.bb_expr.specs.declared.step.BitStep.TheVariants as steps
-use Rattle.bb_expr.specs.declared.net.NetInfo.{NetInfo}
-use Rattle.bb_expr.specs.Lowered.{Reads, name_at}
-use Rattle.bb_expr.specs.Nets.{net_of, nets_of}
-use Rattle.bb_expr.specs.Ranges.{range_width}
+use Rattle.bb_expr.specs.Lowered.{Reads}
+use Rattle.bb_expr.specs.Nets.{nets_of}
 use Rattle.bb_net.specs.declared.loose.LooseCell.{LooseCell}
 use Rattle.bb_net.specs.declared.loose.LooseCell.TheVariants as cell
 use Rattle.bb_net.specs.Loose.{LooseList, loose_at, operands, IsLoose}
 use Rattle.bb_net.specs.Netlists.{Pins, box_at, IsPinAt}
 use Rattle.bb_elab.specs.Hierarchy.{Design, Scope, root, scopes, is_box, boxes}
-use Rattle.bb_elab.specs.NetBits.{Bit, net_order, bits_of_net, input_bits, output_bits, top_outputs}
-use Rattle.bb_elab.specs.Constructs.{Construct, Assignment, GateInstance, Register, SupplyNet, InputConnection, OutputConnection, BoxContents, constructs_at, parts}
+use Rattle.bb_elab.specs.NetBits.{Bit, net_order, input_bits, output_bits, top_outputs}
+use Rattle.bb_elab.specs.Constructs.{Construct, Assignment, GateInstance, Register, SupplyNet, InputConnection, OutputConnection, BoxContents, parts}
 use Rattle.bb_elab.specs.GateFunctions.{inverts}
 use Rattle.bb_elab.specs.Refusals.{IsSmall}
 use Rattle.bb_elab.specs.Registers.{RegisterBit, cut_bits, registers}
 use Rattle.bb_elab.specs.Places.{Place, Constant, Input, NetBit, Step, Joined, Inverted, BoxPin, lowered_in, Lowering, IsLowering, terminal_place, joined_place, given, data_at, data_places, place_in, step_cell, net_place, step_cells, join_cell, joining_places, inverting_place, gate_places, places_at, box_places, front_places, operator_places, places, pins_of, IsListOf}
-use Rattle.bb_elab.proofs.CauseDecisions.{all_from, from_flat, from_map}
-use Rattle.bb_elab.proofs.Enumerated.{enumerated_from, numbered_at, mapped_enumerated, length-enumerated, element_there}
-use Rattle.bb_elab.proofs.Firsts.{less_or_same}
-use Rattle.bb_elab.proofs.KnownNets.{range_there, from_range, filtered_there, scope_there}
-use Rattle.bb_elab.proofs.Levels.{contains-map}
+use Rattle.bb_elab.proofs.CauseDecisions.{all_from, from_flat, from_map, less_or_not}
+use Rattle.bb_elab.proofs.Enumerated.{enumerated_from, numbered_at, mapped_enumerated, length-enumerated}
+use Rattle.bb_elab.proofs.KnownNets.{from_range, filtered_there, scope_there}
 use Rattle.bb_elab.proofs.ListFronts.{lists_begin}
 use Rattle.bb_elab.proofs.ListedPlaces.{lowered_at, listed_cell, listed_below, listed_at, pin_listed, box_is}
-use Rattle.bb_elab.proofs.ListedSources.{IsWired, constant_in, net_in, earlier_in, terminal_in, joined_in, given_in, data_in, found_in}
-use Rattle.bb_elab.proofs.ReadingLaw.{into_flat}
+use Rattle.bb_elab.proofs.ListedSources.{IsWired, constant_in, net_in, earlier_in, terminal_in, joined_in, given_in, data_in, found_in, part_of, net_bit_of_step}
 use Rattle.bb_elab.proofs.TopLaws.{contains_here, contains_cases, none_in_nil, kept_from}
 use Rattle.bb_elab.proofs.WorldExists.{from_numbered}
-
-length-filter : {A : Type 0} (test : A → Bool) (xs : List A) → length (filter test xs) ≤ length xs
-length-filter test [] = omega arith
-length-filter test (x ∷ xs) = by (test x) (length-filter test xs)
-  where
-    by : (b : Bool) → length (filter test xs) ≤ length xs → length (if b then x ∷ filter test xs else filter test xs) ≤ suc (length xs)
-    by true h = omega (arith, h)
-    by false h = omega (arith, h)
-
--- a step reads bits of nets of the scope
-pub net_bit_of_step : (d : Design) (s : Scope) (n i : ℕ) → Contains (scopes d) s → Reads (nets_of s.source) 0 (steps.Net n i) → Contains (net_order d) (record { path = s.path; net = name_at (nets_of s.source) n; place = i })
-net_bit_of_step d s n i has reads =
-    let nets = nets_of s.source in
-    let net = get_or nets n (net_of s.source []) in
-    let got : slice_get nets n ≡ Some net = slice_get-get_or nets n (net_of s.source []) reads.0 in
-    let fits : i < range_width net.range = subst (λ o. IfSome o (λ (x : NetInfo). i < range_width x.range)) got reads.1 in
-    let name : name_at nets n ≡ net.name = ap (λ o. option_map_or (λ (x : NetInfo). x.name) o []) got in
-    subst (λ m. Contains (net_order d) (record { path = s.path; net = m; place = i })) (sym name) (scope_there d s _ has (into_flat (bits_of_net s.path) nets net _ (element_there nets n (net_of s.source []) reads.0)
-    (contains-map (λ k. record { path = s.path; net = net.name; place = k }) (range_with_len 0 (range_width net.range)) i (range_there 0 (range_width net.range) i (omega arith) (omega (arith, fits))))))
+use Rattle.std.proofs.lemmas.List.Filters.{length-filter_both}
 
 module _ (d : Design) (lowering : Lowering) (l : LooseList) (list : IsListOf d lowering l) (lowered : IsLowering d lowering) (wired : IsWired d) where
   -- a cell at a place reads places of the list, an input is one of the inputs, and a pin is one of its box
@@ -116,12 +90,6 @@ module _ (d : Design) (lowering : Lowering) (l : LooseList) (list : IsListOf d l
   abbrev Fine : Entry → Type 0
   Fine x = IsFine (list.number x.0) x.1
 
-  scope_of : (s : Scope) (c : Construct) → Contains (parts d) (s, c) → Contains (scopes d) s
-  scope_of s c has =
-      let z = from_flat (λ s. map (λ c. (s, c)) (constructs_at d.text s)) (scopes d) (s, c) has in
-      let y = from_map {B = Scope × Construct} (λ c. (z.0, c)) (constructs_at d.text z.0) (s, c) z.2 in
-      subst (Contains (scopes d)) (ap (λ (u : Scope × Construct). u.0) y.2) z.1
-
   steps_fine : (k : ℕ) (s : Scope) (c : Construct) → Contains (enumerate_from 0 (parts d)) (k, (s, c)) → (x : Entry) → Contains (flat_map (step_cells lowering list.number k s) (range_with_len 0 (length (lowered_in (s, c))))) x → Fine x
   steps_fine k s c has x at =
       let n = from_flat (step_cells lowering list.number k s) (range_with_len 0 (length (lowered_in (s, c)))) x at in
@@ -131,7 +99,7 @@ module _ (d : Design) (lowering : Lowering) (l : LooseList) (list : IsListOf d l
       let make : ℕ × BitStep → Entry = λ y. (Step k n.0 y.0, step_cell (λ b. list.number (Constant b)) (λ a. list.number (Step k n.0 a)) (λ m i. list.number (net_place s m i)) y.1) in
       let y = from_map make (enumerate_from 0 (lowering k n.0).all) x n.2 in
       let j = enumerated_from 0 (lowering k n.0).all y.0.0 y.0.1 y.1 in
-      subst Fine y.2 (step_fine k s c has (scope_of s c (from_numbered 0 (parts d) (k, (s, c)) has)) n.0 fits (list.number (Step k n.0 y.0.0)) y.0.0 (omega (arith, j.1, j.2)) y.0.1
+      subst Fine y.2 (step_fine k s c has (part_of d s c (from_numbered 0 (parts d) (k, (s, c)) has)).0 n.0 fits (list.number (Step k n.0 y.0.0)) y.0.0 (omega (arith, j.1, j.2)) y.0.1
       (All-contains (λ (z : ℕ × BitStep). Reads (nets_of s.source) z.0 z.1) (enumerate_from 0 (lowering k n.0).all) y.0 low.earlier y.1))
 
   gate_fine : (k : ℕ) (s : Scope) (c : Construct) → Contains (enumerate_from 0 (parts d)) (k, (s, c)) → (x : Entry) → Contains (gate_places lowering list.number k c) x → Fine x
@@ -234,16 +202,8 @@ module _ (d : Design) (lowering : Lowering) (l : LooseList) (list : IsListOf d l
   no_box : (b : ℕ) → length (boxes d) ≤ b → box_at l.boxes b ≡ record { ins = []; outs = [] }
   no_box b past = get_or_past l.boxes b (record { ins = []; outs = [] }) (omega (arith, past, box_count))
 
-  below_or_not : (m n : ℕ) → (m < n) ⊎ (n ≤ m)
-  below_or_not m n = by (less_or_same m n)
-    where
-      by : (m < n) ⊎ ((n < m) ⊎ (m ≡ n)) → (m < n) ⊎ (n ≤ m)
-      by (inl h) = inl h
-      by (inr (inl h)) = inr (omega (arith, h))
-      by (inr (inr e)) = inr (omega (arith, e))
-
   ins_there : (b : ℕ) → All (λ pin. pin < length l.cells) (box_at l.boxes b).ins
-  ins_there b = by (below_or_not b (length (boxes d)))
+  ins_there b = by (less_or_not b (length (boxes d)))
     where
       by : (b < length (boxes d)) ⊎ (length (boxes d) ≤ b) → All (λ pin. pin < length l.cells) (box_at l.boxes b).ins
       by (inl h) =
@@ -255,7 +215,7 @@ module _ (d : Design) (lowering : Lowering) (l : LooseList) (list : IsListOf d l
       by (inr h) = subst (λ (q : Pins). All (λ pin. pin < length l.cells) q.ins) (sym (no_box b h)) (All-nil _)
 
   pin_driven : (b p place : ℕ) → IsPinAt l.boxes b p place → (place < length l.cells) × (loose_at l place ≡ cell.BoxOut b p)
-  pin_driven b p place is = by (below_or_not b (length (boxes d)))
+  pin_driven b p place is = by (less_or_not b (length (boxes d)))
     where
       by : (b < length (boxes d)) ⊎ (length (boxes d) ≤ b) → (place < length l.cells) × (loose_at l place ≡ cell.BoxOut b p)
       by (inl h) =
@@ -315,5 +275,5 @@ module _ (d : Design) (lowering : Lowering) (l : LooseList) (list : IsListOf d l
     listed = λ place b p fits e. subst (IsFine place) e (each_fine place fits);
     driven = pin_driven;
     cells_fit = list.fits;
-    boxes_fit = omega (arith, box_count, length-filter is_box (scopes d), small.0);
+    boxes_fit = omega (arith, box_count, length-filter_both is_box (λ s. not (is_box s)) (λ s. refl) (scopes d), small.0);
   }

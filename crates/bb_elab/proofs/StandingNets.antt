@@ -18,7 +18,7 @@ use Rattle.bb_elab.specs.Hierarchy.{Design}
 use Rattle.bb_elab.specs.NetBits.{Bit, top_outputs}
 use Rattle.bb_elab.specs.Constructs.{parts}
 use Rattle.bb_elab.specs.DrivenWorlds.{IsDrivenWorld, ConstructsHoldBitByBit}
-use Rattle.bb_elab.specs.ListLaws.{IsAllowed, input_bits_of, given_by_contents, given_in, world_at, StandingNetsGiveOutputs}
+use Rattle.bb_elab.specs.ListLaws.{IsAllowed, vector_bits, given_by_contents, given_by_paths, world_at, StandingNetsGiveOutputs, StandingNetsAgree}
 use Rattle.bb_elab.specs.Places.{Place, NetBit, data_at, data_places, place_in}
 use Rattle.bb_elab.specs.Refusals.{TwoDrivers, NoDriver, Cycle}
 use Rattle.bb_elab.specs.Registers.{RegisterBit, registers}
@@ -91,7 +91,7 @@ module _ (values : ValuesHaveWidth) (made : MadeHasValue) (bitwise : ConstructsH
 
   -- the bits of the netlist, by the numbers that its boxes have in the list
   abbrev net_bits : List Bool
-  net_bits = value_of f.net (input_bits_of d x) (renumbered stands.numbers (given_by_contents d contents))
+  net_bits = value_of f.net (vector_bits d x) (renumbered stands.numbers (given_by_contents d contents))
 
   -- and those of the list
   abbrev bits : List Bool
@@ -100,8 +100,8 @@ module _ (values : ValuesHaveWidth) (made : MadeHasValue) (bitwise : ConstructsH
   bits_at : (k : ℕ) → k < length l.cells → bit_of bits k ≡ bit_of net_bits (to k)
   bits_at k fits = get_or-map-range_with_len (λ k. bit_of net_bits (to k)) 0 (length l.cells) k k false fits (omega arith)
 
-  value : IsLooseValue l (input_bits_of d x) (given_by_contents d contents) bits
-  value = (keeps l f.net stands.numbers loose kept stands.ordered (input_bits_of d x) (given_by_contents d contents) bits (length-map-range_with_len (λ k. bit_of net_bits (to k)) 0 (length l.cells))).1 bits_at
+  value : IsLooseValue l (vector_bits d x) (given_by_contents d contents) bits
+  value = (keeps l f.net stands.numbers loose kept stands.ordered (vector_bits d x) (given_by_contents d contents) bits (length-map-range_with_len (λ k. bit_of net_bits (to k)) 0 (length l.cells))).1 bits_at
 
   abbrev list_world : World
   list_world = world_at number bits
@@ -125,15 +125,15 @@ module _ (values : ValuesHaveWidth) (made : MadeHasValue) (bitwise : ConstructsH
   moved [] there = refl
   moved (k ∷ all) there = ap₂ ◌∷◌ (sym (bits_at k (there k (contains_here k all)))) (moved all (λ n has. there n (contains_there k all n has)))
 
-  box_same : (b : ℕ) → b < length f.net.boxes → (p : ℕ) (ins : List Bool) → renumbered stands.numbers (given_by_contents d contents) b p ins ≡ given_in f contents b p ins
+  box_same : (b : ℕ) → b < length f.net.boxes → (p : ℕ) (ins : List Bool) → renumbered stands.numbers (given_by_contents d contents) b p ins ≡ given_by_paths f contents b p ins
   box_same b fits p ins =
       let none : BoxTexts = record { path = []; ins = []; outs = [] } in
       let there : b < length stands.numbers = omega (arith, fits, stands.ordered.box_count, stands.ordered.number_count) in
       let text : get_or f.boxes b none ≡ box_texts d (box_number d (get_or stands.numbers b 0)) = ap (λ all. get_or all b none) stands.boxes ∙ get_or-map (λ b. box_texts d (box_number d b)) stands.numbers b 0 none there in
       ap (λ (t : BoxTexts). output_bit (contents t.path) ins p) (sym text)
 
-  net_outs : map (bit_of (value_of f.net (input_bits_of d x) (given_in f contents))) f.net.outs ≡ map (bit_in list_world) (top_outputs d) ++ map (next_bit list_world) (registers d)
-  net_outs = ap (λ all. map (bit_of all) f.net.outs) (sym (value_same exists unique f.net kept (input_bits_of d x) (renumbered stands.numbers (given_by_contents d contents)) (given_in f contents) box_same))
+  net_outs : map (bit_of (value_of f.net (vector_bits d x) (given_by_paths f contents))) f.net.outs ≡ map (bit_in list_world) (top_outputs d) ++ map (next_bit list_world) (registers d)
+  net_outs = ap (λ all. map (bit_of all) f.net.outs) (sym (value_same exists unique f.net kept (vector_bits d x) (renumbered stands.numbers (given_by_contents d contents)) (given_by_paths f contents) box_same))
       ∙ ap (map (bit_of net_bits)) stands.ordered.outs ∙ moved l.outs (λ k has. All-contains (λ place. place < length l.cells) l.outs k loose.outs_there has) ∙ list_outs
 
   list_driven : IsDrivenWorld d contents list_world
@@ -147,7 +147,7 @@ module _ (values : ValuesHaveWidth) (made : MadeHasValue) (bitwise : ConstructsH
       let w = vectors_have_worlds d contents x (allowed.sound TwoDrivers) (allowed.sound Cycle) in
       (w.0, (worlds_are_driven bitwise d contents w.0 (ends d allowed) (shallow d allowed) (legal d allowed contents fit)).1 w.1, w.2)
 
-  each_world : (w : World) → IsWorld d contents w → HasVector d x w → map (λ o. o.1) (outputs_in d w) ≡ map (bit_of (value_of f.net (input_bits_of d x) (given_in f contents))) f.net.outs
+  each_world : (w : World) → IsWorld d contents w → HasVector d x w → map (λ o. o.1) (outputs_in d w) ≡ map (bit_of (value_of f.net (vector_bits d x) (given_by_paths f contents))) f.net.outs
   each_world w is vector =
       let driven = (worlds_are_driven bitwise d contents w (ends d allowed) (shallow d allowed) (legal d allowed contents fit)).0 is in
       let agree = worlds_agree_where_read read_needs_read d contents x w list_world (bits_there d allowed) (allowed.sound NoDriver) (allowed.sound Cycle) driven list_driven vector list_vector in
@@ -158,3 +158,9 @@ standing_nets_give_outputs values made bitwise keeps exists unique d f allowed k
   some_world values made bitwise keeps exists unique d f allowed kept stands contents x fit,
   each_world values made bitwise keeps exists unique d f allowed kept stands contents x fit,
 )
+
+pub standing_nets_agree : StandingNetsGiveOutputs → StandingNetsAgree
+standing_nets_agree law d f g allowed kept_f kept_g stands_f stands_g contents x fit =
+    let first = law d f allowed kept_f stands_f contents x fit in
+    let w = first.0 in
+    sym (first.1 w.0 w.1 w.2) ∙ (law d g allowed kept_g stands_g contents x fit).1 w.0 w.1 w.2

@@ -1,17 +1,18 @@
 -- Laws that link the list of cells of a design, and a flat netlist that stands for it, with the worlds of the design.
-use Rattle.std.specs.Prelude.{◌≡◌, ℕ, Bool, List, [], ◌++◌, map, Contains, slice_index_or}
+use Rattle.std.specs.Prelude.{◌≡◌, ℕ, Bool, List, [], ◌++◌, map, Contains, Option, Some, slice_index_or}
 use Rattle.std.specs.List.{AllByRecursion}
 use Rattle.bb_ast.specs.Formed.{IsFormed}
+use Rattle.bb_ast.specs.Syntax.{PlainModule}
 use Rattle.bb_bits.specs.Contents.{Contents, output_bit}
 use Rattle.bb_expr.specs.Faults.{IsSound}
 use Rattle.bb_net.specs.Loose.{LooseList, IsLoose, IsLooseValue}
 use Rattle.bb_net.specs.Netlists.{IsNetlist}
 use Rattle.bb_net.specs.Values.{bit_of, value_of}
 use Rattle.bb_elab.specs.Flats.{FlatNet}
-use Rattle.bb_elab.specs.Hierarchy.{Design}
+use Rattle.bb_elab.specs.Hierarchy.{Design, top_of}
 use Rattle.bb_elab.specs.NetBits.{top_inputs}
 use Rattle.bb_elab.specs.Places.{NetBit, Numbering, Lowering, IsLowering, IsListOf}
-use Rattle.bb_elab.specs.Refusals.{IsSoundDesign}
+use Rattle.bb_elab.specs.Refusals.{IsSoundDesign, IsSoundText, design_on}
 use Rattle.bb_elab.specs.Registers.{registers}
 use Rattle.bb_elab.specs.Stands.{box_number, StandsFor}
 use Rattle.bb_elab.specs.Texts.{path_text, bit_text}
@@ -29,8 +30,8 @@ abbrev pub ListsAreLoose : Type 0
 ListsAreLoose = (d : Design) (lowering : Lowering) (l : LooseList) → IsAllowed d → IsLowering d lowering → IsListOf d lowering l → IsLoose l
 
 -- the bits of a vector, in the order of the inputs of a flat netlist
-abbrev pub input_bits_of : Design → Vector → List Bool
-input_bits_of d x = map (λ b. x (TopInput (bit_text d b))) (top_inputs d) ++ map (λ r. x (State (bit_text d r.bit))) (registers d)
+abbrev pub vector_bits : Design → Vector → List Bool
+vector_bits d x = map (λ b. x (TopInput (bit_text d b))) (top_inputs d) ++ map (λ r. x (State (bit_text d r.bit))) (registers d)
 
 -- what the boxes give, by their numbers in elaboration order, where they have these contents
 abbrev pub given_by_contents : Design → Contents → ℕ → ℕ → List Bool → Bool
@@ -43,16 +44,26 @@ world_at number bits path n k = bit_of bits (number (NetBit (record { path = pat
 -- bits that meet the equations of the list of cells make a world of the vector
 abbrev pub ListsGiveWorlds : Type 0
 ListsGiveWorlds = (d : Design) (lowering : Lowering) (l : LooseList) → IsAllowed d → IsLowering d lowering → (list : IsListOf d lowering l)
-    → (contents : Contents) (x : Vector) (bits : List Bool) → FitDesign d contents → IsLooseValue l (input_bits_of d x) (given_by_contents d contents) bits
+    → (contents : Contents) (x : Vector) (bits : List Bool) → FitDesign d contents → IsLooseValue l (vector_bits d x) (given_by_contents d contents) bits
     → IsWorld d contents (world_at list.number bits) × HasVector d x (world_at list.number bits)
 
 -- what the boxes of a flat netlist give, where each has the contents of its path
-abbrev pub given_in : FlatNet → Contents → ℕ → ℕ → List Bool → Bool
-given_in f contents b p ins = output_bit (contents (slice_index_or f.boxes b (record { path = []; ins = []; outs = [] })).path) ins p
+abbrev pub given_by_paths : FlatNet → Contents → ℕ → ℕ → List Bool → Bool
+given_by_paths f contents b p ins = output_bit (contents (slice_index_or f.boxes b (record { path = []; ins = []; outs = [] })).path) ins p
 
 -- each vector and all contents have a world; and in every world of the vector the cut outputs have the bits that a netlist gives
 -- which stands for the design
 abbrev pub StandingNetsGiveOutputs : Type 0
 StandingNetsGiveOutputs = (d : Design) (f : FlatNet) → IsAllowed d → IsNetlist f.net → StandsFor d f → (contents : Contents) (x : Vector) → FitDesign d contents
     → ((w : World) × IsWorld d contents w × HasVector d x w)
-    × ((w : World) → IsWorld d contents w → HasVector d x w → map (λ o. o.1) (outputs_in d w) ≡ map (bit_of (value_of f.net (input_bits_of d x) (given_in f contents))) f.net.outs)
+    × ((w : World) → IsWorld d contents w → HasVector d x w → map (λ o. o.1) (outputs_in d w) ≡ map (bit_of (value_of f.net (vector_bits d x) (given_by_paths f contents))) f.net.outs)
+
+-- so two netlists that stand for one design have the same bits at their outputs
+abbrev pub StandingNetsAgree : Type 0
+StandingNetsAgree = (d : Design) (f g : FlatNet) → IsAllowed d → IsNetlist f.net → IsNetlist g.net → StandsFor d f → StandsFor d g → (contents : Contents) (x : Vector) → FitDesign d contents
+    → map (bit_of (value_of f.net (vector_bits d x) (given_by_paths f contents))) f.net.outs ≡ map (bit_of (value_of g.net (vector_bits d x) (given_by_paths g contents))) g.net.outs
+
+-- a sound text without faults has a design that is allowed
+abbrev pub SoundTextsAreAllowed : Type 0
+SoundTextsAreAllowed = (text : List PlainModule) (name : Option (List ℕ)) (top : PlainModule) → AllByRecursion IsFormed text → IsSound text → IsSoundText text name → top_of text name ≡ Some top
+    → IsAllowed (design_on text top)

@@ -1,11 +1,16 @@
 //! Laws that link the list of cells of a design, and a flat netlist that stands for it, with the worlds of the design. Each function
 //! has a law as its contract and does nothing.
 
-ghost use Rattle.bb_elab.specs.ListLaws.{ListsAreLoose, ListsGiveWorlds, StandingNetsGiveOutputs};
+ghost use Rattle.bb_elab.specs.ListLaws.{ListsAreLoose, ListsGiveWorlds, StandingNetsGiveOutputs, StandingNetsAgree, SoundTextsAreAllowed};
 
 use crate::laws::constructs_hold_bit_by_bit;
 use bb_expr::laws::{made_has_value, values_have_width};
 use bb_net::{order_keeps_values, value_exists, value_is_unique};
+
+/// A sound text without faults has a design of which the laws below speak.
+pub fn sound_texts_are_allowed()
+    ensures { SoundTextsAreAllowed }
+{}
 
 /// The list of cells of a design can be put in order.
 pub fn lists_are_loose()
@@ -30,4 +35,11 @@ pub fn standing_nets_give_outputs()
     order_keeps_values();
     value_exists();
     value_is_unique();
+}
+
+/// Two netlists that stand for one design have the same bits at their outputs.
+pub fn standing_nets_agree()
+    ensures { StandingNetsAgree }
+{
+    standing_nets_give_outputs();
 }
