@@ -1,0 +1,10 @@
+//! A SAT solver that learns clauses from conflicts. It answers with a model, or with a refutation in chains of
+//! resolutions that the checker of `bb_cnf` accepts.
+#![tactic(auto)]
+
+mod outcome;
+mod solver;
+
+pub use outcome::Outcome;
+pub use solver::solve;
+pub use std::alloc::AllocError as NoMemory;
