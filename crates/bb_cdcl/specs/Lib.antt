@@ -1,1 +1,5 @@
+pub mod Analysis
+pub mod Events
+pub mod Measure
 pub mod Outcomes
+pub mod Trails

@@ -2,8 +2,12 @@
 //! resolutions that the checker of `bb_cnf` accepts.
 #![tactic(auto)]
 
+mod analysis;
+mod events;
+mod examination;
 mod outcome;
 mod solver;
+mod trail;
 
 pub use outcome::Outcome;
 pub use solver::solve;
