@@ -1,14 +1,12 @@
 -- Values while the trail shrinks.
-use Rattle.std.proofs.Common.{◌≡◌, ◌≢◌, ◌<◌, ◌≤◌, ℕ, zero, suc, ◌+◌, ◌-◌, Bool, true, false, not, ◌||◌, ◌==◌, Option, Some, None, List, [], ◌∷◌, ◌++◌, length, take, get_or, set, slice_get, refl, sym, ◌∙◌, ap, subst, arith, ◌⊎◌, inl, inr, length-append, nat_lt}
-use Rattle.std.specs.List.{sum_by}
+use Rattle.std.proofs.Common.{◌≡◌, ◌≢◌, ◌<◌, ◌≤◌, ℕ, zero, suc, ◌+◌, Bool, true, false, not, ◌||◌, ◌==◌, Option, Some, None, List, [], ◌∷◌, ◌++◌, length, get_or, set, slice_get, refl, sym, ◌∙◌, ap, subst, arith, ◌⊎◌, inl, inr, length-append, nat_lt}
 use Rattle.std.proofs.Math.Seq.{take-append_seam, get_or-append_seam}
 use Rattle.std.proofs.lemmas.List.{get_or-set_same, get_or-set_other, length-set}
 use Rattle.std.proofs.lemmas.List.Sums.{sum_by-set}
 use Rattle.std.proofs.lemmas.Option.{slice_get-get_or}
 use Rattle.bb_cnf.specs.declared.clauses.Lit.{Lit}
-use Rattle.bb_cnf.specs.Clauses.{same_literal}
 use Rattle.bb_cdcl.specs.declared.trail.Entry.{Entry}
-use Rattle.bb_cdcl.specs.Trails.{opposite, falsified, value_at, is_bit, is_false, unassigned, IsNew, AreNew, AreValues, HasRoom}
+use Rattle.bb_cdcl.specs.Trails.{opposite, falsified, is_bit, is_false, unassigned, IsNew, AreNew, AreValues, HasRoom}
 use Rattle.bb_cdcl.proofs.Literals.{no_clash, or_true_right, or_false, same_literal-itself, of_variable, other_variable, falsified-push, same_number}
 
 pub get_or_past : {A : Type 0} (xs : List A) (k : ℕ) (d : A) → length xs ≤ k → get_or xs k d ≡ d

@@ -1,5 +1,5 @@
 -- Clauses by their numbers.
-use Rattle.std.proofs.Common.{◌≡◌, ◌<◌, ◌≤◌, ◌-◌, ℕ, true, All, subst, arith, Bool, Some, Option, option_map, List, [], length, map, slice_get, get_or, refl, sym, ◌∙◌, ap}
+use Rattle.std.proofs.Common.{◌≡◌, ◌<◌, ◌≤◌, ◌-◌, ℕ, true, All, subst, arith, Bool, Some, Option, option_map, List, [], length, slice_get, get_or, refl, sym, ◌∙◌, ap}
 use Rattle.std.proofs.lemmas.Option.{slice_get-get_or, slice_get-map, slice_get_within, get_or_from_slice_get}
 use Rattle.smallvec.specs.SmallVec.{SmallVec}
 use Rattle.bb_cnf.specs.declared.clauses.Lit.{Lit}

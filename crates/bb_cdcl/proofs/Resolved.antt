@@ -12,7 +12,7 @@ use Rattle.bb_cnf.specs.PartialResolvent.{held, AreListed}
 use Rattle.bb_cdcl.specs.declared.trail.Entry.{Entry}
 use Rattle.bb_cdcl.specs.Trails.{opposite, falsified, IsNew, IsReason}
 use Rattle.bb_cdcl.specs.Analysis.{AreFalsified, IsResolved}
-use Rattle.bb_cdcl.proofs.Literals.{no_clash, and_true, or_true, falsified-push, same_literal-itself, opposite_twice}
+use Rattle.bb_cdcl.proofs.Literals.{no_clash, and_true, or_true, falsified-push}
 
 -- a choice of two, of which one may be taken
 second_taken : {A : Type 0} (a b : Bool) (e f : A) → b ≡ true → (if a then Some e else (if b then Some f else None)) ≡ None → ⊥

@@ -1,5 +1,5 @@
 -- The analysis of a conflict: resolution along the trail, from its end.
-use Rattle.std.specs.Prelude.{ℕ, ◌≡◌, ◌≤◌, ◌<◌, ◌||◌, false, true, Option, Some, None, List, length, take, map, slice_get}
+use Rattle.std.specs.Prelude.{ℕ, ◌≡◌, ◌≤◌, ◌||◌, true, Some, None, List, take, map, slice_get}
 use Rattle.bb_cnf.specs.declared.clauses.Lit.{Lit}
 use Rattle.bb_cnf.specs.declared.partial_resolvent.PartialResolvent.{PartialResolvent}
 use Rattle.bb_cnf.specs.Clauses.{Literals, literals_of, same_literal}

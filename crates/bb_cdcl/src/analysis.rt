@@ -23,7 +23,8 @@ pub(crate) struct Jump {
     pub(crate) back: usize,
 }
 
-fn entry_at(entries: &[Entry], place: usize) -> Entry
+/// The entry at a place.
+pub(crate) fn entry_at(entries: &[Entry], place: usize) -> Entry
     requires { place < length entries.now }
     ensures { slice_get entries.now place ≡ Some result }
 {

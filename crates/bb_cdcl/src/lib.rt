@@ -7,7 +7,9 @@ mod events;
 mod examination;
 mod outcome;
 mod solver;
+mod state;
 mod trail;
+mod turn;
 
 pub use outcome::Outcome;
 pub use solver::solve;

@@ -1,4 +1,4 @@
-use Rattle.std.proofs.Common.{◌≤◌, length, take, List}
+use Rattle.std.proofs.Common.{◌≤◌, length, take}
 use Rattle.bb_cnf.specs.Clauses.{Literals, lists_of}
 use Rattle.bb_cnf.specs.PartialResolvent.{held, AreListed}
 use Rattle.bb_cdcl.specs.Analysis.{AreFalsified, IsResolved}

@@ -1,4 +1,4 @@
-use Rattle.std.proofs.Common.{◌≤◌, ◌-◌, IfSome}
+use Rattle.std.proofs.Common.{◌≤◌, IfSome}
 use Rattle.bb_cnf.specs.PartialResolvent.{held}
 use Rattle.bb_cdcl.specs.Analysis.{IsCovered, IsJump}
 use Rattle.bb_cdcl.proofs.analysis.jump_back.Given as goal

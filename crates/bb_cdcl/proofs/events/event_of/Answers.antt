@@ -1,4 +1,3 @@
-use Rattle.std.proofs.Common.{refl}
 use Rattle.bb_cdcl.proofs.events.event_of.Goals as goal
 
 pub returns-in-False : goal.returns-in-False

@@ -1,4 +1,4 @@
-use Rattle.std.proofs.Common.{◌≡◌, take, subst, All, get_or}
+use Rattle.std.proofs.Common.{subst, All}
 use Rattle.std.proofs.lemmas.List.{take_all}
 use Rattle.std.proofs.lemmas.List.Elements.{All-map, All-more}
 use Rattle.smallvec.specs.SmallVec.{SmallVec}
