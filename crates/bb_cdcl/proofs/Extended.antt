@@ -94,9 +94,9 @@ any_front p [] (suc n) none = refl
 any_front p (x ∷ xs) zero none = refl
 any_front p (x ∷ xs) (suc n) none =
     let parts = neither (p x) (list_any p xs) none in ap (λ b. b || list_any p (take n xs)) parts.0 ∙ any_front p xs n parts.1 where
-  neither : (a b : Bool) → (a || b) ≡ false → (a ≡ false) × (b ≡ false)
-  neither true b e = no_clash (sym e)
-  neither false b e = (refl, e)
+      neither : (a b : Bool) → (a || b) ≡ false → (a ≡ false) × (b ≡ false)
+      neither true b e = no_clash (sym e)
+      neither false b e = (refl, e)
 
 -- what is new stays new under a shorter trail
 pub still_new : (entries : List Entry) (place back : ℕ) (l : Lit) → back ≤ place → IsNew (take place entries) l → IsNew (take back entries) (opposite l)

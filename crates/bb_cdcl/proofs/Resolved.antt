@@ -53,13 +53,14 @@ own_resolvent f c d l mine yours m is =
       | inl left ↦ let parts = and_true (c m) (not (same_literal (opposite l) m)) left in first_of (f m) (same_literal (opposite l) m) (mine m parts.0) parts.1
       | inr right ↦ let parts = and_true (d m) (not (same_literal l m)) right in second_of (same_literal l m) (f m) (yours m parts.0) parts.1
     ] where
-  first_of : (a b : Bool) → (a || b) ≡ true → not b ≡ true → a ≡ true
-  first_of true b e n = refl
-  first_of false true e n = n
-  first_of false false e n = e
-  second_of : (a b : Bool) → (a || b) ≡ true → not a ≡ true → b ≡ true
-  second_of true b e n = no_clash n
-  second_of false b e n = e
+      first_of : (a b : Bool) → (a || b) ≡ true → not b ≡ true → a ≡ true
+      first_of true b e n = refl
+      first_of false true e n = n
+      first_of false false e n = e
+
+      second_of : (a b : Bool) → (a || b) ≡ true → not a ≡ true → b ≡ true
+      second_of true b e n = no_clash n
+      second_of false b e n = e
 
 resolved_by : (x : ℕ) (s : Bool) (f c d e : Literals) → f (lit_of x s) ≡ false → same_literal (opposite (lit_of x s)) (lit_of x s) ≡ false
     → ((m : Lit) → c m ≡ true → (f m || same_literal (opposite (lit_of x s)) m) ≡ true)

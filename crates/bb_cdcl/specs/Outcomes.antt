@@ -1,5 +1,6 @@
 -- What a solver may answer: a model, or a refutation by resolution.
-use Rattle.std.specs.Prelude.{Bool, List}
+use Rattle.std.specs.Prelude.{ℕ, Bool, List}
+use Rattle.bb_cnf.specs.declared.clauses.Lit.{Lit}
 use Rattle.bb_cdcl.specs.declared.outcome.Outcome.{Outcome}
 use Rattle.bb_cdcl.specs.declared.outcome.Outcome.TheVariants as answers
 use Rattle.bb_cnf.specs.Clauses.{Formula}
@@ -23,3 +24,6 @@ IsSat (answers.Unsat refutation) = ⊥
 -- some list of bits is a model
 abbrev pub HasModel : Formula → Type 0
 HasModel formula = (bits : List Bool) × IsModel bits formula
+
+abbrev pub formula : ℕ → List (List Lit) → Formula
+formula vars clauses = record { vars = vars; clauses = clauses }

@@ -1,5 +1,5 @@
 -- What stays true of a solver.
-use Rattle.std.specs.Prelude.{ℕ, ◌≡◌, ◌<◌, false, Some, IfSome, IfNone, Option, List, [], ◌∷◌, ◌++◌, map, length, slice_get, All}
+use Rattle.std.specs.Prelude.{ℕ, ◌≡◌, ◌<◌, Bool, false, true, Some, IfSome, IfNone, Option, List, [], ◌∷◌, ◌++◌, map, length, slice_get, All}
 use Rattle.smallvec.specs.SmallVec.{SmallVec}
 use Rattle.bb_cnf.specs.declared.clauses.Lit.{Lit}
 use Rattle.bb_cnf.specs.declared.refutation.Step.{Step}
@@ -57,3 +57,8 @@ abbrev pub Turns : List (List Lit) → State → State → Turn → Type 0
 Turns given old new turns.Going = IsDerived given new × Advances old new
 Turns given old new turns.Satisfied = All (IsSatisfied new.trail.values.items) given × (length new.trail.values.items ≡ length old.trail.values.items)
 Turns given old new turns.Refuted = IsRefutation given new.steps.items
+
+-- At the end all clauses are true, or the steps refute them.
+abbrev pub Ends : List (List Lit) → State → State → Bool → Type 0
+Ends given old new true = All (IsSatisfied new.trail.values.items) given × (length new.trail.values.items ≡ length old.trail.values.items)
+Ends given old new false = IsRefutation given new.steps.items

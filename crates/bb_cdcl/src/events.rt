@@ -26,11 +26,7 @@ pub(crate) fn clause_at<'a>(clauses: &'a [SmallVec<Lit, 4>], number: usize) -> &
 }
 
 // What comes from one clause, where its literals are to be implied or found false alone.
-fn event_of(
-    clauses: &[SmallVec<Lit, 4>],
-    values: &[Option<bool>],
-    number: usize,
-) -> Event
+fn event_of(clauses: &[SmallVec<Lit, 4>], values: &[Option<bool>], number: usize) -> Event
     requires { number < length clauses.now }
     ensures { Comes (lists_of clauses.now) values.now result }
 {

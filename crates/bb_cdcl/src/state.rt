@@ -85,10 +85,7 @@ fn conflict_step(
 }
 
 // The clause that the resolvent has come to.
-fn drained(
-    alloc: Global,
-    resolvent: &mut PartialResolvent,
-) -> Result<SmallVec<Lit, 4>, NoMemory>
+fn drained(alloc: Global, resolvent: &mut PartialResolvent) -> Result<SmallVec<Lit, 4>, NoMemory>
     requires { AreListed resolvent.old }
     ensures given { IfOk result (λ clause. literals_of clause.items ≡ held resolvent.old) }
     ensures empty { OnOk result ((l : Literal) → held resolvent.new l ≡ false) }
