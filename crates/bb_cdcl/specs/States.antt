@@ -62,3 +62,9 @@ Turns given old new turns.Refuted = IsRefutation given new.steps.items
 abbrev pub Ends : List (List Lit) → State → State → Bool → Type 0
 Ends given old new true = All (IsSatisfied new.trail.values.items) given × (length new.trail.values.items ≡ length old.trail.values.items)
 Ends given old new false = IsRefutation given new.steps.items
+
+-- The search may go on.
+pub record Pauses (given : List (List Lit)) (old new : State) : Type 0 where
+  pub derived : IsDerived given new
+  pub ready : IsReady new
+  pub same : length new.trail.values.items ≡ length old.trail.values.items

@@ -11,6 +11,7 @@ ghost use Rattle.bb_cdcl.specs.Analysis.{AreFalsified, IsCovered, IsJump, IsReso
 
 use crate::NoMemory;
 use crate::events::clause_at;
+use crate::guide::Guide;
 use crate::trail::{Entry, negation};
 use bb_cnf::{Lit, PartialResolvent, laws};
 use smallvec::SmallVec;
@@ -81,6 +82,7 @@ fn resolve_at(
     lit: Lit,
     reason: usize,
     pairs: &mut Vec<(u64, u32)>,
+    guide: &mut Guide,
 ) -> Result<(), NoMemory>
     requires at_place { slice_get entries.now place ≡ Some (record { lit = lit; reason = Some reason }) }
     requires new { AreNew entries.now }
@@ -94,6 +96,7 @@ fn resolve_at(
 {
     laws::chains();
     let clause = clause_at(clauses, reason);
+    guide.resolves(resolvent, clause);
     resolvent.resolve(clause, lit.var)?;
     pairs.push((reason as u64, lit.var))?;
     Ok(())
@@ -106,6 +109,7 @@ fn step(
     entries: &[Entry],
     place: usize,
     pairs: &mut Vec<(u64, u32)>,
+    guide: &mut Guide,
 ) -> Result<Option<usize>, NoMemory>
     requires within { place < length entries.now }
     requires new { AreNew entries.now }
@@ -121,11 +125,17 @@ fn step(
         return Ok(None);
     }
     let entry = entry_at(entries, place);
-    match (entry.reason, jump_back(resolvent, entries, place)) {
-        (_, Some(back)) => Ok(Some(back)),
-        (None, None) => Ok(Some(place)),
-        (Some(reason), None) => {
-            resolve_at(resolvent, clauses, entries, place, entry.lit, reason, pairs)?;
+    if entry.reason.is_none() || guide.is_asserting() {
+        if let Some(back) = jump_back(resolvent, entries, place) {
+            return Ok(Some(back));
+        }
+    }
+    match entry.reason {
+        None => Ok(Some(place)),
+        Some(reason) => {
+            resolve_at(
+                resolvent, clauses, entries, place, entry.lit, reason, pairs, guide,
+            )?;
             Ok(None)
         }
     }
@@ -137,6 +147,7 @@ pub(crate) fn analyze(
     clauses: &[SmallVec<Lit, 4>],
     entries: &[Entry],
     pairs: &mut Vec<(u64, u32)>,
+    guide: &mut Guide,
 ) -> Result<Option<Jump>, NoMemory>
     requires new { AreNew entries.now }
     requires reasons { HaveReasons (lists_of clauses.now) entries.now }
@@ -150,7 +161,7 @@ pub(crate) fn analyze(
     let mut place = entries.len();
     while place > 0 {
         place -= 1;
-        if let Some(back) = step(resolvent, clauses, entries, place, pairs)? {
+        if let Some(back) = step(resolvent, clauses, entries, place, pairs, guide)? {
             return Ok(Some(Jump { place, back }));
         }
     }

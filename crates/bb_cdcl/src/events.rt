@@ -25,8 +25,12 @@ pub(crate) fn clause_at<'a>(clauses: &'a [SmallVec<Lit, 4>], number: usize) -> &
     clauses[number].as_slice()
 }
 
-// What comes from one clause, where its literals are to be implied or found false alone.
-fn event_of(clauses: &[SmallVec<Lit, 4>], values: &[Option<bool>], number: usize) -> Event
+/// What comes from one clause, where it is false or implies a literal.
+pub(crate) fn event_of(
+    clauses: &[SmallVec<Lit, 4>],
+    values: &[Option<bool>],
+    number: usize,
+) -> Event
     requires { number < length clauses.now }
     ensures { Comes (lists_of clauses.now) values.now result }
 {
@@ -43,20 +47,6 @@ fn event_of(clauses: &[SmallVec<Lit, 4>], values: &[Option<bool>], number: usize
     }
 }
 
-/// The first clause that is false or implies a literal.
-pub(crate) fn propagated(clauses: &[SmallVec<Lit, 4>], values: &[Option<bool>]) -> Event
-    ensures { Comes (lists_of clauses.now) values.now result }
-{
-    for number in 0..clauses.len() {
-        let event = event_of(clauses, values, number);
-        match event {
-            Event::Quiet => {}
-            _ => return event,
-        }
-    }
-    Event::Quiet
-}
-
 /// The first clause that is not true says what happens. Nothing is left to do where all are.
 pub(crate) fn unsatisfied(clauses: &[SmallVec<Lit, 4>], values: &[Option<bool>]) -> Event
     requires { IsWithin (length values.now - 1) (lists_of clauses.now) }
@@ -65,10 +55,10 @@ pub(crate) fn unsatisfied(clauses: &[SmallVec<Lit, 4>], values: &[Option<bool>])
 {
     for number in 0..clauses.len() {
         match examine(clause_at(clauses, number), values) {
-            Standing::True => {}
+            Standing::True(_) => {}
             Standing::False => return Event::Conflict(number),
             Standing::Unit(lit) => return Event::Implied(lit, number),
-            Standing::Open(lit) => return Event::Free(lit),
+            Standing::Open(_, lit) => return Event::Free(lit),
         }
     }
     Event::Quiet

@@ -6,14 +6,14 @@ ghost use Rattle.bb_cdcl.specs.Events.{Stands};
 
 use bb_cnf::Lit;
 
-/// One of its literals is true; all are false; one has no value and the others are false; or this one of several has
-/// no value.
+/// This one of its literals is true; all are false; one has no value and the others are false; or these two have no
+/// value.
 #[derive(Clone, Copy, Debug)]
 pub(crate) enum Standing {
-    True,
+    True(Lit),
     False,
     Unit(Lit),
-    Open(Lit),
+    Open(Lit, Lit),
 }
 
 /// The variable's bit, where it is assigned.
@@ -35,13 +35,13 @@ pub(crate) fn examine(clause: &[Lit], values: &[Option<bool>]) -> Standing
         match value(values, lit.var) {
             Some(bit) => {
                 if bit != lit.neg {
-                    return Standing::True;
+                    return Standing::True(*lit);
                 }
             }
             None => match free {
                 Some(other) => {
                     if other != *lit {
-                        return Standing::Open(*lit);
+                        return Standing::Open(other, *lit);
                     }
                 }
                 None => free = Some(*lit),

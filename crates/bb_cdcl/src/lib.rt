@@ -5,6 +5,7 @@
 mod analysis;
 mod events;
 mod examination;
+mod guide;
 mod outcome;
 mod search;
 mod solver;
@@ -12,6 +13,7 @@ mod start;
 mod state;
 mod trail;
 mod turn;
+mod watches;
 
 pub use outcome::Outcome;
 pub use solver::solve;

@@ -4,8 +4,8 @@ ghost use Rattle.std.specs.Prelude.{IfOk, ◌↔◌};
 ghost use Rattle.bb_cnf.specs.Clauses.{lists_of, IsWithin};
 ghost use Rattle.bb_cdcl.specs.Outcomes.{IfSat, IfUnsat, IsSat, HasModel, formula};
 
-use crate::search::run;
-use crate::start::{model, start};
+use crate::search::search;
+use crate::start::{helpers, model, start};
 use crate::{NoMemory, Outcome};
 use bb_cnf::{Cnf, Lit, Refutation, laws};
 use smallvec::SmallVec;
@@ -18,7 +18,8 @@ fn decide(alloc: Global, vars: u32, given: &[SmallVec<Lit, 4>]) -> Result<Outcom
     ensures unsat { IfOk result (λ outcome. IfUnsat outcome (formula vars (lists_of given.now))) }
 {
     let mut s = start(alloc, vars, given)?;
-    if run(alloc, given, &mut s)? {
+    let mut helpers = helpers(alloc, vars, given)?;
+    if search(alloc, given, &mut s, &mut helpers)? {
         let bits = model(alloc, &s.trail.values)?;
         Ok(Outcome::Sat(bits))
     } else {

@@ -13,6 +13,7 @@ ghost use Rattle.bb_cdcl.specs.States.{IsReady, Learns, Advances};
 use crate::NoMemory;
 use crate::analysis::{Jump, analyze, entry_at};
 use crate::events::clause_at;
+use crate::guide::Guide;
 use crate::trail::{Trail, assign, negation, pop_to};
 use bb_cnf::{Lit, PartialResolvent, Step};
 use smallvec::SmallVec;
@@ -60,6 +61,7 @@ fn conflict_step(
     clauses: &[SmallVec<Lit, 4>],
     trail: &Trail,
     number: usize,
+    guide: &mut Guide,
 ) -> Result<(Option<Jump>, Step), NoMemory>
     requires empty { (l : Literal) → held resolvent.old l ≡ false }
     requires listed { AreListed resolvent.old }
@@ -73,8 +75,10 @@ fn conflict_step(
     ensures listed { OnOk result (AreListed resolvent.new) }
 {
     let mut rest = Vec::new(alloc);
-    resolvent.put_all(clause_at(clauses, number))?;
-    let jump = analyze(resolvent, clauses, &trail.entries, &mut rest)?;
+    let clause = clause_at(clauses, number);
+    guide.begin(resolvent, clause);
+    resolvent.put_all(clause)?;
+    let jump = analyze(resolvent, clauses, &trail.entries, &mut rest, guide)?;
     Ok((
         jump,
         Step {
@@ -96,12 +100,17 @@ fn drained(alloc: Global, resolvent: &mut PartialResolvent) -> Result<SmallVec<L
 }
 
 /// Learns a clause from one that is false.
-pub(crate) fn learn(alloc: Global, s: &mut State, number: usize) -> Result<Option<Jump>, NoMemory>
+pub(crate) fn learn(
+    alloc: Global,
+    s: &mut State,
+    number: usize,
+    guide: &mut Guide,
+) -> Result<Option<Jump>, NoMemory>
     requires ready { IsReady s.old }
     requires conflict { IsConflict (lists_of s.old.clauses.items) s.old.trail.values.items number }
     ensures { IfOk result (Learns s.old s.new) }
 {
-    let (jump, step) = conflict_step(alloc, &mut s.resolvent, &s.clauses, &s.trail, number)?;
+    let (jump, step) = conflict_step(alloc, &mut s.resolvent, &s.clauses, &s.trail, number, guide)?;
     let clause = drained(alloc, &mut s.resolvent)?;
     s.clauses.push(clause)?;
     s.steps.push(step)?;
@@ -109,7 +118,12 @@ pub(crate) fn learn(alloc: Global, s: &mut State, number: usize) -> Result<Optio
 }
 
 /// Takes the trail back, and makes true what the clause of this number implies then.
-pub(crate) fn go_back(s: &mut State, jump: Jump, reason: usize) -> Result<(), NoMemory>
+pub(crate) fn go_back(
+    s: &mut State,
+    jump: Jump,
+    reason: usize,
+    guide: &mut Guide,
+) -> Result<(), NoMemory>
     requires ready { IsReady s.old }
     requires jump { (clause : List Literal) × (slice_get (lists_of s.old.clauses.items) reason ≡ Some clause)
         × IsJump s.old.trail.entries.items (literals_of clause) jump.place jump.back }
@@ -118,7 +132,9 @@ pub(crate) fn go_back(s: &mut State, jump: Jump, reason: usize) -> Result<(), No
     ensures steps { s.new.steps.items ≡ s.old.steps.items }
 {
     let entry = entry_at(&s.trail.entries, jump.place);
-    pop_to(&mut s.trail, jump.back);
-    extend(s, negation(entry.lit), Some(reason))?;
+    pop_to(&mut s.trail, guide, jump.back);
+    let lit = negation(entry.lit);
+    guide.implied(lit);
+    extend(s, lit, Some(reason))?;
     Ok(())
 }

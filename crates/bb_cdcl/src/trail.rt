@@ -4,6 +4,7 @@ ghost use Rattle.std.specs.Prelude.{ℕ, ◌≡◌, ◌-◌, ◌<◌, ◌≤◌,
 ghost use Rattle.bb_cdcl.specs.Trails.{value_at, AreNew, AreValues, HasRoom, opposite};
 
 use crate::NoMemory;
+use crate::guide::Guide;
 use bb_cnf::Lit;
 
 /// A literal, and the number of the clause that implies it; none where it was decided.
@@ -49,7 +50,7 @@ pub(crate) fn assign(trail: &mut Trail, lit: Lit, reason: Option<usize>) -> Resu
 }
 
 // Takes the last literal back.
-fn pop(trail: &mut Trail)
+fn pop(trail: &mut Trail, guide: &mut Guide)
     requires some { 0 < length trail.old.entries.items }
     requires new { AreNew trail.old.entries.items }
     requires values { AreValues trail.old.entries.items trail.old.values.items }
@@ -61,11 +62,12 @@ fn pop(trail: &mut Trail)
 {
     if let Some(last) = trail.entries.pop() {
         trail.values[last.lit.var as usize] = None;
+        guide.taken_back(last.lit, last.reason.is_none());
     }
 }
 
 /// Takes back all from this place on.
-pub(crate) fn pop_to(trail: &mut Trail, place: usize)
+pub(crate) fn pop_to(trail: &mut Trail, guide: &mut Guide, place: usize)
     requires within { place ≤ length trail.old.entries.items }
     requires new { AreNew trail.old.entries.items }
     requires values { AreValues trail.old.entries.items trail.old.values.items }
@@ -76,6 +78,6 @@ pub(crate) fn pop_to(trail: &mut Trail, place: usize)
     ensures same { length trail.new.values.items ≡ length trail.old.values.items }
 {
     while trail.entries.len() > place {
-        pop(trail);
+        pop(trail, guide);
     }
 }

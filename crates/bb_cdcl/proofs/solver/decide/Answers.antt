@@ -6,7 +6,7 @@ use Rattle.bb_cdcl.proofs.solver.decide.Goals as goal
 
 pub returns-in_ok-bits-clause-sat : goal.returns-in_ok-bits-clause-sat
 returns-in_ok-bits-clause-sat c =
-    let ends = subst (Ends (lists_of c.args.given.now) c.in_ok-s.s c.run.new.s) c.if-branch.true c.in_ok-run.ensures in
+    let ends = subst (Ends (lists_of c.args.given.now) c.in_ok-s.s c.search.new.s) c.if-branch.true c.in_ok-search.ensures in
     let values = c.deref.ensures.value in
     let count : length c.deref.result.now ≡ c.args.vars + 1 = ap length values ∙ ends.1 ∙ c.in_ok-s.ensures.values in
     let below : c.args.vars ≡ length c.deref.result.now - 1 = omega (arith, count) in

@@ -20,7 +20,7 @@ extend-requires-clause-ready c =
 pub extend-requires-clause-in_range : goal.extend-requires-clause-in_range
 extend-requires-clause-in_range c =
     let stands = subst (λ es. slice_get es c.args.jump.place ≡ Some c.entry_at-entry.result) c.deref.ensures.value c.entry_at-entry.ensures in
-    rw (c.negation.ensures, c.pop_to.ensures.same) (entry_in_range _ _ _ _ c.requires.ready.values stands)
+    rw (c.negation-lit.ensures, c.pop_to.ensures.same) (entry_in_range _ _ _ _ c.requires.ready.values stands)
 
 pub extend-requires-clause-free : goal.extend-requires-clause-free
 extend-requires-clause-free c =
@@ -28,7 +28,7 @@ extend-requires-clause-free c =
     let jump = c.requires.jump.2 in
     let stands = subst (λ es. slice_get es c.args.jump.place ≡ Some c.entry_at-entry.result) c.deref.ensures.value c.entry_at-entry.ensures in
     let new = still_new _ _ _ _ jump.covered.before (ready.new _ _ stands) in
-    rw c.negation.ensures (new_is_free _ _ (opposite c.entry_at-entry.result.lit) c.pop_to.ensures.values (subst (λ es. IsNew es (opposite c.entry_at-entry.result.lit)) (sym c.pop_to.ensures.entries) new))
+    rw c.negation-lit.ensures (new_is_free _ _ (opposite c.entry_at-entry.result.lit) c.pop_to.ensures.values (subst (λ es. IsNew es (opposite c.entry_at-entry.result.lit)) (sym c.pop_to.ensures.entries) new))
 
 pub returns-clause-advances : goal.returns-clause-advances
 returns-clause-advances c =
@@ -37,8 +37,8 @@ returns-clause-advances c =
     let same = c.in_ok-extend.ensures.same ∙ c.pop_to.ensures.same in
     record {
       ready = c.in_ok-extend.ensures.ready;
-      less = jump_less _ _ _ _ c.args.jump.back jump.decision (record { lit = c.negation.result; reason = Some c.args.reason }) c.args.reason same
-          (c.in_ok-extend.ensures.entries ∙ ap (λ es. es ++ record { lit = c.negation.result; reason = Some c.args.reason } ∷ []) c.pop_to.ensures.entries)
+      less = jump_less _ _ _ _ c.args.jump.back jump.decision (record { lit = c.negation-lit.result; reason = Some c.args.reason }) c.args.reason same
+          (c.in_ok-extend.ensures.entries ∙ ap (λ es. es ++ record { lit = c.negation-lit.result; reason = Some c.args.reason } ∷ []) c.pop_to.ensures.entries)
           within jump.at_back jump.decided refl;
       same = same;
     }
