@@ -1,3 +1,9 @@
+pub mod CheckLemmas
+pub mod ClockLemmas
 pub mod Decisions
 pub mod Firsts
+pub mod Loops
+pub mod PairLemmas
+pub mod PickLemmas
+pub mod PlaceLemmas
 pub mod RefusalLaws
