@@ -1,3 +1,10 @@
+pub mod CheckLemmas
+pub mod ClockLemmas
 pub mod Decisions
 pub mod Firsts
+pub mod Loops
+pub mod PairLaws
+pub mod PairLemmas
+pub mod PickLemmas
+pub mod PlaceLemmas
 pub mod RefusalLaws

@@ -1,4 +1,4 @@
-use Rattle.std.proofs.Common.{false, arith, sym, ◌∙◌, subst}
+use Rattle.std.proofs.Common.{false, arith, sym, subst}
 use Rattle.std.specs.Bool.{Decides}
 use Rattle.std.proofs.lemmas.List.{get_or_read}
 use Rattle.bb_net.specs.Loose.{DependsOn}
