@@ -1,8 +1,10 @@
 pub mod AllowedDesigns
 pub mod BitByBit
+pub mod BoxValues
 pub mod CalleeLaw
 pub mod CalleeLemmas
 pub mod CauseDecisions
+pub mod ContentTables
 pub mod Deciding
 pub mod Enumerated
 pub mod Firsts

@@ -1,18 +1,16 @@
 -- A netlist that stands for a design has at its outputs what the cut outputs of the design have in every world.
-use Rattle.std.proofs.Common.{◌≡◌, ◌⊎◌, ℕ, ◌<◌, ◌≤◌, Bool, false, List, [], ◌∷◌, ◌++◌, map, flat_map, length, get_or, Contains, refl, sym, ap, ap₂, ◌∙◌, inl, inr, arith}
+use Rattle.std.proofs.Common.{◌≡◌, ℕ, ◌<◌, Bool, false, List, [], ◌∷◌, ◌++◌, map, flat_map, length, get_or, Contains, refl, sym, ap, ap₂, ◌∙◌, arith}
 use Rattle.std.specs.List.{enumerate_from, range_with_len}
-use Rattle.std.proofs.lemmas.List.{map-append, get_or-map, get_or_past}
+use Rattle.std.proofs.lemmas.List.{map-append, get_or-map}
 use Rattle.std.proofs.lemmas.List.Elements.{All-contains}
 use Rattle.std.proofs.lemmas.List.FromFn.{length-map-range_with_len, get_or-map-range_with_len}
 use Rattle.bb_bits.specs.Contents.{Contents, output_bit}
 use Rattle.bb_expr.specs.Laws.{ValuesHaveWidth, MadeHasValue}
-use Rattle.bb_net.specs.declared.cell.Cell.{Cell}
-use Rattle.bb_net.specs.declared.cell.Cell.TheVariants as cells
 use Rattle.bb_net.specs.Loose.{LooseList, IsLoose, IsLooseValue}
-use Rattle.bb_net.specs.Netlists.{Netlist, Pins, cell_at, box_at, IsOrdered, IsNetlist}
+use Rattle.bb_net.specs.Netlists.{box_at, IsNetlist}
 use Rattle.bb_net.specs.Orders.{renumbered, OrderKeepsValues}
 use Rattle.bb_net.specs.Pairs.{BoxTexts}
-use Rattle.bb_net.specs.Values.{bit_of, gate, value_of, IsValue}
+use Rattle.bb_net.specs.Values.{bit_of, value_of}
 use Rattle.bb_elab.specs.Flats.{FlatNet}
 use Rattle.bb_elab.specs.Hierarchy.{Design}
 use Rattle.bb_elab.specs.NetBits.{Bit, top_outputs}
@@ -25,7 +23,7 @@ use Rattle.bb_elab.specs.Registers.{RegisterBit, registers}
 use Rattle.bb_elab.specs.Stands.{box_number, box_texts, StandsFor}
 use Rattle.bb_elab.specs.Worlds.{World, Vector, HasVector, IsWorld, FitDesign, bit_in, next_bit, outputs_in}
 use Rattle.bb_elab.proofs.AllowedDesigns.{shallow, wired, ends, bits_there, legal, lists_are_loose}
-use Rattle.bb_elab.proofs.Firsts.{less_or_same}
+use Rattle.bb_elab.proofs.BoxValues.{ValuesExist, ValuesAreUnique, value_same}
 use Rattle.bb_elab.proofs.ListedData.{data_value}
 use Rattle.bb_elab.proofs.ListWorlds.{driven_world, has_vector}
 use Rattle.bb_elab.proofs.NextStates.{outputs_same, output_bits_in}
@@ -34,46 +32,6 @@ use Rattle.bb_elab.proofs.TopLaws.{contains_here, contains_there}
 use Rattle.bb_elab.proofs.WorldBits.{worlds_are_driven}
 use Rattle.bb_elab.proofs.WorldExists.{vectors_have_worlds}
 use Rattle.bb_elab.proofs.WorldLaws.{worlds_agree_where_read}
-
--- a netlist has one value
-abbrev pub ValuesExist : Type 0
-ValuesExist = (net : Netlist) (x : List Bool) (box : ℕ → ℕ → List Bool → Bool) → IsOrdered net → IsValue net x box (value_of net x box)
-
-abbrev pub ValuesAreUnique : Type 0
-ValuesAreUnique = (net : Netlist) (x : List Bool) (box : ℕ → ℕ → List Bool → Bool) (bits : List Bool) → IsOrdered net → IsValue net x box bits → bits ≡ value_of net x box
-
-module _ (exists : ValuesExist) (unique : ValuesAreUnique) (net : Netlist) (kept : IsNetlist net) (x : List Bool) (one other : ℕ → ℕ → List Bool → Bool)
-    (same : (b : ℕ) → b < length net.boxes → (p : ℕ) (ins : List Bool) → one b p ins ≡ other b p ins) where
-  gate_same : (value : ℕ → Bool) (place : ℕ) → place < length net.cells → (c : Cell) → cell_at net.cells place ≡ c → gate net.boxes x one value c ≡ gate net.boxes x other value c
-  gate_same value place fits (cells.Const b) e = refl
-  gate_same value place fits (cells.Input i) e = refl
-  gate_same value place fits (cells.Not a) e = refl
-  gate_same value place fits (cells.And a b) e = refl
-  gate_same value place fits (cells.Or a b) e = refl
-  gate_same value place fits (cells.Xor a b) e = refl
-  gate_same value place fits (cells.Mux c t f) e = refl
-  gate_same value place fits (cells.BoxOut b p) e = by (less_or_same b (length net.boxes))
-    where
-      pin : p < length (box_at net.boxes b).outs
-      pin = (kept.listed place b p fits e).0
-
-      past : length net.boxes ≤ b → one b p (map value (box_at net.boxes b).ins) ≡ other b p (map value (box_at net.boxes b).ins)
-      past h = let none : box_at net.boxes b ≡ record { ins = []; outs = [] } = get_or_past net.boxes b (record { ins = []; outs = [] }) h in absurd (omega (arith, pin, ap (λ (q : Pins). length q.outs) none))
-
-      by : (b < length net.boxes) ⊎ ((length net.boxes < b) ⊎ (b ≡ length net.boxes)) → one b p (map value (box_at net.boxes b).ins) ≡ other b p (map value (box_at net.boxes b).ins)
-      by (inl h) = same b h p (map value (box_at net.boxes b).ins)
-      by (inr (inl h)) = past (omega (arith, h))
-      by (inr (inr h)) = past (omega (arith, h))
-
-  -- the value goes by what its own boxes give
-  value_same : value_of net x one ≡ value_of net x other
-  value_same = unique net x other (value_of net x one) kept.ordered (record {
-    whole = is.whole;
-    each = λ place fits. is.each place fits ∙ gate_same (bit_of (value_of net x one)) place fits (cell_at net.cells place) refl;
-  })
-    where
-      is : IsValue net x one (value_of net x one)
-      is = exists net x one kept.ordered
 
 module _ (values : ValuesHaveWidth) (made : MadeHasValue) (bitwise : ConstructsHoldBitByBit) (keeps : OrderKeepsValues) (exists : ValuesExist) (unique : ValuesAreUnique)
     (d : Design) (f : FlatNet) (allowed : IsAllowed d) (kept : IsNetlist f.net) (stands : StandsFor d f) (contents : Contents) (x : Vector) (fit : FitDesign d contents) where
@@ -125,8 +83,8 @@ module _ (values : ValuesHaveWidth) (made : MadeHasValue) (bitwise : ConstructsH
   moved [] there = refl
   moved (k ∷ all) there = ap₂ ◌∷◌ (sym (bits_at k (there k (contains_here k all)))) (moved all (λ n has. there n (contains_there k all n has)))
 
-  box_same : (b : ℕ) → b < length f.net.boxes → (p : ℕ) (ins : List Bool) → renumbered stands.numbers (given_by_contents d contents) b p ins ≡ given_by_paths f contents b p ins
-  box_same b fits p ins =
+  box_same : (b : ℕ) → b < length f.net.boxes → (p : ℕ) → p < length (box_at f.net.boxes b).outs → (ins : List Bool) → length ins ≡ length (box_at f.net.boxes b).ins → renumbered stands.numbers (given_by_contents d contents) b p ins ≡ given_by_paths f contents b p ins
+  box_same b fits p pin ins long =
       let none : BoxTexts = record { path = []; ins = []; outs = [] } in
       let there : b < length stands.numbers = omega (arith, fits, stands.ordered.box_count, stands.ordered.number_count) in
       let text : get_or f.boxes b none ≡ box_texts d (box_number d (get_or stands.numbers b 0)) = ap (λ all. get_or all b none) stands.boxes ∙ get_or-map (λ b. box_texts d (box_number d b)) stands.numbers b 0 none there in

@@ -20,3 +20,4 @@ pub mod Stands
 pub mod Refusals
 pub mod Laws
 pub mod ListLaws
+pub mod ContentTables

@@ -47,9 +47,13 @@ ListsGiveWorlds = (d : Design) (lowering : Lowering) (l : LooseList) → IsAllow
     → (contents : Contents) (x : Vector) (bits : List Bool) → FitDesign d contents → IsLooseValue l (vector_bits d x) (given_by_contents d contents) bits
     → IsWorld d contents (world_at list.number bits) × HasVector d x (world_at list.number bits)
 
+-- the path of a box of a flat netlist
+abbrev pub path_of : FlatNet → ℕ → List ℕ
+path_of f b = (slice_index_or f.boxes b (record { path = []; ins = []; outs = [] })).path
+
 -- what the boxes of a flat netlist give, where each has the contents of its path
 abbrev pub given_by_paths : FlatNet → Contents → ℕ → ℕ → List Bool → Bool
-given_by_paths f contents b p ins = output_bit (contents (slice_index_or f.boxes b (record { path = []; ins = []; outs = [] })).path) ins p
+given_by_paths f contents b p ins = output_bit (contents (path_of f b)) ins p
 
 -- each vector and all contents have a world; and in every world of the vector the cut outputs have the bits that a netlist gives
 -- which stands for the design
