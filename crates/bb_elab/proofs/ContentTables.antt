@@ -1,15 +1,17 @@
 -- Contents of boxes are tables in the order of a netlist, and tables are contents.
-use Rattle.std.proofs.Common.{◌≡◌, ◌≢◌, ◌⊎◌, ℕ, zero, suc, ◌+◌, ◌<◌, ◌≤◌, List, [], ◌∷◌, map, length, get_or, AllPairs, Contains, refl, sym, ap, ◌∙◌, subst, inl, inr, arith}
+use Rattle.std.proofs.Common.{◌*◌, ◌^◌, ◌≡◌, ◌≢◌, ◌⊎◌, ℕ, zero, suc, ◌+◌, ◌<◌, ◌≤◌, Bool, false, List, [], ◌∷◌, map, find, length, get_or, AllPairs, Contains, Option, Some, None, refl, sym, ap, ◌∙◌, subst, inl, inr, arith}
 use Rattle.std.specs.List.{enumerate_from}
-use Rattle.std.proofs.lemmas.List.{length-map, get_or-map, get_or_default}
+use Rattle.std.proofs.lemmas.List.{length-map, get_or-map, length-replicate, get_or_default}
 use Rattle.std.proofs.lemmas.List.Elements.{All-contains, Contains-get_or}
+use lib.Pointwise.{bytes_decides}
 use Rattle.bb_bits.specs.Contents.{Contents, HasShape, output_bit}
-use Rattle.bb_bits.specs.RowLaws.{BitsAreChosen, RowsHaveTable}
-use Rattle.bb_bits.specs.Tables.{TableBits, HasAllBits, rows_of}
+use Rattle.bb_bits.specs.Names.{same_name}
+use Rattle.bb_bits.specs.RowLaws.{RowsHaveShape, BitsAreChosen, RowsHaveTable}
+use Rattle.bb_bits.specs.Tables.{TableBits, HasAllBits, rows_of, zero_table}
 use Rattle.bb_net.specs.Netlists.{Pins, box_at}
 use Rattle.bb_net.specs.Orders.{moved_pins}
 use Rattle.bb_net.specs.Pairs.{BoxTexts}
-use Rattle.bb_net.specs.Values.{bit_of, table_at, tabled_bit}
+use Rattle.bb_net.specs.Values.{bit_of, table_at, tabled_bit, FitBoxes}
 use Rattle.bb_elab.specs.ContentTables.{AreTablesOf, TablesGiveValues, TablesGiveOutputs}
 use Rattle.bb_elab.specs.Flats.{FlatNet}
 use Rattle.bb_elab.specs.Hierarchy.{Design, Scope, root, boxes}
@@ -21,9 +23,12 @@ use Rattle.bb_elab.specs.Stands.{box_number, box_texts, StandsFor}
 use Rattle.bb_elab.specs.Texts.{path_text}
 use Rattle.bb_elab.specs.Worlds.{FitDesign}
 use Rattle.bb_elab.proofs.BoxValues.{ValuesExist, ValuesAreUnique, value_same}
-use Rattle.bb_elab.proofs.Enumerated.{numbered_at, length-enumerated}
+use Rattle.bb_elab.proofs.CauseDecisions.{all_from}
+use Rattle.bb_elab.proofs.Enumerated.{enumerated_from, numbered_at, length-enumerated}
 use Rattle.bb_elab.proofs.Firsts.{less_or_same}
 use Rattle.bb_elab.proofs.ListedPlaces.{box_is}
+use Rattle.bb_elab.proofs.WorldExists.{from_find}
+use Rattle.bb_elab.proofs.WorldLaws.{find_there}
 
 pub tables_give_values : ValuesExist → ValuesAreUnique → BitsAreChosen → TablesGiveValues
 tables_give_values exists unique chosen f contents tables x kept are = value_same exists unique f.net kept x (tabled_bit tables) (given_by_paths f contents) (λ b fits p pin ins long.
@@ -144,3 +149,74 @@ module _ (d : Design) (f : FlatNet) (stands : StandsFor d f) where
     one_box b c p q same =
         let number = one_number (number_of_box b) (number_of_box c) (number_there b p) (number_there c q) (sym (path_is b p) ∙ same ∙ path_is c q) in
         one_place stands.numbers stands.ordered.numbers_apart b c 0 (omega (arith, p, stands.ordered.box_count, stands.ordered.number_count)) (omega (arith, q, stands.ordered.box_count, stands.ordered.number_count)) number
+
+    module _ (shape : RowsHaveShape) (tables : List TableBits) (fit : FitBoxes tables f.net.boxes) where
+      abbrev texts : List (ℕ × BoxTexts)
+      texts = enumerate_from 0 f.boxes
+
+      -- rows of zeros fit any box
+      abbrev zeros : Scope → List (List Bool)
+      zeros s = rows_of (zero_table (length (input_bits s)) (length (output_bits s)))
+
+      abbrev of_scope : Option Scope → List (List Bool)
+      of_scope None = []
+      of_scope (Some s) = zeros s
+
+      abbrev of_box : Option (ℕ × BoxTexts) → List ℕ → List (List Bool)
+      of_box (Some z) path = rows_of (table_at tables z.0)
+      of_box None path = of_scope (find (λ s. same_name path (path_text s.path)) (boxes d))
+
+      -- the rows of the box of a path
+      abbrev table_contents : Contents
+      table_contents path = of_box (find (λ z. same_name path z.1.path) texts) path
+
+      -- where a box of the netlist is found, it is the one of that path
+      found_box : (path : List ℕ) (z : ℕ × BoxTexts) → find (λ z. same_name path z.1.path) texts ≡ Some z → (z.0 < length f.net.boxes) × (path_of f z.0 ≡ path)
+      found_box path z e =
+          let at = from_find (λ (z : ℕ × BoxTexts). same_name path z.1.path) texts z e in
+          let j = enumerated_from 0 f.boxes z.0 z.1 at.0 in
+          let place : z.0 ≡ j.0 = omega (arith, j.1) in
+          (omega (arith, j.1, j.2, text_count), ap (λ k. path_of f k) place ∙ ap (λ (t : BoxTexts). t.path) (j.3 none) ∙ sym ((bytes_decides path z.1.path).0 at.1))
+
+      rows_there : (b : ℕ) → b < length f.net.boxes → table_contents (path_of f b) ≡ rows_of (table_at tables b)
+      rows_there b fits =
+          let path = path_of f b in
+          let here = numbered_at f.boxes b none (omega (arith, fits, text_count)) in
+          let z = find_there (λ (z : ℕ × BoxTexts). same_name path z.1.path) texts (b, get_or f.boxes b none) here ((bytes_decides path path).1 refl) in
+          let found = found_box path z.0 z.1 in
+          ap (λ o. of_box o path) z.1 ∙ ap (λ k. rows_of (table_at tables k)) (one_box z.0.0 b found.0 fits found.1)
+
+      abbrev Fits : Scope → List (List Bool) → Type 0
+      Fits s rows = HasShape (length (input_bits s)) (length (output_bits s)) rows
+
+      zeros_fit : (s : Scope) → Fits s (zeros s)
+      zeros_fit s = shape (zero_table (length (input_bits s)) (length (output_bits s))) (length-replicate (length (output_bits s) * 2 ^ length (input_bits s)) false)
+
+      table_fits : (b : ℕ) → b < length f.net.boxes → Fits (box_of b) (rows_of (table_at tables b))
+      table_fits b h =
+          let pins = pins_are b h in
+          subst (λ n. HasShape n (length (output_bits (box_of b))) (rows_of (table_at tables b))) (fit.inputs b h ∙ pins.0)
+          (subst (λ n. HasShape (table_at tables b).inputs n (rows_of (table_at tables b))) (fit.outputs b h ∙ pins.1) (shape (table_at tables b) (fit.whole b h)))
+
+      contents_fit : FitDesign d table_contents
+      contents_fit = all_from (λ s. Fits s (table_contents (path_text s.path))) (boxes d) each
+        where
+          of_scopes : (s : Scope) → Contains (boxes d) s → (o : Option Scope) → find (λ u. same_name (path_text s.path) (path_text u.path)) (boxes d) ≡ o → Fits s (of_scope o)
+          of_scopes s has None e = let u = find_there (λ (u : Scope). same_name (path_text s.path) (path_text u.path)) (boxes d) s has ((bytes_decides (path_text s.path) (path_text s.path)).1 refl) in absurd (grind (arith, sym e ∙ u.1))
+          of_scopes s has (Some u) e =
+              let at = from_find (λ (u : Scope). same_name (path_text s.path) (path_text u.path)) (boxes d) u e in
+              let same : u ≡ s = sym (one_scope s u has at.0 ((bytes_decides (path_text s.path) (path_text u.path)).0 at.1)) in
+              subst (λ z. Fits z (zeros u)) same (zeros_fit u)
+
+          of_boxes : (s : Scope) → Contains (boxes d) s → (o : Option (ℕ × BoxTexts)) → find (λ z. same_name (path_text s.path) z.1.path) texts ≡ o → Fits s (of_box o (path_text s.path))
+          of_boxes s has None e = of_scopes s has (find (λ u. same_name (path_text s.path) (path_text u.path)) (boxes d)) refl
+          of_boxes s has (Some z) e =
+              let found = found_box (path_text s.path) z e in
+              let same : box_of z.0 ≡ s = one_scope (box_of z.0) s (box_there z.0 found.0) has (sym (path_is z.0 found.0) ∙ found.1) in
+              subst (λ u. Fits u (rows_of (table_at tables z.0))) same (table_fits z.0 found.0)
+
+          each : (s : Scope) → Contains (boxes d) s → Fits s (table_contents (path_text s.path))
+          each s has = of_boxes s has (find (λ z. same_name (path_text s.path) z.1.path) texts) refl
+
+      pub find_contents : (contents : Contents) × FitDesign d contents × AreTablesOf f contents tables
+      find_contents = (table_contents, contents_fit, record { fit = fit; rows = rows_there })
