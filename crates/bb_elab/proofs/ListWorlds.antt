@@ -23,7 +23,7 @@ use Rattle.bb_elab.specs.Refusals.{TwoDrivers, Cycle, AreDrivenOnce, IsAcyclic}
 use Rattle.bb_elab.specs.Registers.{RegisterBit, stored_at, stored, registers, cut_bits}
 use Rattle.bb_elab.specs.Texts.{path_text, bit_text}
 use Rattle.bb_elab.specs.Worlds.{World, Vector, TopInput, State, HasVector, bit_in, bits_in}
-use Rattle.bb_elab.proofs.AllowedDesigns.{shallow, wired, ends, bits_there, legal}
+use Rattle.bb_elab.proofs.AllowedDesigns.{wired, ends, bits_there, legal}
 use Rattle.bb_elab.proofs.BitByBit.{gate_bits, low-map}
 use Rattle.bb_elab.proofs.CauseDecisions.{all_from, from_flat, from_map}
 use Rattle.bb_elab.proofs.Enumerated.{enumerated_from, zip_across}
@@ -291,9 +291,9 @@ module _ (d : Design) (lowering : Lowering) (l : LooseList) (list : IsListOf d l
 
 pub lists_give_worlds : ConstructsHoldBitByBit → ListsGiveWorlds
 lists_give_worlds law d lowering l allowed lowered list contents x bits fit value =
-    let wires = wired d allowed in
-    let in_design = bits_there d allowed in
+    let wires = wired d allowed.bounded in
+    let in_design = bits_there d allowed.bounded in
     let world_driven = driven_world d lowering l list lowered wires contents x bits value in_design (allowed.sound TwoDrivers) (allowed.sound Cycle) in (
-      (worlds_are_driven law d contents _ (ends d allowed) (shallow d allowed) (legal d allowed contents fit)).1 world_driven,
+      (worlds_are_driven law d contents _ (ends d allowed.bounded) allowed.bounded.shallow (legal d allowed.bounded contents fit)).1 world_driven,
       has_vector d lowering l list lowered wires contents x bits value in_design (allowed.sound TwoDrivers) (allowed.sound Cycle),
     )

@@ -22,7 +22,7 @@ use Rattle.bb_elab.specs.Refusals.{TwoDrivers, NoDriver, Cycle}
 use Rattle.bb_elab.specs.Registers.{RegisterBit, registers}
 use Rattle.bb_elab.specs.Stands.{box_number, box_texts, StandsFor}
 use Rattle.bb_elab.specs.Worlds.{World, Vector, HasVector, IsWorld, FitDesign, bit_in, next_bit, outputs_in}
-use Rattle.bb_elab.proofs.AllowedDesigns.{shallow, wired, ends, bits_there, legal, lists_are_loose}
+use Rattle.bb_elab.proofs.AllowedDesigns.{wired, ends, bits_there, legal, lists_are_loose}
 use Rattle.bb_elab.proofs.BoxValues.{ValuesExist, ValuesAreUnique, value_same}
 use Rattle.bb_elab.proofs.ListedData.{data_value}
 use Rattle.bb_elab.proofs.ListWorlds.{driven_world, has_vector}
@@ -45,7 +45,7 @@ module _ (values : ValuesHaveWidth) (made : MadeHasValue) (bitwise : ConstructsH
   to = stands.ordered.to
 
   loose : IsLoose l
-  loose = lists_are_loose d stands.lowering l allowed stands.lowered stands.listed
+  loose = lists_are_loose d stands.lowering l allowed.bounded stands.lowered stands.listed
 
   -- the bits of the netlist, by the numbers that its boxes have in the list
   abbrev net_bits : List Bool
@@ -72,7 +72,7 @@ module _ (values : ValuesHaveWidth) (made : MadeHasValue) (bitwise : ConstructsH
   data_same : (all : List RegisterBit) → ((r : RegisterBit) → Contains all r → Contains (registers d) r)
       → map (bit_of bits) (map number (map (λ r. place_in (flat_map (data_at stands.lowering) (enumerate_from 0 (parts d))) r.bit) all)) ≡ map (next_bit list_world) all
   data_same [] sub = refl
-  data_same (r ∷ all) sub = ap₂ ◌∷◌ (data_value values made d stands.lowering l stands.listed stands.lowered (wired d allowed) contents x bits value r (sub r (contains_here r all))) (data_same all (λ q has. sub q (contains_there r all q has)))
+  data_same (r ∷ all) sub = ap₂ ◌∷◌ (data_value values made d stands.lowering l stands.listed stands.lowered (wired d allowed.bounded) contents x bits value r (sub r (contains_here r all))) (data_same all (λ q has. sub q (contains_there r all q has)))
 
   list_outs : map (bit_of bits) l.outs ≡ map (bit_in list_world) (top_outputs d) ++ map (next_bit list_world) (registers d)
   list_outs = ap (map (bit_of bits)) stands.listed.outs ∙ map-append (bit_of bits) (map (λ b. number (NetBit b)) (top_outputs d)) (map number (data_places d stands.lowering))
@@ -95,20 +95,20 @@ module _ (values : ValuesHaveWidth) (made : MadeHasValue) (bitwise : ConstructsH
       ∙ ap (map (bit_of net_bits)) stands.ordered.outs ∙ moved l.outs (λ k has. All-contains (λ place. place < length l.cells) l.outs k loose.outs_there has) ∙ list_outs
 
   list_driven : IsDrivenWorld d contents list_world
-  list_driven = driven_world d stands.lowering l stands.listed stands.lowered (wired d allowed) contents x bits value (bits_there d allowed) (allowed.sound TwoDrivers) (allowed.sound Cycle)
+  list_driven = driven_world d stands.lowering l stands.listed stands.lowered (wired d allowed.bounded) contents x bits value (bits_there d allowed.bounded) (allowed.sound TwoDrivers) (allowed.sound Cycle)
 
   list_vector : HasVector d x list_world
-  list_vector = has_vector d stands.lowering l stands.listed stands.lowered (wired d allowed) contents x bits value (bits_there d allowed) (allowed.sound TwoDrivers) (allowed.sound Cycle)
+  list_vector = has_vector d stands.lowering l stands.listed stands.lowered (wired d allowed.bounded) contents x bits value (bits_there d allowed.bounded) (allowed.sound TwoDrivers) (allowed.sound Cycle)
 
   some_world : (w : World) × IsWorld d contents w × HasVector d x w
   some_world =
       let w = vectors_have_worlds d contents x (allowed.sound TwoDrivers) (allowed.sound Cycle) in
-      (w.0, (worlds_are_driven bitwise d contents w.0 (ends d allowed) (shallow d allowed) (legal d allowed contents fit)).1 w.1, w.2)
+      (w.0, (worlds_are_driven bitwise d contents w.0 (ends d allowed.bounded) allowed.bounded.shallow (legal d allowed.bounded contents fit)).1 w.1, w.2)
 
   each_world : (w : World) → IsWorld d contents w → HasVector d x w → map (λ o. o.1) (outputs_in d w) ≡ map (bit_of (value_of f.net (vector_bits d x) (given_by_paths f contents))) f.net.outs
   each_world w is vector =
-      let driven = (worlds_are_driven bitwise d contents w (ends d allowed) (shallow d allowed) (legal d allowed contents fit)).0 is in
-      let agree = worlds_agree_where_read read_needs_read d contents x w list_world (bits_there d allowed) (allowed.sound NoDriver) (allowed.sound Cycle) driven list_driven vector list_vector in
+      let driven = (worlds_are_driven bitwise d contents w (ends d allowed.bounded) allowed.bounded.shallow (legal d allowed.bounded contents fit)).0 is in
+      let agree = worlds_agree_where_read read_needs_read d contents x w list_world (bits_there d allowed.bounded) (allowed.sound NoDriver) (allowed.sound Cycle) driven list_driven vector list_vector in
       output_bits_in d w ∙ outputs_same made d w list_world agree ∙ sym net_outs
 
 pub standing_nets_give_outputs : ValuesHaveWidth → MadeHasValue → ConstructsHoldBitByBit → OrderKeepsValues → ValuesExist → ValuesAreUnique → StandingNetsGiveOutputs
