@@ -6,12 +6,15 @@ pub mod CalleeLemmas
 pub mod CauseDecisions
 pub mod ContentTables
 pub mod Deciding
+pub mod DependenceWalks
 pub mod Enumerated
 pub mod Firsts
+pub mod GivenDrives
 pub mod KnownNets
 pub mod Levels
 pub mod ListFronts
 pub mod ListValues
+pub mod ListWalks
 pub mod ListWorlds
 pub mod ListedPlaces
 pub mod ListedSources

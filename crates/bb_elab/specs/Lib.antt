@@ -21,3 +21,4 @@ pub mod Refusals
 pub mod Laws
 pub mod ListLaws
 pub mod ContentTables
+pub mod LoopLaws
