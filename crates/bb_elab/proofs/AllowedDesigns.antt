@@ -14,10 +14,10 @@ use Rattle.bb_elab.specs.Hierarchy.{Design, Scope, scopes, is_box, boxes, top_of
 use Rattle.bb_elab.specs.NetBits.{input_bits, output_bits}
 use Rattle.bb_elab.specs.Contexts.{width_of}
 use Rattle.bb_elab.specs.Constructs.{Construct, Assignment, GateInstance, Register, SupplyNet, InputConnection, OutputConnection, BoxContents, initial_construct, gate_construct, connection, connections, body_constructs, constructs_at, parts}
-use Rattle.bb_elab.specs.Refusals.{Depth, Size, IsShallow, IsSmall, IsSoundDesign, design_on}
+use Rattle.bb_elab.specs.Refusals.{Depth, Size, IsSoundDesign, design_on}
 use Rattle.bb_elab.specs.DrivenWorlds.{IsLegal}
 use Rattle.bb_elab.specs.Laws.{BitsAreThere, ScopesAreEnds}
-use Rattle.bb_elab.specs.ListLaws.{IsAllowed, ListsAreLoose, SoundTextsAreAllowed}
+use Rattle.bb_elab.specs.ListLaws.{IsBounded, ListsAreLoose, SoundTextsAreAllowed}
 use Rattle.bb_elab.specs.Texts.{path_text}
 use Rattle.bb_elab.specs.Worlds.{FitDesign}
 use Rattle.bb_elab.proofs.CauseDecisions.{all_from, from_flat, from_map}
@@ -109,19 +109,13 @@ body_inputs text (Always r) formed c has = by (contains_cases (Register r) [] c 
     by (inl e) = subst HasInputs e tt
     by (inr none) = absurd (none_in_nil c none)
 
-module _ (d : Design) (allowed : IsAllowed d) where
-  pub shallow : IsShallow d
-  shallow = allowed.sound Depth
-
-  pub small : IsSmall d
-  small = allowed.sound Size
-
+module _ (d : Design) (bounded : IsBounded d) where
   inputs_there : (s : Scope) (c : Construct) → Contains (parts d) (s, c) → is_box s ≡ false → HasInputs c
   inputs_there s c has plain =
       let p = part_of d s c has in
       let h = subst (λ b. Contains (if b then BoxContents ∷ [] else flat_map (λ item. body_constructs d.text item.body) s.source.items) c) plain p.1 in
       let item = from_flat (λ (item : PlainItem). body_constructs d.text item.body) s.source.items c h in
-      let formed = each_of IsFormed d.text allowed.formed s.source (source_there d s allowed.top p.0) in
+      let formed = each_of IsFormed d.text bounded.formed s.source (source_there d s bounded.top p.0) in
       body_inputs d.text item.0.body (each_of (λ (item : PlainItem). IsFormedBody item.body) s.source.items formed.2 item.0 item.1) c item.2
 
   no_contents : Contents
@@ -143,7 +137,7 @@ module _ (d : Design) (allowed : IsAllowed d) where
   gates_there s gate outs ins has =
       let p = part_of d s (GateInstance gate outs ins) has in
       let plain = not_box s (GateInstance gate outs ins) (λ e. box_is_gate e) p.1 in
-      let legal = sound_constructs_are_legal d.text no_contents s allowed.faultless (source_there d s allowed.top p.0) plain in
+      let legal = sound_constructs_are_legal d.text no_contents s bounded.faultless (source_there d s bounded.top p.0) plain in
       (inputs_there s (GateInstance gate outs ins) has plain, (All-contains (IsLegal no_contents s) (constructs_at d.text s) (GateInstance gate outs ins) legal p.1).1)
     where
       box_is_gate : BoxContents ≡ GateInstance gate outs ins → ⊥
@@ -159,16 +153,16 @@ module _ (d : Design) (allowed : IsAllowed d) where
 
   pub wired : IsWired d
   wired = record {
-    pins = λ s i pin e has. let p = part_of d s (OutputConnection i pin e) has in (nets_there d.text d.top allowed.faultless allowed.top shallow s p.0 (OutputConnection i pin e) p.1).1;
+    pins = λ s i pin e has. let p = part_of d s (OutputConnection i pin e) has in (nets_there d.text d.top bounded.faultless bounded.top bounded.shallow s p.0 (OutputConnection i pin e) p.1).1;
     gates = gates_there;
     boxed = boxes_there;
   }
 
   pub ends : ScopesAreEnds d
-  ends = paths_lead_to_scopes d allowed.top (sound_texts_have_names_apart d.text allowed.faultless)
+  ends = paths_lead_to_scopes d bounded.top (sound_texts_have_names_apart d.text bounded.faultless)
 
   pub bits_there : BitsAreThere d
-  bits_there = sound_bits_are_there d.text d.top allowed.faultless allowed.top shallow
+  bits_there = sound_bits_are_there d.text d.top bounded.faultless bounded.top bounded.shallow
 
   -- every construct is legal, where the contents fit
   pub legal : (contents : Contents) → FitDesign d contents → All (λ x. IsLegal contents x.0 x.1) (parts d)
@@ -183,19 +177,20 @@ module _ (d : Design) (allowed : IsAllowed d) where
 
           by : (b : Bool) → is_box s ≡ b → IsLegal contents s c
           by true e = box e (contains_cases BoxContents [] c (subst (λ b. Contains (if b then BoxContents ∷ [] else flat_map (λ item. body_constructs d.text item.body) s.source.items) c) e (part_of d s c has).1))
-          by false e = All-contains (IsLegal contents s) (constructs_at d.text s) c (sound_constructs_are_legal d.text contents s allowed.faultless (source_there d s allowed.top (part_of d s c has).0) e) (part_of d s c has).1
+          by false e = All-contains (IsLegal contents s) (constructs_at d.text s) c (sound_constructs_are_legal d.text contents s bounded.faultless (source_there d s bounded.top (part_of d s c has).0) e) (part_of d s c has).1
 
 pub lists_are_loose : ListsAreLoose
-lists_are_loose d lowering l allowed lowered list = loose d lowering l list lowered (wired d allowed) (small d allowed)
+lists_are_loose d lowering l bounded lowered list = loose d lowering l list lowered (wired d bounded) bounded.small
 
 pub sound_texts_are_allowed : SoundTextsAreAllowed
 sound_texts_are_allowed text name top formed faultless sound named = record {
-  formed = formed;
-  faultless = faultless;
-  top = meant name named;
-  sound = subst (λ t. IsSoundDesign (design_on text t)) (same_Some sound.0 top (sym sound.1 ∙ named)) sound.2;
+  bounded = record { formed = formed; faultless = faultless; top = meant name named; shallow = whole Depth; small = whole Size };
+  sound = whole;
 }
   where
     meant : (name : Option (List ℕ)) → top_of text name ≡ Some top → Contains text top
     meant None e = (tops_are_meant text None top e).there
     meant (Some n) e = (tops_are_meant text (Some n) top e).there
+
+    whole : IsSoundDesign (design_on text top)
+    whole = subst (λ t. IsSoundDesign (design_on text t)) (same_Some sound.0 top (sym sound.1 ∙ named)) sound.2

@@ -37,7 +37,7 @@ use Rattle.bb_elab.proofs.ListedSources.{IsWired, terminal_there, part_there}
 use Rattle.bb_expr.specs.Spots.{Pin}
 
 -- of lists of one element
-only_one : {A : Type 0} (xs : List A) (d : A) → length xs ≡ 1 → xs ≡ get_or xs 0 d ∷ []
+pub only_one : {A : Type 0} (xs : List A) (d : A) → length xs ≡ 1 → xs ≡ get_or xs 0 d ∷ []
 only_one [] d e = absurd (omega (arith, e))
 only_one (x ∷ []) d e = refl
 only_one (x ∷ y ∷ xs) d e = absurd (omega (arith, e))

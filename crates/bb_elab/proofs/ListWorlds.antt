@@ -1,18 +1,18 @@
 -- Bits that meet the equations of the list of cells of a design make a world of it: each driven bit has what its source gives.
-use Rattle.std.proofs.Common.{◌≡◌, ◌≢◌, ◌⊎◌, ℕ, ◌<◌, Bool, true, false, if◌then◌else◌, List, [], ◌∷◌, ◌++◌, map, flat_map, find, length, get_or, zip, AllPairs, Contains, refl, sym, ap, ap₂, ◌∙◌, subst, inl, inr, arith}
+use Rattle.std.proofs.Common.{◌≡◌, ◌≢◌, ◌⊎◌, ℕ, ◌<◌, Bool, true, false, if◌then◌else◌, List, [], ◌∷◌, ◌++◌, map, flat_map, length, get_or, zip, AllPairs, Contains, refl, sym, ap, ap₂, ◌∙◌, subst, inl, inr, arith}
 use Rattle.std.specs.List.{enumerate_from, list_any}
 use Rattle.std.specs.Option.{option_map_or}
 use Rattle.std.proofs.lemmas.List.{map-append, get_or-map}
-use Rattle.std.proofs.lemmas.List.Elements.{All-contains, Contains-append_cases, Contains-append_left, Contains-append_right}
+use Rattle.std.proofs.lemmas.List.Elements.{All-contains, Contains-append_cases, Contains-append_right}
 use Rattle.bb_ast.specs.Syntax.{Expression}
 use Rattle.bb_bits.specs.Contents.{Contents, output_bit}
 use Rattle.bb_expr.specs.Terms.{Term, bit_of as term_bit}
 use Rattle.bb_expr.specs.Terms as term
 use Rattle.bb_net.specs.Loose.{LooseList, IsLooseValue}
-use Rattle.bb_elab.specs.Hierarchy.{Design, Scope, path_to, scopes, is_box, boxes}
+use Rattle.bb_elab.specs.Hierarchy.{Design, Scope, path_to, boxes}
 use Rattle.bb_elab.specs.NetBits.{Bit, same_bit, net_order, bits_named, pin_bits, input_bits, output_bits, top_inputs, written_bits}
 use Rattle.bb_elab.specs.Contexts.{width_of, context_width, low_bits, made_in}
-use Rattle.bb_elab.specs.Constructs.{Construct, Assignment, GateInstance, Register, SupplyNet, InputConnection, OutputConnection, BoxContents, body_constructs, constructs_at, parts}
+use Rattle.bb_elab.specs.Constructs.{Construct, Assignment, GateInstance, Register, SupplyNet, InputConnection, OutputConnection, BoxContents, parts}
 use Rattle.bb_elab.specs.Drivers.{Source, Free, Made, Box, Drive, driven, driven_by, terminal_terms, drives_at, drives, driven_bits}
 use Rattle.bb_elab.specs.DrivenWorlds.{Gives, IsGiven, IsDrivenWorld, ConstructsHoldBitByBit}
 use Rattle.bb_elab.specs.GateFunctions.{on_terms, gate_gives}
@@ -20,21 +20,21 @@ use Rattle.bb_elab.specs.Laws.{BitsAreThere}
 use Rattle.bb_elab.specs.ListLaws.{vector_bits, given_by_contents, ListsGiveWorlds}
 use Rattle.bb_elab.specs.Places.{Place, Constant, Input, BoxPin, lowered_in, Lowering, IsLowering, step_places, gate_place, given_at, given_by_box, given, IsListOf}
 use Rattle.bb_elab.specs.Refusals.{TwoDrivers, Cycle, AreDrivenOnce, IsAcyclic}
-use Rattle.bb_elab.specs.Registers.{RegisterBit, stored_at, stored, registers, cut_bits}
+use Rattle.bb_elab.specs.Registers.{RegisterBit, registers, cut_bits}
 use Rattle.bb_elab.specs.Texts.{path_text, bit_text}
 use Rattle.bb_elab.specs.Worlds.{World, Vector, TopInput, State, HasVector, bit_in, bits_in}
-use Rattle.bb_elab.proofs.AllowedDesigns.{shallow, wired, ends, bits_there, legal}
+use Rattle.bb_elab.proofs.AllowedDesigns.{wired, ends, bits_there, legal}
 use Rattle.bb_elab.proofs.BitByBit.{gate_bits, low-map}
 use Rattle.bb_elab.proofs.CauseDecisions.{all_from, from_flat, from_map}
 use Rattle.bb_elab.proofs.Enumerated.{enumerated_from, zip_across}
+use Rattle.bb_elab.proofs.GivenDrives.{top_driven, state_driven, cut_driven, box_part, part_driven, found}
 use Rattle.bb_elab.proofs.Levels.{contains-map}
 use Rattle.bb_elab.proofs.ListedSources.{IsWired}
 use Rattle.bb_elab.proofs.ListValues.{at, world, constant_value, input_value, net_value, pin_value, expression_value, gate_value, pins_same}
-use Rattle.bb_elab.proofs.ReadingLaw.{into_flat}
-use Rattle.bb_elab.proofs.TopLaws.{contains_here, contains_there, none_in_nil, kept_from}
+use Rattle.bb_elab.proofs.TopLaws.{contains_here, contains_there, none_in_nil}
 use Rattle.bb_elab.proofs.WorldBits.{worlds_are_driven}
-use Rattle.bb_elab.proofs.WorldExists.{tops_first, apart_append, drive_once, any_there, any_from, from_numbered, stored_drives, from_find, from_filter_map}
-use Rattle.bb_elab.proofs.WorldLaws.{same_bit_is, same_bit_self, find_there, numbered_there, free_stored, stored_register}
+use Rattle.bb_elab.proofs.WorldExists.{tops_first, apart_append, drive_once, any_there, any_from, from_numbered}
+use Rattle.bb_elab.proofs.WorldLaws.{same_bit_is, same_bit_self, find_there}
 
 module _ (d : Design) (lowering : Lowering) (l : LooseList) (list : IsListOf d lowering l) (lowered : IsLowering d lowering) (wired : IsWired d)
     (contents : Contents) (x : Vector) (bits : List Bool) (value : IsLooseValue l (vector_bits d x) (given_by_contents d contents) bits) where
@@ -67,13 +67,6 @@ module _ (d : Design) (lowering : Lowering) (l : LooseList) (list : IsListOf d l
         let t = zip_across v (term_bit (w path)) all places terms same y.0 y.1 here in
         (driven (Made path t.0) y.0, contains-map {B = Drive} (λ (x : Bit × Term). driven (Made path x.1) x.0) (zip all terms) (y.0, t.0) t.1, (refl, t.2))
 
-    sides_found : (path : List (List ℕ)) (all : List Bit) (places : List Place) (terms : List Term) → map v places ≡ map (term_bit (w path)) terms → (z : Drive) → Contains (driven_by path all terms) z
-        → (y : Bit × Place) × Contains (zip all places) y × (y.0 ≡ z.bit)
-    sides_found path all places terms same z here =
-        let t = from_map {B = Drive} (λ (x : Bit × Term). driven (Made path x.1) x.0) (zip all terms) z here in
-        let p = zip_across (term_bit (w path)) v all terms places (sym same) t.0.0 t.0.1 t.1 in
-        ((t.0.0, p.0), p.1, ap (λ (u : Drive). u.bit) t.2)
-
     -- an expression and the steps into which it is lowered
     whole_same : (n : ℕ) (e : Expression) (width : ℕ) → Contains (enumerate_from 0 (lowered_in (s, c))) (n, (e, width)) → map v (step_places lowering k n) ≡ map (term_bit (w s.path)) (made_in s e width).bits
     whole_same n e width there = expression_value d lowering l list lowered wired contents x bits value k s c has n e width there
@@ -101,24 +94,6 @@ module _ (d : Design) (lowering : Lowering) (l : LooseList) (list : IsListOf d l
   given_meets k s (OutputConnection i pin e) has y here = sides_meet k s (OutputConnection i pin e) has (path_to s.path i) (written_bits s e) _ _ (pins_same d lowering l list lowered wired contents x bits value (path_to s.path i) pin) y here
   given_meets k s BoxContents has y here = absurd (none_in_nil y here)
 
-  -- and what drives it in the design, but for inputs and boxes, is there
-  given_found : (k : ℕ) (s : Scope) (c : Construct) → Contains (enumerate_from 0 (parts d)) (k, (s, c)) → (z : Drive) → Contains (drives_at (s, c)) z
-      → ((y : Bit × Place) × Contains (given_at lowering (k, (s, c))) y × (y.0 ≡ z.bit)) ⊎ ((z.source ≡ Free) ⊎ (c ≡ BoxContents))
-  given_found k s (Assignment left right) has z here = inl (sides_found k s (Assignment left right) has s.path (written_bits s left) _ _
-      (low_same k s (Assignment left right) has (length (written_bits s left)) 0 right (context_width s left right) (contains_here (0, (right, context_width s left right)) [])) z here)
-  given_found k s (GateInstance gate outs ins) has z here =
-      let place = gate_place lowering gate k (length ins) in
-      let b = from_map (driven (Made s.path (gate_gives on_terms gate (terminal_terms s ins)))) (flat_map (written_bits s) outs) z here in
-      inl ((b.0, place), contains-map {B = Bit × Place} (λ b. (b, place)) (flat_map (written_bits s) outs) b.0 b.1, ap (λ (u : Drive). u.bit) b.2)
-  given_found k s (Register r) has z here = let b = from_map (driven Free) (written_bits s r.left) z here in inr (inl (ap (λ (u : Drive). u.source) (sym b.2)))
-  given_found k s (SupplyNet high n) has z here =
-      let b = from_map (driven (Made s.path (term.Const high))) (bits_named s n) z here in
-      inl ((b.0, Constant high), contains-map {B = Bit × Place} (λ b. (b, Constant high)) (bits_named s n) b.0 b.1, ap (λ (u : Drive). u.bit) b.2)
-  given_found k s (InputConnection i pin e) has z here = inl (sides_found k s (InputConnection i pin e) has s.path (pin_bits (path_to s.path i) pin) _ _
-      (whole_same k s (InputConnection i pin e) has 0 e (width_of s e) (contains_here (0, (e, width_of s e)) [])) z here)
-  given_found k s (OutputConnection i pin e) has z here = inl (sides_found k s (OutputConnection i pin e) has (path_to s.path i) (written_bits s e) _ _ (pins_same d lowering l list lowered wired contents x bits value (path_to s.path i) pin) z here)
-  given_found k s BoxContents has z here = inr (inr refl)
-
   module _ (there : BitsAreThere d) (once : AreDrivenOnce d) (acyclic : IsAcyclic d) where
     abbrev part_drives : List Drive
     part_drives = flat_map drives_at (parts d)
@@ -134,18 +109,8 @@ module _ (d : Design) (lowering : Lowering) (l : LooseList) (list : IsListOf d l
         by true e = absurd (apart_append (top_inputs d) (map (λ (u : Drive). u.bit) part_drives) b (subst (AllPairs ◌≢◌) (tops_first d contents x once acyclic) once) (any_from b (top_inputs d) e)
             (contains-map (λ (u : Drive). u.bit) part_drives (driven Free b) has))
 
-    top_driven : (b : Bit) → Contains (top_inputs d) b → Contains (drives d) (driven Free b)
-    top_driven b has = Contains-append_left (map (driven Free) (top_inputs d)) part_drives (driven Free b) (contains-map (driven Free) (top_inputs d) b has)
-
-    state_driven : (r : RegisterBit) → Contains (registers d) r → Contains part_drives (driven Free r.bit)
-    state_driven r has =
-        let b = from_filter_map (λ b. find (λ q. same_bit b q.bit) (stored d)) (net_order d) r has in
-        let at = from_find (λ q. same_bit b.0 q.bit) (stored d) r b.2 in
-        let part = from_flat stored_at (parts d) r at.0 in
-        into_flat drives_at (parts d) part.0 (driven Free r.bit) part.1 (stored_drives part.0 r part.2)
-
     state_value : (r : RegisterBit) → Contains (registers d) r → cut_value r.bit ≡ x (State (bit_text d r.bit))
-    state_value r has = ap (λ t. if t then x (TopInput (bit_text d r.bit)) else x (State (bit_text d r.bit))) (not_top r.bit (state_driven r has))
+    state_value r has = ap (λ t. if t then x (TopInput (bit_text d r.bit)) else x (State (bit_text d r.bit))) (not_top r.bit (state_driven d r has))
 
     -- the inputs of the list have the bits of the vector
     cut_same : vector_bits d x ≡ map cut_value (cut_bits d)
@@ -168,26 +133,11 @@ module _ (d : Design) (lowering : Lowering) (l : LooseList) (list : IsListOf d l
     abbrev others : List (Bit × Place)
     others = flat_map (given_at lowering) (enumerate_from 0 (parts d))
 
-    box_part : (s : Scope) → Contains (boxes d) s → Contains (parts d) (s, BoxContents)
-    box_part s has =
-        let k = kept_from is_box (scopes d) s has in
-        let here : Contains (constructs_at d.text s) BoxContents = subst (λ b. Contains (if b then BoxContents ∷ [] else flat_map (λ item. body_constructs d.text item.body) s.source.items) BoxContents) (sym k.1) (contains_here BoxContents []) in
-        into_flat (λ s. map (λ c. (s, c)) (constructs_at d.text s)) (scopes d) s (s, BoxContents) k.0 (contains-map {B = Scope × Construct} (λ c. (s, c)) (constructs_at d.text s) BoxContents here)
-
-    behind : (part : Scope × Construct) → Contains (parts d) part → (z : Drive) → Contains (drives_at part) z → Contains (drives d) z
-    behind part has z here = Contains-append_right (map (driven Free) (top_inputs d)) part_drives z (into_flat drives_at (parts d) part z has here)
-
     -- what gives a bit of the list is what drives it in the design
     meets : (y : Bit × Place) → Contains (given d lowering) y → (z : Drive) × Contains (drives d) z × Meets y z
     unfolding SourceGives
     meets y has = by (Contains-append_cases (inputs ++ pins) others y has)
       where
-        cut : (b : Bit) → Contains (top_inputs d) b ⊎ Contains (map (λ r. r.bit) (registers d)) b → Contains (drives d) (driven Free b)
-        cut b (inl h) = top_driven b h
-        cut b (inr h) =
-            let r = from_map (λ (r : RegisterBit). r.bit) (registers d) b h in
-            subst (λ c. Contains (drives d) (driven Free c)) r.2 (Contains-append_right (map (driven Free) (top_inputs d)) part_drives (driven Free r.0.bit) (state_driven r.0 r.1))
-
         input : Contains inputs y → (z : Drive) × Contains (drives d) z × Meets y z
         input h =
             let i = from_map {B = Bit × Place} (λ x. (x.1, Input x.0)) (enumerate_from 0 (cut_bits d)) y h in
@@ -196,7 +146,7 @@ module _ (d : Design) (lowering : Lowering) (l : LooseList) (list : IsListOf d l
             let place : i.0.0 ≡ j.0 = omega (arith, j.1) in
             let same : v (Input i.0.0) ≡ cut_value i.0.1 = input_value d lowering l list lowered wired contents x bits value i.0.0 fits ∙ ap (λ all. get_or all i.0.0 false) cut_same
             ∙ get_or-map cut_value (cut_bits d) i.0.0 i.0.1 false fits ∙ ap (λ k. cut_value (get_or (cut_bits d) k i.0.1)) place ∙ ap cut_value (j.3 i.0.1) in
-            (driven Free i.0.1, cut i.0.1 (Contains-append_cases (top_inputs d) (map (λ r. r.bit) (registers d)) i.0.1 (from_numbered 0 (cut_bits d) i.0 i.1)), (ap (λ (u : Bit × Place). u.0) i.2, subst (λ (u : Bit × Place). v u.1 ≡ cut_value u.0) i.2 same))
+            (driven Free i.0.1, cut_driven d i.0.1 (from_numbered 0 (cut_bits d) i.0 i.1), (ap (λ (u : Bit × Place). u.0) i.2, subst (λ (u : Bit × Place). v u.1 ≡ cut_value u.0) i.2 same))
 
         pin : Contains pins y → (z : Drive) × Contains (drives d) z × Meets y z
         pin h =
@@ -205,7 +155,7 @@ module _ (d : Design) (lowering : Lowering) (l : LooseList) (list : IsListOf d l
             let p = from_map {B = Bit × Place} (λ (x : ℕ × Bit). (x.1, BoxPin b.0.0 x.0)) (enumerate_from 0 (output_bits s)) y b.2 in
             let same = pin_value d lowering l list lowered wired contents x bits value b.0.0 s b.1 p.0.0 p.0.1 p.1 in (
               driven (Box s p.0.0) p.0.1,
-              behind (s, BoxContents) (box_part s (from_numbered 0 (boxes d) b.0 b.1)) (driven (Box s p.0.0) p.0.1) (contains-map (λ (x : ℕ × Bit). driven (Box s x.0) x.1) (enumerate_from 0 (output_bits s)) p.0 p.1),
+              part_driven d (s, BoxContents) (box_part d s (from_numbered 0 (boxes d) b.0 b.1)) (driven (Box s p.0.0) p.0.1) (contains-map (λ (x : ℕ × Bit). driven (Box s x.0) x.1) (enumerate_from 0 (output_bits s)) p.0 p.1),
               (ap (λ (u : Bit × Place). u.0) p.2, ap (λ (u : Bit × Place). v u.1) (sym p.2) ∙ same),
             )
 
@@ -218,53 +168,12 @@ module _ (d : Design) (lowering : Lowering) (l : LooseList) (list : IsListOf d l
         by (inr h) =
             let p = from_flat (given_at lowering) (enumerate_from 0 (parts d)) y h in
             let z = given_meets p.0.0 p.0.1.0 p.0.1.1 p.1 y p.2 in
-            (z.0, behind p.0.1 (from_numbered 0 (parts d) p.0 p.1) z.0 z.1, z.2)
-
-    cut_found : (b : Bit) → Contains (cut_bits d) b → (y : Bit × Place) × Contains (given d lowering) y × (y.0 ≡ b)
-    cut_found b has =
-        let k = numbered_there 0 (cut_bits d) b has in
-        ((b, Input k.0), Contains-append_left (inputs ++ pins) others (b, Input k.0) (Contains-append_left inputs pins (b, Input k.0) (contains-map {B = Bit × Place} (λ x. (x.1, Input x.0)) (enumerate_from 0 (cut_bits d)) (k.0, b) k.1)), refl)
-
-    box_found : (s : Scope) → Contains (boxes d) s → (z : Drive) → Contains (drives_at (s, BoxContents)) z → (y : Bit × Place) × Contains (given d lowering) y × (y.0 ≡ z.bit)
-    box_found s has z here =
-        let p = from_map (λ (x : ℕ × Bit). driven (Box s x.0) x.1) (enumerate_from 0 (output_bits s)) z here in
-        let k = numbered_there 0 (boxes d) s has in
-        let entry : Bit × Place = (p.0.1, BoxPin k.0 p.0.0) in (
-          entry,
-          Contains-append_left (inputs ++ pins) others entry (Contains-append_right inputs pins entry (into_flat given_by_box (enumerate_from 0 (boxes d)) (k.0, s) entry k.1
-              (contains-map {B = Bit × Place} (λ (x : ℕ × Bit). (x.1, BoxPin k.0 x.0)) (enumerate_from 0 (output_bits s)) p.0 p.1))),
-          ap (λ (u : Drive). u.bit) p.2,
-        )
-
-    -- each driven bit is given in the list
-    found : (z : Drive) → Contains (drives d) z → (y : Bit × Place) × Contains (given d lowering) y × (y.0 ≡ z.bit)
-    found z has = by (Contains-append_cases (map (driven Free) (top_inputs d)) part_drives z has)
-      where
-        in_part : (k : ℕ) (s : Scope) (c : Construct) → Contains (enumerate_from 0 (parts d)) (k, (s, c)) → Contains (parts d) (s, c) → Contains (drives_at (s, c)) z
-            → ((y : Bit × Place) × Contains (given_at lowering (k, (s, c))) y × (y.0 ≡ z.bit)) ⊎ ((z.source ≡ Free) ⊎ (c ≡ BoxContents)) → (y : Bit × Place) × Contains (given d lowering) y × (y.0 ≡ z.bit)
-        in_part k s c there_k there_p here (inl y) = (y.0, Contains-append_right (inputs ++ pins) others y.0 (into_flat (given_at lowering) (enumerate_from 0 (parts d)) (k, (s, c)) y.0 there_k y.1), y.2)
-        in_part k s c there_k there_p here (inr (inl free)) =
-            let r = free_stored (s, c) z here free in
-            let inside : Contains (net_order d) r.0.bit = subst (Contains (net_order d)) (sym r.2) (All-contains (Contains (net_order d)) (driven_bits d) z.bit there.driven (contains-map (λ (u : Drive). u.bit) (drives d) z has)) in
-            let q = stored_register d r.0 (into_flat stored_at (parts d) (s, c) r.0 there_p r.1) inside in
-            let y = cut_found q.0.bit (Contains-append_right (top_inputs d) (map (λ r. r.bit) (registers d)) q.0.bit (contains-map (λ (r : RegisterBit). r.bit) (registers d) q.0 q.1)) in
-            (y.0, y.1, y.2 ∙ q.2 ∙ r.2)
-        in_part k s c there_k there_p here (inr (inr box)) = box_found s (wired.boxed s (subst (λ u. Contains (parts d) (s, u)) box there_p)) z (subst (λ u. Contains (drives_at (s, u)) z) box here)
-
-        by : Contains (map (driven Free) (top_inputs d)) z ⊎ Contains part_drives z → (y : Bit × Place) × Contains (given d lowering) y × (y.0 ≡ z.bit)
-        by (inl h) =
-            let b = from_map (driven Free) (top_inputs d) z h in
-            let y = cut_found b.0 (Contains-append_left (top_inputs d) (map (λ r. r.bit) (registers d)) b.0 b.1) in
-            (y.0, y.1, y.2 ∙ ap (λ (u : Drive). u.bit) b.2)
-        by (inr h) =
-            let p = from_flat drives_at (parts d) z h in
-            let k = numbered_there 0 (parts d) p.0 p.1 in
-            in_part k.0 p.0.0 p.0.1 k.1 p.1 p.2 (given_found k.0 p.0.0 p.0.1 k.1 z p.2)
+            (z.0, part_driven d p.0.1 (from_numbered 0 (parts d) p.0 p.1) z.0 z.1, z.2)
 
     -- each driven bit has what its source gives
     gives : (z : Drive) → Contains (drives d) z → SourceGives z.source z.bit (bit_in w z.bit)
     gives z has =
-        let y = found z has in
+        let y = found d lowering lowered wired there z has in
         let f = find_there (λ (u : Bit × Place). same_bit z.bit u.0) (given d lowering) y.0 y.1 (subst (λ b. same_bit z.bit b ≡ true) (sym y.2) (same_bit_self z.bit)) in
         let bit : z.bit ≡ f.0.0 = same_bit_is z.bit f.0.0 f.2 in
         let m = meets f.0 f.3 in
@@ -285,15 +194,15 @@ module _ (d : Design) (lowering : Lowering) (l : LooseList) (list : IsListOf d l
     pub has_vector : HasVector d x w
     unfolding SourceGives
     has_vector = record {
-      inputs = all_from _ (top_inputs d) (λ b has. gives (driven Free b) (top_driven b has) ∙ top_value b has);
-      states = all_from _ (registers d) (λ r has. gives (driven Free r.bit) (Contains-append_right (map (driven Free) (top_inputs d)) part_drives (driven Free r.bit) (state_driven r has)) ∙ state_value r has);
+      inputs = all_from _ (top_inputs d) (λ b has. gives (driven Free b) (top_driven d b has) ∙ top_value b has);
+      states = all_from _ (registers d) (λ r has. gives (driven Free r.bit) (Contains-append_right (map (driven Free) (top_inputs d)) part_drives (driven Free r.bit) (state_driven d r has)) ∙ state_value r has);
     }
 
 pub lists_give_worlds : ConstructsHoldBitByBit → ListsGiveWorlds
 lists_give_worlds law d lowering l allowed lowered list contents x bits fit value =
-    let wires = wired d allowed in
-    let in_design = bits_there d allowed in
+    let wires = wired d allowed.bounded in
+    let in_design = bits_there d allowed.bounded in
     let world_driven = driven_world d lowering l list lowered wires contents x bits value in_design (allowed.sound TwoDrivers) (allowed.sound Cycle) in (
-      (worlds_are_driven law d contents _ (ends d allowed) (shallow d allowed) (legal d allowed contents fit)).1 world_driven,
+      (worlds_are_driven law d contents _ (ends d allowed.bounded) allowed.bounded.shallow (legal d allowed.bounded contents fit)).1 world_driven,
       has_vector d lowering l list lowered wires contents x bits value in_design (allowed.sound TwoDrivers) (allowed.sound Cycle),
     )

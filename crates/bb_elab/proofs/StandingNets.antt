@@ -1,18 +1,16 @@
 -- A netlist that stands for a design has at its outputs what the cut outputs of the design have in every world.
-use Rattle.std.proofs.Common.{◌≡◌, ◌⊎◌, ℕ, ◌<◌, ◌≤◌, Bool, false, List, [], ◌∷◌, ◌++◌, map, flat_map, length, get_or, Contains, refl, sym, ap, ap₂, ◌∙◌, inl, inr, arith}
+use Rattle.std.proofs.Common.{◌≡◌, ℕ, ◌<◌, Bool, false, List, [], ◌∷◌, ◌++◌, map, flat_map, length, get_or, Contains, refl, sym, ap, ap₂, ◌∙◌, arith}
 use Rattle.std.specs.List.{enumerate_from, range_with_len}
-use Rattle.std.proofs.lemmas.List.{map-append, get_or-map, get_or_past}
+use Rattle.std.proofs.lemmas.List.{map-append, get_or-map}
 use Rattle.std.proofs.lemmas.List.Elements.{All-contains}
 use Rattle.std.proofs.lemmas.List.FromFn.{length-map-range_with_len, get_or-map-range_with_len}
 use Rattle.bb_bits.specs.Contents.{Contents, output_bit}
 use Rattle.bb_expr.specs.Laws.{ValuesHaveWidth, MadeHasValue}
-use Rattle.bb_net.specs.declared.cell.Cell.{Cell}
-use Rattle.bb_net.specs.declared.cell.Cell.TheVariants as cells
 use Rattle.bb_net.specs.Loose.{LooseList, IsLoose, IsLooseValue}
-use Rattle.bb_net.specs.Netlists.{Netlist, Pins, cell_at, box_at, IsOrdered, IsNetlist}
+use Rattle.bb_net.specs.Netlists.{box_at, IsNetlist}
 use Rattle.bb_net.specs.Orders.{renumbered, OrderKeepsValues}
 use Rattle.bb_net.specs.Pairs.{BoxTexts}
-use Rattle.bb_net.specs.Values.{bit_of, gate, value_of, IsValue}
+use Rattle.bb_net.specs.Values.{bit_of, value_of}
 use Rattle.bb_elab.specs.Flats.{FlatNet}
 use Rattle.bb_elab.specs.Hierarchy.{Design}
 use Rattle.bb_elab.specs.NetBits.{Bit, top_outputs}
@@ -24,8 +22,8 @@ use Rattle.bb_elab.specs.Refusals.{TwoDrivers, NoDriver, Cycle}
 use Rattle.bb_elab.specs.Registers.{RegisterBit, registers}
 use Rattle.bb_elab.specs.Stands.{box_number, box_texts, StandsFor}
 use Rattle.bb_elab.specs.Worlds.{World, Vector, HasVector, IsWorld, FitDesign, bit_in, next_bit, outputs_in}
-use Rattle.bb_elab.proofs.AllowedDesigns.{shallow, wired, ends, bits_there, legal, lists_are_loose}
-use Rattle.bb_elab.proofs.Firsts.{less_or_same}
+use Rattle.bb_elab.proofs.AllowedDesigns.{wired, ends, bits_there, legal, lists_are_loose}
+use Rattle.bb_elab.proofs.BoxValues.{ValuesExist, ValuesAreUnique, value_same}
 use Rattle.bb_elab.proofs.ListedData.{data_value}
 use Rattle.bb_elab.proofs.ListWorlds.{driven_world, has_vector}
 use Rattle.bb_elab.proofs.NextStates.{outputs_same, output_bits_in}
@@ -34,46 +32,6 @@ use Rattle.bb_elab.proofs.TopLaws.{contains_here, contains_there}
 use Rattle.bb_elab.proofs.WorldBits.{worlds_are_driven}
 use Rattle.bb_elab.proofs.WorldExists.{vectors_have_worlds}
 use Rattle.bb_elab.proofs.WorldLaws.{worlds_agree_where_read}
-
--- a netlist has one value
-abbrev pub ValuesExist : Type 0
-ValuesExist = (net : Netlist) (x : List Bool) (box : ℕ → ℕ → List Bool → Bool) → IsOrdered net → IsValue net x box (value_of net x box)
-
-abbrev pub ValuesAreUnique : Type 0
-ValuesAreUnique = (net : Netlist) (x : List Bool) (box : ℕ → ℕ → List Bool → Bool) (bits : List Bool) → IsOrdered net → IsValue net x box bits → bits ≡ value_of net x box
-
-module _ (exists : ValuesExist) (unique : ValuesAreUnique) (net : Netlist) (kept : IsNetlist net) (x : List Bool) (one other : ℕ → ℕ → List Bool → Bool)
-    (same : (b : ℕ) → b < length net.boxes → (p : ℕ) (ins : List Bool) → one b p ins ≡ other b p ins) where
-  gate_same : (value : ℕ → Bool) (place : ℕ) → place < length net.cells → (c : Cell) → cell_at net.cells place ≡ c → gate net.boxes x one value c ≡ gate net.boxes x other value c
-  gate_same value place fits (cells.Const b) e = refl
-  gate_same value place fits (cells.Input i) e = refl
-  gate_same value place fits (cells.Not a) e = refl
-  gate_same value place fits (cells.And a b) e = refl
-  gate_same value place fits (cells.Or a b) e = refl
-  gate_same value place fits (cells.Xor a b) e = refl
-  gate_same value place fits (cells.Mux c t f) e = refl
-  gate_same value place fits (cells.BoxOut b p) e = by (less_or_same b (length net.boxes))
-    where
-      pin : p < length (box_at net.boxes b).outs
-      pin = (kept.listed place b p fits e).0
-
-      past : length net.boxes ≤ b → one b p (map value (box_at net.boxes b).ins) ≡ other b p (map value (box_at net.boxes b).ins)
-      past h = let none : box_at net.boxes b ≡ record { ins = []; outs = [] } = get_or_past net.boxes b (record { ins = []; outs = [] }) h in absurd (omega (arith, pin, ap (λ (q : Pins). length q.outs) none))
-
-      by : (b < length net.boxes) ⊎ ((length net.boxes < b) ⊎ (b ≡ length net.boxes)) → one b p (map value (box_at net.boxes b).ins) ≡ other b p (map value (box_at net.boxes b).ins)
-      by (inl h) = same b h p (map value (box_at net.boxes b).ins)
-      by (inr (inl h)) = past (omega (arith, h))
-      by (inr (inr h)) = past (omega (arith, h))
-
-  -- the value goes by what its own boxes give
-  value_same : value_of net x one ≡ value_of net x other
-  value_same = unique net x other (value_of net x one) kept.ordered (record {
-    whole = is.whole;
-    each = λ place fits. is.each place fits ∙ gate_same (bit_of (value_of net x one)) place fits (cell_at net.cells place) refl;
-  })
-    where
-      is : IsValue net x one (value_of net x one)
-      is = exists net x one kept.ordered
 
 module _ (values : ValuesHaveWidth) (made : MadeHasValue) (bitwise : ConstructsHoldBitByBit) (keeps : OrderKeepsValues) (exists : ValuesExist) (unique : ValuesAreUnique)
     (d : Design) (f : FlatNet) (allowed : IsAllowed d) (kept : IsNetlist f.net) (stands : StandsFor d f) (contents : Contents) (x : Vector) (fit : FitDesign d contents) where
@@ -87,7 +45,7 @@ module _ (values : ValuesHaveWidth) (made : MadeHasValue) (bitwise : ConstructsH
   to = stands.ordered.to
 
   loose : IsLoose l
-  loose = lists_are_loose d stands.lowering l allowed stands.lowered stands.listed
+  loose = lists_are_loose d stands.lowering l allowed.bounded stands.lowered stands.listed
 
   -- the bits of the netlist, by the numbers that its boxes have in the list
   abbrev net_bits : List Bool
@@ -114,7 +72,7 @@ module _ (values : ValuesHaveWidth) (made : MadeHasValue) (bitwise : ConstructsH
   data_same : (all : List RegisterBit) → ((r : RegisterBit) → Contains all r → Contains (registers d) r)
       → map (bit_of bits) (map number (map (λ r. place_in (flat_map (data_at stands.lowering) (enumerate_from 0 (parts d))) r.bit) all)) ≡ map (next_bit list_world) all
   data_same [] sub = refl
-  data_same (r ∷ all) sub = ap₂ ◌∷◌ (data_value values made d stands.lowering l stands.listed stands.lowered (wired d allowed) contents x bits value r (sub r (contains_here r all))) (data_same all (λ q has. sub q (contains_there r all q has)))
+  data_same (r ∷ all) sub = ap₂ ◌∷◌ (data_value values made d stands.lowering l stands.listed stands.lowered (wired d allowed.bounded) contents x bits value r (sub r (contains_here r all))) (data_same all (λ q has. sub q (contains_there r all q has)))
 
   list_outs : map (bit_of bits) l.outs ≡ map (bit_in list_world) (top_outputs d) ++ map (next_bit list_world) (registers d)
   list_outs = ap (map (bit_of bits)) stands.listed.outs ∙ map-append (bit_of bits) (map (λ b. number (NetBit b)) (top_outputs d)) (map number (data_places d stands.lowering))
@@ -125,8 +83,8 @@ module _ (values : ValuesHaveWidth) (made : MadeHasValue) (bitwise : ConstructsH
   moved [] there = refl
   moved (k ∷ all) there = ap₂ ◌∷◌ (sym (bits_at k (there k (contains_here k all)))) (moved all (λ n has. there n (contains_there k all n has)))
 
-  box_same : (b : ℕ) → b < length f.net.boxes → (p : ℕ) (ins : List Bool) → renumbered stands.numbers (given_by_contents d contents) b p ins ≡ given_by_paths f contents b p ins
-  box_same b fits p ins =
+  box_same : (b : ℕ) → b < length f.net.boxes → (p : ℕ) → p < length (box_at f.net.boxes b).outs → (ins : List Bool) → length ins ≡ length (box_at f.net.boxes b).ins → renumbered stands.numbers (given_by_contents d contents) b p ins ≡ given_by_paths f contents b p ins
+  box_same b fits p pin ins long =
       let none : BoxTexts = record { path = []; ins = []; outs = [] } in
       let there : b < length stands.numbers = omega (arith, fits, stands.ordered.box_count, stands.ordered.number_count) in
       let text : get_or f.boxes b none ≡ box_texts d (box_number d (get_or stands.numbers b 0)) = ap (λ all. get_or all b none) stands.boxes ∙ get_or-map (λ b. box_texts d (box_number d b)) stands.numbers b 0 none there in
@@ -137,20 +95,20 @@ module _ (values : ValuesHaveWidth) (made : MadeHasValue) (bitwise : ConstructsH
       ∙ ap (map (bit_of net_bits)) stands.ordered.outs ∙ moved l.outs (λ k has. All-contains (λ place. place < length l.cells) l.outs k loose.outs_there has) ∙ list_outs
 
   list_driven : IsDrivenWorld d contents list_world
-  list_driven = driven_world d stands.lowering l stands.listed stands.lowered (wired d allowed) contents x bits value (bits_there d allowed) (allowed.sound TwoDrivers) (allowed.sound Cycle)
+  list_driven = driven_world d stands.lowering l stands.listed stands.lowered (wired d allowed.bounded) contents x bits value (bits_there d allowed.bounded) (allowed.sound TwoDrivers) (allowed.sound Cycle)
 
   list_vector : HasVector d x list_world
-  list_vector = has_vector d stands.lowering l stands.listed stands.lowered (wired d allowed) contents x bits value (bits_there d allowed) (allowed.sound TwoDrivers) (allowed.sound Cycle)
+  list_vector = has_vector d stands.lowering l stands.listed stands.lowered (wired d allowed.bounded) contents x bits value (bits_there d allowed.bounded) (allowed.sound TwoDrivers) (allowed.sound Cycle)
 
   some_world : (w : World) × IsWorld d contents w × HasVector d x w
   some_world =
       let w = vectors_have_worlds d contents x (allowed.sound TwoDrivers) (allowed.sound Cycle) in
-      (w.0, (worlds_are_driven bitwise d contents w.0 (ends d allowed) (shallow d allowed) (legal d allowed contents fit)).1 w.1, w.2)
+      (w.0, (worlds_are_driven bitwise d contents w.0 (ends d allowed.bounded) allowed.bounded.shallow (legal d allowed.bounded contents fit)).1 w.1, w.2)
 
   each_world : (w : World) → IsWorld d contents w → HasVector d x w → map (λ o. o.1) (outputs_in d w) ≡ map (bit_of (value_of f.net (vector_bits d x) (given_by_paths f contents))) f.net.outs
   each_world w is vector =
-      let driven = (worlds_are_driven bitwise d contents w (ends d allowed) (shallow d allowed) (legal d allowed contents fit)).0 is in
-      let agree = worlds_agree_where_read read_needs_read d contents x w list_world (bits_there d allowed) (allowed.sound NoDriver) (allowed.sound Cycle) driven list_driven vector list_vector in
+      let driven = (worlds_are_driven bitwise d contents w (ends d allowed.bounded) allowed.bounded.shallow (legal d allowed.bounded contents fit)).0 is in
+      let agree = worlds_agree_where_read read_needs_read d contents x w list_world (bits_there d allowed.bounded) (allowed.sound NoDriver) (allowed.sound Cycle) driven list_driven vector list_vector in
       output_bits_in d w ∙ outputs_same made d w list_world agree ∙ sym net_outs
 
 pub standing_nets_give_outputs : ValuesHaveWidth → MadeHasValue → ConstructsHoldBitByBit → OrderKeepsValues → ValuesExist → ValuesAreUnique → StandingNetsGiveOutputs

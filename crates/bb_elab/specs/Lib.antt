@@ -20,3 +20,5 @@ pub mod Stands
 pub mod Refusals
 pub mod Laws
 pub mod ListLaws
+pub mod ContentTables
+pub mod LoopLaws

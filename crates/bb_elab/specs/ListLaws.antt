@@ -12,22 +12,28 @@ use Rattle.bb_elab.specs.Flats.{FlatNet}
 use Rattle.bb_elab.specs.Hierarchy.{Design, top_of}
 use Rattle.bb_elab.specs.NetBits.{top_inputs}
 use Rattle.bb_elab.specs.Places.{NetBit, Numbering, Lowering, IsLowering, IsListOf}
-use Rattle.bb_elab.specs.Refusals.{IsSoundDesign, IsSoundText, design_on}
+use Rattle.bb_elab.specs.Refusals.{IsShallow, IsSmall, IsSoundDesign, IsSoundText, design_on}
 use Rattle.bb_elab.specs.Registers.{registers}
 use Rattle.bb_elab.specs.Stands.{box_number, StandsFor}
 use Rattle.bb_elab.specs.Texts.{path_text, bit_text}
 use Rattle.bb_elab.specs.Worlds.{World, Vector, TopInput, State, HasVector, IsWorld, FitDesign, outputs_in}
 
--- the design is one of a well-formed text without faults, and there is no cause to refuse it
-pub record IsAllowed (d : Design) : Type 0 where
+-- the design is one of a well-formed text without faults, and is neither too deep nor too large
+pub record IsBounded (d : Design) : Type 0 where
   pub formed : AllByRecursion IsFormed d.text
   pub faultless : IsSound d.text
   pub top : Contains d.text d.top
+  pub shallow : IsShallow d
+  pub small : IsSmall d
+
+-- and there is no other cause to refuse it
+pub record IsAllowed (d : Design) : Type 0 where
+  pub bounded : IsBounded d
   pub sound : IsSoundDesign d
 
 -- the list of cells of a design can be put in order: its places are there, and the pins of boxes are cells
 abbrev pub ListsAreLoose : Type 0
-ListsAreLoose = (d : Design) (lowering : Lowering) (l : LooseList) → IsAllowed d → IsLowering d lowering → IsListOf d lowering l → IsLoose l
+ListsAreLoose = (d : Design) (lowering : Lowering) (l : LooseList) → IsBounded d → IsLowering d lowering → IsListOf d lowering l → IsLoose l
 
 -- the bits of a vector, in the order of the inputs of a flat netlist
 abbrev pub vector_bits : Design → Vector → List Bool
@@ -47,9 +53,13 @@ ListsGiveWorlds = (d : Design) (lowering : Lowering) (l : LooseList) → IsAllow
     → (contents : Contents) (x : Vector) (bits : List Bool) → FitDesign d contents → IsLooseValue l (vector_bits d x) (given_by_contents d contents) bits
     → IsWorld d contents (world_at list.number bits) × HasVector d x (world_at list.number bits)
 
+-- the path of a box of a flat netlist
+abbrev pub path_of : FlatNet → ℕ → List ℕ
+path_of f b = (slice_index_or f.boxes b (record { path = []; ins = []; outs = [] })).path
+
 -- what the boxes of a flat netlist give, where each has the contents of its path
 abbrev pub given_by_paths : FlatNet → Contents → ℕ → ℕ → List Bool → Bool
-given_by_paths f contents b p ins = output_bit (contents (slice_index_or f.boxes b (record { path = []; ins = []; outs = [] })).path) ins p
+given_by_paths f contents b p ins = output_bit (contents (path_of f b)) ins p
 
 -- each vector and all contents have a world; and in every world of the vector the cut outputs have the bits that a netlist gives
 -- which stands for the design

@@ -7,6 +7,8 @@ mod fault;
 mod flat;
 pub mod laws;
 pub mod list_laws;
+pub mod loop_laws;
+pub mod table_laws;
 mod top;
 
 pub use elaborating::elaborate;
