@@ -7,6 +7,7 @@ mod events;
 mod examination;
 mod guide;
 mod outcome;
+mod scores;
 mod search;
 mod solver;
 mod start;

@@ -8,7 +8,7 @@ ghost use Rattle.bb_cdcl.specs.Events.{Comes};
 use crate::NoMemory;
 use crate::events::{Event, clause_at, event_of};
 use crate::examination::{Standing, examine, value};
-use crate::guide::{read, write};
+use crate::scores::{read, write};
 use crate::trail::{Entry, negation};
 use bb_cnf::Lit;
 use smallvec::SmallVec;
