@@ -3,6 +3,7 @@ pub mod ClockLemmas
 pub mod Decisions
 pub mod Firsts
 pub mod Loops
+pub mod PairExists
 pub mod PairLaws
 pub mod PairLemmas
 pub mod PickLemmas

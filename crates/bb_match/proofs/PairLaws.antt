@@ -13,9 +13,9 @@ use Rattle.bb_net.specs.Netlists.{Netlist, Pins, cell_at}
 use Rattle.bb_net.specs.Pairs.{NetPair}
 use Rattle.bb_net.specs.Rearrangements.{IsRearranged, new_place}
 use Rattle.bb_elab.specs.Flats.{FlatNet, IsFlat}
-use Rattle.bb_elab.specs.Worlds.{CutInput, TopInput, State, TopOutput, NextState}
+use Rattle.bb_elab.specs.Worlds.{TopInput, State, TopOutput, NextState}
 use Rattle.bb_match.specs.CutPoints.{register_texts, cut_inputs, cut_outputs}
-use Rattle.bb_match.specs.Refusals.{Fit, SpecInput, SpecRegister}
+use Rattle.bb_match.specs.Refusals.{AreAmong, Fit, SpecInput, SpecRegister}
 use Rattle.bb_match.specs.Pairing.{Picks, IsPairOf}
 use Rattle.bb_match.proofs.Firsts.{less_or_same}
 use Rattle.bb_match.proofs.PairLemmas.{input_count, inputs_below, same_inputs, mk_pair}
@@ -80,16 +80,22 @@ module _ {A : Type 0} (xs : List A) where
   picked_at (p ∷ ps) (v ∷ us) zero u a at = (p, refl, head_pick p ps v us a ∙ at)
   picked_at (p ∷ ps) (v ∷ us) (suc j) u a at = picked_at ps us j u (tail_picks p ps v us a) at
 
--- each input of the specification is an input of the implementation
-pub inputs_among : (spec imp : FlatNet) → Fit spec imp → All (Contains (cut_inputs imp)) (cut_inputs spec)
-inputs_among spec imp fit =
-    All-append (Contains (cut_inputs imp)) (map TopInput spec.ins) (map State (register_texts spec))
-    (All-map (Contains (cut_inputs imp)) TopInput spec.ins (All-weaker (Contains imp.ins) (λ n. Contains (cut_inputs imp) (TopInput n)) (λ n has. Contains-append_left (map TopInput imp.ins) (map State (register_texts imp)) (TopInput n) (mapped TopInput imp.ins n has)) spec.ins (fit SpecInput)))
-    (All-map (Contains (cut_inputs imp)) State (register_texts spec)
-    (All-weaker (Contains (register_texts imp)) (λ n. Contains (cut_inputs imp) (State n)) (λ n has. Contains-append_right (map TopInput imp.ins) (map State (register_texts imp)) (State n) (mapped State (register_texts imp) n has)) (register_texts spec) (fit SpecRegister)))
-  where
-    mapped : (f : List ℕ → CutInput) (ns : List (List ℕ)) (n : List ℕ) → Contains ns n → Contains (map f ns) (f n)
-    mapped f ns n has = (has.0, omega (arith, has.1, length-map ns f), get_or-map f ns has.0 n (f n) has.1 ∙ ap f has.2)
+-- inputs, or outputs, whose texts stand among those of another netlist stand among its
+
+mapped : {A : Type 0} (f : List ℕ → A) (ns : List (List ℕ)) (n : List ℕ) → Contains ns n → Contains (map f ns) (f n)
+mapped f ns n has = (has.0, omega (arith, has.1, length-map ns f), get_or-map f ns has.0 n (f n) has.1 ∙ ap f has.2)
+
+among_both : {A : Type 0} (f g : List ℕ → A) (ns ms others more : List (List ℕ)) → AreAmong ns others → AreAmong ms more → All (Contains (map f others ++ map g more)) (map f ns ++ map g ms)
+among_both f g ns ms others more a b =
+    let all = map f others ++ map g more in
+    All-append (Contains all) (map f ns) (map g ms) (All-map (Contains all) f ns (All-weaker (Contains others) (λ n. Contains all (f n)) (λ n has. Contains-append_left (map f others) (map g more) (f n) (mapped f others n has)) ns a))
+    (All-map (Contains all) g ms (All-weaker (Contains more) (λ n. Contains all (g n)) (λ n has. Contains-append_right (map f others) (map g more) (g n) (mapped g more n has)) ms b))
+
+pub inputs_among : (f g : FlatNet) → AreAmong f.ins g.ins → AreAmong (register_texts f) (register_texts g) → All (Contains (cut_inputs g)) (cut_inputs f)
+inputs_among f g = among_both TopInput State f.ins (register_texts f) g.ins (register_texts g)
+
+pub outputs_among : (f g : FlatNet) → AreAmong f.outs g.outs → AreAmong (register_texts f) (register_texts g) → All (Contains (cut_outputs g)) (cut_outputs f)
+outputs_among f g = among_both TopOutput NextState f.outs (register_texts f) g.outs (register_texts g)
 
 -- so each number is the number of an input
 pub number_found : (spec imp : FlatNet) (numbers : List ℕ) (i : ℕ) → IsFlat spec → Fit spec imp → Picks (cut_inputs spec) numbers (cut_inputs imp) → i < spec.net.inputs → (j : ℕ) × (slice_get numbers j ≡ Some i)
@@ -97,7 +103,7 @@ number_found spec imp numbers i flat fit picked lt =
     let within : i < length (cut_inputs spec) = omega (arith, lt, input_count spec flat) in
     let x = get_or (cut_inputs spec) i (TopInput []) in
     let here : slice_get (cut_inputs spec) i ≡ Some x = slice_get-get_or (cut_inputs spec) i (TopInput []) within in
-    let has : Contains (cut_inputs imp) x = inputs_among spec imp fit i (TopInput []) within in
+    let has : Contains (cut_inputs imp) x = inputs_among spec imp (fit SpecInput) (fit SpecRegister) i (TopInput []) within in
     let got = picked_at (cut_inputs spec) numbers (cut_inputs imp) has.0 x picked (slice_get-get_or (cut_inputs imp) has.0 x has.1 ∙ ap Some has.2) in
     (has.0, got.1 ∙ ap Some (one_place (cut_inputs spec) got.0 i x (inputs_apart spec flat) got.2 here))
 

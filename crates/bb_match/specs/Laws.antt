@@ -21,3 +21,7 @@ FitOrRefused = (spec imp : FlatNet) → Fit spec imp ⊎ ((fault : MatchFault) �
 -- two netlists have one pair at most
 abbrev pub PairsAreOne : Type 0
 PairsAreOne = (spec imp : FlatNet) (p q : NetPair) → IsFlat spec → IsFlat imp → IsPairOf spec imp p → IsPairOf spec imp q → p ≡ q
+
+-- two netlists that fit have a pair
+abbrev pub FittingHavePair : Type 0
+FittingHavePair = (spec imp : FlatNet) → IsFlat spec → IsFlat imp → Fit spec imp → (p : NetPair) × IsPairOf spec imp p

@@ -1,5 +1,5 @@
 //! The edges and clocks of registers.
-ghost use Rattle.std.specs.Prelude.{◌≡◌, ◌↔◌, All, Contains, IsTrue, IsSome, IfSome, IfNone, MatchBool, option_map};
+ghost use Rattle.std.specs.Prelude.{◌≡◌, ◌↔◌, All, IsTrue, IsSome, IfSome, IfNone, MatchBool, option_map};
 ghost use Rattle.bb_elab.specs.declared.flat.Reg.{Reg};
 ghost use Rattle.bb_elab.specs.Closures.{IsFirst};
 ghost use Rattle.bb_match.specs.CutPoints.{register_texts, clock_text};

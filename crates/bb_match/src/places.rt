@@ -1,7 +1,5 @@
 //! The places of texts in a list.
-ghost use Rattle.std.specs.Prelude.{◌≡◌, ◌≤◌, ◌<◌, ◌+◌, ◌++◌, ◌^◌, ℕ, List, length, map, IfOk, OnOk, IfSome, IfNone};
-ghost use Rattle.std.specs.Map.{lookup};
-ghost use Rattle.bb_bits.specs.Names.{same_name};
+ghost use Rattle.std.specs.Prelude.{◌≡◌, ◌<◌, ◌+◌, ◌++◌, ◌^◌, ℕ, List, length, map, IfOk, OnOk, IfSome, IfNone};
 ghost use Rattle.bb_match.specs.Places.{ArePlaces, place_of};
 ghost use Rattle.bb_match.specs.Refusals.{IsFirstMissing, AreAmong};
 
