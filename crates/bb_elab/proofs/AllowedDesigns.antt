@@ -33,7 +33,7 @@ use Rattle.bb_elab.proofs.NamedTops.{tops_are_meant}
 use Rattle.std.proofs.lemmas.Option.{same_Some}
 
 -- of all by recursion
-each_of : {A : Type 0} (P : A → Type 0) (xs : List A) → AllByRecursion P xs → (x : A) → Contains xs x → P x
+pub each_of : {A : Type 0} (P : A → Type 0) (xs : List A) → AllByRecursion P xs → (x : A) → Contains xs x → P x
 each_of P [] all x has = absurd (none_in_nil x has)
 each_of P (y ∷ ys) all x has = by (contains_cases y ys x has) (each_of P ys all.1 x)
   where

@@ -13,6 +13,7 @@ pub mod GivenDrives
 pub mod KnownNets
 pub mod Levels
 pub mod ListFronts
+pub mod ListNumbers
 pub mod ListValues
 pub mod ListWalks
 pub mod ListWorlds
@@ -39,6 +40,7 @@ pub mod TextLaws
 pub mod TopLaws
 pub mod TopLemmas
 pub mod WalkLemmas
+pub mod WalkLoops
 pub mod WalksByPlaces
 pub mod WorldBits
 pub mod WorldExists

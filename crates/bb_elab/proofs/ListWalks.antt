@@ -104,7 +104,7 @@ module _ (d : Design) (lowering : Lowering) (l : LooseList) (list : IsListOf d l
     shape = wired.gates s gate outs ins (part_there d lowering l list lowered wired k s (GateInstance gate outs ins) has)
 
     -- what an input is made of
-    abbrev input : ℕ → Term
+    abbrev pub input : ℕ → Term
     input n = term_at (nets_of s.source) (lowering k n).all (get_or (lowering k n).bits 0 0)
 
     input_walk : (n : ℕ) → n < length ins → (b : Bit) → Contains (bits_below s.path (input n)) b → WalkTo (terminal_place lowering k n) b
@@ -131,6 +131,9 @@ module _ (d : Design) (lowering : Lowering) (l : LooseList) (list : IsListOf d l
         let first = each 0 (omega arith) in
         ap₂ ◌++◌ (ap (λ u. (made_in s u (width_of s u)).bits) first.1 ∙ first.2 ∙ ap (λ n. input n ∷ []) (omega arith))
         (inputs_from (a + 1) es (λ i fits. let y = each (suc i) (omega (arith, fits)) in (y.0, y.1, y.2 ∙ ap (λ n. input n ∷ []) (omega arith))))
+
+    pub terminals_are : terminal_terms s ins ≡ map input (range_with_len 0 (length ins))
+    terminals_are = inputs_from 0 ins (λ i fits. let y = one_input i fits in (y.0, y.1, y.2 ∙ ap (λ n. input n ∷ []) (omega arith)))
 
     -- from an operator of the gate to what it joins
     two_walk : (x : ℕ) (p q : Place) (t u : Term) (b : Bit) (joins : LooseCell) → operands l.boxes joins ≡ list.number p ∷ list.number q ∷ [] → IsListed d lowering l list (Joined k x) joins
@@ -173,7 +176,7 @@ module _ (d : Design) (lowering : Lowering) (l : LooseList) (list : IsListOf d l
 
     -- from the place of a gate to each bit of which it is made
     pub gate_walk : (b : Bit) → Contains (bits_below s.path (gate_gives on_terms gate (terminal_terms s ins))) b → WalkTo (gate_place lowering gate k (length ins)) b
-    gate_walk b low = by (inverts gate) refl (subst (λ ts. Contains (bits_below s.path (gate_gives on_terms gate ts)) b) (inputs_from 0 ins (λ i fits. let y = one_input i fits in (y.0, y.1, y.2 ∙ ap (λ n. input n ∷ []) (omega arith)))) low)
+    gate_walk b low = by (inverts gate) refl (subst (λ ts. Contains (bits_below s.path (gate_gives on_terms gate ts)) b) terminals_are low)
       where
         inside : Term
         inside = joined on_terms gate (map input (range_with_len 0 (length ins)))
