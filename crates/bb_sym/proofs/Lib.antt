@@ -6,7 +6,9 @@ pub mod LeastVectors
 pub mod MadeLemmas
 pub mod NetLoop
 pub mod OutputLoop
+pub mod OutputParts
 pub mod PinLemmas
 pub mod PlainCells
+pub mod SomeWrong
 pub mod WrongOutputs
 pub mod WrongTables

@@ -28,25 +28,25 @@ behind (b ∷ x) w zero e = absurd (omega (arith, e))
 behind (b ∷ x) w (suc n) e = behind x w n (omega (arith, e))
 
 -- at inputs and pins, the function of an output says whether it is wrong
-wrong_bit : (spec imp : Netlist) (j : ℕ) (x z : List Bool) → length x ≡ imp.inputs → is_wrong spec imp j (x ++ (z ++ [])) ≡ xor (wanted_bit spec x j) (out_bit imp (flat imp x z) j)
+pub wrong_bit : (spec imp : Netlist) (j : ℕ) (x z : List Bool) → length x ≡ imp.inputs → is_wrong spec imp j (x ++ (z ++ [])) ≡ xor (wanted_bit spec x j) (out_bit imp (flat imp x z) j)
 wrong_bit spec imp j x z e =
     let first = front x (z ++ []) imp.inputs e in
     let rest = behind x (z ++ []) imp.inputs e ∙ append-nil z in
     ap₂ xor (ap (λ y. bit_of (flat spec y []) (slice_index spec.outs j)) first) (ap₂ (λ y w. bit_of (flat imp y w) (slice_index imp.outs j)) first rest)
 
-xor_differ : (a b : Bool) → xor a b ≡ true → b ≢ a
+pub xor_differ : (a b : Bool) → xor a b ≡ true → b ≢ a
 xor_differ true true e f = let g : false ≡ true = e in cc
 xor_differ false false e f = let g : false ≡ true = e in cc
 xor_differ true false e f = let g : false ≡ true = f in cc
 xor_differ false true e f = let g : true ≡ false = f in cc
 
-differ_xor : (a b : Bool) → (b ≢ a) → xor a b ≡ true
+pub differ_xor : (a b : Bool) → (b ≢ a) → xor a b ≡ true
 differ_xor true true h = absurd (h refl)
 differ_xor false false h = absurd (h refl)
 differ_xor true false h = refl
 differ_xor false true h = refl
 
-xor_same : (a b : Bool) → xor a b ≡ false → b ≡ a
+pub xor_same : (a b : Bool) → xor a b ≡ false → b ≡ a
 xor_same true true e = refl
 xor_same false false e = refl
 xor_same true false e = sym e

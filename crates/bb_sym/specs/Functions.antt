@@ -148,7 +148,7 @@ all_always_wrong spec imp = quantified_block ◌&&◌ imp.inputs (output_pins im
 
 abbrev pub output_functions : Netlist → Netlist → List Truth
 output_functions spec imp =
-    plain_functions spec imp
-    ++ tables (variable_count imp) (map (is_wrong spec imp) (outputs imp))
-    ++ tables (variable_count imp) (map (first_some_wrong spec imp) (outputs imp))
-    ++ for_all_pins imp (table (variable_count imp) (some_wrong spec imp (length imp.outs)))
+    plain_functions spec imp ++ (
+    tables (variable_count imp) (map (is_wrong spec imp) (outputs imp)) ++ (
+    tables (variable_count imp) (map (first_some_wrong spec imp) (outputs imp))
+    ++ for_all_pins imp (table (variable_count imp) (some_wrong spec imp (length imp.outs)))))
