@@ -1,6 +1,6 @@
 -- What a check tells: the least vector at which something is wrong, vectors being ordered as the numbers that they spell, the
 -- first input the most significant; and where it tells of an output, the first for which there is one.
-use Rattle.std.specs.Prelude.{◌≤◌, ◌<◌, ◌≡◌, ℕ, Bool, List, Option, Some, None}
+use Rattle.std.specs.Prelude.{◌≤◌, ◌<◌, ℕ, Bool, List}
 use Rattle.bb_bits.specs.Numbers.{number_of}
 use Rattle.bb_net.specs.Netlists.{Netlist}
 use Rattle.bb_net.specs.Agreement.{IsVector, AreBoxOutputs, IsOutput, IsRight}

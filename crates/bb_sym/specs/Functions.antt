@@ -101,33 +101,54 @@ symbolic_functions spec imp =
 abbrev pub variable_count : Netlist → ℕ
 variable_count imp = imp.inputs + output_pins imp.boxes
 
-abbrev pub wanted_bit : Netlist → ℕ → ℕ → Function
-wanted_bit spec inputs place = λ p. bit_of (flat spec (take inputs p) []) place
+abbrev pub spec_bit_at : Netlist → ℕ → ℕ → Function
+spec_bit_at spec inputs place = λ p. bit_of (flat spec (take inputs p) []) place
 
 abbrev pub imp_bit : Netlist → ℕ → Function
 imp_bit imp place = λ p. bit_of (flat imp (take imp.inputs p) (drop imp.inputs p)) place
 
 -- an output is wrong
 abbrev pub is_wrong : Netlist → Netlist → ℕ → Function
-is_wrong spec imp j = differ (wanted_bit spec imp.inputs (slice_index spec.outs j)) (imp_bit imp (slice_index imp.outs j))
+is_wrong spec imp j = differ (spec_bit_at spec imp.inputs (slice_index spec.outs j)) (imp_bit imp (slice_index imp.outs j))
 
 -- the variables and the bits of all cells
 abbrev pub plain_functions : Netlist → Netlist → List Truth
-plain_functions spec imp = variables (variable_count imp) ++ tables (variable_count imp) (map (wanted_bit spec imp.inputs) (places spec) ++ map (imp_bit imp) (places imp))
+plain_functions spec imp = variables (variable_count imp) ++ tables (variable_count imp) (map (spec_bit_at spec imp.inputs) (places spec) ++ map (imp_bit imp) (places imp))
 
--- a function, with the output pins of all boxes quantified by "for all", and with those from each pin on
+-- a function, with the variables from each of so many on quantified by "for all"
+abbrev pub quantified_pins : ℕ → ℕ → Truth → List Truth
+quantified_pins inputs pins t = map (λ k. quantified_block ◌&&◌ (inputs + k) (pins - k) t) (range_with_len 0 pins)
+
+-- the same for the output pins of all boxes
 abbrev pub for_all_pins : Netlist → Truth → List Truth
-for_all_pins imp t = map (λ k. quantified_block ◌&&◌ (imp.inputs + k) (output_pins imp.boxes - k) t) (range_with_len 0 (output_pins imp.boxes))
+for_all_pins imp t = quantified_pins imp.inputs (output_pins imp.boxes) t
+
+-- where an output is wrong, and that for all values of the pins
+abbrev pub wrong_for_all_pins : Netlist → Netlist → ℕ → List Truth
+wrong_for_all_pins spec imp j = let t = table (variable_count imp) (is_wrong spec imp j) in t ∷ for_all_pins imp t
+
+-- the last of them
+abbrev pub always_wrong : Netlist → Netlist → ℕ → Truth
+always_wrong spec imp j = quantified_block ◌&&◌ imp.inputs (output_pins imp.boxes) (table (variable_count imp) (is_wrong spec imp j))
 
 abbrev pub local_functions : Netlist → Netlist → List Truth
-local_functions spec imp = plain_functions spec imp ++ flat_map (λ j. let t = table (variable_count imp) (is_wrong spec imp j) in t ∷ for_all_pins imp t) (outputs imp)
+local_functions spec imp = plain_functions spec imp ++ flat_map (wrong_for_all_pins spec imp) (outputs imp)
 
 -- one of the first outputs is wrong
 abbrev pub some_wrong : Netlist → Netlist → ℕ → Function
 some_wrong spec imp count = λ p. list_any (λ j. is_wrong spec imp j p) (range_with_len 0 count)
 
+-- one of those up to an output is wrong
+abbrev pub first_some_wrong : Netlist → Netlist → ℕ → Function
+first_some_wrong spec imp j = some_wrong spec imp (j + 1)
+
+-- some output is wrong for all values of the pins
+abbrev pub all_always_wrong : Netlist → Netlist → Truth
+all_always_wrong spec imp = quantified_block ◌&&◌ imp.inputs (output_pins imp.boxes) (table (variable_count imp) (some_wrong spec imp (length imp.outs)))
+
 abbrev pub output_functions : Netlist → Netlist → List Truth
 output_functions spec imp =
-    plain_functions spec imp
-    ++ tables (variable_count imp) (map (is_wrong spec imp) (outputs imp) ++ map (λ j. some_wrong spec imp (j + 1)) (outputs imp))
-    ++ for_all_pins imp (table (variable_count imp) (some_wrong spec imp (length imp.outs)))
+    plain_functions spec imp ++ (
+    tables (variable_count imp) (map (is_wrong spec imp) (outputs imp)) ++ (
+    tables (variable_count imp) (map (first_some_wrong spec imp) (outputs imp))
+    ++ for_all_pins imp (table (variable_count imp) (some_wrong spec imp (length imp.outs)))))

@@ -1,2 +1,4 @@
-pub mod Functions
+pub mod Faults
 pub mod Finds
+pub mod Functions
+pub mod Made

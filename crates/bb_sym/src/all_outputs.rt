@@ -1,17 +1,27 @@
-//! Some output that is wrong whatever the boxes give, over all vectors.
+//! The least vector at which some output is wrong whatever the boxes give, which need not be the same output for all of it.
 
-ghost use Rattle.std.specs.Prelude.{◌≡◌, ◌≤◌, Some, None, IfOk, OnOk, IsErrOf, IfSome, IfNone};
+ghost use Rattle.std.specs.Prelude.{◌≡◌, ◌≤◌, ◌+◌, ◌++◌, ℕ, length, map, Some, None, IfOk, OnOk, IsErrOf, IfSome, IfNone};
 ghost use Rattle.bb_bits.specs.Truth.{IsBeadOfAny};
 ghost use Rattle.bb_bits.specs.TruthSets.{HasMoreThan};
 ghost use Rattle.bb_net.specs.Conditions.{HasAlwaysWrong, AllSometimesRight};
-ghost use Rattle.bb_sym.specs.Functions.{output_functions};
+ghost use Rattle.bb_net.specs.Values.{output_pins};
+ghost use Rattle.bb_sym.specs.Functions.{output_functions, all_always_wrong, is_wrong, some_wrong, first_some_wrong, outputs, table, tables};
 ghost use Rattle.bb_sym.specs.Finds.{IsLeastVector};
+ghost use Rattle.bb_sym.specs.Made.{Makes, AreTooMany, StandsFor, StandForAll};
 
+use crate::cells::{count_pins, plain_cells};
+use crate::differences::wrong_outputs;
+use crate::pins::for_all_pins;
 use crate::{Found, RungFault};
+use bb_bits::truth;
+use bb_dd::{Diagrams, Ref};
 use bb_net::Pair;
+use bb_quant::least;
+use bb_uniq::laws;
 use std::alloc::Global;
 
-/// The least vector at which, whatever the boxes give, some output is wrong, which need not be the same one for all of it.
+/// The least vector at which, whatever the boxes give, some output is wrong, which need not be the same one for all of it. No
+/// output is told.
 ///
 /// # Errors
 ///
@@ -30,8 +40,61 @@ pub fn output(
     ensures nodes { IsErrOf result RungFault.Nodes → HasMoreThan (IsBeadOfAny (output_functions pair.now.spec pair.now.imp)) nodes }
     ensures within { HasMoreThan (IsBeadOfAny (output_functions pair.now.spec pair.now.imp)) nodes → OnOk result ⊥ }
 {
-    let _ = alloc;
-    let _ = nodes;
-    let _ = cache;
-    Err(RungFault::NoMemory)
+    truth::quantifiers();
+    truth::sizes();
+    laws::sequences();
+    let inputs = pair.imp().inputs();
+    let pins = count_pins(pair.imp().boxes());
+    let mut d = Diagrams::start(alloc, inputs + pins, nodes, cache)?;
+    let wrong = output_diagram(alloc, &mut d, pair, inputs, pins)?;
+    d.is_canonical();
+    let mut point = vec![in alloc; false; (inputs + pins) as usize]?;
+    if !least(&d, wrong, true, 0, &mut point) {
+        return Ok(None);
+    }
+    point.truncate(inputs as usize);
+    Ok(Some(Found {
+        output: None,
+        input: point,
+    }))
+}
+
+/// Makes all functions of the check. The diagram is 1 where some output is wrong whatever the boxes give.
+fn output_diagram(
+    alloc: Global,
+    d: &mut Diagrams,
+    pair: &Pair,
+    inputs: u32,
+    pins: u32,
+) -> Result<Ref, RungFault>
+    requires inputs { inputs ≡ pair.now.imp.inputs }
+    requires pins { pins ≡ output_pins pair.now.imp.boxes }
+    requires vars { inputs + pins ≡ d.old.store.vars }
+    requires few { d.old.store.vars ≤ 2048 }
+    ensures result { IfOk result (StandsFor d.new.store (all_always_wrong pair.now.spec pair.now.imp)) }
+    ensures makes { OnOk result (Makes d.old.store d.new.store (output_functions pair.now.spec pair.now.imp)) }
+    ensures nodes { IsErrOf result RungFault.Nodes → AreTooMany d.old.store (output_functions pair.now.spec pair.now.imp) }
+{
+    let made = plain_cells(alloc, d, pair, inputs + pins)?;
+    let wrong = wrong_outputs(alloc, d, pair, &made)?;
+    let any = fold_or(d, pair, &wrong)?;
+    let r = for_all_pins(d, any, inputs, pins)?;
+    Ok(r)
+}
+
+/// The disjunction of the wrong outputs, the first with the second, that with the third, and so on.
+fn fold_or(d: &mut Diagrams, pair: &Pair, wrong: &[Ref]) -> Result<Ref, RungFault>
+    requires count { length wrong.now ≡ length pair.now.imp.outs }
+    requires wrong { StandForAll d.old.store (λ j. table d.old.store.vars (is_wrong pair.now.spec pair.now.imp j)) wrong.now }
+    ensures result { IfOk result (StandsFor d.new.store (table d.old.store.vars (some_wrong pair.now.spec pair.now.imp (length pair.now.imp.outs)))) }
+    ensures makes { OnOk result (Makes d.old.store d.new.store (tables d.old.store.vars (map (first_some_wrong pair.now.spec pair.now.imp) (outputs pair.now.imp)))) }
+    ensures nodes { IsErrOf result RungFault.Nodes → AreTooMany d.old.store (tables d.old.store.vars (map (first_some_wrong pair.now.spec pair.now.imp) (outputs pair.now.imp))) }
+{
+    laws::stores();
+    let _ = pair;
+    let mut any = Ref(0);
+    for f in wrong {
+        any = d.or(any, *f)?;
+    }
+    Ok(any)
 }

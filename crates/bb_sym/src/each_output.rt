@@ -1,14 +1,24 @@
-//! One output that is wrong whatever the boxes give, over all vectors.
+//! The first output that is wrong whatever the boxes give, at the least such vector.
 
-ghost use Rattle.std.specs.Prelude.{◌≡◌, ◌≤◌, ℕ, Some, IfOk, OnOk, IsErrOf, IfSome, IfNone};
+ghost use Rattle.std.specs.Prelude.{◌≡◌, ◌≤◌, ◌<◌, ◌+◌, ℕ, length, Some, IfOk, OnOk, IsErrOf, IfSome, IfNone};
+ghost use Rattle.std.specs.List.{flat_map};
 ghost use Rattle.bb_bits.specs.Truth.{IsBeadOfAny};
 ghost use Rattle.bb_bits.specs.TruthSets.{HasMoreThan};
 ghost use Rattle.bb_net.specs.Conditions.{IsAlwaysWrong, EachSometimesRight};
-ghost use Rattle.bb_sym.specs.Functions.{local_functions};
+ghost use Rattle.bb_net.specs.Values.{output_pins};
+ghost use Rattle.bb_sym.specs.Functions.{local_functions, always_wrong, wrong_for_all_pins, outputs};
 ghost use Rattle.bb_sym.specs.Finds.{IsFirstFound, IsSometimesRight};
+ghost use Rattle.bb_sym.specs.Made.{Makes, AreTooMany, StandsFor, StandForAll, HaveCells};
 
+use crate::cells::{PlainCells, count_pins, plain_cells};
+use crate::differences::wrong_output;
+use crate::pins::for_all_pins;
+use crate::searching::first_true;
 use crate::{Found, RungFault};
+use bb_bits::truth;
+use bb_dd::{Diagrams, Ref};
 use bb_net::Pair;
+use bb_uniq::laws;
 use std::alloc::Global;
 
 /// The first output that is wrong at some vector whatever the boxes give, and the least such vector.
@@ -25,8 +35,95 @@ pub fn local(alloc: Global, pair: &Pair, nodes: u32, cache: u32) -> Result<Optio
     ensures nodes { IsErrOf result RungFault.Nodes → HasMoreThan (IsBeadOfAny (local_functions pair.now.spec pair.now.imp)) nodes }
     ensures within { HasMoreThan (IsBeadOfAny (local_functions pair.now.spec pair.now.imp)) nodes → OnOk result ⊥ }
 {
-    let _ = alloc;
-    let _ = nodes;
-    let _ = cache;
-    Err(RungFault::NoMemory)
+    truth::quantifiers();
+    truth::sizes();
+    laws::sequences();
+    let inputs = pair.imp().inputs();
+    let pins = count_pins(pair.imp().boxes());
+    let mut d = Diagrams::start(alloc, inputs + pins, nodes, cache)?;
+    let wrong = local_diagrams(alloc, &mut d, pair, inputs, pins)?;
+    d.is_canonical();
+    let mut point = vec![in alloc; false; (inputs + pins) as usize]?;
+    match first_true(&d, &wrong, &mut point) {
+        Some(j) => {
+            point.truncate(inputs as usize);
+            Ok(Some(Found {
+                output: Some(j as u32),
+                input: point,
+            }))
+        }
+        None => Ok(None),
+    }
+}
+
+/// Makes all functions of the check. The diagrams are, output by output, 1 where it is wrong whatever the boxes give.
+fn local_diagrams(
+    alloc: Global,
+    d: &mut Diagrams,
+    pair: &Pair,
+    inputs: u32,
+    pins: u32,
+) -> Result<Vec<Ref>, RungFault>
+    requires inputs { inputs ≡ pair.now.imp.inputs }
+    requires pins { pins ≡ output_pins pair.now.imp.boxes }
+    requires vars { inputs + pins ≡ d.old.store.vars }
+    requires few { d.old.store.vars ≤ 2048 }
+    ensures refs { IfOk result (λ refs. (length refs.items ≡ length pair.now.imp.outs) × StandForAll d.new.store (always_wrong pair.now.spec pair.now.imp) refs.items) }
+    ensures makes { OnOk result (Makes d.old.store d.new.store (local_functions pair.now.spec pair.now.imp)) }
+    ensures nodes { IsErrOf result RungFault.Nodes → AreTooMany d.old.store (local_functions pair.now.spec pair.now.imp) }
+{
+    let made = plain_cells(alloc, d, pair, inputs + pins)?;
+    let refs = always_wrong_outputs(alloc, d, pair, &made, inputs, pins)?;
+    Ok(refs)
+}
+
+/// The diagrams that are 1 where an output is wrong whatever the boxes give, output by output.
+fn always_wrong_outputs(
+    alloc: Global,
+    d: &mut Diagrams,
+    pair: &Pair,
+    made: &PlainCells,
+    inputs: u32,
+    pins: u32,
+) -> Result<Vec<Ref>, RungFault>
+    requires made { HaveCells d.old.store pair.now.spec pair.now.imp made.now.spec.items made.now.imp.items }
+    requires inputs { inputs ≡ pair.now.imp.inputs }
+    requires pins { pins ≡ output_pins pair.now.imp.boxes }
+    requires vars { inputs + pins ≡ d.old.store.vars }
+    requires few { d.old.store.vars ≤ 2048 }
+    ensures refs { IfOk result (λ refs. (length refs.items ≡ length pair.now.imp.outs) × StandForAll d.new.store (always_wrong pair.now.spec pair.now.imp) refs.items) }
+    ensures makes { OnOk result (Makes d.old.store d.new.store (flat_map (wrong_for_all_pins pair.now.spec pair.now.imp) (outputs pair.now.imp))) }
+    ensures nodes { IsErrOf result RungFault.Nodes → AreTooMany d.old.store (flat_map (wrong_for_all_pins pair.now.spec pair.now.imp) (outputs pair.now.imp)) }
+{
+    let count = pair.imp().outs().len();
+    let mut refs = Vec::with_capacity(alloc, count)?;
+    for j in 0..count {
+        let r = always_wrong_output(d, pair, made, j, inputs, pins)?;
+        refs.push(r)?;
+    }
+    Ok(refs)
+}
+
+/// The diagram that is 1 where an output is wrong whatever the boxes give.
+fn always_wrong_output(
+    d: &mut Diagrams,
+    pair: &Pair,
+    made: &PlainCells,
+    j: usize,
+    inputs: u32,
+    pins: u32,
+) -> Result<Ref, RungFault>
+    requires made { HaveCells d.old.store pair.now.spec pair.now.imp made.now.spec.items made.now.imp.items }
+    requires j { j < length pair.now.imp.outs }
+    requires inputs { inputs ≡ pair.now.imp.inputs }
+    requires pins { pins ≡ output_pins pair.now.imp.boxes }
+    requires vars { inputs + pins ≡ d.old.store.vars }
+    requires few { d.old.store.vars ≤ 2048 }
+    ensures result { IfOk result (StandsFor d.new.store (always_wrong pair.now.spec pair.now.imp j)) }
+    ensures makes { OnOk result (Makes d.old.store d.new.store (wrong_for_all_pins pair.now.spec pair.now.imp j)) }
+    ensures nodes { IsErrOf result RungFault.Nodes → AreTooMany d.old.store (wrong_for_all_pins pair.now.spec pair.now.imp j) }
+{
+    let f = wrong_output(d, pair, made, j)?;
+    let r = for_all_pins(d, f, inputs, pins)?;
+    Ok(r)
 }

@@ -1,9 +1,51 @@
 //! Why a check gives no answer.
 
+ghost use Rattle.std.specs.Prelude.{◌≡◌};
+
+use bb_bits::NoMemory;
+use bb_dd::{DdFault, Ref};
+use std::alloc::AllocFailed;
+
 /// Why a check by diagrams gives no answer.
 #[derive(Clone, Copy, Debug, PartialEq, Eq)]
 pub enum RungFault {
     /// The functions of the check have more beads than it may hold.
     Nodes,
     NoMemory,
+}
+
+impl From<DdFault> for RungFault {
+    ghost use Rattle.std.specs.Prelude.{◌≡◌};
+    ghost use Rattle.bb_sym.specs.Faults.{fault_of};
+
+    ghost from_gives = { λ fault result. result ≡ fault_of fault };
+
+    fn from(fault: DdFault) -> RungFault {
+        match fault {
+            DdFault::Full => RungFault::Nodes,
+            DdFault::NoMemory => RungFault::NoMemory,
+        }
+    }
+}
+
+impl From<NoMemory> for RungFault {
+    ghost use Rattle.std.specs.Prelude.{◌≡◌};
+    ghost use Rattle.bb_sym.specs.declared.fault.RungFault.TheVariants as fault;
+
+    ghost from_gives = { λ _ e. e ≡ fault.NoMemory };
+
+    fn from(_: NoMemory) -> RungFault {
+        RungFault::NoMemory
+    }
+}
+
+impl From<AllocFailed<Ref>> for RungFault {
+    ghost use Rattle.std.specs.Prelude.{◌≡◌};
+    ghost use Rattle.bb_sym.specs.declared.fault.RungFault.TheVariants as fault;
+
+    ghost from_gives = { λ _ e. e ≡ fault.NoMemory };
+
+    fn from(_: AllocFailed<Ref>) -> RungFault {
+        RungFault::NoMemory
+    }
 }

@@ -2,9 +2,13 @@
 #![tactic(auto)]
 
 mod all_outputs;
+mod cells;
+mod differences;
 mod each_output;
 mod fault;
 mod found;
+mod pins;
+mod searching;
 mod unknown;
 
 pub use all_outputs::output;

@@ -1,0 +1,14 @@
+pub mod AlwaysWrong
+pub mod Budget
+pub mod CellTables
+pub mod FunctionTables
+pub mod LeastVectors
+pub mod MadeLemmas
+pub mod NetLoop
+pub mod OutputLoop
+pub mod OutputParts
+pub mod PinLemmas
+pub mod PlainCells
+pub mod SomeWrong
+pub mod WrongOutputs
+pub mod WrongTables

@@ -1,0 +1,62 @@
+-- What calls of the diagram operations leave in a store: the tables that they made, by their beads, and the Refs that stand for
+-- functions.
+use Rattle.std.specs.Prelude.{◌≡◌, ◌<◌, ◌↔◌, ◌⊎◌, ℕ, ◌+◌, ◌&&◌, ◌||◌, Bool, true, List, length, slice_index_or}
+use Rattle.bb_bits.specs.Bits.{xor}
+use Rattle.bb_bits.specs.Truth.{Truth, truth_at, IsBeadOfAny, constant, variable, complement, joined, chosen}
+use Rattle.bb_bits.specs.TruthSets.{HasMoreThan}
+use Rattle.bb_net.specs.declared.cell.Cell.{Cell}
+use Rattle.bb_net.specs.declared.cell.Cell.TheVariants.{Const, Input, Not, And, Or, Xor, Mux, BoxOut}
+use Rattle.bb_net.specs.Netlists.{Netlist}
+use Rattle.bb_sym.specs.Functions.{table, spec_bit_at, imp_bit}
+use Rattle.bb_uniq.specs.declared.store.Ref.{Ref}
+use Rattle.bb_uniq.specs.Nodes.{NodeStore, IsRef}
+use Rattle.bb_uniq.specs.Meaning.{truth_of, IsHeld, Keeps}
+
+-- the beads that are held, and those of further tables
+abbrev pub IsHeldWithAny : NodeStore → List Truth → Truth → Type 0
+IsHeldWithAny s ts b = IsHeld s b ⊎ IsBeadOfAny ts b
+
+-- every Ref is kept, and the beads held are those from before and those of the tables
+pub record Makes (old new : NodeStore) (ts : List Truth) : Type 0 where
+  pub kept : Keeps old new
+  pub beads : (b : Truth) → IsHeld new b ↔ IsHeldWithAny old ts b
+
+-- the beads held and those of the tables are more than the limit
+abbrev pub AreTooMany : NodeStore → List Truth → Type 0
+AreTooMany s ts = HasMoreThan (IsHeldWithAny s ts) s.limit
+
+-- a Ref with this table
+pub record StandsFor (s : NodeStore) (t : Truth) (r : Ref) : Type 0 where
+  pub ref : IsRef s r.0
+  pub table : truth_of s r.0 ≡ t
+
+-- the Ref at a place of a list; behind the last one counts the leaf false
+abbrev pub ref_at : List Ref → ℕ → Ref
+ref_at refs place = slice_index_or refs place (record { 0 = 0 })
+
+-- the Ref at each place has the table of that place
+abbrev pub StandForAll : NodeStore → (ℕ → Truth) → List Ref → Type 0
+StandForAll s t refs = (place : ℕ) → place < length refs → StandsFor s (t place) (ref_at refs place)
+
+-- the table of a cell over n variables, by those of the places that it reads; output pin p of box b is the variable at its
+-- box's first one and p
+abbrev pub cell_table : ℕ → List ℕ → (ℕ → Truth) → Cell → Truth
+cell_table n starts at (Const b) = constant n b
+cell_table n starts at (Input i) = variable n i
+cell_table n starts at (Not a) = complement (at a)
+cell_table n starts at (And a b) = joined ◌&&◌ (at a) (at b)
+cell_table n starts at (Or a b) = joined ◌||◌ (at a) (at b)
+cell_table n starts at (Xor a b) = joined xor (at a) (at b)
+cell_table n starts at (Mux c t e) = chosen (at c) (at t) (at e)
+cell_table n starts at (BoxOut b p) = variable n (slice_index_or starts b 0 + p)
+
+-- a table of n variables is 1 at no point
+abbrev pub IsNowhereTrue : ℕ → Truth → Type 0
+IsNowhereTrue n t = (point : List Bool) → length point ≡ n → truth_at t point ≡ true → ⊥
+
+-- Refs for the cells of both nets, by their places
+pub record HaveCells (s : NodeStore) (spec imp : Netlist) (of_spec of_imp : List Ref) : Type 0 where
+  pub spec_whole : length of_spec ≡ length spec.cells
+  pub imp_whole : length of_imp ≡ length imp.cells
+  pub spec_cells : StandForAll s (λ place. table s.vars (spec_bit_at spec imp.inputs place)) of_spec
+  pub imp_cells : StandForAll s (λ place. table s.vars (imp_bit imp place)) of_imp
