@@ -113,7 +113,7 @@ not_le m n none = from (less_or_not n m)
 
 -- cause by cause
 
-recursion : (d : Design) → IsAbsent d Recursion ⊎ ((n : List ℕ) × IsTold d Recursion n)
+pub recursion : (d : Design) → IsAbsent d Recursion ⊎ ((n : List ℕ) × IsTold d Recursion n)
 recursion d = from (first_or_none (IsRecursive d) (decide_recursive d) (map (λ m. m.name) d.text))
   where
     falls : ((n : List ℕ) → Contains (map (λ m. m.name) d.text) n → IsRecursive d n → ⊥) → (x : List ℕ × List ℕ) → Contains (instantiations d.text) x

@@ -17,7 +17,7 @@ use Rattle.bb_elab.proofs.SoundModules.{sound_texts_have_targets}
 use Rattle.bb_elab.proofs.TopLaws.{contains_here, contains_there, contains_cases, none_in_nil}
 
 -- an element with its place
-placed-at : {A : Type 0} (s : ℕ) (xs : List A) (x : ℕ × A) → Contains (enumerate_from s xs) x → (d : ℕ) × (x.0 ≡ s + d) × (slice_get xs d ≡ Some x.1)
+pub placed-at : {A : Type 0} (s : ℕ) (xs : List A) (x : ℕ × A) → Contains (enumerate_from s xs) x → (d : ℕ) × (x.0 ≡ s + d) × (slice_get xs d ≡ Some x.1)
 placed-at s [] x has = absurd (none_in_nil x has)
 placed-at s (y ∷ ys) x has = by (contains_cases (s, y) (enumerate_from (s + 1) ys) x has) (placed-at (s + 1) ys x)
   where
@@ -25,7 +25,7 @@ placed-at s (y ∷ ys) x has = by (contains_cases (s, y) (enumerate_from (s + 1)
     by (inl e) rest = let is : s ≡ x.0 = ap (λ z. z.0) e in (0, omega (arith, is), ap (λ z. Some z.1) e)
     by (inr more) rest = let r = rest more in (suc r.0, omega (arith, r.1), r.2)
 
-at-place : {A : Type 0} (s : ℕ) (xs : List A) (d : ℕ) (x : A) → slice_get xs d ≡ Some x → Contains (enumerate_from s xs) (s + d, x)
+pub at-place : {A : Type 0} (s : ℕ) (xs : List A) (d : ℕ) (x : A) → slice_get xs d ≡ Some x → Contains (enumerate_from s xs) (s + d, x)
 at-place s [] d x e = cc
 at-place s (y ∷ ys) zero x e =
     let is : y ≡ x = grind (arith, e) in
@@ -43,7 +43,7 @@ there : {A : Type 0} (xs : List A) (k : ℕ) (x : A) → slice_get xs k ≡ Some
 there xs k x e = let at = got xs k x x e in (k, at.0, at.1)
 
 -- a name of the text stands at a place
-named-at : (text : List PlainModule) (n : List ℕ) → Contains (map (λ m. m.name) text) n → (k : ℕ) × (m : PlainModule) × (slice_get text k ≡ Some m) × (m.name ≡ n)
+pub named-at : (text : List PlainModule) (n : List ℕ) → Contains (map (λ m. m.name) text) n → (k : ℕ) × (m : PlainModule) × (slice_get text k ≡ Some m) × (m.name ≡ n)
 named-at [] n has = absurd (none_in_nil n has)
 named-at (m ∷ ms) n has = by (contains_cases m.name (map (λ x. x.name) ms) n has) (named-at ms n)
   where

@@ -1,4 +1,5 @@
 pub mod Callees
+pub mod Recursions
 pub mod Closures
 pub mod Hierarchy
 pub mod HierarchyLaws

@@ -10,6 +10,7 @@ ghost use Rattle.bb_elab.specs.Stands.{StandsForText};
 use crate::callees::callees_of;
 use crate::fault::ElabFault;
 use crate::flat::Flat;
+use crate::recursion::recursive_module;
 use crate::top::place_of_top;
 use bb_expr::Checked;
 use std::alloc::Global;
@@ -31,7 +32,9 @@ pub fn elaborate(alloc: Global, checked: &Checked, top: Option<&[u8]>) -> Result
     let Some(top) = place_of_top(alloc, checked, top)? else {
         return Err(ElabFault::NoTop);
     };
-    let callees = callees_of(alloc, checked)?;
-    let _ = (top, callees);
+    let mut callees = callees_of(alloc, checked)?;
+    if let Some(name) = recursive_module(alloc, checked, &mut callees, top)? {
+        return Err(ElabFault::Recursive { name });
+    }
     Err(ElabFault::NoMemory)
 }

@@ -8,6 +8,7 @@ mod flat;
 pub mod laws;
 pub mod list_laws;
 pub mod loop_laws;
+mod recursion;
 pub mod table_laws;
 mod top;
 
