@@ -1,4 +1,5 @@
-//! What guides the search: scores of variables, their last bits, and the levels of the trail. No answer depends on it.
+//! What guides the search: scores of variables, their last bits, and the levels of the trail. It may change which model or
+//! refutation is found, and never that one is.
 
 use crate::NoMemory;
 use crate::scores::{Scores, read, write};

@@ -35,8 +35,8 @@ tables_give_values exists unique chosen f contents tables x kept are = value_sam
     sym (ap (λ rows. output_bit rows ins p) (are.rows b fits) ∙ chosen (table_at tables b) ins p (long ∙ sym (are.fit.inputs b fits)) (omega (arith, pin, are.fit.outputs b fits))))
 
 pub tables_give_outputs : StandingNetsGiveOutputs → TablesGiveValues → TablesGiveOutputs
-tables_give_outputs outputs values d f allowed kept stands contents tables fit are x w is vector =
-    (outputs d f allowed kept stands contents x fit).1 w is vector ∙ ap (λ all. map (bit_of all) f.net.outs) (sym (values f contents tables (vector_bits d x) kept are))
+tables_give_outputs outputs values d f allowed stands contents tables fit are x w is vector =
+    (outputs d f allowed stands contents x fit).1 w is vector ∙ ap (λ all. map (bit_of all) f.net.outs) (sym (values f contents tables (vector_bits d x) stands.netlist are))
 
 -- a list with an element for each number
 listed_all : {A : Type 0} (P : ℕ → A → Type 0) (a n : ℕ) → ((k : ℕ) → a ≤ k → k < a + n → (t : A) × P k t) → (ts : List A) × (length ts ≡ n) × ((k : ℕ) → k < n → (e : A) → P (a + k) (get_or ts k e))

@@ -1,5 +1,5 @@
 -- Recursive modules by their places are recursive by their names, in a text without faults.
-use Rattle.std.proofs.Common.{◌≡◌, ◌≢◌, ◌⊎◌, ℕ, ◌+◌, ◌*◌, ◌<◌, ◌≤◌, ◌^◌, zero, suc, List, [], ◌∷◌, ◌++◌, map, length, take, drop, get_or, All, AllPairs, Contains, Option, Some, None, refl, sym, ap, ◌∙◌, subst, inl, inr, arith}
+use Rattle.std.proofs.Common.{◌≡◌, ◌⊎◌, ℕ, ◌+◌, ◌<◌, ◌≤◌, zero, suc, List, [], ◌∷◌, ◌++◌, map, length, take, drop, All, Contains, Option, Some, refl, sym, ap, ◌∙◌, subst, inl, inr, arith}
 use Rattle.std.specs.Prelude.{slice_get, sum_by}
 use Rattle.std.specs.List.{enumerate_from, flat_map}
 use Rattle.std.proofs.lemmas.Grind.{common_steps}
@@ -9,8 +9,8 @@ use Rattle.bb_ast.specs.Syntax.{PlainModule}
 use Rattle.bb_expr.specs.Faults.{IsSound}
 use Rattle.bb_elab.specs.declared.fault.ElabFault.TheVariants as faults
 use Rattle.bb_elab.specs.Callees.{callees, calls, place_named}
-use Rattle.bb_elab.specs.Closures.{Leads, IsFirst}
-use Rattle.bb_elab.specs.Hierarchy.{Design, Instance, instances_of, instantiations, top_of}
+use Rattle.bb_elab.specs.Closures.{Leads}
+use Rattle.bb_elab.specs.Hierarchy.{Instance, instances_of, top_of}
 use Rattle.bb_elab.specs.Recursions.{place_steps, ArePlacesThere, IsReachedAt, IsRecursiveAt, IsFirstRecursive}
 use Rattle.bb_elab.specs.Refusals.{IsReached, IsRecursive, Recursion, IsTold, IsAbsent, design_on, IsFirstRefusal}
 use Rattle.bb_elab.proofs.CalleeLaw.{got, got-map, place-holds, from_filter}

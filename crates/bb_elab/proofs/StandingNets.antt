@@ -7,7 +7,7 @@ use Rattle.std.proofs.lemmas.List.FromFn.{length-map-range_with_len, get_or-map-
 use Rattle.bb_bits.specs.Contents.{Contents, output_bit}
 use Rattle.bb_expr.specs.Laws.{ValuesHaveWidth, MadeHasValue}
 use Rattle.bb_net.specs.Loose.{LooseList, IsLoose, IsLooseValue}
-use Rattle.bb_net.specs.Netlists.{box_at, IsNetlist}
+use Rattle.bb_net.specs.Netlists.{box_at}
 use Rattle.bb_net.specs.Orders.{renumbered, OrderKeepsValues}
 use Rattle.bb_net.specs.Pairs.{BoxTexts}
 use Rattle.bb_net.specs.Values.{bit_of, value_of}
@@ -34,7 +34,7 @@ use Rattle.bb_elab.proofs.WorldExists.{vectors_have_worlds}
 use Rattle.bb_elab.proofs.WorldLaws.{worlds_agree_where_read}
 
 module _ (values : ValuesHaveWidth) (made : MadeHasValue) (bitwise : ConstructsHoldBitByBit) (keeps : OrderKeepsValues) (exists : ValuesExist) (unique : ValuesAreUnique)
-    (d : Design) (f : FlatNet) (allowed : IsAllowed d) (kept : IsNetlist f.net) (stands : StandsFor d f) (contents : Contents) (x : Vector) (fit : FitDesign d contents) where
+    (d : Design) (f : FlatNet) (allowed : IsAllowed d) (stands : StandsFor d f) (contents : Contents) (x : Vector) (fit : FitDesign d contents) where
   abbrev l : LooseList
   l = stands.cells
 
@@ -59,7 +59,7 @@ module _ (values : ValuesHaveWidth) (made : MadeHasValue) (bitwise : ConstructsH
   bits_at k fits = get_or-map-range_with_len (λ k. bit_of net_bits (to k)) 0 (length l.cells) k k false fits (omega arith)
 
   value : IsLooseValue l (vector_bits d x) (given_by_contents d contents) bits
-  value = (keeps l f.net stands.numbers loose kept stands.ordered (vector_bits d x) (given_by_contents d contents) bits (length-map-range_with_len (λ k. bit_of net_bits (to k)) 0 (length l.cells))).1 bits_at
+  value = (keeps l f.net stands.numbers loose stands.netlist stands.ordered (vector_bits d x) (given_by_contents d contents) bits (length-map-range_with_len (λ k. bit_of net_bits (to k)) 0 (length l.cells))).1 bits_at
 
   abbrev list_world : World
   list_world = world_at number bits
@@ -91,7 +91,7 @@ module _ (values : ValuesHaveWidth) (made : MadeHasValue) (bitwise : ConstructsH
       ap (λ (t : BoxTexts). output_bit (contents t.path) ins p) (sym text)
 
   net_outs : map (bit_of (value_of f.net (vector_bits d x) (given_by_paths f contents))) f.net.outs ≡ map (bit_in list_world) (top_outputs d) ++ map (next_bit list_world) (registers d)
-  net_outs = ap (λ all. map (bit_of all) f.net.outs) (sym (value_same exists unique f.net kept (vector_bits d x) (renumbered stands.numbers (given_by_contents d contents)) (given_by_paths f contents) box_same))
+  net_outs = ap (λ all. map (bit_of all) f.net.outs) (sym (value_same exists unique f.net stands.netlist (vector_bits d x) (renumbered stands.numbers (given_by_contents d contents)) (given_by_paths f contents) box_same))
       ∙ ap (map (bit_of net_bits)) stands.ordered.outs ∙ moved l.outs (λ k has. All-contains (λ place. place < length l.cells) l.outs k loose.outs_there has) ∙ list_outs
 
   list_driven : IsDrivenWorld d contents list_world
@@ -112,13 +112,13 @@ module _ (values : ValuesHaveWidth) (made : MadeHasValue) (bitwise : ConstructsH
       output_bits_in d w ∙ outputs_same made d w list_world agree ∙ sym net_outs
 
 pub standing_nets_give_outputs : ValuesHaveWidth → MadeHasValue → ConstructsHoldBitByBit → OrderKeepsValues → ValuesExist → ValuesAreUnique → StandingNetsGiveOutputs
-standing_nets_give_outputs values made bitwise keeps exists unique d f allowed kept stands contents x fit = (
-  some_world values made bitwise keeps exists unique d f allowed kept stands contents x fit,
-  each_world values made bitwise keeps exists unique d f allowed kept stands contents x fit,
+standing_nets_give_outputs values made bitwise keeps exists unique d f allowed stands contents x fit = (
+  some_world values made bitwise keeps exists unique d f allowed stands contents x fit,
+  each_world values made bitwise keeps exists unique d f allowed stands contents x fit,
 )
 
 pub standing_nets_agree : StandingNetsGiveOutputs → StandingNetsAgree
-standing_nets_agree law d f g allowed kept_f kept_g stands_f stands_g contents x fit =
-    let first = law d f allowed kept_f stands_f contents x fit in
+standing_nets_agree law d f g allowed stands_f stands_g contents x fit =
+    let first = law d f allowed stands_f contents x fit in
     let w = first.0 in
-    sym (first.1 w.0 w.1 w.2) ∙ (law d g allowed kept_g stands_g contents x fit).1 w.0 w.1 w.2
+    sym (first.1 w.0 w.1 w.2) ∙ (law d g allowed stands_g contents x fit).1 w.0 w.1 w.2

@@ -32,5 +32,5 @@ TablesHaveContents = (d : Design) (f : FlatNet) → AreApart (box_paths d) → S
 
 -- in each world of a vector the cut outputs have the bits that the netlist gives by the tables of the contents
 abbrev pub TablesGiveOutputs : Type 0
-TablesGiveOutputs = (d : Design) (f : FlatNet) → IsAllowed d → IsNetlist f.net → StandsFor d f → (contents : Contents) (tables : List TableBits) → FitDesign d contents → AreTablesOf f contents tables
+TablesGiveOutputs = (d : Design) (f : FlatNet) → IsAllowed d → StandsFor d f → (contents : Contents) (tables : List TableBits) → FitDesign d contents → AreTablesOf f contents tables
     → (x : Vector) (w : World) → IsWorld d contents w → HasVector d x w → map (λ o. o.1) (outputs_in d w) ≡ map (bit_of (flat_with f.net (vector_bits d x) tables)) f.net.outs

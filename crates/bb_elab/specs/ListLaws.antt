@@ -6,7 +6,6 @@ use Rattle.bb_ast.specs.Syntax.{PlainModule}
 use Rattle.bb_bits.specs.Contents.{Contents, output_bit}
 use Rattle.bb_expr.specs.Faults.{IsSound}
 use Rattle.bb_net.specs.Loose.{LooseList, IsLoose, IsLooseValue}
-use Rattle.bb_net.specs.Netlists.{IsNetlist}
 use Rattle.bb_net.specs.Values.{bit_of, value_of}
 use Rattle.bb_elab.specs.Flats.{FlatNet}
 use Rattle.bb_elab.specs.Hierarchy.{Design, top_of}
@@ -64,13 +63,13 @@ given_by_paths f contents b p ins = output_bit (contents (path_of f b)) ins p
 -- each vector and all contents have a world; and in every world of the vector the cut outputs have the bits that a netlist gives
 -- which stands for the design
 abbrev pub StandingNetsGiveOutputs : Type 0
-StandingNetsGiveOutputs = (d : Design) (f : FlatNet) → IsAllowed d → IsNetlist f.net → StandsFor d f → (contents : Contents) (x : Vector) → FitDesign d contents
+StandingNetsGiveOutputs = (d : Design) (f : FlatNet) → IsAllowed d → StandsFor d f → (contents : Contents) (x : Vector) → FitDesign d contents
     → ((w : World) × IsWorld d contents w × HasVector d x w)
     × ((w : World) → IsWorld d contents w → HasVector d x w → map (λ o. o.1) (outputs_in d w) ≡ map (bit_of (value_of f.net (vector_bits d x) (given_by_paths f contents))) f.net.outs)
 
 -- so two netlists that stand for one design have the same bits at their outputs
 abbrev pub StandingNetsAgree : Type 0
-StandingNetsAgree = (d : Design) (f g : FlatNet) → IsAllowed d → IsNetlist f.net → IsNetlist g.net → StandsFor d f → StandsFor d g → (contents : Contents) (x : Vector) → FitDesign d contents
+StandingNetsAgree = (d : Design) (f g : FlatNet) → IsAllowed d → StandsFor d f → StandsFor d g → (contents : Contents) (x : Vector) → FitDesign d contents
     → map (bit_of (value_of f.net (vector_bits d x) (given_by_paths f contents))) f.net.outs ≡ map (bit_of (value_of g.net (vector_bits d x) (given_by_paths g contents))) g.net.outs
 
 -- a sound text without faults has a design that is allowed

@@ -4,6 +4,7 @@ use Rattle.std.specs.Prelude.{◌≡◌, ◌⊎◌, ℕ, List, [], ◌∷◌, ma
 use Rattle.std.specs.List.{AllZip}
 use Rattle.bb_ast.specs.Syntax.{PlainModule}
 use Rattle.bb_net.specs.Loose.{LooseList}
+use Rattle.bb_net.specs.Netlists.{IsNetlist}
 use Rattle.bb_net.specs.Orders.{IsOrderOf}
 use Rattle.bb_net.specs.Pairs.{BoxTexts}
 use Rattle.bb_elab.specs.declared.flat.Reg.{Reg}
@@ -39,6 +40,7 @@ abbrev pub box_number : Design → ℕ → Scope
 box_number d b = slice_index_or (boxes d) b (root d)
 
 pub record StandsFor (d : Design) (f : FlatNet) : Type 0 where
+  pub netlist : IsNetlist f.net
   pub lowering : Lowering
   pub lowered : IsLowering d lowering
   pub cells : LooseList
