@@ -1,5 +1,4 @@
-//! What guides the search: scores of variables, their last bits, and the levels of the trail. It may change which model or
-//! refutation is found, and never that one is.
+//! What guides the search: scores of variables, their last bits, and the levels of the trail. No answer depends on it.
 
 use crate::NoMemory;
 use crate::scores::{Scores, read, write};

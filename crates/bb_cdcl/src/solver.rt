@@ -1,4 +1,4 @@
-//! The search from its first state to an answer, with nothing asked of the formula.
+//! The call.
 
 ghost use Rattle.std.specs.Prelude.{IfOk, ◌↔◌};
 ghost use Rattle.bb_cnf.specs.Clauses.{lists_of, IsWithin};

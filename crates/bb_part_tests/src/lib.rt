@@ -1,10 +1,8 @@
-//! Tests of tables, nets, diagrams, checks by diagrams, clauses and the solver, through the public calls of their crates.
+//! Tests of tables, nets, diagrams, clauses and the solver, through the public calls of their crates.
 #![tactic(auto)]
 
 #[cfg(test)]
 mod clause_tests;
-#[cfg(test)]
-mod diagram_check_tests;
 #[cfg(test)]
 mod diagram_tests;
 #[cfg(test)]
