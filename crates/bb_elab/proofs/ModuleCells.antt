@@ -1,14 +1,14 @@
 -- Modules taken as cells: walks among the cells are walks among the modules, and the list can be put in order or has a loop.
-use Rattle.std.proofs.Common.{◌≡◌, ◌⊎◌, ℕ, ◌+◌, ◌<◌, ◌≤◌, ◌^◌, zero, suc, Bool, true, false, List, [], ◌∷◌, map, length, take, get_or, All, Contains, refl, sym, ap, ◌∙◌, subst, inl, inr, arith}
+use Rattle.std.proofs.Common.{◌≡◌, ◌⊎◌, ℕ, ◌+◌, ◌<◌, ◌≤◌, zero, suc, Bool, true, false, List, [], ◌∷◌, map, length, All, Contains, refl, sym, ap, ◌∙◌, subst, inl, inr, arith}
 use Rattle.std.specs.Prelude.{slice_get, slice_index, Some}
-use Rattle.std.specs.List.{enumerate_from, flat_map, range_with_len, slice_index_or}
+use Rattle.std.specs.List.{enumerate_from, slice_index_or}
 use Rattle.std.proofs.lemmas.List.{get_or-map, get_or_past, length-map}
 use Rattle.std.proofs.lemmas.List.Elements.{All-contains}
 use Rattle.std.proofs.lemmas.List.FromFn.{get_or-enumerate_from, length-enumerate_from, get_or-map-range_with_len, length-map-range_with_len}
 use Rattle.std.proofs.lemmas.Option.{get_or_from_slice_get, slice_get-get_or, slice_get_within}
 use Rattle.bb_net.specs.declared.loose.LooseCell.{LooseCell}
 use Rattle.bb_net.specs.declared.loose.LooseCell.TheVariants.{Const, Input, BoxOut}
-use Rattle.bb_net.specs.Loose.{LooseList, loose_at, operands, IsLoose, Reaches}
+use Rattle.bb_net.specs.Loose.{loose_at, operands, IsLoose, Reaches}
 use Rattle.bb_net.specs.Netlists.{Pins, box_at, IsPinAt}
 use Rattle.bb_elab.specs.Closures.{Leads, One, More}
 use Rattle.bb_elab.specs.Recursions.{place_steps, ArePlacesThere, module_pins, module_list}
@@ -18,7 +18,7 @@ use Rattle.bb_elab.proofs.ReadingLaw.{into_flat}
 use Rattle.bb_elab.proofs.TopLaws.{none_in_nil}
 use Rattle.bb_elab.proofs.WalksByPlaces.{placed-at, at-place}
 
-less_or_past : (k n : ℕ) → (k < n) ⊎ (n ≤ k)
+pub less_or_past : (k n : ℕ) → (k < n) ⊎ (n ≤ k)
 less_or_past k zero = inr (omega arith)
 less_or_past zero (suc n) = inl (omega arith)
 less_or_past (suc k) (suc n) = from (less_or_past k n)

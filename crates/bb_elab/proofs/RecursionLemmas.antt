@@ -1,7 +1,7 @@
 -- Which modules are recursive is told by loops among the cells of those that the top reaches.
-use Rattle.std.proofs.Common.{◌≡◌, ◌⊎◌, ℕ, ◌+◌, ◌<◌, ◌||◌, ◌==◌, zero, suc, Bool, true, false, List, [], ◌∷◌, ◌++◌, map, length, get_or, All, Contains, refl, sym, ap, ◌∙◌, subst, inl, inr, arith, if◌then◌else◌, true≢false}
+use Rattle.std.proofs.Common.{◌≡◌, ◌⊎◌, ℕ, ◌+◌, ◌<◌, ◌||◌, ◌==◌, zero, suc, Bool, true, false, List, [], length, get_or, All, Contains, refl, sym, ap, ◌∙◌, subst, inl, inr, arith, if◌then◌else◌, true≢false}
 use Rattle.std.specs.Bool.{Decides}
-use Rattle.std.specs.List.{enumerate_from, slice_index_or}
+use Rattle.std.specs.List.{enumerate_from}
 use Rattle.std.proofs.lemmas.List.{get_or-map, length-map}
 use Rattle.std.proofs.lemmas.List.Elements.{All-contains, All-from_get_or}
 use Rattle.std.proofs.lemmas.List.FromFn.{get_or-enumerate_from, length-enumerate_from}
@@ -10,7 +10,7 @@ use Rattle.bb_net.specs.Values.{bit_of}
 use Rattle.bb_elab.specs.Closures.{Leads, One, More}
 use Rattle.bb_elab.specs.Recursions.{place_steps, ArePlacesThere, IsReachedAt, IsRecursiveAt, IsFirstRecursive, module_list, kept_lists}
 use Rattle.bb_elab.proofs.CauseDecisions.{all_from}
-use Rattle.bb_elab.proofs.ModuleCells.{called_at, cells_long, modules_are_loose, step_from, step_to, walk_from, walk_to}
+use Rattle.bb_elab.proofs.ModuleCells.{cells_long, modules_are_loose, step_from, step_to, walk_from, walk_to}
 use Rattle.bb_elab.proofs.TopLaws.{none_in_nil}
 use Rattle.bb_elab.proofs.WalkLemmas.{more_behind}
 

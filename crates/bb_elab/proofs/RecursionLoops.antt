@@ -1,9 +1,8 @@
 -- Loops over the lists of modules.
-use Rattle.std.proofs.Common.{◌≡◌, ◌≢◌, ◌⊎◌, ◌+◌, ◌<◌, ◌≤◌, ◌^◌, ◌||◌, ◌==◌, ℕ, zero, suc, Bool, List, [], ◌∷◌, ◌++◌, All, map, take, length, get_or, set, refl, sym, ap, subst, ◌∙◌, inl, inr, arith, Vec, Global, if◌then◌else◌, get_or-set_same, get_or-set_other}
+use Rattle.std.proofs.Common.{◌≡◌, ◌≢◌, ◌+◌, ◌<◌, ◌≤◌, ◌^◌, ◌||◌, ◌==◌, ℕ, Bool, List, [], ◌∷◌, ◌++◌, All, map, take, length, get_or, set, sym, ap, subst, ◌∙◌, inl, inr, arith, Vec, Global, if◌then◌else◌, get_or-set_same, get_or-set_other}
 use Rattle.std.specs.List.{enumerate_from}
 use Rattle.std.proofs.lemmas.Bool.{cases_eq}
 use Rattle.std.proofs.lemmas.List.{get_or-map, length-map, length-set, length-take, map-set, take_more, map-append, ext_get_or}
-use Rattle.std.proofs.lemmas.List.Elements.{All-contains}
 use Rattle.bb_net.specs.Netlists.{Pins}
 use Rattle.bb_net.specs.Values.{bit_of}
 use Rattle.bb_elab.specs.Recursions.{ArePlacesThere, module_pins, kept_lists}

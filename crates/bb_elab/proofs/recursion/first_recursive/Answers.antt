@@ -1,12 +1,10 @@
-use Rattle.std.proofs.Common.{◌≡◌, ◌+◌, ◌-◌, ◌<◌, ℕ, List, Bool, map, subst, sym, ap, ◌∙◌, arith, length}
-use Rattle.std.specs.Bool.{Decides}
+use Rattle.std.proofs.Common.{◌≡◌, ◌+◌, ◌-◌, ◌<◌, ℕ, map, subst, sym, ap, ◌∙◌, arith, length}
 use Rattle.std.proofs.lemmas.List.{length-map}
-use Rattle.bb_net.specs.Loose.{LooseList, IsLoose, DependsOn, IsLeastOnClosedWalk, IsOnClosedWalk}
+use Rattle.bb_net.specs.Loose.{LooseList, IsLoose, IsLeastOnClosedWalk, IsOnClosedWalk}
 use Rattle.bb_net.specs.declared.ordering.NetFault.TheVariants.{Loop}
 use Rattle.bb_net.specs.NetFaults.{IsFaultOf}
 use Rattle.bb_net.specs.Netlists.{IsNetlist}
-use Rattle.bb_net.specs.Values.{bit_of}
-use Rattle.bb_elab.specs.Recursions.{ArePlacesThere, IsFirstRecursive, module_list, kept_lists}
+use Rattle.bb_elab.specs.Recursions.{ArePlacesThere, IsFirstRecursive, module_list}
 use Rattle.bb_elab.proofs.ModuleCells.{modules_are_loose, cells_long}
 use Rattle.bb_elab.proofs.RecursionLemmas.{kept_loose, marked_places, none_recursive, first_recursive_at, kept_there}
 use Rattle.bb_elab.proofs.recursion.first_recursive.Goals as goal

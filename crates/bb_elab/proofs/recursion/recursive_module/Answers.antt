@@ -1,8 +1,7 @@
-use Rattle.std.proofs.Common.{◌≡◌, ◌<◌, List, Option, None, Some, map, length, refl, subst, sym, ap, ◌∙◌, arith}
+use Rattle.std.proofs.Common.{◌≡◌, ◌<◌, Some, map, length, refl, subst, sym, ap, ◌∙◌, arith}
 use Rattle.std.specs.Prelude.{slice_get, IfSome, IfNone}
 use Rattle.std.proofs.lemmas.List.{length-map}
 use Rattle.std.proofs.lemmas.Option.{slice_get_read}
-use Rattle.bb_ast.specs.Syntax.{PlainModule}
 use Rattle.bb_ast.specs.Views.{module_view}
 use Rattle.bb_expr.specs.declared.checked.CheckedModule.{CheckedModule}
 use Rattle.bb_expr.specs.Checked.{module_facts, syntax}
@@ -10,7 +9,7 @@ use Rattle.bb_elab.specs.Callees.{callees}
 use Rattle.bb_elab.specs.Recursions.{ArePlacesThere, IsRecursiveAt, IsFirstRecursive}
 use Rattle.bb_elab.specs.Refusals.{Recursion, IsTold, design_on}
 use Rattle.bb_elab.proofs.CalleeLaw.{got-map}
-use Rattle.bb_elab.proofs.RecursiveNames.{called, places_there, absent_where_none, told_where_first}
+use Rattle.bb_elab.proofs.RecursiveNames.{places_there, absent_where_none, told_where_first}
 use Rattle.bb_elab.proofs.recursion.recursive_module.Goals as goal
 
 pub first_recursive-requires-clause-there : goal.first_recursive-requires-clause-there
