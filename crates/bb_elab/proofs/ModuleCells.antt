@@ -18,7 +18,7 @@ use Rattle.bb_elab.proofs.ReadingLaw.{into_flat}
 use Rattle.bb_elab.proofs.TopLaws.{none_in_nil}
 use Rattle.bb_elab.proofs.WalksByPlaces.{placed-at, at-place}
 
-less_or_past : (k n : ℕ) → (k < n) ⊎ (n ≤ k)
+pub less_or_past : (k n : ℕ) → (k < n) ⊎ (n ≤ k)
 less_or_past k zero = inr (omega arith)
 less_or_past zero (suc n) = inl (omega arith)
 less_or_past (suc k) (suc n) = from (less_or_past k n)

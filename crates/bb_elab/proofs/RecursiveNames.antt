@@ -14,7 +14,7 @@ use Rattle.bb_elab.specs.Hierarchy.{Instance, instances_of, top_of}
 use Rattle.bb_elab.specs.Recursions.{place_steps, ArePlacesThere, IsReachedAt, IsRecursiveAt, IsFirstRecursive}
 use Rattle.bb_elab.specs.Refusals.{IsReached, IsRecursive, Recursion, IsTold, IsAbsent, design_on, IsFirstRefusal}
 use Rattle.bb_elab.proofs.CalleeLaw.{got, got-map, place-holds, from_filter}
-use Rattle.bb_elab.proofs.CauseDecisions.{all_from, recursion}
+use Rattle.bb_elab.proofs.CauseDecisions.{all_from, from_map, recursion}
 use Rattle.bb_elab.proofs.Firsts.{first_there}
 use Rattle.bb_elab.proofs.SoundModules.{sound_texts_have_modules_apart}
 use Rattle.bb_elab.proofs.WalksByPlaces.{named-at, walks_are_by_places}
@@ -43,10 +43,13 @@ called_there text m = all_from (λ k. k < length text) (callees text m) (λ k ha
     let within = slice_get_within (map (λ (y : PlainModule). y.name) text) p.0 i.0.target p.2 in
     omega (arith, p.1, within, length-map text (λ (y : PlainModule). y.name)))
 
-pub module_at : (ms : List PlainModule) (k : ℕ) → k < length ms → (m : PlainModule) × (slice_get ms k ≡ Some m)
-module_at [] k lt = absurd (omega (arith, lt))
-module_at (m ∷ ms) zero lt = (m, refl)
-module_at (m ∷ ms) (suc k) lt = module_at ms k (omega (arith, lt))
+pub some_at : {A : Type 0} (xs : List A) (k : ℕ) → k < length xs → (x : A) × (slice_get xs k ≡ Some x)
+some_at [] k lt = absurd (omega (arith, lt))
+some_at (x ∷ xs) zero lt = (x, refl)
+some_at (x ∷ xs) (suc k) lt = some_at xs k (omega (arith, lt))
+
+pub all_there : (text : List PlainModule) → All (All (λ k. k < length text)) (called text)
+all_there text = all_from (All (λ k. k < length text)) (called text) (λ list has. let m = from_map (callees text) text list has in subst (All (λ k. k < length text)) m.2 (called_there text m.0))
 
 pub places_there : (text : List PlainModule) (size : PlainModule → ℕ) (long : ℕ) → sum_by (λ m. 2 + size m) text ≤ long → long ≤ 33554432 → ArePlacesThere (called text)
 places_there text size long enough short = record {
@@ -59,10 +62,22 @@ places_there text size long enough short = record {
     listed list has =
         let lt : has.0 < length text = omega (arith, has.1, length-map text (callees text)) in
         let at = slice_get-get_or (map (callees text) text) has.0 list has.1 in
-        let m = module_at text has.0 lt in
+        let m = some_at text has.0 lt in
         let same : Some list ≡ Some (callees text m.0) = sym (at ∙ ap Some has.2) ∙ got-map (callees text) text has.0 m.0 m.1 in
         let is : list ≡ callees text m.0 = grind (arith, same) in
         subst (All (λ k. k < length text)) (sym is) (called_there text m.0)
+
+-- a list is split at a place, and what stands before it
+pub split : {A : Type 0} (xs : List A) (k : ℕ) (x : A) → slice_get xs k ≡ Some x → xs ≡ take k xs ++ x ∷ drop (suc k) xs
+split [] k x e = cc
+split (y ∷ ys) zero x e = let is : y ≡ x = grind (arith, e) in ap (λ z. z ∷ ys) is
+split (y ∷ ys) (suc k) x e = ap (λ zs. y ∷ zs) (split ys k x e)
+
+pub taken : {A : Type 0} (xs : List A) (k : ℕ) (y : A) → Contains (take k xs) y → (j : ℕ) × (j < k) × (slice_get xs j ≡ Some y)
+taken xs zero y has = absurd (omega (arith, has.1))
+taken [] (suc k) y has = absurd (omega (arith, has.1))
+taken (x ∷ xs) (suc k) y (zero, lt, e) = (0, omega arith, ap Some e)
+taken (x ∷ xs) (suc k) y (suc j, lt, e) = let r = taken xs k y (j, omega (arith, lt), e) in (suc r.0, omega (arith, r.1), r.2)
 
 -- by names and by places
 
@@ -123,17 +138,6 @@ module _ (text : List PlainModule) (sound : IsSound text) (top : ℕ) (t : Plain
     where
       names : List (List ℕ)
       names = map (λ (x : PlainModule). x.name) text
-
-      split : {A : Type 0} (xs : List A) (k : ℕ) (x : A) → slice_get xs k ≡ Some x → xs ≡ take k xs ++ x ∷ drop (suc k) xs
-      split [] k x e = cc
-      split (y ∷ ys) zero x e = let is : y ≡ x = grind (arith, e) in ap (λ z. z ∷ ys) is
-      split (y ∷ ys) (suc k) x e = ap (λ zs. y ∷ zs) (split ys k x e)
-
-      taken : {A : Type 0} (xs : List A) (k : ℕ) (y : A) → Contains (take k xs) y → (j : ℕ) × (j < k) × (slice_get xs j ≡ Some y)
-      taken xs zero y has = absurd (omega (arith, has.1))
-      taken [] (suc k) y has = absurd (omega (arith, has.1))
-      taken (x ∷ xs) (suc k) y (zero, lt, e) = (0, omega arith, ap Some e)
-      taken (x ∷ xs) (suc k) y (suc j, lt, e) = let r = taken xs k y (j, omega (arith, lt), e) in (suc r.0, omega (arith, r.1), r.2)
 
       module_named_at : (ms : List PlainModule) (j : ℕ) (n : List ℕ) → slice_get (map (λ (x : PlainModule). x.name) ms) j ≡ Some n → (m : PlainModule) × (slice_get ms j ≡ Some m) × (m.name ≡ n)
       module_named_at [] j n e = cc

@@ -1,4 +1,5 @@
 pub mod Callees
+pub mod Depths
 pub mod Recursions
 pub mod Closures
 pub mod Hierarchy

@@ -8,6 +8,7 @@ ghost use Rattle.bb_elab.specs.Refusals.{IsFirstRefusal, IsSoundText};
 ghost use Rattle.bb_elab.specs.Stands.{StandsForText};
 
 use crate::callees::callees_of;
+use crate::depth::low_instance;
 use crate::fault::ElabFault;
 use crate::flat::Flat;
 use crate::recursion::recursive_module;
@@ -33,8 +34,13 @@ pub fn elaborate(alloc: Global, checked: &Checked, top: Option<&[u8]>) -> Result
         return Err(ElabFault::NoTop);
     };
     let mut callees = callees_of(alloc, checked)?;
+    // Found first, since the search for a recursion empties the lists.
+    let low = low_instance(alloc, checked, &callees, top)?;
     if let Some(name) = recursive_module(alloc, checked, &mut callees, top)? {
         return Err(ElabFault::Recursive { name });
+    }
+    if let Some(name) = low {
+        return Err(ElabFault::TooDeep { name });
     }
     Err(ElabFault::NoMemory)
 }

@@ -2,6 +2,7 @@
 #![tactic(auto)]
 
 mod callees;
+mod depth;
 mod elaborating;
 mod fault;
 mod flat;
