@@ -2,13 +2,17 @@ pub mod AlwaysWrong
 pub mod Budget
 pub mod CellTables
 pub mod FunctionTables
+pub mod KnownBits
+pub mod KnownTables
 pub mod LeastVectors
 pub mod MadeLemmas
 pub mod NetLoop
 pub mod OutputLoop
 pub mod OutputParts
+pub mod PairLemmas
 pub mod PinLemmas
 pub mod PlainCells
 pub mod SomeWrong
+pub mod SumLemmas
 pub mod WrongOutputs
 pub mod WrongTables
