@@ -1,14 +1,15 @@
 -- the tables of the cells of an implementation whose boxes are unknown
-use Rattle.std.proofs.Common.{◌≡◌, ◌<◌, ℕ, Bool, true, false, not, ◌&&◌, ◌||◌, List, [], length, Option, Some, None, refl, sym, ap, ap₂, ◌∙◌, arith}
+use Rattle.std.proofs.Common.{◌≡◌, ◌<◌, ℕ, Bool, true, false, not, ◌&&◌, ◌||◌, List, [], ◌∷◌, ◌++◌, length, Option, Some, None, refl, sym, ap, ap₂, ◌∙◌, arith}
 use Rattle.bb_bits.specs.Truth.{Truth, constant, variable, complement, joined}
 use Rattle.bb_net.specs.declared.cell.Cell.{Cell}
 use Rattle.bb_net.specs.declared.cell.Cell.TheVariants.{Const, Input, Not, And, Or, Xor, Mux, BoxOut}
 use Rattle.bb_net.specs.Netlists.{Netlist, Pins, IsNetlist, IsOrdered, ReadsBefore, cell_at}
 use Rattle.bb_net.specs.Values.{bit_of}
 use Rattle.bb_net.specs.Ternary.{tern, tern_of, gate3, IsTern, not3, and3, or3, xor3, mux3}
-use Rattle.bb_sym.specs.Functions.{Function, table, is_one, is_zero, known_one, known_zero, high, low, both, either, sum_table, choice_table}
+use Rattle.bb_sym.specs.Functions.{Function, table, is_one, is_zero, known_one, known_zero, high, low, both, either, sum_table, sum_tables, choice_table, choice_tables, cell_tables}
 use Rattle.bb_sym.specs.Made.{one_table, zero_table}
 use Rattle.bb_sym.proofs.FunctionTables.{table_same, combined-table, constant-table, variable-table}
+use Rattle.bb_sym.proofs.PairLemmas.{same_four}
 use Rattle.bb_sym.proofs.KnownBits.{one_not, zero_not, one_and, zero_and, one_or, zero_or, one_xor, zero_xor, one_mux, zero_mux}
 
 -- a netlist has a three-valued value
@@ -70,3 +71,37 @@ module _ (n : ℕ) (value : ℕ → List Bool → Option Bool) where
 -- the bits of a cell are those of its gate
 pub known-bits : TernExists → (net : Netlist) → IsNetlist net → (place : ℕ) → place < length net.cells → (x : List Bool) → tern_of (tern net x) place ≡ gate3 x (tern_of (tern net x)) (cell_at net.cells place)
 known-bits exists net kept place l x = (exists net x kept.ordered).each place l
+
+-- only the places that a cell reads count
+module _ (n inputs place : ℕ) (boxes : List Pins) (ones zeros high_at low_at : ℕ → Truth) (same_one : (k : ℕ) → k < place → ones k ≡ high_at k) (same_zero : (k : ℕ) → k < place → zeros k ≡ low_at k) where
+  pub one_table-same : (cell : Cell) → ReadsBefore inputs boxes place cell → one_table n ones zeros cell ≡ one_table n high_at low_at cell
+  one_table-same (Const b) reads = refl
+  one_table-same (Input i) reads = refl
+  one_table-same (BoxOut b p) reads = refl
+  one_table-same (Not a) reads = same_zero a reads
+  one_table-same (And a b) reads = ap₂ both (same_one a reads.0) (same_one b reads.1)
+  one_table-same (Or a b) reads = ap₂ either (same_one a reads.0) (same_one b reads.1)
+  one_table-same (Xor a b) reads = same_four sum_table (same_one a reads.0) (same_zero b reads.1) (same_zero a reads.0) (same_one b reads.1)
+  one_table-same (Mux c t e) reads = same_four choice_table (same_one c reads.0) (same_zero c reads.0) (same_one t reads.1) (same_one e reads.2)
+
+  pub zero_table-same : (cell : Cell) → ReadsBefore inputs boxes place cell → zero_table n ones zeros cell ≡ zero_table n high_at low_at cell
+  zero_table-same (Const b) reads = refl
+  zero_table-same (Input i) reads = refl
+  zero_table-same (BoxOut b p) reads = refl
+  zero_table-same (Not a) reads = same_one a reads
+  zero_table-same (And a b) reads = ap₂ either (same_zero a reads.0) (same_zero b reads.1)
+  zero_table-same (Or a b) reads = ap₂ both (same_zero a reads.0) (same_zero b reads.1)
+  zero_table-same (Xor a b) reads = same_four sum_table (same_one a reads.0) (same_one b reads.1) (same_zero a reads.0) (same_zero b reads.1)
+  zero_table-same (Mux c t e) reads = same_four choice_table (same_one c reads.0) (same_zero c reads.0) (same_zero t reads.1) (same_zero e reads.2)
+
+  pub cell_tables-same : (cell : Cell) → ReadsBefore inputs boxes place cell → cell_tables n ones zeros cell ≡ cell_tables n high_at low_at cell
+  cell_tables-same (Const b) reads = refl
+  cell_tables-same (Input i) reads = refl
+  cell_tables-same (BoxOut b p) reads = refl
+  cell_tables-same (Not a) reads = ap₂ (λ t u. t ∷ u ∷ []) (same_zero a reads) (same_one a reads)
+  cell_tables-same (And a b) reads = ap₂ (λ t u. t ∷ u ∷ []) (ap₂ both (same_one a reads.0) (same_one b reads.1)) (ap₂ either (same_zero a reads.0) (same_zero b reads.1))
+  cell_tables-same (Or a b) reads = ap₂ (λ t u. t ∷ u ∷ []) (ap₂ both (same_zero a reads.0) (same_zero b reads.1)) (ap₂ either (same_one a reads.0) (same_one b reads.1))
+  cell_tables-same (Xor a b) reads =
+      ap₂ ◌++◌ (same_four sum_tables (same_one a reads.0) (same_zero b reads.1) (same_zero a reads.0) (same_one b reads.1)) (same_four sum_tables (same_one a reads.0) (same_one b reads.1) (same_zero a reads.0) (same_zero b reads.1))
+  cell_tables-same (Mux c t e) reads =
+      ap₂ ◌++◌ (same_four choice_tables (same_one c reads.0) (same_zero c reads.0) (same_one t reads.1) (same_one e reads.2)) (same_four choice_tables (same_one c reads.0) (same_zero c reads.0) (same_zero t reads.1) (same_zero e reads.2))

@@ -49,12 +49,7 @@ pub(crate) fn known_cells(
 }
 
 /// The diagrams of a cell, where those of the places that it reads are made.
-fn known_cell(
-    d: &mut Diagrams,
-    cell: Cell,
-    ones: &[Ref],
-    zeros: &[Ref],
-) -> Result<Known, RungFault>
+fn known_cell(d: &mut Diagrams, cell: Cell, ones: &[Ref], zeros: &[Ref]) -> Result<Known, RungFault>
     requires reads { ReadsBefore d.old.store.vars [] (length ones.now) cell }
     requires count { length zeros.now ≡ length ones.now }
     requires ones { (place : ℕ) → place < length ones.now → IsRef d.old.store (ref_at ones.now place).0 }
@@ -67,10 +62,6 @@ fn known_cell(
     laws::stores();
     laws::growth();
     d.is_canonical();
-    let at = |place: u32| Known {
-        one: ones[place as usize],
-        zero: zeros[place as usize],
-    };
     match cell {
         Cell::Const(bit) => Ok(Known {
             one: leaf(bit),
@@ -85,9 +76,27 @@ fn known_cell(
             one: zeros[a as usize],
             zero: ones[a as usize],
         }),
-        Cell::And(a, b) => known_and(d, at(a), at(b)),
-        Cell::Or(a, b) => known_or(d, at(a), at(b)),
-        Cell::Xor(a, b) => known_xor(d, at(a), at(b)),
-        Cell::Mux(c, t, e) => known_mux(d, at(c), at(t), at(e)),
+        Cell::And(a, b) => known_and(d, known_at(ones, zeros, a), known_at(ones, zeros, b)),
+        Cell::Or(a, b) => known_or(d, known_at(ones, zeros, a), known_at(ones, zeros, b)),
+        Cell::Xor(a, b) => known_xor(d, known_at(ones, zeros, a), known_at(ones, zeros, b)),
+        Cell::Mux(c, t, e) => known_mux(
+            d,
+            known_at(ones, zeros, c),
+            known_at(ones, zeros, t),
+            known_at(ones, zeros, e),
+        ),
+    }
+}
+
+/// The diagrams at a place.
+fn known_at(ones: &[Ref], zeros: &[Ref], place: u32) -> Known
+    requires ones { place < length ones.now }
+    requires zeros { place < length zeros.now }
+    ensures one { result.one ≡ ref_at ones.now place }
+    ensures zero { result.zero ≡ ref_at zeros.now place }
+{
+    Known {
+        one: ones[place as usize],
+        zero: zeros[place as usize],
     }
 }

@@ -32,13 +32,7 @@ pub(crate) fn sum_of_products(
 }
 
 /// `t` where `c` is 1, `e` where `not_c` is 1, or 1 where both are.
-pub(crate) fn choice(
-    d: &mut Diagrams,
-    c: Ref,
-    not_c: Ref,
-    t: Ref,
-    e: Ref,
-) -> Result<Ref, RungFault>
+pub(crate) fn choice(d: &mut Diagrams, c: Ref, not_c: Ref, t: Ref, e: Ref) -> Result<Ref, RungFault>
     requires c { IsRef d.old.store c.0 }
     requires not_c { IsRef d.old.store not_c.0 }
     requires t { IsRef d.old.store t.0 }

@@ -23,7 +23,7 @@ returns-in_err-r-clause-nodes c =
     let n = c.and.new.self.store in
     let told : IsErrOf c.from_residual-in_err-r.result Nodes → IsTooMany n (either (truth_of n c.in_ok-chosen.chosen.0) (truth_of n c.in_ok-same.same.0)) = search rules in
     λ full. choice_refused_last c.args.d.now.store c.args.c.0 c.args.not_c.0 c.args.t.0 c.args.e.0 c.requires.t c.requires.e c.sum_of_products.new.d.store c.in_ok-chosen.chosen c.in_ok-chosen.ensures.makes c.in_ok-chosen.ensures.result
-        n c.in_ok-same.same.0 c.in_ok-same.ensures.ok (told full)
+    n c.in_ok-same.same.0 c.in_ok-same.ensures.ok (told full)
 
 pub returns-clause-result : goal.returns-clause-result
 returns-clause-result c =
