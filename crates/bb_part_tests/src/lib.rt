@@ -4,6 +4,8 @@
 #[cfg(test)]
 mod clause_tests;
 #[cfg(test)]
+mod diagram_check_tests;
+#[cfg(test)]
 mod diagram_tests;
 #[cfg(test)]
 mod net_tests;
