@@ -12,6 +12,7 @@ mod refutation;
 
 pub use checker::check;
 pub use clauses::{Cnf, Lit};
+pub use partial_resolvent::PartialResolvent;
 pub use printer::print;
 pub use refutation::{Refutation, Step};
 pub use std::alloc::AllocError as NoMemory;

@@ -1,4 +1,5 @@
-// The resolvent that a step has come to.
+//! The resolvent that a chain has come to: for the checker, and for a solver that writes chains down.
+
 ghost use Rattle.std.specs.Prelude.{◌≡◌, ◌==◌, ◌&&◌, ◌||◌, not, false, ℕ, ◌≤◌, length, OnOk, IfOk, true, Some, None};
 ghost use Rattle.bb_cnf.specs.declared.clauses.Lit.{Lit};
 ghost use Rattle.bb_cnf.specs.Clauses.{literals_of, same_literal, without, union};
@@ -12,7 +13,7 @@ use std::alloc::Global;
 
 /// A mark for each literal, by its variable and its sign, and the literals that were marked.
 #[derive(Drop)]
-pub(crate) struct PartialResolvent {
+pub struct PartialResolvent {
     pub(crate) alloc: Global,
     pub(crate) positive: Vec<Vec<bool>>,
     pub(crate) negated: Vec<Vec<bool>>,
@@ -28,7 +29,7 @@ fn has(lits: &[Lit], wanted: Lit) -> bool
 
 impl PartialResolvent {
     /// No literal is marked.
-    pub(crate) fn new(alloc: Global) -> PartialResolvent
+    pub fn new(alloc: Global) -> PartialResolvent
         ensures empty { (l : Lit) → held result l ≡ false }
         ensures listed { AreListed result }
     {
@@ -40,7 +41,8 @@ impl PartialResolvent {
         }
     }
 
-    fn has(&self, lit: Lit) -> bool
+    /// Is the literal marked?
+    pub fn has(&self, lit: Lit) -> bool
         ensures { result ≡ held self.now lit }
     {
         if lit.neg {
@@ -81,7 +83,7 @@ impl PartialResolvent {
     }
 
     /// Adds the literals of a clause.
-    pub(crate) fn put_all(&mut self, lits: &[Lit]) -> Result<(), NoMemory>
+    pub fn put_all(&mut self, lits: &[Lit]) -> Result<(), NoMemory>
         requires { AreListed self.old }
         ensures held { OnOk result ((l : Lit) → held self.new l ≡ union (held self.old) (literals_of lits.now) l) }
         ensures listed { OnOk result (AreListed self.new) }
@@ -127,7 +129,7 @@ impl PartialResolvent {
     }
 
     /// Resolves with a clause on a variable, where they have it with two signs.
-    pub(crate) fn resolve(&mut self, named: &[Lit], var: u32) -> Result<bool, NoMemory>
+    pub fn resolve(&mut self, named: &[Lit], var: u32) -> Result<bool, NoMemory>
         requires { AreListed self.old }
         ensures resolved { IfOk result (λ yes. yes ≡ true → resolution (held self.old) (literals_of named.now) var ≡ Some (held self.new)) }
         ensures none { IfOk result (λ yes. yes ≡ false → resolution (held self.old) (literals_of named.now) var ≡ None) }
@@ -160,7 +162,7 @@ impl PartialResolvent {
     }
 
     /// Gives the literals out, each once, and is empty then.
-    pub(crate) fn drain(&mut self, alloc: Global) -> Result<SmallVec<Lit, 4>, NoMemory>
+    pub fn drain(&mut self, alloc: Global) -> Result<SmallVec<Lit, 4>, NoMemory>
         requires { AreListed self.old }
         ensures given { IfOk result (λ made. (l : Lit) → literals_of made.items l ≡ held self.old l) }
         ensures empty { OnOk result ((l : Lit) → held self.new l ≡ false) }

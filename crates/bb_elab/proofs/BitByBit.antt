@@ -70,10 +70,10 @@ by_terms : (contents : Contents) (w : World) (path : List (List ℕ)) (bits : Li
     → (bits_in w bits ≡ map (bit_of (w path)) terms) ↔ All (IsGiven contents w) (driven_by path bits terms)
 by_terms contents w path bits terms e = through (zipped (bit_in w) (bit_of (w path)) bits terms e) (mapped (IsGiven contents w) (λ x. driven (Made path x.1) x.0) (zip bits terms))
 
-low-map : {A B : Type 0} (f : A → B) (n : ℕ) (xs : List A) → map f (low_bits n xs) ≡ low_bits n (map f xs)
+pub low-map : {A B : Type 0} (f : A → B) (n : ℕ) (xs : List A) → map f (low_bits n xs) ≡ low_bits n (map f xs)
 low-map f n xs = sym (drop-map f (length xs - n) xs) ∙ ap (λ k. drop (k - n) (map f xs)) (sym (length-map xs f))
 
-low-length : {A : Type 0} (n : ℕ) (xs : List A) → n ≤ length xs → length (low_bits n xs) ≡ n
+pub low-length : {A : Type 0} (n : ℕ) (xs : List A) → n ≤ length xs → length (low_bits n xs) ≡ n
 low-length n xs fits = length-drop (length xs - n) xs ∙ omega (arith, fits)
 
 -- gates of terms and of bits

@@ -89,7 +89,7 @@ decide_not (inr n) = inl n
 decide_undriven : (d : Design) (b : Bit) → Decision (IsUndriven d b)
 decide_undriven d b = decide_both (decide_read d b) (decide_not (decide_contains decide_bit (driven_bits d) b))
 
-less_or_not : (m n : ℕ) → (m < n) ⊎ (n ≤ m)
+pub less_or_not : (m n : ℕ) → (m < n) ⊎ (n ≤ m)
 less_or_not m n = from (less_or_same m n)
   where
     from : (m < n) ⊎ ((n < m) ⊎ (m ≡ n)) → (m < n) ⊎ (n ≤ m)
@@ -168,13 +168,13 @@ no_driver d there = from (first_or_none (IsUndriven d) (decide_undriven d) (net_
     from (inr r) = inr (told_bit d (IsUndriven d) r)
 
 -- what depends on something is driven
-depends_driven : (d : Design) (b c : Bit) → Contains (dependences d) (b, c) → Contains (driven_bits d) b
+pub depends_driven : (d : Design) (b c : Bit) → Contains (dependences d) (b, c) → Contains (driven_bits d) b
 depends_driven d b c has =
     let x = from_flat _ (drives d) (b, c) has in
     let y = from_map _ (needed x.0.source) (b, c) x.2 in
     subst (Contains (driven_bits d)) (ap (λ z. z.0) y.2) (contains-map (λ x. x.bit) (drives d) x.0 x.1)
 
-cycle : (d : Design) → BitsAreThere d → IsAbsent d Cycle ⊎ ((n : List ℕ) × IsTold d Cycle n)
+pub cycle : (d : Design) → BitsAreThere d → IsAbsent d Cycle ⊎ ((n : List ℕ) × IsTold d Cycle n)
 cycle d there = from (first_or_none (IsOnLoop d) (λ b. decide_leads decide_bit (dependences d) b b) (net_order d))
   where
     falls : ((b : Bit) → Contains (net_order d) b → IsOnLoop d b → ⊥) → (x : Bit × Bit) → Contains (dependences d) x → level decide_bit (dependences d) x.1 < level decide_bit (dependences d) x.0

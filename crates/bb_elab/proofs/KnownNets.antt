@@ -76,7 +76,7 @@ module _ (m : PlainModule) where
           let name : n ≡ x.0 = (bytes_decides n x.0).0 x.2 in
           once_there (header_names ++ declared_names ++ implicit_names m) n (Contains-append_right (header_names ++ declared_names) (implicit_names m) n (subst (Contains (implicit_names m)) (sym name) x.1))
 
-range_there : (a n k : ℕ) → a ≤ k → k < a + n → Contains (range_with_len a n) k
+pub range_there : (a n k : ℕ) → a ≤ k → k < a + n → Contains (range_with_len a n) k
 range_there a zero k low high = absurd (omega (arith, low, high))
 range_there a (suc n) k low high = by (less_or_same a k) (λ h. range_there (a + 1) n k (omega (arith, h)) (omega (arith, high)))
   where

@@ -23,7 +23,7 @@ use Rattle.bb_elab.proofs.Operators.{Each, each_append, each_drop}
 use Rattle.bb_elab.proofs.TermNets.{Names, AreNamed, HaveUsed, named, written_there, itself_there, operands_named, gate_named}
 use Rattle.bb_elab.proofs.TopLaws.{contains_here, contains_there, contains_cases, none_in_nil}
 
-zip_parts : {A B : Type 0} (xs : List A) (ys : List B) (z : A × B) → Contains (zip xs ys) z → Contains xs z.0 × Contains ys z.1
+pub zip_parts : {A B : Type 0} (xs : List A) (ys : List B) (z : A × B) → Contains (zip xs ys) z → Contains xs z.0 × Contains ys z.1
 zip_parts [] ys z has = absurd (none_in_nil z has)
 zip_parts (x ∷ xs) [] z has = absurd (none_in_nil z has)
 zip_parts (x ∷ xs) (y ∷ ys) z has = by (contains_cases (x, y) (zip xs ys) z has) (zip_parts xs ys z)

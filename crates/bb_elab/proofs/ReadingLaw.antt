@@ -32,10 +32,10 @@ into_flat f (y ∷ ys) x z has here = by (contains_cases y ys x has) (λ more. i
     by (inr more) rest = Contains-append_right (f y) (flat_map f ys) z (rest more)
 
 -- a bit below a term is the term, or an operand of one of its cells
-IsOperand : Path → List Term → Bit → Type 0
+unfoldable pub IsOperand : Path → List Term → Bit → Type 0
 IsOperand path cells c = (cell : Term) × Contains cells cell × Contains (flat_map (bit_itself path) (operand_terms cell)) c
 
-Below : Path → List Term → Term → Bit → Type 0
+unfoldable pub Below : Path → List Term → Term → Bit → Type 0
 Below path cells t c = Contains (bit_itself path t) c ⊎ IsOperand path cells c
 
 operand_of : (path : Path) (cells : List Term) (cell a : Term) (c : Bit) → Contains cells cell → Contains (operand_terms cell) a → Below path cells a c → Below path cells cell c
@@ -43,7 +43,7 @@ unfolding Below IsOperand
 operand_of path cells cell a c has one (inl here) = inr (cell, has, into_flat (bit_itself path) (operand_terms cell) a c one here)
 operand_of path cells cell a c has one (inr there) = inr there
 
-below : (path : Path) (cells : List Term) (t : Term) (c : Bit) → OpsIn cells t → Contains (bits_below path t) c → Below path cells t c
+pub below : (path : Path) (cells : List Term) (t : Term) (c : Bit) → OpsIn cells t → Contains (bits_below path t) c → Below path cells t c
 unfolding Below IsOperand
 below path cells (Const b) c h has = inl has
 below path cells (Net n i) c h has = inl has

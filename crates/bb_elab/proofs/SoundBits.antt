@@ -182,7 +182,7 @@ module _ (text : List PlainModule) (top : PlainModule) (sound : IsSound text) (i
       let child = into_filter_map (λ j. option_map (λ m. record { path = path_to s.path j.name; source = m }) (module_named text j.target)) (instances_of s.source) i c in_source (ap (option_map (λ m. record { path = path_to s.path i.name; source = m })) found) in
       scope_there d c b (child_there d s c shallow has child) (pin_there c p is b at)
 
-  nets_there : (s : Scope) → Contains (scopes d) s → (c : Construct) → Contains (constructs_at text s) c → HasNets (IsBit d s) s c
+  pub nets_there : (s : Scope) → Contains (scopes d) s → (c : Construct) → Contains (constructs_at text s) c → HasNets (IsBit d s) s c
   nets_there s has c at = by (is_box s) at
     where
       in_item : Contains (flat_map (λ item. body_constructs text item.body) s.source.items) c → HasNets (IsBit d s) s c

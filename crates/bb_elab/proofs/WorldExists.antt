@@ -28,14 +28,14 @@ abbrev world_of : (Bit → Bool) → World
 world_of bit path n k = bit (record { path = path; net = n; place = k })
 
 -- lists without repetition
-apart_append : {A : Type 0} (xs ys : List A) (z : A) → AllPairs ◌≢◌ (xs ++ ys) → Contains xs z → Contains ys z → ⊥
+pub apart_append : {A : Type 0} (xs ys : List A) (z : A) → AllPairs ◌≢◌ (xs ++ ys) → Contains xs z → Contains ys z → ⊥
 apart_append xs ys z apart a b =
     let long = length-append xs ys in
     apart a.0 (length xs + b.0) z (omega (arith, a.1)) (omega (arith, b.1, long))
     (get_or_append_left xs ys z a.0 a.1 ∙ a.2 ∙ sym (get_or-append-add xs ys b.0 z ∙ b.2))
 
 -- of two drives of one bit both are the same
-drive_once : (xs : List Drive) → AllPairs ◌≢◌ (map (λ u. u.bit) xs) → (y z : Drive) → Contains xs y → Contains xs z → y.bit ≡ z.bit → y ≡ z
+pub drive_once : (xs : List Drive) → AllPairs ◌≢◌ (map (λ u. u.bit) xs) → (y z : Drive) → Contains xs y → Contains xs z → y.bit ≡ z.bit → y ≡ z
 drive_once xs apart y z a b e = by (less_or_same a.0 b.0)
   where
     at : (u : Drive) (c : Contains xs u) → get_or (map (λ v. v.bit) xs) c.0 y.bit ≡ u.bit
@@ -49,7 +49,7 @@ drive_once xs apart y z a b e = by (less_or_same a.0 b.0)
     by (inr (inl h)) = absurd (apart b.0 a.0 y.bit h (omega (arith, a.1, long)) (at z b ∙ sym e ∙ sym (at y a)))
     by (inr (inr h)) = sym a.2 ∙ ap (λ n. get_or xs n y) h ∙ get_or_default xs b.0 y z b.1 ∙ b.2
 
-any_there : (b : Bit) (bits : List Bit) → Contains bits b → list_any (same_bit b) bits ≡ true
+pub any_there : (b : Bit) (bits : List Bit) → Contains bits b → list_any (same_bit b) bits ≡ true
 any_there b [] has = absurd (none_in_nil b has)
 any_there b (c ∷ bits) has = by (same_bit b c) refl (contains_cases c bits b has) (any_there b bits)
   where
@@ -58,7 +58,7 @@ any_there b (c ∷ bits) has = by (same_bit b c) refl (contains_cases c bits b h
     by false e (inl same) rest = absurd (true≢false (sym (same_bit_self b) ∙ ap (same_bit b) (sym same) ∙ e))
     by false e (inr more) rest = rest more
 
-any_from : (b : Bit) (bits : List Bit) → list_any (same_bit b) bits ≡ true → Contains bits b
+pub any_from : (b : Bit) (bits : List Bit) → list_any (same_bit b) bits ≡ true → Contains bits b
 any_from b [] e = absurd (true≢false (sym e))
 any_from b (c ∷ bits) e = by (same_bit b c) refl e (any_from b bits)
   where
@@ -66,7 +66,7 @@ any_from b (c ∷ bits) e = by (same_bit b c) refl e (any_from b bits)
     by true on h rest = subst (Contains (c ∷ bits)) (sym (same_bit_is b c on)) (contains_here c bits)
     by false off h rest = contains_there c bits b (rest h)
 
-from_numbered : {A : Type 0} (a : ℕ) (xs : List A) (z : ℕ × A) → Contains (enumerate_from a xs) z → Contains xs z.1
+pub from_numbered : {A : Type 0} (a : ℕ) (xs : List A) (z : ℕ × A) → Contains (enumerate_from a xs) z → Contains xs z.1
 from_numbered a [] z has = absurd (none_in_nil z has)
 from_numbered a (y ∷ ys) z has = by (contains_cases (a, y) (enumerate_from (a + 1) ys) z has) (from_numbered (a + 1) ys z)
   where
@@ -75,7 +75,7 @@ from_numbered a (y ∷ ys) z has = by (contains_cases (a, y) (enumerate_from (a 
     by (inr more) rest = contains_there y ys z.1 (rest more)
 
 -- what is stored is driven without source
-stored_drives : (part : Scope × Construct) (r : RegisterBit) → Contains (stored_at part) r → Contains (drives_at part) (driven Free r.bit)
+pub stored_drives : (part : Scope × Construct) (r : RegisterBit) → Contains (stored_at part) r → Contains (drives_at part) (driven Free r.bit)
 stored_drives (s, Assignment left right) r has = absurd (none_in_nil r has)
 stored_drives (s, GateInstance gate outs ins) r has = absurd (none_in_nil r has)
 stored_drives (s, Register a) r has =
@@ -176,7 +176,7 @@ module _ (d : Design) (contents : Contents) (x : Vector) where
     given y (Made path t) e = e
     given y (Box s pin) e = e
 
-    tops_first : driven_bits d ≡ top_inputs d ++ map (λ u. u.bit) (flat_map drives_at (parts d))
+    pub tops_first : driven_bits d ≡ top_inputs d ++ map (λ u. u.bit) (flat_map drives_at (parts d))
     tops_first = map-append (λ (u : Drive). u.bit) (map (driven Free) (top_inputs d)) (flat_map drives_at (parts d)) ∙ ap (λ l. l ++ map (λ (u : Drive). u.bit) (flat_map drives_at (parts d))) (back (top_inputs d))
       where
         back : (bits : List Bit) → map (λ (u : Drive). u.bit) (map (driven Free) bits) ≡ bits

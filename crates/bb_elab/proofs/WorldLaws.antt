@@ -67,7 +67,7 @@ into_filter_map h (z ∷ zs) x y has e = by (contains_cases z zs x has) (h z) re
     by (inr there) None n more = more there
     by (inr there) (Some u) n more = contains_there u (filter_map h zs) y (more there)
 
-numbered_there : {A : Type 0} (a : ℕ) (xs : List A) (x : A) → Contains xs x → (k : ℕ) × Contains (enumerate_from a xs) (k, x)
+pub numbered_there : {A : Type 0} (a : ℕ) (xs : List A) (x : A) → Contains xs x → (k : ℕ) × Contains (enumerate_from a xs) (k, x)
 numbered_there a [] x has = absurd (none_in_nil x has)
 numbered_there a (y ∷ ys) x has = by (contains_cases y ys x has) (numbered_there (a + 1) ys x)
   where
@@ -86,7 +86,7 @@ not_free : (source : Source) (x : Drive) (b : Bit) → is_free source ≡ false 
 unfolding is_free
 not_free source x b off e free = grind (arith, sym off ∙ ap (λ (y : Drive). is_free y.source) e ∙ ap is_free free)
 
-free_stored : (part : Scope × Construct) (x : Drive) → Contains (drives_at part) x → x.source ≡ Free → (r : RegisterBit) × Contains (stored_at part) r × (r.bit ≡ x.bit)
+pub free_stored : (part : Scope × Construct) (x : Drive) → Contains (drives_at part) x → x.source ≡ Free → (r : RegisterBit) × Contains (stored_at part) r × (r.bit ≡ x.bit)
 unfolding is_free
 free_stored (s, Assignment left right) x has free = let z = from_map (λ y. driven (Made s.path y.1) y.0) _ x has in absurd (not_free (Made s.path z.0.1) x z.0.0 refl z.2 free)
 free_stored (s, GateInstance gate outs ins) x has free = let z = from_map (driven _) (flat_map (written_bits s) outs) x has in absurd (not_free _ x z.0 refl z.2 free)
@@ -101,7 +101,7 @@ free_stored (s, OutputConnection i pin e) x has free = let z = from_map (λ y. d
 free_stored (s, BoxContents) x has free = let z = from_map (λ y. driven (Box s y.0) y.1) _ x has in absurd (not_free (Box s z.0.0) x z.0.1 refl z.2 free)
 
 -- a stored bit of the design is a register
-stored_register : (d : Design) (r : RegisterBit) → Contains (stored d) r → Contains (net_order d) r.bit → (q : RegisterBit) × Contains (registers d) q × (q.bit ≡ r.bit)
+pub stored_register : (d : Design) (r : RegisterBit) → Contains (stored d) r → Contains (net_order d) r.bit → (q : RegisterBit) × Contains (registers d) q × (q.bit ≡ r.bit)
 stored_register d r has there =
     let f = find_there (λ q. same_bit r.bit q.bit) (stored d) r has (same_bit_self r.bit) in
     (f.0, into_filter_map (λ b. find (λ q. same_bit b q.bit) (stored d)) (net_order d) r.bit f.0 there f.1, sym (same_bit_is r.bit f.0.bit f.2))

@@ -19,3 +19,6 @@ pub mod Flats
 pub mod Stands
 pub mod Refusals
 pub mod Laws
+pub mod ListLaws
+pub mod ContentTables
+pub mod LoopLaws

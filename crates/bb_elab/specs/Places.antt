@@ -3,7 +3,7 @@
 -- a bit without driver is a copy of the constant 0. Expressions stand in the list as the steps into which they are lowered: an
 -- operator is a cell, and a step that is a constant or a bit of a net is a copy. So there is a cell for each occurrence of an
 -- operator in each scope, and nothing is folded, joined or dropped. Where a place stands in the list is told by its number.
-use Rattle.std.specs.Prelude.{◌≡◌, ℕ, zero, suc, ◌+◌, ◌-◌, Bool, true, false, if◌then◌else◌, List, [], ◌∷◌, ◌++◌, map, length, All, IsPermutation, slice_index}
+use Rattle.std.specs.Prelude.{◌≡◌, ℕ, zero, suc, ◌+◌, ◌-◌, ◌<◌, ◌^◌, Bool, true, false, if◌then◌else◌, List, [], ◌∷◌, ◌++◌, map, length, All, IsPermutation, slice_index}
 use Rattle.std.specs.List.{find, flat_map, zip, enumerate_from, range_with_len}
 use Rattle.std.specs.Option.{option_map_or}
 use Rattle.bb_ast.specs.declared.module.Gate.{Gate}
@@ -198,3 +198,5 @@ pub record IsListOf (d : Design) (lowering : Lowering) (l : LooseList) : Type 0 
   pub boxes : l.boxes ≡ map (pins_of number) (enumerate_from 0 (boxes d))
   -- the outputs of the top, and then the data of the registers
   pub outs : l.outs ≡ map (λ b. number (NetBit b)) (top_outputs d) ++ map number (data_places d lowering)
+  -- places are counted in 32 bits
+  pub fits : length l.cells < 2 ^ 32

@@ -6,6 +6,9 @@ mod elaborating;
 mod fault;
 mod flat;
 pub mod laws;
+pub mod list_laws;
+pub mod loop_laws;
+pub mod table_laws;
 mod top;
 
 pub use elaborating::elaborate;

@@ -1,6 +1,8 @@
 -- The names of nets in net order, and the place of each.
-use Rattle.std.proofs.Common.{◌≡◌, ℕ, zero, suc, ◌+◌, ◌<◌, Bool, true, false, cond, not, ◌||◌, ◌&&◌, List, [], ◌∷◌, ◌++◌, length, take, map, filter, get_or, Option, None, Some, refl, sym, ap, ap₂, ◌∙◌, arith, append_assoc, if◌then◌else◌}
-use Rattle.std.proofs.lemmas.Cmp.{nat_list_eq_equiv}
+use Rattle.std.proofs.Common.{◌≡◌, ℕ, zero, suc, ◌+◌, ◌-◌, ◌^◌, ◌<◌, ◌≤◌, min, Bool, true, false, cond, not, ◌||◌, ◌&&◌, List, [], ◌∷◌, ◌++◌, length, map, filter, get_or, Option, None, Some, refl, sym, ap, ap₂, ◌∙◌, subst, arith, append_assoc, length-append, if◌then◌else◌}
+use Rattle.std.proofs.Math.Nat.{min-eq_left}
+use Rattle.std.specs.Prelude.{is_some}
+use Rattle.std.specs.Map.{lookup}
 use Rattle.std.proofs.lemmas.List.{map-append}
 use Rattle.std.proofs.lemmas.List.Elements.{filter-append}
 use Rattle.std.specs.List.{flat_map, list_all, IsDistinct, AllByRecursion}
@@ -11,7 +13,7 @@ use Rattle.bb_ast.specs.Syntax.{PlainHead, PlainItem, PlainModule}
 use Rattle.bb_expr.specs.Declarations.{Declaration, declared_by, declared_by_head, implicit_names}
 use Rattle.bb_expr.specs.Implicit.{all_added}
 use Rattle.bb_expr.specs.Indexed.{head_names}
-use Rattle.bb_expr.specs.NetLists.{nets_declared_by}
+use Rattle.bb_expr.specs.NetLists.{all_placed, nets_declared_by}
 use Rattle.bb_expr.specs.Nets.{net_of, net_names, placed}
 use Rattle.bb_expr.specs.Walks.{has_name, once}
 use Rattle.bb_expr.proofs.IndexLemmas.{has-once}
@@ -83,33 +85,93 @@ names_in_order m none heads items all implicit empty first second third is disti
     among : (n : List ℕ) → has_name n (head_names m) ≡ true → has_name n (all_added [] (head_names m)) ≡ true
     among n e = ap (has_name n) (all_added-new (head_names m)) ∙ has-once n (head_names m) ∙ e
 
--- the places, with one name more
-or-false-left : (a b : Bool) → (a || b) ≡ false → a ≡ false
-or-false-left true b h = h
-or-false-left false b h = refl
+-- names, each placed behind those before it
 
-or-false-right : (a b : Bool) → (a || b) ≡ false → b ≡ false
-or-false-right true b h = absurd (grind (arith, h))
-or-false-right false b h = h
+pub placed-names : (k : ℕ) (names : List (List ℕ)) → map (λ e. e.0) (placed k names) ≡ names
+placed-names k [] = refl
+placed-names k (n ∷ ns) = ap (λ z. n ∷ z) (placed-names (k + 1) ns)
 
-pub placed-more : (k : ℕ) (names : List (List ℕ)) (n : List ℕ) (p : ℕ) → has_name n names ≡ false → p ≡ k + length names → insert_entry same_name (placed k names) n p ≡ placed k (names ++ n ∷ [])
-placed-more k [] n p new at = ap (λ z. (n, z) ∷ []) (omega (arith, at))
-placed-more k (x ∷ xs) n p new at =
-    ap (λ b. if b then (x, p) ∷ placed (k + 1) xs else (x, k) ∷ insert_entry same_name (placed (k + 1) xs) n p) (or-false-left (same_name n x) (has_name n xs) new)
-    ∙ ap (λ z. (x, k) ∷ z) (placed-more (k + 1) xs n p (or-false-right (same_name n x) (has_name n xs) new) (omega (arith, at)))
+placed-has : (k : ℕ) (names : List (List ℕ)) (n : List ℕ) → is_some (lookup (same_name n) (placed k names)) ≡ has_name n names
+placed-has k [] n = refl
+placed-has k (x ∷ xs) n = by (same_name n x) (placed-has (k + 1) xs n)
+  where
+    by : (b : Bool) → is_some (lookup (same_name n) (placed (k + 1) xs)) ≡ has_name n xs → is_some (if b then Some k else lookup (same_name n) (placed (k + 1) xs)) ≡ (b || has_name n xs)
+    by true rest = refl
+    by false rest = rest
 
--- a name of a list without repetition is none of those before it
-apart-at : (y x : List ℕ) (ys : List (List ℕ)) (i : ℕ) → AllByRecursion (λ z. same_name y z ≡ false) ys → i < length ys → x ≡ get_or ys i x → same_name y x ≡ false
-apart-at y x [] i apart within at = absurd (omega (arith, within))
-apart-at y x (z ∷ zs) zero apart within at = ap (same_name y) at ∙ apart.0
-apart-at y x (z ∷ zs) (suc i) apart within at = apart-at y x zs i apart.1 (omega (arith, within)) at
+placed-length : (k : ℕ) (names : List (List ℕ)) → length (placed k names) ≡ length names
+placed-length k [] = refl
+placed-length k (n ∷ ns) = ap suc (placed-length (k + 1) ns)
 
-pub new-at : (ks : List (List ℕ)) (i : ℕ) (x : List ℕ) → IsDistinct same_name ks → i < length ks → x ≡ get_or ks i x → has_name x (take i ks) ≡ false
-unfolding IsDistinct
-new-at [] i x d within at = absurd (omega (arith, within))
-new-at (y ∷ ys) zero x d within at = refl
-new-at (y ∷ ys) (suc i) x d within at =
-    ap (λ b. b || has_name x (take i ys)) (nat_list_eq_equiv.symm x y ∙ apart-at y x ys i d.0 (omega (arith, within)) at) ∙ new-at ys i x d.1 (omega (arith, within)) at
+placed-more : (k : ℕ) (names : List (List ℕ)) (n : List ℕ) → placed k (names ++ n ∷ []) ≡ placed k names ++ (n, k + length names) ∷ []
+placed-more k [] n = ap (λ p. (n, p) ∷ []) (omega arith)
+placed-more k (x ∷ xs) n = ap (λ z. (x, k) ∷ z) (placed-more (k + 1) xs n ∙ ap (λ p. placed (k + 1) xs ++ (n, p) ∷ []) (omega arith))
+
+added-longer : (ks xs : List (List ℕ)) → length ks ≤ length (all_added ks xs)
+added-longer ks [] = omega arith
+added-longer ks (x ∷ xs) = by (has_name x ks) (added-longer ks xs) (added-longer (ks ++ x ∷ []) xs)
+  where
+    by : (b : Bool) → length ks ≤ length (all_added ks xs) → length (ks ++ x ∷ []) ≤ length (all_added (ks ++ x ∷ []) xs) → length ks ≤ length (all_added (if b then ks else ks ++ x ∷ []) xs)
+    by true old new = old
+    by false old new = omega (arith, new, length-append ks (x ∷ []))
+
+least-place : (ks xs : List (List ℕ)) (x : List ℕ) → length (all_added (ks ++ x ∷ []) xs) < 2 ^ 32 → min (length (placed 0 ks)) (2 ^ 32 - 1) ≡ 0 + length ks
+least-place ks xs x few = min-eq_left (omega (arith, placed-length 0 ks, length-append ks (x ∷ []), added-longer (ks ++ x ∷ []) xs, few)) ∙ placed-length 0 ks ∙ omega arith
+
+-- a name that is new, or not
+placed-step : (b : Bool) (ks xs : List (List ℕ)) (x : List ℕ) → has_name x ks ≡ b → (length (all_added ks xs) < 2 ^ 32 → all_placed (placed 0 ks) xs ≡ placed 0 (all_added ks xs))
+    → (length (all_added (ks ++ x ∷ []) xs) < 2 ^ 32 → all_placed (placed 0 (ks ++ x ∷ [])) xs ≡ placed 0 (all_added (ks ++ x ∷ []) xs))
+    → length (all_added (if b then ks else ks ++ x ∷ []) xs) < 2 ^ 32
+    → all_placed (if b then placed 0 ks else placed 0 ks ++ (x, min (length (placed 0 ks)) (2 ^ 32 - 1)) ∷ []) xs ≡ placed 0 (all_added (if b then ks else ks ++ x ∷ []) xs)
+placed-step true ks xs x e old new few = old few
+placed-step false ks xs x e old new few =
+    ap (λ z. all_placed z xs) (ap (λ p. placed 0 ks ++ (x, p) ∷ []) (least-place ks xs x few) ∙ sym (placed-more 0 ks x)) ∙ new few
+
+all-placed : (ks xs : List (List ℕ)) → length (all_added ks xs) < 2 ^ 32 → all_placed (placed 0 ks) xs ≡ placed 0 (all_added ks xs)
+all-placed ks [] few = refl
+all-placed ks (x ∷ xs) few =
+    ap (λ b. all_placed (if b then placed 0 ks else placed 0 ks ++ (x, min (length (placed 0 ks)) (2 ^ 32 - 1)) ∷ []) xs) (placed-has 0 ks x)
+    ∙ placed-step (has_name x ks) ks xs x refl (all-placed ks xs) (all-placed (ks ++ x ∷ []) xs) few
+
+-- a new name goes behind the others
+pub inserted-behind : (entries : List (List ℕ × ℕ)) (n : List ℕ) (p : ℕ) → is_some (lookup (same_name n) entries) ≡ false → insert_entry same_name entries n p ≡ entries ++ (n, p) ∷ []
+inserted-behind [] n p new = refl
+inserted-behind (e ∷ es) n p new = by (same_name n e.0) new (inserted-behind es n p)
+  where
+    by : (b : Bool) → is_some (if b then Some e.1 else lookup (same_name n) es) ≡ false → (is_some (lookup (same_name n) es) ≡ false → insert_entry same_name es n p ≡ es ++ (n, p) ∷ [])
+        → (if b then (e.0, p) ∷ es else e ∷ insert_entry same_name es n p) ≡ e ∷ es ++ (n, p) ∷ []
+    by true clash rest = absurd (grind (arith, clash))
+    by false still rest = ap (λ z. e ∷ z) (rest still)
+
+-- the same names, each with its place
+pub placed_in_order : (m : PlainModule) (none heads items all : List (List ℕ × ℕ)) (implicit : List (List ℕ)) → none ≡ [] → heads ≡ all_placed none (head_names m) → items ≡ all_placed heads (flat_map (λ item. nets_declared_by item.body) m.items)
+    → all ≡ all_placed items implicit → implicit ≡ once (implicit_names m) → IsDistinct same_name implicit → length (net_names m) < 2 ^ 32 → all ≡ placed 0 (net_names m)
+placed_in_order m none heads items all implicit empty first second third is distinct few =
+    third ∙ ap (λ z. all_placed z implicit) second-placed ∙ all-placed seconds implicit third-few ∙ ap (placed 0) order
+  where
+    firsts : List (List ℕ)
+    firsts = all_added [] (head_names m)
+
+    seconds : List (List ℕ)
+    seconds = all_added firsts (flat_map (λ item. nets_declared_by item.body) m.items)
+
+    order : all_added seconds implicit ≡ net_names m
+    order = names_in_order m [] firsts seconds (all_added seconds implicit) implicit refl refl refl refl is distinct
+
+    third-few : length (all_added seconds implicit) < 2 ^ 32
+    third-few = subst (λ z. length z < 2 ^ 32) (sym order) few
+
+    second-few : length seconds < 2 ^ 32
+    second-few = omega (arith, third-few, added-longer seconds implicit)
+
+    first-few : length firsts < 2 ^ 32
+    first-few = omega (arith, second-few, added-longer firsts (flat_map (λ item. nets_declared_by item.body) m.items))
+
+    first-placed : heads ≡ placed 0 firsts
+    first-placed = first ∙ ap (λ z. all_placed z (head_names m)) empty ∙ all-placed [] (head_names m) first-few
+
+    second-placed : items ≡ placed 0 seconds
+    second-placed = second ∙ ap (λ z. all_placed z (flat_map (λ item. nets_declared_by item.body) m.items)) first-placed ∙ all-placed firsts (flat_map (λ item. nets_declared_by item.body) m.items) second-few
 
 pub names-of : (m : PlainModule) (names : List (List ℕ)) → map (λ net. net.name) (map (net_of m) names) ≡ names
 names-of m [] = refl

@@ -1,25 +1,26 @@
 //! The nets of a module in net order, and the place of each by its name.
-ghost use Rattle.std.specs.Prelude.{◌≡◌, ◌<◌, ◌^◌, ◌++◌, ◌∷◌, [], ℕ, List, false, ◌&&◌, is_none, map, length, IfOk, OnOk};
+ghost use Rattle.std.specs.Prelude.{◌≡◌, ◌<◌, ◌-◌, ◌^◌, min, ◌∷◌, [], ◌&&◌, is_none, map, length, IfOk, OnOk};
 ghost use Rattle.std.specs.List.{flat_map, list_all};
 ghost use Rattle.bb_ast.specs.Views.{module_view, body_view, head_view, item_view, named_view, optional_view};
 ghost use Rattle.bb_expr.specs.Declarations.{is_port};
-ghost use Rattle.bb_expr.specs.Implicit.{all_added};
 ghost use Rattle.bb_expr.specs.Nets.{net_names, net_of, nets_of, placed, is_of_empty, is_empty};
-ghost use Rattle.bb_expr.specs.NetLists.{AreNets, nets_declared_by};
-ghost use Rattle.bb_expr.specs.Walks.{has_name};
+ghost use Rattle.bb_expr.specs.NetLists.{all_placed, nets_declared_by};
 
 use crate::indexed::IndexedModule;
 use crate::net::NetInfo;
 use bb_ast::{Body, Expr, Head, Item};
 use bb_bits::{Name, NoMemory};
-use indexmap::{IndexMap, IndexSet};
+use indexmap::IndexMap;
 use std::alloc::Global;
+
+/// Names, each with its place among them.
+type NetIndex = IndexMap<Name, u32>;
 
 /// Nets with their places.
 #[derive(Drop)]
 pub(crate) struct Nets {
     pub all: Vec<NetInfo>,
-    pub index: IndexMap<Name, u32>,
+    pub index: NetIndex,
 }
 
 /// A net of a module.
@@ -35,45 +36,67 @@ fn net(of: &IndexedModule, name: &Name) -> Result<NetInfo, NoMemory>
     })
 }
 
+/// The place behind so many names, as far as 32 bits tell it.
+fn place_behind(count: usize) -> u32
+    ensures { result ≡ min count (2 ^ 32 - 1) }
+{
+    if count < u32::MAX as usize {
+        count as u32
+    } else {
+        u32::MAX
+    }
+}
+
+/// Adds a name behind the others, unless it is one of them.
+fn add_name(index: &mut NetIndex, name: &Name) -> Result<(), NoMemory>
+    ensures { OnOk result (index.new.entries ≡ all_placed index.old.entries (name.now ∷ [])) }
+{
+    if !index.contains_key(name) {
+        let place = place_behind(index.len());
+        index.insert(name.clone()?, place)?;
+    }
+    Ok(())
+}
+
 /// Adds the names of a header.
-fn add_heads(names: &mut IndexSet<Name>, heads: &[Head]) -> Result<(), NoMemory>
-    ensures { OnOk result (names.new.keys ≡ all_added names.old.keys (map (λ head. head.name) (map head_view heads.now))) }
+fn add_heads(index: &mut NetIndex, heads: &[Head]) -> Result<(), NoMemory>
+    ensures { OnOk result (index.new.entries ≡ all_placed index.old.entries (map (λ head. head.name) (map head_view heads.now))) }
 {
     for head in heads {
-        names.insert(head.name.clone()?)?;
+        add_name(index, &head.name)?;
     }
     Ok(())
 }
 
 /// Adds names.
-fn add_names(names: &mut IndexSet<Name>, more: &[Name]) -> Result<(), NoMemory>
-    ensures { OnOk result (names.new.keys ≡ all_added names.old.keys more.now) }
+fn add_names(index: &mut NetIndex, more: &[Name]) -> Result<(), NoMemory>
+    ensures { OnOk result (index.new.entries ≡ all_placed index.old.entries more.now) }
 {
     for name in more {
-        names.insert(name.clone()?)?;
+        add_name(index, name)?;
     }
     Ok(())
 }
 
 /// Adds the names of declared wires.
-fn add_wires(names: &mut IndexSet<Name>, all: &[(Name, Option<Expr>)]) -> Result<(), NoMemory>
-    ensures { OnOk result (names.new.keys ≡ all_added names.old.keys (map (λ x. x.0) (map named_view all.now))) }
+fn add_wires(index: &mut NetIndex, all: &[(Name, Option<Expr>)]) -> Result<(), NoMemory>
+    ensures { OnOk result (index.new.entries ≡ all_placed index.old.entries (map (λ x. x.0) (map named_view all.now))) }
 {
     for (name, _) in all {
-        names.insert(name.clone()?)?;
+        add_name(index, name)?;
     }
     Ok(())
 }
 
 /// Adds the names of the nets that an item declares.
-fn add_item(names: &mut IndexSet<Name>, body: &Body) -> Result<(), NoMemory>
-    ensures { OnOk result (names.new.keys ≡ all_added names.old.keys (nets_declared_by (body_view body.now))) }
+fn add_item(index: &mut NetIndex, body: &Body) -> Result<(), NoMemory>
+    ensures { OnOk result (index.new.entries ≡ all_placed index.old.entries (nets_declared_by (body_view body.now))) }
 {
     match body {
-        Body::Ports(_, more) => add_names(names, more),
-        Body::Regs(_, more) => add_names(names, more),
-        Body::Supply(_, _, more) => add_names(names, more),
-        Body::Nets(_, all) => add_wires(names, all),
+        Body::Ports(_, more) => add_names(index, more),
+        Body::Regs(_, more) => add_names(index, more),
+        Body::Supply(_, _, more) => add_names(index, more),
+        Body::Nets(_, all) => add_wires(index, all),
         // An instance is no net.
         Body::Calls(..) => Ok(()),
         Body::Assign(_) | Body::Gates(..) | Body::Always(_) => Ok(()),
@@ -81,34 +104,25 @@ fn add_item(names: &mut IndexSet<Name>, body: &Body) -> Result<(), NoMemory>
 }
 
 /// Adds the names of the nets that items declare.
-fn add_items(names: &mut IndexSet<Name>, items: &[Item]) -> Result<(), NoMemory>
-    ensures { OnOk result (names.new.keys ≡ all_added names.old.keys (flat_map (λ item. nets_declared_by item.body) (map item_view items.now))) }
+fn add_items(index: &mut NetIndex, items: &[Item]) -> Result<(), NoMemory>
+    ensures { OnOk result (index.new.entries ≡ all_placed index.old.entries (flat_map (λ item. nets_declared_by item.body) (map item_view items.now))) }
 {
     for item in items {
-        add_item(names, &item.body)?;
+        add_item(index, &item.body)?;
     }
     Ok(())
 }
 
-/// The names of the nets of a module, in net order.
-fn names_in(alloc: Global, of: &IndexedModule) -> Result<IndexSet<Name>, NoMemory>
-    ensures { IfOk result (λ names. names.keys ≡ net_names (module_view of.now)) }
+/// The names of the nets of a module with their places in net order.
+fn index_of(alloc: Global, of: &IndexedModule) -> Result<NetIndex, NoMemory>
+    requires few { length (net_names (module_view of.now)) < 2 ^ 32 }
+    ensures { IfOk result (λ index. index.entries ≡ placed 0 (net_names (module_view of.now))) }
 {
-    let mut names = IndexSet::with_capacity(alloc, of.name_count())?;
-    add_heads(&mut names, &of.module().heads)?;
-    add_items(&mut names, &of.module().items)?;
-    add_names(&mut names, of.implicit().as_slice())?;
-    Ok(names)
-}
-
-/// One more net, whose name is none of those before.
-fn add(nets: &mut Nets, of: &IndexedModule, name: &Name, place: u32) -> Result<(), NoMemory>
-    ensures { (names : List (List ℕ)) → AreNets (module_view of.now) names nets.old → place ≡ length names → has_name name.now names ≡ false
-        → OnOk result (AreNets (module_view of.now) (names ++ name.now ∷ []) nets.new) }
-{
-    nets.index.insert(name.clone()?, place)?;
-    nets.all.push(net(of, name)?)?;
-    Ok(())
+    let mut index = IndexMap::with_capacity(alloc, of.name_count())?;
+    add_heads(&mut index, &of.module().heads)?;
+    add_items(&mut index, &of.module().items)?;
+    add_names(&mut index, of.implicit().as_slice())?;
+    Ok(index)
 }
 
 /// The nets of a module.
@@ -117,15 +131,12 @@ pub(crate) fn nets_in(alloc: Global, of: &IndexedModule) -> Result<Nets, NoMemor
     ensures nets { IfOk result (λ nets. nets.all.items ≡ nets_of (module_view of.now)) }
     ensures index { IfOk result (λ nets. nets.index.entries ≡ placed 0 (map (λ net. net.name) nets.all.items)) }
 {
-    let names = names_in(alloc, of)?;
-    let mut nets = Nets {
-        all: Vec::with_capacity(alloc, names.len())?,
-        index: IndexMap::with_capacity(alloc, names.len())?,
-    };
-    for (place, name) in names.as_slice().iter().enumerate() {
-        add(&mut nets, of, name, place as u32)?;
+    let index = index_of(alloc, of)?;
+    let mut all = Vec::with_capacity(alloc, index.len())?;
+    for name in index.keys() {
+        all.push(net(of, name)?)?;
     }
-    Ok(nets)
+    Ok(Nets { all, index })
 }
 
 /// Whether a wire is a port and is not assigned.

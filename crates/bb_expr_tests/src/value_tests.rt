@@ -23,7 +23,8 @@ fn told(
 }
 
 // a is 1010 and runs down, b is 0110 and runs up, c is 1 and e is 0.
-const HEAD: &str = "module m(a, b, c, e, y); input [3:0] a; input [0:3] b; input c, e; output [31:0] y; ";
+const HEAD: &str =
+    "module m(a, b, c, e, y); input [3:0] a; input [0:3] b; input c, e; output [31:0] y; ";
 
 #[test]
 fn values_at_two_widths(rt: HostRuntime) -> Result<(), Fail> {
@@ -73,7 +74,8 @@ fn values_at_two_widths(rt: HostRuntime) -> Result<(), Fail> {
 
 #[test]
 fn complement_in_a_wider_context(rt: HostRuntime) -> Result<(), Fail> {
-    let text = b"module s(a, y); input a; output [3:0] y; assign y = ~a; assign y = {3'b111, ~a}; endmodule";
+    let text =
+        b"module s(a, y); input a; output [3:0] y; assign y = ~a; assign y = {3'b111, ~a}; endmodule";
     let high = told(&rt, rt.alloc(), text, &[&[true]], 4)?;
     assert_eq!(&rt; high.as_str(), "0 1110 ; 1110 1110 ; ");
     let low = told(&rt, rt.alloc(), text, &[&[false]], 4)?;
@@ -83,7 +85,8 @@ fn complement_in_a_wider_context(rt: HostRuntime) -> Result<(), Fail> {
 
 #[test]
 fn digits_beyond_the_size_are_cut_off(rt: HostRuntime) -> Result<(), Fail> {
-    let text = b"module s(y); output [7:0] y; assign y = 8'h1A5; assign y = 8'b1010_0101; endmodule";
+    let text =
+        b"module s(y); output [7:0] y; assign y = 8'h1A5; assign y = 8'b1010_0101; endmodule";
     let found = told(&rt, rt.alloc(), text, &[], 8)?;
     assert_eq!(&rt; found.as_str(), "10100101 10100101 ; 10100101 10100101 ; ");
     Ok(())

@@ -2,7 +2,7 @@
 use Rattle.std.proofs.Common.{◌≡◌, ◌≢◌, ◌⊎◌, ℕ, ◌+◌, ◌<◌, Bool, true, false, true≢false, List, [], ◌∷◌, All, Contains, Option, Some, None, refl, sym, ap, subst, ◌∙◌, inl, inr, arith}
 use Rattle.std.specs.Prelude.{IsSome}
 use Rattle.std.proofs.lemmas.Bool.{cases_lt}
-use Rattle.std.proofs.lemmas.List.Elements.{All-contains, All-cons, All-nil}
+use Rattle.std.proofs.lemmas.List.Elements.{All-contains, All-cons, All-nil, All-weaker}
 use Rattle.std.proofs.lemmas.Slice.Eq.{bytes_eq-Decides}
 use Rattle.bb_bits.specs.Names.{same_name}
 use Rattle.bb_net.specs.Pairs.{BoxTexts}
@@ -11,7 +11,7 @@ use Rattle.bb_elab.specs.Closures.{IsFirst}
 use Rattle.bb_elab.specs.Flats.{FlatNet}
 use Rattle.bb_match.specs.declared.fault.MatchFault.{MatchFault}
 use Rattle.bb_match.specs.CutPoints.{register_texts, clock_text}
-use Rattle.bb_match.specs.Refusals.{IsMissing, IsFirstMissing, AreAmong, HasNoClock, IsFirstWithoutClock, HaveClocks, IsClockedApart, IsFirstClockedApart, AreClockedAlike, most_pins, input_and_pin_count, Cause, Box, SpecInput, SpecOutput, ImpInput, ImpOutput, SpecRegister, ImpRegister, SpecClock, ImpClock, Clocks, Pins, rank, fault_of, IsTold, IsAbsent, Fit, IsFirstRefusal}
+use Rattle.bb_match.specs.Refusals.{IsMissing, IsFirstMissing, AreAmong, HasNoClock, IsFirstWithoutClock, HaveClocks, IsClockedApart, IsFirstClockedApart, IsClockedAlike, AreClockedAlike, most_pins, input_and_pin_count, Cause, Box, SpecInput, SpecOutput, ImpInput, ImpOutput, SpecRegister, ImpRegister, SpecClock, ImpClock, Clocks, Pins, rank, fault_of, IsTold, IsAbsent, Fit, IsFirstRefusal}
 use Rattle.bb_match.specs.Laws.{FitOrRefused}
 use Rattle.bb_match.proofs.Firsts.{less_or_same, first_there, contains_here, contains_there, contains_cases, none_in_nil}
 use Rattle.bb_match.proofs.RefusalLaws.{none_is_not_some, cause_at, at_rank}
@@ -34,7 +34,7 @@ decide_bool false true = inr (λ e. true≢false (sym e))
 some_one : {A : Type 0} (d a b : A) → Some a ≡ Some b → a ≡ b
 some_one d a b e = cc e
 
-decide_optional : (a b : Option (List ℕ)) → (a ≡ b) ⊎ (a ≢ b)
+pub decide_optional : (a b : Option (List ℕ)) → (a ≡ b) ⊎ (a ≢ b)
 decide_optional None None = inl refl
 decide_optional None (Some y) = inr (λ e. cc e)
 decide_optional (Some x) None = inr (λ e. cc e)
@@ -122,7 +122,7 @@ clocked_apart : (f g : FlatNet) → ((n : List ℕ) × IsFirstClockedApart f g n
 unfolding AreAlike IsAlike
 clocked_apart f g = elim (first_or_all (IsClockedApart f g) (AreAlike f g) (apart_not_alike f g) (apart_or_alike f g) f.regs) [
   | inl x ↦ inl (x.0.text, (x.0, x.1, refl))
-  | inr all ↦ inr (λ r q has there. All-contains (IsAlike f g r) g.regs q (All-contains (AreAlike f g) f.regs r all has) there)
+  | inr all ↦ inr (All-weaker (AreAlike f g) (IsClockedAlike f g) (λ r alike q there. All-contains (IsAlike f g r) g.regs q alike there) f.regs all)
 ]
 
 first_box : (boxes : List BoxTexts) → ((box : BoxTexts) × (rest : List BoxTexts) × (boxes ≡ box ∷ rest)) ⊎ (boxes ≡ [])

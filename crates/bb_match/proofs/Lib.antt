@@ -1,3 +1,11 @@
+pub mod CheckLemmas
+pub mod ClockLemmas
 pub mod Decisions
 pub mod Firsts
+pub mod Loops
+pub mod PairExists
+pub mod PairLaws
+pub mod PairLemmas
+pub mod PickLemmas
+pub mod PlaceLemmas
 pub mod RefusalLaws

@@ -7,7 +7,7 @@ use Rattle.bb_elab.specs.declared.flat.Reg.{Reg}
 use Rattle.bb_elab.specs.Flats.{FlatNet}
 use Rattle.bb_match.specs.declared.fault.MatchFault.TheVariants as faults
 use Rattle.bb_match.specs.CutPoints.{register_texts}
-use Rattle.bb_match.specs.Refusals.{IsMissing, IsFirstMissing, AreAmong, HasNoClock, IsFirstWithoutClock, HaveClocks, IsClockedApart, Cause, Box, SpecInput, SpecOutput, ImpInput, ImpOutput, SpecRegister, ImpRegister, SpecClock, ImpClock, Clocks, Pins, rank, fault_of, IsTold, IsAbsent}
+use Rattle.bb_match.specs.Refusals.{IsMissing, IsFirstMissing, AreAmong, HasNoClock, IsFirstWithoutClock, HaveClocks, IsClockedApart, IsClockedAlike, Cause, Box, SpecInput, SpecOutput, ImpInput, ImpOutput, SpecRegister, ImpRegister, SpecClock, ImpClock, Clocks, Pins, rank, fault_of, IsTold, IsAbsent}
 use Rattle.bb_match.specs.Laws.{NotFitAndRefused, FirstRefusalsAreOne}
 use Rattle.bb_match.proofs.Firsts.{less_or_same, first_there, first_one}
 
@@ -34,7 +34,7 @@ told_not_absent spec imp SpecClock n told absent = no_clock_not_there spec n tol
 told_not_absent spec imp ImpClock n told absent = no_clock_not_there imp n told absent
 told_not_absent spec imp Clocks n told absent =
     let apart = told.1.holds in
-    let alike = absent told.0 apart.0 (first_there (IsClockedApart spec imp) spec.regs told.0 told.1) apart.1 apart.2 in
+    let alike = All-contains (IsClockedAlike spec imp) spec.regs told.0 absent (first_there (IsClockedApart spec imp) spec.regs told.0 told.1) apart.0 apart.1 apart.2 in
     elim apart.3 [ inl edge ↦ edge alike.0 | inr clock ↦ clock alike.1 ]
 told_not_absent spec imp Pins n told absent = omega (arith, told, absent)
 

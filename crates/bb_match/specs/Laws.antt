@@ -1,8 +1,10 @@
--- Laws of refusals.
+-- Laws of refusals and of pairs.
 use Rattle.std.specs.Prelude.{◌≡◌, ◌⊎◌}
-use Rattle.bb_elab.specs.Flats.{FlatNet}
+use Rattle.bb_net.specs.Pairs.{NetPair}
+use Rattle.bb_elab.specs.Flats.{FlatNet, IsFlat}
 use Rattle.bb_match.specs.declared.fault.MatchFault.{MatchFault}
 use Rattle.bb_match.specs.Refusals.{Fit, IsFirstRefusal}
+use Rattle.bb_match.specs.Pairing.{IsPairOf}
 
 -- no two netlists fit and are refused
 abbrev pub NotFitAndRefused : Type 0
@@ -15,3 +17,11 @@ FirstRefusalsAreOne = (spec imp : FlatNet) (e f : MatchFault) → IsFirstRefusal
 -- two netlists fit or have a first refusal
 abbrev pub FitOrRefused : Type 0
 FitOrRefused = (spec imp : FlatNet) → Fit spec imp ⊎ ((fault : MatchFault) × IsFirstRefusal spec imp fault)
+
+-- two netlists have one pair at most
+abbrev pub PairsAreOne : Type 0
+PairsAreOne = (spec imp : FlatNet) (p q : NetPair) → IsFlat spec → IsFlat imp → IsPairOf spec imp p → IsPairOf spec imp q → p ≡ q
+
+-- two netlists that fit have a pair
+abbrev pub FittingHavePair : Type 0
+FittingHavePair = (spec imp : FlatNet) → IsFlat spec → IsFlat imp → Fit spec imp → (p : NetPair) × IsPairOf spec imp p

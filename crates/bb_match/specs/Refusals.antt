@@ -41,8 +41,11 @@ IsClockedApart f g r = (q : Reg) × Contains g.regs q × (q.text ≡ r.text) × 
 abbrev pub IsFirstClockedApart : FlatNet → FlatNet → List ℕ → Type 0
 IsFirstClockedApart f g text = (r : Reg) × IsFirst (IsClockedApart f g) f.regs r × (text ≡ r.text)
 
+abbrev pub IsClockedAlike : FlatNet → FlatNet → Reg → Type 0
+IsClockedAlike f g r = (q : Reg) → Contains g.regs q → q.text ≡ r.text → (q.falling ≡ r.falling) × (clock_text g q ≡ clock_text f r)
+
 abbrev pub AreClockedAlike : FlatNet → FlatNet → Type 0
-AreClockedAlike f g = (r q : Reg) → Contains f.regs r → Contains g.regs q → q.text ≡ r.text → (q.falling ≡ r.falling) × (clock_text g q ≡ clock_text f r)
+AreClockedAlike f g = All (IsClockedAlike f g) f.regs
 
 -- inputs, registers and all pins of boxes
 

@@ -7,7 +7,10 @@ ghost use Rattle.bb_match.specs.declared.fault.MatchFault.TheVariants.{NoMemory}
 ghost use Rattle.bb_match.specs.Pairing.{IsPairOf};
 ghost use Rattle.bb_match.specs.Refusals.{Fit, IsFirstRefusal};
 
+use crate::checking::check;
 use crate::fault::MatchFault;
+use crate::index::index_of;
+use crate::joining::{input_numbers, joined, output_picks};
 use bb_elab::Flat;
 use bb_net::Pair;
 use std::alloc::Global;
@@ -30,6 +33,11 @@ pub fn pair(alloc: Global, spec: Flat, imp: Flat) -> Result<Pair, MatchFault>
     ensures kept { IfOk result (λ p. IsFlat spec × IsFlat imp) }
     ensures small { IfOk result (λ p. (length p.spec.cells ≤ 2000000) × (length p.imp.cells ≤ 2000000)) }
 {
-    let _ = (alloc, spec, imp);
-    Err(MatchFault::NoMemory)
+    let of_spec = index_of(alloc, &spec)?;
+    let of_imp = index_of(alloc, &imp)?;
+    check(&spec, &of_spec, &imp, &of_imp)?;
+    let numbers = input_numbers(alloc, &spec, &of_spec, &imp, &of_imp)?;
+    let picks = output_picks(alloc, &spec, &of_spec, &imp, &of_imp)?;
+    let p = joined(alloc, spec, imp, of_spec.reg_texts, &numbers, &picks)?;
+    Ok(p)
 }

@@ -7,7 +7,7 @@ use Rattle.std.proofs.lemmas.List.{length-set, length-replicate, get_or-replicat
 use Rattle.std.proofs.lemmas.List.Elements.{All-contains, Contains-push, Contains-append_left, Contains-append_right, Contains-push_cases}
 use Rattle.std.proofs.lemmas.List.Sums.{sum_by-set}
 use Rattle.bb_net.specs.Values.{bit_of}
-use Rattle.bb_net.specs.Loose.{LooseList, loose_at, operands, IsLoose, Reaches, IsOnClosedWalk}
+use Rattle.bb_net.specs.Loose.{LooseList, loose_at, operands, IsLoose, Reaches, DependsOn, IsOnClosedWalk}
 use Rattle.bb_net.specs.Walks.{IsMarked, IsSearched, CellsRise}
 use Rattle.bb_net.proofs.PlaceLists.{Contains-one, Contains-none, Reaches-push}
 
@@ -108,11 +108,11 @@ seen_on l start seen s (suc n) m k is walk = elim (s.closed m is) [
   | inr done ↦ seen_on l start seen s n walk.0 k (done walk.0 walk.1) walk.2
 ]
 
-pub IsSearched-all : (l : LooseList) (start : ℕ) (seen : List Bool) → start < length l.cells → IsSearched l start seen [] → Decides (bit_of seen start) (IsOnClosedWalk l start)
-IsSearched-all l start seen lt s = (
-  λ is. let walk = s.reached start is in (lt, walk.0, walk.1),
-  λ walk. seen_on l start seen s walk.1 walk.2.0 start (s.begun walk.2.0 walk.2.1) walk.2.2,
-)
+pub IsSearched-decides : (l : LooseList) (start : ℕ) (seen : List Bool) → IsSearched l start seen [] → (k : ℕ) → Decides (bit_of seen k) (DependsOn l start k)
+IsSearched-decides l start seen s k = (s.reached k, λ walk. seen_on l start seen s walk.0 walk.1.0 k (s.begun walk.1.0 walk.1.1) walk.1.2)
+
+pub on_walk : (l : LooseList) (start : ℕ) (b : Bool) → start < length l.cells → Decides b (DependsOn l start start) → Decides b (IsOnClosedWalk l start)
+on_walk l start b lt d = (λ is. let walk = d.0 is in (lt, walk.0, walk.1), λ walk. d.1 (walk.1, walk.2))
 
 pub not_decided : (b : Bool) (P : Type 0) → Decides b P → b ≡ false → P → ⊥
 not_decided b P d is p = both_ways b is (d.1 p)

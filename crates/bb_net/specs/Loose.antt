@@ -51,6 +51,10 @@ abbrev pub Reaches : ℕ → LooseList → ℕ → ℕ → Type 0
 Reaches zero l from to = from ≡ to
 Reaches (suc n) l from to = (place : ℕ) × Contains (operands l.boxes (loose_at l from)) place × Reaches n l place to
 
+-- a place depends on another, directly or through others
+abbrev pub DependsOn : LooseList → ℕ → ℕ → Type 0
+DependsOn l from to = (n : ℕ) × Reaches (suc n) l from to
+
 -- the place lies on a closed walk of dependence
 abbrev pub IsOnClosedWalk : LooseList → ℕ → Type 0
 IsOnClosedWalk l place = (place < length l.cells) × (n : ℕ) × Reaches (suc n) l place place

@@ -30,3 +30,4 @@ pub use pair::{BoxName, OutName, Pair};
 pub use rearranging::rearranged_keeps_values;
 pub use tern::{known_is_value, known_without_boxes, tern_exists, tern_is_unique};
 pub use value::{value_exists, value_is_unique};
+pub use walks::dependences;

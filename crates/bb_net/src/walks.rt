@@ -4,7 +4,8 @@ ghost use Rattle.std.specs.Prelude.{◌≡◌, ◌+◌, ◌<◌, true, false, �
 ghost use Rattle.std.specs.Bool.{Decides};
 ghost use Rattle.std.specs.List.{slice_index_or};
 ghost use Rattle.bb_net.specs.Netlists.{box_at};
-ghost use Rattle.bb_net.specs.Loose.{loose_at, operands, IsLoose, IsOnClosedWalk, IsLeastOnClosedWalk};
+ghost use Rattle.bb_net.specs.Loose.{loose_at, operands, IsLoose, DependsOn, IsOnClosedWalk, IsLeastOnClosedWalk};
+ghost use Rattle.bb_net.specs.Values.{bit_of};
 ghost use Rattle.bb_net.specs.Walks.{IsMarked, IsSearched, AreDone, BoxesRise, CellsRise};
 
 use crate::components::{Ranks, components, rank_at};
@@ -117,14 +118,25 @@ fn mark_reached(loose: &Loose, start: u32, seen: &mut [bool]) -> Result<(), NoMe
     Ok(())
 }
 
+/// For each place of a list whether a place depends on it, directly or through others.
+pub fn dependences(loose: &Loose, start: u32) -> Result<Vec<bool>, NoMemory>
+    requires list { IsLoose loose.now }
+    requires there { start < length loose.now.cells }
+    ensures whole { IfOk result (λ seen. length seen.items ≡ length loose.now.cells) }
+    ensures ok { IfOk result (λ seen. (k : ℕ) → Decides (bit_of seen.items k) (DependsOn loose.now start k)) }
+{
+    let mut seen = vec![in loose.allocator(); false; loose.cell_count()]?;
+    mark_reached(loose, start, &mut seen)?;
+    Ok(seen)
+}
+
 // Whether a closed walk leads through a place.
 fn is_on_walk(loose: &Loose, start: u32) -> Result<bool, NoMemory>
     requires list { IsLoose loose.now }
     requires there { start < length loose.now.cells }
     ensures ok { IfOk result (λ on. Decides on (IsOnClosedWalk loose.now start)) }
 {
-    let mut seen = vec![in loose.allocator(); false; loose.cell_count()]?;
-    mark_reached(loose, start, &mut seen)?;
+    let seen = dependences(loose, start)?;
     Ok(seen[start as usize])
 }
 

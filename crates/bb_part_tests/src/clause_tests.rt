@@ -18,7 +18,7 @@ fn clause(alloc: Global, numbers: &[i64]) -> Result<SmallVec<Lit, 4>, Fail> {
     Ok(lits)
 }
 
-fn clauses(alloc: Global, lists: &[&[i64]]) -> Result<Vec<SmallVec<Lit, 4>>, Fail> {
+pub(crate) fn clauses(alloc: Global, lists: &[&[i64]]) -> Result<Vec<SmallVec<Lit, 4>>, Fail> {
     let mut all = Vec::new(alloc);
     for numbers in lists {
         all.push(clause(alloc, numbers)?)?;

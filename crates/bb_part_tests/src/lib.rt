@@ -1,4 +1,4 @@
-//! Tests of tables, nets, diagrams and clauses, through the public calls of their crates.
+//! Tests of tables, nets, diagrams, clauses and the solver, through the public calls of their crates.
 #![tactic(auto)]
 
 #[cfg(test)]
@@ -15,5 +15,7 @@ mod order_tests;
 mod pattern_tests;
 #[cfg(test)]
 mod quantifier_tests;
+#[cfg(test)]
+mod solver_tests;
 #[cfg(test)]
 mod table_tests;

@@ -1,0 +1,11 @@
+-- Sat exactly where there is a model.
+use Rattle.std.proofs.Common.{◌↔◌}
+use Rattle.bb_cnf.specs.Clauses.{Formula}
+use Rattle.bb_cnf.specs.Laws.{SoundnessLaws}
+use Rattle.bb_cdcl.specs.declared.outcome.Outcome.{Outcome}
+use Rattle.bb_cdcl.specs.declared.outcome.Outcome.TheVariants as answers
+use Rattle.bb_cdcl.specs.Outcomes.{IfSat, IfUnsat, IsSat, HasModel}
+
+pub sat_exactly : SoundnessLaws → (f : Formula) (o : Outcome) → IfSat o f → IfUnsat o f → (IsSat o ↔ HasModel f)
+sat_exactly laws f (answers.Sat bits) sat unsat = (λ _. (bits.items, sat), λ _. tt)
+sat_exactly laws f (answers.Unsat r) sat unsat = (λ none. absurd none, λ m. laws.refutation f.clauses r.steps.items unsat _ m.1.1)

@@ -1,0 +1,113 @@
+-- The trail and the clauses while they grow and shrink.
+use Rattle.std.proofs.Common.{◌≡◌, ◌<◌, ◌≤◌, ℕ, zero, suc, Bool, true, false, ◌||◌, Option, Some, None, IfSome, List, [], ◌∷◌, ◌++◌, length, take, slice_get, refl, sym, ◌∙◌, ap, subst, ◌⊎◌, inl, inr}
+use Rattle.std.proofs.lemmas.List.{take-take, map-append}
+use Rattle.std.proofs.lemmas.Option.{slice_get_within, get_or_from_slice_get}
+use Rattle.std.specs.List.{list_any}
+use Rattle.std.proofs.lemmas.List.Folds.{list_any_at}
+use Rattle.smallvec.specs.SmallVec.{SmallVec}
+use Rattle.bb_cnf.specs.declared.clauses.Lit.{Lit}
+use Rattle.bb_cnf.specs.Clauses.{lists_of, same_literal}
+use Rattle.bb_cdcl.specs.declared.trail.Entry.{Entry}
+use Rattle.bb_cdcl.specs.Trails.{opposite, falsified, value_at, is_bit, IsNew, IsReason, AreNew, HaveReasons, AreValues}
+use Rattle.bb_cdcl.proofs.Literals.{no_clash, opposite_twice, same_literal-itself}
+use Rattle.bb_cdcl.proofs.Assigned.{false_in_range}
+
+pub get_with_more : {A : Type 0} (xs ys : List A) (k : ℕ) (x : A) → slice_get xs k ≡ Some x → slice_get (xs ++ ys) k ≡ Some x
+get_with_more [] ys k x e = absurd (let g : None ≡ Some x = e in cc)
+get_with_more (y ∷ xs) ys zero x e = e
+get_with_more (y ∷ xs) ys (suc k) x e = get_with_more xs ys k x e
+
+pub get_last : {A : Type 0} (xs : List A) (x : A) → slice_get (xs ++ x ∷ []) (length xs) ≡ Some x
+get_last [] x = refl
+get_last (y ∷ xs) x = get_last xs x
+
+-- an element of a list with one more, and what stands before it
+pub old_or_last : {A : Type 0} (xs : List A) (x : A) (k : ℕ) (y : A) → slice_get (xs ++ x ∷ []) k ≡ Some y
+    → ((slice_get xs k ≡ Some y) × (take k (xs ++ x ∷ []) ≡ take k xs)) ⊎ ((x ≡ y) × (take k (xs ++ x ∷ []) ≡ xs))
+old_or_last [] x zero y e = inr ((let s : Some x ≡ Some y = e in cc), refl)
+old_or_last [] x (suc k) y e = absurd (let g : None ≡ Some y = e in cc)
+old_or_last (z ∷ xs) x zero y e = inl (e, refl)
+old_or_last (z ∷ xs) x (suc k) y e = elim (old_or_last xs x k y e) as (λ _. ((slice_get xs k ≡ Some y) × (z ∷ take k (xs ++ x ∷ []) ≡ z ∷ take k xs)) ⊎ ((x ≡ y) × (z ∷ take k (xs ++ x ∷ []) ≡ z ∷ xs))) [
+  | inl old ↦ inl (old.0, ap (λ t. z ∷ t) old.1)
+  | inr last ↦ inr (last.0, ap (λ t. z ∷ t) last.1)
+]
+
+pub of_front : {A : Type 0} (xs : List A) (p k : ℕ) (y : A) → slice_get (take p xs) k ≡ Some y → (slice_get xs k ≡ Some y) × (take k (take p xs) ≡ take k xs)
+of_front [] zero k y e = (e, refl)
+of_front [] (suc p) k y e = (e, refl)
+of_front (x ∷ xs) zero k y e = absurd (let g : None ≡ Some y = e in cc)
+of_front (x ∷ xs) (suc p) zero y e = (e, refl)
+of_front (x ∷ xs) (suc p) (suc k) y e = let rest = of_front xs p k y e in (rest.0, ap (λ t. x ∷ t) rest.1)
+
+-- a literal without a value is new
+pub free_is_new : (entries : List Entry) (values : List (Option Bool)) (l : Lit) → AreValues entries values → value_at values l.var ≡ None → IsNew entries l
+free_is_new entries values l are free =
+    (sym (are l) ∙ ap (λ o. is_bit o l.neg) free, sym (are (opposite l)) ∙ ap (λ o. is_bit o (opposite l).neg) free)
+
+-- and a new literal has no value
+pub new_is_free : (entries : List Entry) (values : List (Option Bool)) (l : Lit) → AreValues entries values → IsNew entries l → value_at values l.var ≡ None
+new_is_free entries values l are new = neither (value_at values l.var) l.neg (are l ∙ new.0) (are (opposite l) ∙ new.1) where
+  neither : (o : Option Bool) (s : Bool) → is_bit o s ≡ false → is_bit o (opposite (record { var = 0; neg = s })).neg ≡ false → o ≡ None
+  neither None s a b = refl
+  neither (Some true) true a b = no_clash (sym a)
+  neither (Some true) false a b = no_clash (sym b)
+  neither (Some false) true a b = no_clash (sym b)
+  neither (Some false) false a b = no_clash (sym a)
+
+pub new_push : (entries : List Entry) (e : Entry) → AreNew entries → IsNew entries e.lit → AreNew (entries ++ e ∷ [])
+new_push entries e before new i d stands = elim (old_or_last entries e i d stands) as (λ _. IsNew (take i (entries ++ e ∷ [])) d.lit) [
+  | inl old ↦ subst (λ (es : List Entry). IsNew es d.lit) (sym old.1) (before i d old.0)
+  | inr last ↦ subst (λ (es : List Entry). IsNew es d.lit) (sym last.1) (subst (λ (k : Entry). IsNew entries k.lit) last.0 new)
+]
+
+pub reasons_push : (clauses : List (List Lit)) (entries : List Entry) (e : Entry) → HaveReasons clauses entries → IfSome e.reason (IsReason clauses entries e.lit) → HaveReasons clauses (entries ++ e ∷ [])
+reasons_push clauses entries e before reason i d stands = elim (old_or_last entries e i d stands) as (λ _. IfSome d.reason (IsReason clauses (take i (entries ++ e ∷ [])) d.lit)) [
+  | inl old ↦ subst (λ (es : List Entry). IfSome d.reason (IsReason clauses es d.lit)) (sym old.1) (before i d old.0)
+  | inr last ↦ subst (λ (es : List Entry). IfSome d.reason (IsReason clauses es d.lit)) (sym last.1) (subst (λ (k : Entry). IfSome k.reason (IsReason clauses entries k.lit)) last.0 reason)
+]
+
+pub new_front : (entries : List Entry) (p : ℕ) → AreNew entries → AreNew (take p entries)
+new_front entries p before i d stands = let f = of_front entries p i d stands in subst (λ (es : List Entry). IsNew es d.lit) (sym f.1) (before i d f.0)
+
+pub reasons_front : (clauses : List (List Lit)) (entries : List Entry) (p : ℕ) → HaveReasons clauses entries → HaveReasons clauses (take p entries)
+reasons_front clauses entries p before i d stands =
+    let f = of_front entries p i d stands in subst (λ (es : List Entry). IfSome d.reason (IsReason clauses es d.lit)) (sym f.1) (before i d f.0)
+
+pub more_reason : (clauses : List (List Lit)) (c : List Lit) (front : List Entry) (l : Lit) (o : Option ℕ) → IfSome o (IsReason clauses front l) → IfSome o (IsReason (clauses ++ c ∷ []) front l)
+more_reason clauses c front l None reason = tt
+more_reason clauses c front l (Some r) reason = record {
+  clause = reason.clause;
+  stands = get_with_more clauses (c ∷ []) r reason.clause reason.stands;
+  own = reason.own;
+  others = reason.others;
+}
+
+pub more_reasons : (clauses : List (List Lit)) (c : List Lit) (entries : List Entry) → HaveReasons clauses entries → HaveReasons (clauses ++ c ∷ []) entries
+more_reasons clauses c entries before i d stands = more_reason clauses c (take i entries) d.lit d.reason (before i d stands)
+
+pub lists_of-push : (clauses : List (SmallVec Lit)) (c : SmallVec Lit) → lists_of (clauses ++ c ∷ []) ≡ lists_of clauses ++ c.items ∷ []
+lists_of-push clauses c = map-append (λ (k : SmallVec Lit). k.items) clauses (c ∷ [])
+
+any_front : {A : Type 0} (p : A → Bool) (xs : List A) (n : ℕ) → list_any p xs ≡ false → list_any p (take n xs) ≡ false
+any_front p [] zero none = refl
+any_front p [] (suc n) none = refl
+any_front p (x ∷ xs) zero none = refl
+any_front p (x ∷ xs) (suc n) none =
+    let parts = neither (p x) (list_any p xs) none in ap (λ b. b || list_any p (take n xs)) parts.0 ∙ any_front p xs n parts.1 where
+      neither : (a b : Bool) → (a || b) ≡ false → (a ≡ false) × (b ≡ false)
+      neither true b e = no_clash (sym e)
+      neither false b e = (refl, e)
+
+-- what is new stays new under a shorter trail
+pub still_new : (entries : List Entry) (place back : ℕ) (l : Lit) → back ≤ place → IsNew (take place entries) l → IsNew (take back entries) (opposite l)
+still_new entries place back l before new =
+    let shorter : (m : Lit) → falsified (take place entries) m ≡ false → falsified (take back entries) m ≡ false =
+    λ m none. ap (λ es. falsified es m) (sym (take-take back place entries before)) ∙ any_front (λ e. same_literal (opposite e.lit) m) (take place entries) back none in
+    (shorter (opposite l) new.1, ap (falsified (take back entries)) (opposite_twice l) ∙ shorter l new.0)
+
+pub entry_in_range : (entries : List Entry) (values : List (Option Bool)) (place : ℕ) (e : Entry) → AreValues entries values → slice_get entries place ≡ Some e → e.lit.var < length values
+entry_in_range entries values place e are stands =
+    false_in_range values (opposite e.lit)
+    (are (opposite e.lit)
+    ∙ list_any_at (λ d. same_literal (opposite d.lit) (opposite e.lit)) entries place e (slice_get_within entries place e stands)
+    (ap (λ (d : Entry). same_literal (opposite d.lit) (opposite e.lit)) (get_or_from_slice_get entries place e e stands) ∙ same_literal-itself (opposite e.lit)))

@@ -1,0 +1,10 @@
+pub mod Analyzed
+pub mod Assigned
+pub mod Decided
+pub mod Derived
+pub mod Extended
+pub mod Happens
+pub mod Literals
+pub mod Measured
+pub mod Resolved
+pub mod Started

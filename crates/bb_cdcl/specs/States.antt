@@ -1,0 +1,70 @@
+-- What stays true of a solver.
+use Rattle.std.specs.Prelude.{ℕ, ◌≡◌, ◌<◌, Bool, false, true, Some, IfSome, IfNone, Option, List, [], ◌∷◌, ◌++◌, map, length, slice_get, All}
+use Rattle.smallvec.specs.SmallVec.{SmallVec}
+use Rattle.bb_cnf.specs.declared.clauses.Lit.{Lit}
+use Rattle.bb_cnf.specs.declared.refutation.Step.{Step}
+use Rattle.bb_cnf.specs.Clauses.{literals_of, lists_of}
+use Rattle.bb_cnf.specs.Chains.{derived, made_by, IsEmpty, IsRefutation}
+use Rattle.bb_cnf.specs.PartialResolvent.{held, AreListed}
+use Rattle.bb_cdcl.specs.declared.analysis.Jump.{Jump}
+use Rattle.bb_cdcl.specs.declared.state.State.{State}
+use Rattle.bb_cdcl.specs.declared.state.Turn.{Turn}
+use Rattle.bb_cdcl.specs.declared.state.Turn.TheVariants as turns
+use Rattle.bb_cdcl.specs.Trails.{AreNew, HaveReasons, AreValues, HasRoom}
+use Rattle.bb_cdcl.specs.Analysis.{IsJump}
+use Rattle.bb_cdcl.specs.Events.{IsSatisfied}
+use Rattle.bb_cdcl.specs.Measure.{left}
+
+-- The clauses are the given ones, and what the steps derive from them.
+pub record IsDerived (given : List (List Lit)) (s : State) : Type 0 where
+  pub begins : (k : ℕ) (c : List Lit) → slice_get given k ≡ Some c → slice_get (lists_of s.clauses.items) k ≡ Some c
+  pub derives : derived (map literals_of given) s.steps.items ≡ Some (map literals_of (lists_of s.clauses.items))
+
+-- The trail is in order, and between two analyses the resolvent is empty.
+pub record IsReady (s : State) : Type 0 where
+  pub new : AreNew s.trail.entries.items
+  pub reasons : HaveReasons (lists_of s.clauses.items) s.trail.entries.items
+  pub values : AreValues s.trail.entries.items s.trail.values.items
+  pub room : HasRoom s.trail.entries.items s.trail.values.items
+  pub empty : (l : Lit) → held s.resolvent l ≡ false
+  pub listed : AreListed s.resolvent
+
+-- A clause was learned, by a step. The trail is as before.
+pub record Learns (old new : State) (jump : Option Jump) : Type 0 where
+  pub clause : SmallVec Lit
+  pub step : Step
+  pub clauses : new.clauses.items ≡ old.clauses.items ++ clause ∷ []
+  pub steps : new.steps.items ≡ old.steps.items ++ step ∷ []
+  pub made : made_by (map literals_of (lists_of old.clauses.items)) step ≡ Some (literals_of clause.items)
+  pub some : IfSome jump (λ j. IsJump old.trail.entries.items (literals_of clause.items) j.place j.back)
+  pub none : IfNone jump (IsEmpty (literals_of clause.items))
+  pub entries : new.trail.entries.items ≡ old.trail.entries.items
+  pub values : new.trail.values.items ≡ old.trail.values.items
+  pub empty : (l : Lit) → held new.resolvent l ≡ false
+  pub listed : AreListed new.resolvent
+
+-- what is left of the search
+abbrev pub left_of : State → ℕ
+left_of s = left (length s.trail.values.items) s.trail.entries.items
+
+-- The trail is another, and less is left.
+pub record Advances (old new : State) : Type 0 where
+  pub ready : IsReady new
+  pub less : left_of new < left_of old
+  pub same : length new.trail.values.items ≡ length old.trail.values.items
+
+abbrev pub Turns : List (List Lit) → State → State → Turn → Type 0
+Turns given old new turns.Going = IsDerived given new × Advances old new
+Turns given old new turns.Satisfied = All (IsSatisfied new.trail.values.items) given × (length new.trail.values.items ≡ length old.trail.values.items)
+Turns given old new turns.Refuted = IsRefutation given new.steps.items
+
+-- At the end all clauses are true, or the steps refute them.
+abbrev pub Ends : List (List Lit) → State → State → Bool → Type 0
+Ends given old new true = All (IsSatisfied new.trail.values.items) given × (length new.trail.values.items ≡ length old.trail.values.items)
+Ends given old new false = IsRefutation given new.steps.items
+
+-- The search may go on.
+pub record Pauses (given : List (List Lit)) (old new : State) : Type 0 where
+  pub derived : IsDerived given new
+  pub ready : IsReady new
+  pub same : length new.trail.values.items ≡ length old.trail.values.items

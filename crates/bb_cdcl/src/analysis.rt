@@ -1,0 +1,169 @@
+//! The analysis of a conflict: its clause is resolved with reasons of the trail, from the end, until one literal
+//! is left behind some decision.
+
+ghost use Rattle.std.specs.Prelude.{ℕ, ◌≡◌, ◌+◌, ◌<◌, ◌≤◌, ◌++◌, ◌∷◌, [], false, true, length, take, map, slice_get, Some, None, IfOk, OnOk, IfSome, IfNone, OnSome, List};
+ghost use Rattle.bb_cnf.specs.declared.clauses.Lit.{Lit as Literal};
+ghost use Rattle.bb_cnf.specs.Clauses.{Literals, literals_of, lists_of};
+ghost use Rattle.bb_cnf.specs.PartialResolvent.{held, AreListed};
+ghost use Rattle.bb_cdcl.specs.declared.trail.Entry.{Entry as TrailEntry};
+ghost use Rattle.bb_cdcl.specs.Trails.{falsified, opposite, AreNew, HaveReasons, IsReason, IsNew};
+ghost use Rattle.bb_cdcl.specs.Analysis.{AreFalsified, IsCovered, IsJump, IsResolved};
+
+use crate::NoMemory;
+use crate::events::clause_at;
+use crate::guide::Guide;
+use crate::trail::{Entry, negation};
+use bb_cnf::{Lit, PartialResolvent, laws};
+use smallvec::SmallVec;
+
+/// The trail is taken back to the decision at the place `back`. Then the learned clause implies the negation of the
+/// literal at `place`.
+#[derive(Clone, Copy, Debug)]
+pub(crate) struct Jump {
+    pub(crate) place: usize,
+    pub(crate) back: usize,
+}
+
+/// The entry at a place.
+pub(crate) fn entry_at(entries: &[Entry], place: usize) -> Entry
+    requires { place < length entries.now }
+    ensures { slice_get entries.now place ≡ Some result }
+{
+    entries[place]
+}
+
+// Does the resolvent have the negation of the literal at this place?
+fn has_at(resolvent: &PartialResolvent, entries: &[Entry], place: usize) -> bool
+    requires { place < length entries.now }
+    ensures covered { result ≡ true → AreFalsified (take (place + 1) entries.now) (held resolvent.now) → IsCovered entries.now (held resolvent.now) place place }
+    ensures passed { result ≡ false → AreFalsified (take (place + 1) entries.now) (held resolvent.now) → AreFalsified (take place entries.now) (held resolvent.now) }
+    ensures lower { result ≡ false → (top : ℕ) → IsCovered entries.now (held resolvent.now) top (place + 1) → IsCovered entries.now (held resolvent.now) top place }
+{
+    let entry = entry_at(entries, place);
+    resolvent.has(negation(entry.lit))
+}
+
+// This place, if a decision stands there, else the one before.
+fn nearest(entries: &[Entry], at: usize, back: Option<usize>) -> Option<usize>
+    requires { at < length entries.now }
+    ensures { (c : Literals) (place : ℕ) → IsCovered entries.now c place at → IfSome back (IsJump entries.now c place) → IfSome result (IsJump entries.now c place) }
+{
+    let entry = entry_at(entries, at);
+    match entry.reason {
+        Some(_) => back,
+        None => Some(at),
+    }
+}
+
+// The first decision, from `place` downwards, behind which no other literal of the resolvent stands.
+fn jump_back(resolvent: &PartialResolvent, entries: &[Entry], place: usize) -> Option<usize>
+    requires within { place < length entries.now }
+    requires covered { IsCovered entries.now (held resolvent.now) place place }
+    ensures { IfSome result (IsJump entries.now (held resolvent.now) place) }
+{
+    let mut back = None;
+    let mut at = place;
+    while at > 0 {
+        back = nearest(entries, at, back);
+        if has_at(resolvent, entries, at - 1) {
+            return back;
+        }
+        at -= 1;
+    }
+    nearest(entries, 0, back)
+}
+
+// Resolves with the reason of the literal at a place.
+fn resolve_at(
+    resolvent: &mut PartialResolvent,
+    clauses: &[SmallVec<Lit, 4>],
+    entries: &[Entry],
+    place: usize,
+    lit: Lit,
+    reason: usize,
+    pairs: &mut Vec<(u64, u32)>,
+    guide: &mut Guide,
+) -> Result<(), NoMemory>
+    requires at_place { slice_get entries.now place ≡ Some (record { lit = lit; reason = Some reason }) }
+    requires new { AreNew entries.now }
+    requires reasons { HaveReasons (lists_of clauses.now) entries.now }
+    requires falsified { AreFalsified (take (place + 1) entries.now) (held resolvent.old) }
+    requires covered { IsCovered entries.now (held resolvent.old) place place }
+    requires listed { AreListed resolvent.old }
+    ensures falsified { OnOk result (AreFalsified (take place entries.now) (held resolvent.new)) }
+    ensures resolved { OnOk result ((first : Literals) → IsResolved (lists_of clauses.now) first pairs.old.items resolvent.old → IsResolved (lists_of clauses.now) first pairs.new.items resolvent.new) }
+    ensures listed { OnOk result (AreListed resolvent.new) }
+{
+    laws::chains();
+    let clause = clause_at(clauses, reason);
+    guide.resolves(resolvent, clause);
+    resolvent.resolve(clause, lit.var)?;
+    pairs.push((reason as u64, lit.var))?;
+    Ok(())
+}
+
+// Looks at the literal at a place: resolves with its reason, or stops there, where the resolvent has its negation.
+fn step(
+    resolvent: &mut PartialResolvent,
+    clauses: &[SmallVec<Lit, 4>],
+    entries: &[Entry],
+    place: usize,
+    pairs: &mut Vec<(u64, u32)>,
+    guide: &mut Guide,
+) -> Result<Option<usize>, NoMemory>
+    requires within { place < length entries.now }
+    requires new { AreNew entries.now }
+    requires reasons { HaveReasons (lists_of clauses.now) entries.now }
+    requires falsified { AreFalsified (take (place + 1) entries.now) (held resolvent.old) }
+    requires listed { AreListed resolvent.old }
+    ensures falsified { IfOk result (λ back. IfNone back (AreFalsified (take place entries.now) (held resolvent.new))) }
+    ensures jump { IfOk result (λ back. IfSome back (IsJump entries.now (held resolvent.new) place)) }
+    ensures resolved { OnOk result ((first : Literals) → IsResolved (lists_of clauses.now) first pairs.old.items resolvent.old → IsResolved (lists_of clauses.now) first pairs.new.items resolvent.new) }
+    ensures listed { OnOk result (AreListed resolvent.new) }
+{
+    if !has_at(resolvent, entries, place) {
+        return Ok(None);
+    }
+    let entry = entry_at(entries, place);
+    if entry.reason.is_none() || guide.is_asserting() {
+        if let Some(back) = jump_back(resolvent, entries, place) {
+            return Ok(Some(back));
+        }
+    }
+    match entry.reason {
+        None => Ok(Some(place)),
+        Some(reason) => {
+            resolve_at(
+                resolvent, clauses, entries, place, entry.lit, reason, pairs, guide,
+            )?;
+            Ok(None)
+        }
+    }
+}
+
+/// Resolves along the trail. Where no literal is left, the answer is none.
+pub(crate) fn analyze(
+    resolvent: &mut PartialResolvent,
+    clauses: &[SmallVec<Lit, 4>],
+    entries: &[Entry],
+    pairs: &mut Vec<(u64, u32)>,
+    guide: &mut Guide,
+) -> Result<Option<Jump>, NoMemory>
+    requires new { AreNew entries.now }
+    requires reasons { HaveReasons (lists_of clauses.now) entries.now }
+    requires falsified { AreFalsified entries.now (held resolvent.old) }
+    requires listed { AreListed resolvent.old }
+    ensures empty { IfOk result (λ jump. IfNone jump ((l : Literal) → held resolvent.new l ≡ false)) }
+    ensures jump { IfOk result (λ jump. IfSome jump (λ j. IsJump entries.now (held resolvent.new) j.place j.back)) }
+    ensures resolved { OnOk result ((first : Literals) → IsResolved (lists_of clauses.now) first pairs.old.items resolvent.old → IsResolved (lists_of clauses.now) first pairs.new.items resolvent.new) }
+    ensures listed { OnOk result (AreListed resolvent.new) }
+{
+    let mut place = entries.len();
+    while place > 0 {
+        place -= 1;
+        if let Some(back) = step(resolvent, clauses, entries, place, pairs, guide)? {
+            return Ok(Some(Jump { place, back }));
+        }
+    }
+    Ok(None)
+}

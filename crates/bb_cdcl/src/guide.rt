@@ -1,0 +1,127 @@
+//! What guides the search: scores of variables, their last bits, and the levels of the trail. No answer depends on it.
+
+use crate::NoMemory;
+use crate::scores::{Scores, read, write};
+use bb_cnf::{Lit, PartialResolvent};
+use std::alloc::Global;
+
+/// Scores, the last bit of each variable, and the level of each that has a value; and for the analysis of a conflict
+/// its level and how many literals of that level the resolvent has.
+#[derive(Drop)]
+pub(crate) struct Guide {
+    scores: Scores,
+    bits: Vec<bool>,
+    levels: Vec<u32>,
+    level: u32,
+    top: u32,
+    open: usize,
+}
+
+impl Guide {
+    /// No variable has a value.
+    pub(crate) fn new(alloc: Global, vars: u32) -> Result<Guide, NoMemory> {
+        let size = vars as usize + 1;
+        Ok(Guide {
+            scores: Scores::new(alloc, vars)?,
+            bits: vec![in alloc; false; size]?,
+            levels: vec![in alloc; 0; size]?,
+            level: 0,
+            top: 0,
+            open: 0,
+        })
+    }
+
+    /// The variable with the highest score of those that have no value, with its last bit.
+    pub(crate) fn pick(&mut self, values: &[Option<bool>]) -> Option<Lit> {
+        for _ in 0..values.len() {
+            let var = self.scores.pop()?;
+            if let Some(None) = values.get(var as usize) {
+                let bit = match self.bits.get(var as usize) {
+                    Some(bit) => *bit,
+                    None => false,
+                };
+                return Some(Lit { var, neg: !bit });
+            }
+        }
+        None
+    }
+
+    /// A literal was decided.
+    pub(crate) fn decided(&mut self, lit: Lit) {
+        self.level = self.level.saturating_add(1);
+        self.implied(lit);
+    }
+
+    /// A literal was implied.
+    pub(crate) fn implied(&mut self, lit: Lit) {
+        write(&mut self.levels, lit.var, self.level);
+    }
+
+    /// A literal was taken back.
+    pub(crate) fn taken_back(&mut self, lit: Lit, decided: bool) {
+        if decided {
+            self.level = self.level.saturating_sub(1);
+        }
+        if (lit.var as usize) < self.bits.len() {
+            self.bits[lit.var as usize] = !lit.neg;
+        }
+        self.scores.insert(lit.var);
+    }
+
+    // The highest level of the literals.
+    fn highest(&self, clause: &[Lit]) -> u32 {
+        let mut highest = 0;
+        for lit in clause {
+            highest = read(&self.levels, lit.var).max(highest);
+        }
+        highest
+    }
+
+    /// Two literals of a clause with the highest levels. They are one literal where the clause has one.
+    pub(crate) fn last_two(&self, clause: &[Lit]) -> (Lit, Lit) {
+        let none = Lit { var: 0, neg: false };
+        let mut first = clause.first().copied().unwrap_or(none);
+        let mut second = clause.last().copied().unwrap_or(none);
+        for lit in clause {
+            let level = read(&self.levels, lit.var);
+            if level > read(&self.levels, first.var) {
+                second = first;
+                first = *lit;
+            } else if *lit != first && level > read(&self.levels, second.var) || second == first {
+                second = *lit;
+            }
+        }
+        (first, second)
+    }
+
+    /// Rewards the variables that a clause adds to the resolvent, and counts those of the conflict's level.
+    pub(crate) fn adds(&mut self, resolvent: &PartialResolvent, clause: &[Lit]) {
+        for lit in clause {
+            if !resolvent.has(*lit) {
+                self.scores.reward(lit.var);
+                if read(&self.levels, lit.var) == self.top {
+                    self.open = self.open.saturating_add(1);
+                }
+            }
+        }
+    }
+
+    /// A conflict begins with this clause.
+    pub(crate) fn begin(&mut self, resolvent: &PartialResolvent, clause: &[Lit]) {
+        self.top = self.highest(clause);
+        self.open = 0;
+        self.scores.age();
+        self.adds(resolvent, clause);
+    }
+
+    /// The clause is the reason of a literal whose negation is resolved away.
+    pub(crate) fn resolves(&mut self, resolvent: &PartialResolvent, clause: &[Lit]) {
+        self.adds(resolvent, clause);
+        self.open = self.open.saturating_sub(2);
+    }
+
+    /// Is at most one literal of the conflict's level left?
+    pub(crate) fn is_asserting(&self) -> bool {
+        self.open <= 1 && self.top > 0
+    }
+}

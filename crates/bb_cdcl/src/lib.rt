@@ -1,0 +1,21 @@
+//! A SAT solver that learns clauses from conflicts. It answers with a model, or with a refutation in chains of
+//! resolutions that the checker of `bb_cnf` accepts.
+#![tactic(auto)]
+
+mod analysis;
+mod events;
+mod examination;
+mod guide;
+mod outcome;
+mod scores;
+mod search;
+mod solver;
+mod start;
+mod state;
+mod trail;
+mod turn;
+mod watches;
+
+pub use outcome::Outcome;
+pub use solver::solve;
+pub use std::alloc::AllocError as NoMemory;

@@ -1,0 +1,87 @@
+//! The search: turns, with at most 64 restarts.
+
+ghost use Rattle.std.specs.Prelude.{ℕ, ◌≡◌, ◌-◌, true, false, length, IfOk, IfSome, IfNone, List};
+ghost use Rattle.bb_cnf.specs.Clauses.{lists_of, IsWithin};
+ghost use Rattle.bb_cdcl.specs.States.{IsDerived, IsReady, Ends, Pauses};
+
+use crate::NoMemory;
+use crate::state::{State, Turn};
+use crate::turn::{Helpers, restart, turn};
+use bb_cnf::Lit;
+use smallvec::SmallVec;
+use std::alloc::Global;
+
+// How often the search begins again, and how many clauses it learns before it does so for the first time. It learns
+// a tenth more each time.
+const RESTARTS: usize = 64;
+
+const FIRST: usize = 100;
+
+// Goes on to the end, and says whether all clauses are true.
+fn run(
+    alloc: Global,
+    given: &[SmallVec<Lit, 4>],
+    s: &mut State,
+    helpers: &mut Helpers,
+) -> Result<bool, NoMemory>
+    requires within { IsWithin (length s.old.trail.values.items - 1) (lists_of given.now) }
+    requires derived { IsDerived (lists_of given.now) s.old }
+    requires ready { IsReady s.old }
+    ensures { IfOk result (Ends (lists_of given.now) s.old s.new) }
+{
+    loop {
+        match turn(alloc, given, s, helpers)? {
+            Turn::Going => {}
+            Turn::Satisfied => return Ok(true),
+            Turn::Refuted => return Ok(false),
+        }
+    }
+}
+
+// Goes on until there are so many clauses, or to the end.
+fn run_to(
+    alloc: Global,
+    given: &[SmallVec<Lit, 4>],
+    s: &mut State,
+    helpers: &mut Helpers,
+    clauses: usize,
+) -> Result<Option<bool>, NoMemory>
+    requires within { IsWithin (length s.old.trail.values.items - 1) (lists_of given.now) }
+    requires derived { IsDerived (lists_of given.now) s.old }
+    requires ready { IsReady s.old }
+    ensures ends { IfOk result (λ end. IfSome end (Ends (lists_of given.now) s.old s.new)) }
+    ensures pauses { IfOk result (λ end. IfNone end (Pauses (lists_of given.now) s.old s.new)) }
+{
+    while s.clauses.len() < clauses {
+        match turn(alloc, given, s, helpers)? {
+            Turn::Going => {}
+            Turn::Satisfied => return Ok(Some(true)),
+            Turn::Refuted => return Ok(Some(false)),
+        }
+    }
+    Ok(None)
+}
+
+/// Searches, and begins again a few times with what was learned.
+pub(crate) fn search(
+    alloc: Global,
+    given: &[SmallVec<Lit, 4>],
+    s: &mut State,
+    helpers: &mut Helpers,
+) -> Result<bool, NoMemory>
+    requires within { IsWithin (length s.old.trail.values.items - 1) (lists_of given.now) }
+    requires derived { IsDerived (lists_of given.now) s.old }
+    requires ready { IsReady s.old }
+    ensures { IfOk result (Ends (lists_of given.now) s.old s.new) }
+{
+    let mut more = FIRST;
+    for _ in 0..RESTARTS {
+        let clauses = s.clauses.len().saturating_add(more);
+        if let Some(end) = run_to(alloc, given, s, helpers, clauses)? {
+            return Ok(end);
+        }
+        restart(s, helpers);
+        more = more.saturating_add(more / 10);
+    }
+    run(alloc, given, s, helpers)
+}

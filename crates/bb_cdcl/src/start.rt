@@ -1,0 +1,85 @@
+//! The state before the first turn, and the model after the last.
+
+ghost use Rattle.std.specs.Prelude.{ℕ, ◌≡◌, ◌+◌, ◌-◌, ◌<◌, ◌≤◌, Bool, true, false, not, Some, None, length, map, replicate, get_or, All, IfOk, List};
+ghost use Rattle.bb_cnf.specs.Clauses.{lists_of, IsWithin};
+ghost use Rattle.bb_cnf.specs.declared.clauses.Lit.{Lit as Literal};
+ghost use Rattle.bb_cnf.specs.Truth.{assignment_of, Satisfies};
+ghost use Rattle.bb_cdcl.specs.Events.{IsSatisfied};
+ghost use Rattle.bb_cdcl.specs.States.{IsDerived, IsReady};
+
+use crate::NoMemory;
+use crate::guide::Guide;
+use crate::state::State;
+use crate::trail::Trail;
+use crate::turn::Helpers;
+use crate::watches::Watches;
+use bb_cnf::{Lit, PartialResolvent};
+use smallvec::SmallVec;
+use std::alloc::Global;
+
+// The same clauses once more.
+fn copied(alloc: Global, clauses: &[SmallVec<Lit, 4>]) -> Result<Vec<SmallVec<Lit, 4>>, NoMemory>
+    ensures { IfOk result (λ all. lists_of all.items ≡ lists_of clauses.now) }
+{
+    let mut all = Vec::with_capacity(alloc, clauses.len())?;
+    for clause in clauses {
+        all.push(SmallVec::from_slice(alloc, clause.as_slice())?)?;
+    }
+    Ok(all)
+}
+
+/// No variable has a value, and nothing was learned.
+pub(crate) fn start(alloc: Global, vars: u32, given: &[SmallVec<Lit, 4>]) -> Result<State, NoMemory>
+    ensures derived { IfOk result (IsDerived (lists_of given.now)) }
+    ensures ready { IfOk result IsReady }
+    ensures values { IfOk result (λ s. length s.trail.values.items ≡ vars + 1) }
+{
+    let clauses = copied(alloc, given)?;
+    let values = vec![in alloc; None; vars as usize + 1]?;
+    Ok(State {
+        clauses,
+        steps: Vec::new(alloc),
+        trail: Trail {
+            entries: Vec::new(alloc),
+            values,
+        },
+        resolvent: PartialResolvent::new(alloc),
+    })
+}
+
+// Watches the first and the last literal of each clause.
+fn watch_all(watches: &mut Watches, given: &[SmallVec<Lit, 4>]) -> Result<(), NoMemory> {
+    for clause in given {
+        let none = Lit { var: 0, neg: false };
+        let first = clause.first().copied().unwrap_or(none);
+        let last = clause.last().copied().unwrap_or(none);
+        watches.add(first, last)?;
+    }
+    Ok(())
+}
+
+/// What makes the search quick, before the first turn.
+pub(crate) fn helpers(
+    alloc: Global,
+    vars: u32,
+    given: &[SmallVec<Lit, 4>],
+) -> Result<Helpers, NoMemory> {
+    let mut watches = Watches::new(alloc, vars)?;
+    watch_all(&mut watches, given)?;
+    let guide = Guide::new(alloc, vars)?;
+    Ok(Helpers { watches, guide })
+}
+
+/// The bits of the variables from 1 on; 0 where a variable has no value.
+pub(crate) fn model(alloc: Global, values: &[Option<bool>]) -> Result<Vec<bool>, NoMemory>
+    requires { 0 < length values.now }
+    ensures length { IfOk result (λ bits. length bits.items + 1 ≡ length values.now) }
+    ensures satisfies { IfOk result (λ bits. (clauses : List (List Literal)) → IsWithin (length values.now - 1) clauses → All (IsSatisfied values.now) clauses → Satisfies (assignment_of bits.items) clauses) }
+{
+    let values = &values[1..];
+    let mut bits = Vec::with_capacity(alloc, values.len())?;
+    for value in values {
+        bits.push(value.unwrap_or(false))?;
+    }
+    Ok(bits)
+}

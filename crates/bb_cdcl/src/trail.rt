@@ -1,0 +1,83 @@
+//! The trail of assigned literals, and the value of each variable.
+
+ghost use Rattle.std.specs.Prelude.{ℕ, ◌≡◌, ◌-◌, ◌<◌, ◌≤◌, ◌++◌, ◌∷◌, [], length, take, not, None, Some, OnOk, List};
+ghost use Rattle.bb_cdcl.specs.Trails.{value_at, AreNew, AreValues, HasRoom, opposite};
+
+use crate::NoMemory;
+use crate::guide::Guide;
+use bb_cnf::Lit;
+
+/// A literal, and the number of the clause that implies it; none where it was decided.
+#[derive(Clone, Copy, Debug)]
+pub(crate) struct Entry {
+    pub(crate) lit: Lit,
+    pub(crate) reason: Option<usize>,
+}
+
+/// The literals in the order in which they were assigned, and for each variable its bit. The place 0 of the values
+/// is of no variable.
+#[derive(Drop)]
+pub(crate) struct Trail {
+    pub(crate) entries: Vec<Entry>,
+    pub(crate) values: Vec<Option<bool>>,
+}
+
+/// The literal's negation.
+pub(crate) fn negation(lit: Lit) -> Lit
+    ensures { result ≡ opposite lit }
+{
+    Lit {
+        var: lit.var,
+        neg: !lit.neg,
+    }
+}
+
+/// Makes a literal true.
+pub(crate) fn assign(trail: &mut Trail, lit: Lit, reason: Option<usize>) -> Result<(), NoMemory>
+    requires in_range { lit.var < length trail.old.values.items }
+    requires free { value_at trail.old.values.items lit.var ≡ None }
+    requires values { AreValues trail.old.entries.items trail.old.values.items }
+    requires room { HasRoom trail.old.entries.items trail.old.values.items }
+    ensures entries { OnOk result (trail.new.entries.items ≡ trail.old.entries.items ++ record { lit = lit; reason = reason } ∷ []) }
+    ensures values { OnOk result (AreValues trail.new.entries.items trail.new.values.items) }
+    ensures room { OnOk result (HasRoom trail.new.entries.items trail.new.values.items) }
+    ensures within { length trail.old.entries.items < length trail.old.values.items }
+    ensures same { OnOk result (length trail.new.values.items ≡ length trail.old.values.items) }
+{
+    trail.entries.push(Entry { lit, reason })?;
+    trail.values[lit.var as usize] = Some(!lit.neg);
+    Ok(())
+}
+
+// Takes the last literal back.
+fn pop(trail: &mut Trail, guide: &mut Guide)
+    requires some { 0 < length trail.old.entries.items }
+    requires new { AreNew trail.old.entries.items }
+    requires values { AreValues trail.old.entries.items trail.old.values.items }
+    requires room { HasRoom trail.old.entries.items trail.old.values.items }
+    ensures entries { trail.new.entries.items ≡ take (length trail.old.entries.items - 1) trail.old.entries.items }
+    ensures values { AreValues trail.new.entries.items trail.new.values.items }
+    ensures room { HasRoom trail.new.entries.items trail.new.values.items }
+    ensures same { length trail.new.values.items ≡ length trail.old.values.items }
+{
+    if let Some(last) = trail.entries.pop() {
+        trail.values[last.lit.var as usize] = None;
+        guide.taken_back(last.lit, last.reason.is_none());
+    }
+}
+
+/// Takes back all from this place on.
+pub(crate) fn pop_to(trail: &mut Trail, guide: &mut Guide, place: usize)
+    requires within { place ≤ length trail.old.entries.items }
+    requires new { AreNew trail.old.entries.items }
+    requires values { AreValues trail.old.entries.items trail.old.values.items }
+    requires room { HasRoom trail.old.entries.items trail.old.values.items }
+    ensures entries { trail.new.entries.items ≡ take place trail.old.entries.items }
+    ensures values { AreValues trail.new.entries.items trail.new.values.items }
+    ensures room { HasRoom trail.new.entries.items trail.new.values.items }
+    ensures same { length trail.new.values.items ≡ length trail.old.values.items }
+{
+    while trail.entries.len() > place {
+        pop(trail, guide);
+    }
+}

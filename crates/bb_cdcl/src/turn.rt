@@ -1,0 +1,175 @@
+//! One turn of the solver's loop.
+
+ghost use Rattle.std.specs.Prelude.{ℕ, ◌≡◌, ◌-◌, ◌<◌, ◌≤◌, true, None, Some, length, slice_get, IfOk, IfSome, OnOk, List};
+ghost use Rattle.bb_cnf.specs.declared.clauses.Lit.{Lit as Literal};
+ghost use Rattle.bb_cnf.specs.Clauses.{lists_of, IsWithin};
+ghost use Rattle.bb_cdcl.specs.Trails.{value_at, IsReason};
+ghost use Rattle.bb_cdcl.specs.Events.{Comes, IfQuiet, IsConflict, IsFree};
+ghost use Rattle.bb_cdcl.specs.States.{IsDerived, IsReady, Turns};
+
+use crate::NoMemory;
+use crate::analysis::Jump;
+use crate::events::{Event, unsatisfied};
+use crate::guide::Guide;
+use crate::state::{State, Turn, extend, go_back, learn};
+use crate::trail::{Entry, Trail, pop_to};
+use crate::watches::{Watches, propagated};
+use bb_cnf::{Lit, laws};
+use smallvec::SmallVec;
+use std::alloc::Global;
+
+/// What makes the search quick.
+#[derive(Drop)]
+pub(crate) struct Helpers {
+    pub(crate) watches: Watches,
+    pub(crate) guide: Guide,
+}
+
+// Can the literal be decided?
+fn is_free(values: &[Option<bool>], lit: Lit) -> bool
+    ensures { result ≡ true → IsFree values.now lit }
+{
+    match values.get(lit.var as usize) {
+        Some(value) => value.is_none(),
+        None => false,
+    }
+}
+
+// A literal to decide. The given clauses are looked at where the guide has none.
+fn choice(given: &[SmallVec<Lit, 4>], values: &[Option<bool>], guide: &mut Guide) -> Event
+    requires { IsWithin (length values.now - 1) (lists_of given.now) }
+    ensures comes { Comes (lists_of given.now) values.now result }
+    ensures quiet { IfQuiet (lists_of given.now) values.now result }
+{
+    match guide.pick(values) {
+        Some(lit) if is_free(values, lit) => Event::Free(lit),
+        _ => unsatisfied(given, values),
+    }
+}
+
+// What happens next.
+fn next_event(
+    given: &[SmallVec<Lit, 4>],
+    clauses: &[SmallVec<Lit, 4>],
+    trail: &Trail,
+    helpers: &mut Helpers,
+) -> Event
+    requires within { IsWithin (length trail.now.values.items - 1) (lists_of given.now) }
+    requires begins { (k : ℕ) (c : List Literal) → slice_get (lists_of given.now) k ≡ Some c → slice_get (lists_of clauses.now) k ≡ Some c }
+    ensures comes { Comes (lists_of clauses.now) trail.now.values.items result }
+    ensures quiet { IfQuiet (lists_of given.now) trail.now.values.items result }
+{
+    match propagated(&mut helpers.watches, clauses, &trail.entries, &trail.values) {
+        Event::Quiet => choice(given, &trail.values, &mut helpers.guide),
+        event => event,
+    }
+}
+
+// Watches the last clause: the literal that it will imply, and the one that became false last of the others.
+fn watch_last(
+    clauses: &[SmallVec<Lit, 4>],
+    helpers: &mut Helpers,
+    jump: Jump,
+) -> Result<(), NoMemory> {
+    helpers.watches.taken_back(jump.back);
+    match clauses.last() {
+        Some(clause) => {
+            let (first, second) = helpers.guide.last_two(clause.as_slice());
+            helpers.watches.add(first, second)
+        }
+        None => Ok(()),
+    }
+}
+
+// Learns from a false clause, and goes back.
+fn resolve_conflict(
+    alloc: Global,
+    given: &[SmallVec<Lit, 4>],
+    s: &mut State,
+    number: usize,
+    helpers: &mut Helpers,
+) -> Result<Turn, NoMemory>
+    requires derived { IsDerived (lists_of given.now) s.old }
+    requires ready { IsReady s.old }
+    requires conflict { IsConflict (lists_of s.old.clauses.items) s.old.trail.values.items number }
+    ensures { IfOk result (Turns (lists_of given.now) s.old s.new) }
+{
+    laws::chains();
+    let learned = s.clauses.len();
+    match learn(alloc, s, number, &mut helpers.guide)? {
+        None => Ok(Turn::Refuted),
+        Some(jump) => {
+            watch_last(&s.clauses, helpers, jump)?;
+            go_back(s, jump, learned, &mut helpers.guide)?;
+            Ok(Turn::Going)
+        }
+    }
+}
+
+// Makes a literal true.
+fn advance(
+    given: &[SmallVec<Lit, 4>],
+    s: &mut State,
+    lit: Lit,
+    reason: Option<usize>,
+    guide: &mut Guide,
+) -> Result<Turn, NoMemory>
+    requires derived { IsDerived (lists_of given.now) s.old }
+    requires ready { IsReady s.old }
+    requires in_range { lit.var < length s.old.trail.values.items }
+    requires free { value_at s.old.trail.values.items lit.var ≡ None }
+    requires reason { IfSome reason (IsReason (lists_of s.old.clauses.items) s.old.trail.entries.items lit) }
+    ensures { IfOk result (Turns (lists_of given.now) s.old s.new) }
+{
+    match reason {
+        Some(_) => guide.implied(lit),
+        None => guide.decided(lit),
+    }
+    extend(s, lit, reason)?;
+    Ok(Turn::Going)
+}
+
+/// One turn: a literal is made true, or a clause is learned, or the search ends.
+pub(crate) fn turn(
+    alloc: Global,
+    given: &[SmallVec<Lit, 4>],
+    s: &mut State,
+    helpers: &mut Helpers,
+) -> Result<Turn, NoMemory>
+    requires within { IsWithin (length s.old.trail.values.items - 1) (lists_of given.now) }
+    requires derived { IsDerived (lists_of given.now) s.old }
+    requires ready { IsReady s.old }
+    ensures { IfOk result (Turns (lists_of given.now) s.old s.new) }
+{
+    match next_event(given, &s.clauses, &s.trail, helpers) {
+        Event::Conflict(number) => resolve_conflict(alloc, given, s, number, helpers),
+        Event::Implied(lit, number) => { advance(given, s, lit, Some(number), &mut helpers.guide) }
+        Event::Free(lit) => advance(given, s, lit, None, &mut helpers.guide),
+        Event::Quiet => Ok(Turn::Satisfied),
+    }
+}
+
+// How many entries stand before the first decision.
+fn before_decisions(entries: &[Entry]) -> usize
+    ensures { result ≤ length entries.now }
+{
+    for place in 0..entries.len() {
+        if entries[place].reason.is_none() {
+            return place;
+        }
+    }
+    entries.len()
+}
+
+/// Takes all decisions back.
+pub(crate) fn restart(s: &mut State, helpers: &mut Helpers)
+    requires { IsReady s.old }
+    ensures ready { IsReady s.new }
+    ensures same { length s.new.trail.values.items ≡ length s.old.trail.values.items }
+    ensures clauses { s.new.clauses.items ≡ s.old.clauses.items }
+    ensures steps { s.new.steps.items ≡ s.old.steps.items }
+{
+    let place = before_decisions(&s.trail.entries);
+    pop_to(&mut s.trail, &mut helpers.guide, place);
+    helpers.watches.taken_back(place);
+}

@@ -1,0 +1,5 @@
+use Rattle.bb_elab.proofs.ContentTables.{tables_give_values}
+use Rattle.bb_elab.proofs.table_laws.tables_give_values.Goals as goal
+
+pub returns : goal.returns
+returns c = tables_give_values c.value_exists.ensures c.value_is_unique.ensures c.rows_are_chosen.ensures.bit

@@ -1,0 +1,19 @@
+-- Laws that link closed walks in the list of cells of a design with loops of dependence.
+use Rattle.std.specs.Prelude.{ℕ, ◌↔◌, Contains}
+use Rattle.bb_net.specs.Loose.{LooseList, IsOnClosedWalk}
+use Rattle.bb_elab.specs.Hierarchy.{Design}
+use Rattle.bb_elab.specs.ListLaws.{IsBounded}
+use Rattle.bb_elab.specs.Dependence.{IsOnLoop}
+use Rattle.bb_elab.specs.NetBits.{Bit, net_order}
+use Rattle.bb_elab.specs.Places.{NetBit, Lowering, IsLowering, IsListOf}
+use Rattle.bb_elab.specs.Refusals.{AreDrivenOnce, IsAcyclic}
+
+-- a design whose list has no closed walk has no loop
+abbrev pub ListsWithoutWalks : Type 0
+ListsWithoutWalks = (d : Design) (lowering : Lowering) (l : LooseList) → IsBounded d → AreDrivenOnce d → IsLowering d lowering → IsListOf d lowering l
+    → ((k : ℕ) → IsOnClosedWalk l k → ⊥) → IsAcyclic d
+
+-- a bit is on a loop where its place is on a closed walk
+abbrev pub ListWalksAreLoops : Type 0
+ListWalksAreLoops = (d : Design) (lowering : Lowering) (l : LooseList) → IsBounded d → AreDrivenOnce d → IsLowering d lowering → (list : IsListOf d lowering l)
+    → (b : Bit) → Contains (net_order d) b → IsOnClosedWalk l (list.number (NetBit b)) ↔ IsOnLoop d b

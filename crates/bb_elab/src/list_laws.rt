@@ -1,0 +1,45 @@
+//! Laws that link the list of cells of a design, and a flat netlist that stands for it, with the worlds of the design. Each function
+//! has a law as its contract and does nothing.
+
+ghost use Rattle.bb_elab.specs.ListLaws.{ListsAreLoose, ListsGiveWorlds, StandingNetsGiveOutputs, StandingNetsAgree, SoundTextsAreAllowed};
+
+use crate::laws::constructs_hold_bit_by_bit;
+use bb_expr::laws::{made_has_value, values_have_width};
+use bb_net::{order_keeps_values, value_exists, value_is_unique};
+
+/// A sound text without faults has a design of which the laws below speak.
+pub fn sound_texts_are_allowed()
+    ensures { SoundTextsAreAllowed }
+{}
+
+/// The list of cells of a design can be put in order.
+pub fn lists_are_loose()
+    ensures { ListsAreLoose }
+{}
+
+/// Bits that meet the equations of the list of cells of a design make a world of it.
+pub fn lists_give_worlds()
+    ensures { ListsGiveWorlds }
+{
+    constructs_hold_bit_by_bit();
+}
+
+/// Every vector and all contents have a world, and in each world of the vector the cut outputs have the bits that a netlist gives
+/// which stands for the design.
+pub fn standing_nets_give_outputs()
+    ensures { StandingNetsGiveOutputs }
+{
+    values_have_width();
+    made_has_value();
+    constructs_hold_bit_by_bit();
+    order_keeps_values();
+    value_exists();
+    value_is_unique();
+}
+
+/// Two netlists that stand for one design have the same bits at their outputs.
+pub fn standing_nets_agree()
+    ensures { StandingNetsAgree }
+{
+    standing_nets_give_outputs();
+}

@@ -1,0 +1,14 @@
+//! Laws that link closed walks in the list of cells of a design with loops of dependence. Each function has a law as its contract
+//! and does nothing.
+
+ghost use Rattle.bb_elab.specs.LoopLaws.{ListsWithoutWalks, ListWalksAreLoops};
+
+/// A design whose list of cells has no closed walk has no loop.
+pub fn lists_without_walks()
+    ensures { ListsWithoutWalks }
+{}
+
+/// A bit is on a loop where its place in the list of cells is on a closed walk.
+pub fn list_walks_are_loops()
+    ensures { ListWalksAreLoops }
+{}

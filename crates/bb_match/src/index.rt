@@ -1,0 +1,44 @@
+//! A flat netlist's texts, indexed by their places.
+ghost use Rattle.std.specs.Prelude.{◌≡◌, map, IfOk};
+ghost use Rattle.bb_match.specs.Places.{IsIndexOf};
+
+use crate::places::{Places, places_of};
+use bb_bits::{Name, NoMemory};
+use bb_elab::{Flat, Reg};
+use std::alloc::Global;
+
+/// The texts of a flat netlist's registers, and the places of all its texts.
+#[derive(Drop)]
+pub(crate) struct Index {
+    pub reg_texts: Vec<Name>,
+    pub ins: Places,
+    pub regs: Places,
+    pub outs: Places,
+}
+
+// The texts of registers.
+fn texts_of(alloc: Global, regs: &[Reg]) -> Result<Vec<Name>, NoMemory>
+    ensures texts { IfOk result (λ texts. texts.items ≡ map (λ r. r.text) regs.now) }
+{
+    let mut texts = Vec::with_capacity(alloc, regs.len())?;
+    for r in regs {
+        texts.push(r.text.clone()?)?;
+    }
+    Ok(texts)
+}
+
+/// The index of a flat netlist.
+pub(crate) fn index_of(alloc: Global, flat: &Flat) -> Result<Index, NoMemory>
+    ensures index { IfOk result (λ index. IsIndexOf flat.now index.reg_texts.items index.ins.entries index.regs.entries index.outs.entries) }
+{
+    let reg_texts = texts_of(alloc, flat.regs())?;
+    let ins = places_of(alloc, flat.ins())?;
+    let regs = places_of(alloc, &reg_texts)?;
+    let outs = places_of(alloc, flat.outs())?;
+    Ok(Index {
+        reg_texts,
+        ins,
+        regs,
+        outs,
+    })
+}

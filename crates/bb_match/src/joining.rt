@@ -1,0 +1,127 @@
+//! Two netlists that fit, joined as a pair.
+ghost use Rattle.std.specs.Prelude.{◌≡◌, ◌≤◌, ◌++◌, length, map, IfOk, OnOk};
+ghost use Rattle.bb_elab.specs.Flats.{IsFlat};
+ghost use Rattle.bb_elab.specs.Worlds.{TopOutput, NextState};
+ghost use Rattle.bb_match.specs.CutPoints.{register_texts, cut_inputs, cut_outputs};
+ghost use Rattle.bb_match.specs.Pairing.{IsPairOf, Picks, output_name};
+ghost use Rattle.bb_match.specs.Places.{IsIndexOf};
+ghost use Rattle.bb_match.specs.Refusals.{Fit};
+
+use crate::index::Index;
+use crate::places::places_behind;
+use bb_bits::{Name, NoMemory};
+use bb_elab::{Flat, FlatParts, Reg};
+use bb_net::{OutName, Pair};
+use std::alloc::Global;
+
+/// The numbers that the inputs of the implementation have in the specification.
+pub(crate) fn input_numbers(
+    alloc: Global,
+    spec: &Flat,
+    of_spec: &Index,
+    imp: &Flat,
+    of_imp: &Index,
+) -> Result<Vec<u32>, NoMemory>
+    requires fit { Fit spec.now imp.now }
+    requires of_spec { IsIndexOf spec.now of_spec.now.reg_texts.items of_spec.now.ins.entries of_spec.now.regs.entries of_spec.now.outs.entries }
+    requires of_imp { IsIndexOf imp.now of_imp.now.reg_texts.items of_imp.now.ins.entries of_imp.now.regs.entries of_imp.now.outs.entries }
+    ensures numbers { IfOk result (λ numbers. Picks (cut_inputs spec.now) numbers.items (cut_inputs imp.now)) }
+{
+    let ins = spec.ins();
+    places_behind(
+        alloc,
+        &of_spec.ins,
+        imp.ins(),
+        ins.len() as u32,
+        &of_spec.regs,
+        &of_imp.reg_texts,
+    )
+}
+
+/// The numbers that the outputs of the specification have in the implementation.
+pub(crate) fn output_picks(
+    alloc: Global,
+    spec: &Flat,
+    of_spec: &Index,
+    imp: &Flat,
+    of_imp: &Index,
+) -> Result<Vec<u32>, NoMemory>
+    requires fit { Fit spec.now imp.now }
+    requires of_spec { IsIndexOf spec.now of_spec.now.reg_texts.items of_spec.now.ins.entries of_spec.now.regs.entries of_spec.now.outs.entries }
+    requires of_imp { IsIndexOf imp.now of_imp.now.reg_texts.items of_imp.now.ins.entries of_imp.now.regs.entries of_imp.now.outs.entries }
+    ensures picks { IfOk result (λ picks. Picks (cut_outputs imp.now) picks.items (cut_outputs spec.now)) }
+{
+    let outs = imp.outs();
+    places_behind(
+        alloc,
+        &of_imp.outs,
+        spec.outs(),
+        outs.len() as u32,
+        &of_imp.regs,
+        &of_spec.reg_texts,
+    )
+}
+
+// Puts the names of outputs of the top at the end of a list.
+fn add_outs(outs: Vec<Name>, names: &mut Vec<OutName>) -> Result<(), NoMemory>
+    ensures added { OnOk result (names.new.items ≡ names.old.items ++ map (λ text. output_name (TopOutput text)) outs.items) }
+{
+    for text in outs {
+        names.push(OutName { next: false, text })?;
+    }
+    Ok(())
+}
+
+// Puts the names of the next states of registers at the end of a list.
+fn add_next_states(regs: Vec<Reg>, names: &mut Vec<OutName>) -> Result<(), NoMemory>
+    ensures added { OnOk result (names.new.items ≡ names.old.items ++ map (λ r. output_name (NextState r.text)) regs.items) }
+{
+    for r in regs {
+        names.push(OutName {
+            next: true,
+            text: r.text,
+        })?;
+    }
+    Ok(())
+}
+
+// The names of outputs of the top and then of the next states of registers.
+fn out_names(alloc: Global, outs: Vec<Name>, regs: Vec<Reg>) -> Result<Vec<OutName>, NoMemory>
+    ensures names { IfOk result (λ names. names.items ≡ map (λ text. output_name (TopOutput text)) outs.items ++ map (λ r. output_name (NextState r.text)) regs.items) }
+{
+    let mut names = Vec::with_capacity(alloc, outs.len().saturating_add(regs.len()))?;
+    add_outs(outs, &mut names)?;
+    add_next_states(regs, &mut names)?;
+    Ok(names)
+}
+
+/// The pair of two netlists that fit, where the numbers of the inputs and the picked outputs are given.
+pub(crate) fn joined(
+    alloc: Global,
+    spec: Flat,
+    imp: Flat,
+    mut reg_texts: Vec<Name>,
+    numbers: &[u32],
+    picks: &[u32],
+) -> Result<Pair, NoMemory>
+    requires fit { Fit spec imp }
+    requires texts { reg_texts.items ≡ register_texts spec }
+    requires numbers { Picks (cut_inputs spec) numbers.now (cut_inputs imp) }
+    requires picks { Picks (cut_outputs imp) picks.now (cut_outputs spec) }
+    ensures pair { IfOk result (λ p. IsPairOf spec imp p) }
+    ensures kept { IfOk result (λ p. IsFlat spec × IsFlat imp) }
+    ensures small { IfOk result (λ p. (length p.spec.cells ≤ 2000000) × (length p.imp.cells ≤ 2000000)) }
+{
+    let FlatParts {
+        net: spec_net,
+        mut ins,
+        regs,
+        outs,
+        boxes: _,
+    } = spec.into_parts();
+    let of_imp = imp.into_parts();
+    let imp_net = of_imp.net.rearranged(alloc, numbers, picks)?;
+    ins.append(&mut reg_texts)?;
+    let outs = out_names(alloc, outs, regs)?;
+    Ok(Pair::of(spec_net, imp_net, ins, outs, of_imp.boxes))
+}
