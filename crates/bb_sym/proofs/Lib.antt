@@ -3,6 +3,7 @@ pub mod Budget
 pub mod CellTables
 pub mod FunctionTables
 pub mod KnownBits
+pub mod KnownLoop
 pub mod KnownTables
 pub mod LeastVectors
 pub mod MadeLemmas
