@@ -1,5 +1,5 @@
 -- the two bits of a value in three values: known to be 1, known to be 0
-use Rattle.std.proofs.Common.{◌≡◌, Bool, true, false, not, ◌&&◌, ◌||◌, Option, Some, None, refl}
+use Rattle.std.proofs.Common.{◌≡◌, Bool, true, false, ◌&&◌, ◌||◌, Option, Some, None, refl}
 use Rattle.bb_net.specs.Ternary.{not3, and3, or3, xor3, mux3}
 use Rattle.bb_sym.specs.Functions.{is_one, is_zero}
 

@@ -1,12 +1,12 @@
 -- the tables of the cells of an implementation whose boxes are unknown
-use Rattle.std.proofs.Common.{◌≡◌, ◌<◌, ℕ, Bool, true, false, not, ◌&&◌, ◌||◌, List, [], ◌∷◌, ◌++◌, length, Option, Some, None, refl, sym, ap, ap₂, ◌∙◌, arith}
-use Rattle.bb_bits.specs.Truth.{Truth, constant, variable, complement, joined}
+use Rattle.std.proofs.Common.{◌≡◌, ◌<◌, ℕ, Bool, false, not, ◌&&◌, ◌||◌, List, [], ◌∷◌, ◌++◌, length, Option, refl, sym, ap, ap₂, ◌∙◌}
+use Rattle.bb_bits.specs.Truth.{Truth, complement, joined}
 use Rattle.bb_net.specs.declared.cell.Cell.{Cell}
 use Rattle.bb_net.specs.declared.cell.Cell.TheVariants.{Const, Input, Not, And, Or, Xor, Mux, BoxOut}
 use Rattle.bb_net.specs.Netlists.{Netlist, Pins, IsNetlist, IsOrdered, ReadsBefore, cell_at}
 use Rattle.bb_net.specs.Values.{bit_of}
 use Rattle.bb_net.specs.Ternary.{tern, tern_of, gate3, IsTern, not3, and3, or3, xor3, mux3}
-use Rattle.bb_sym.specs.Functions.{Function, table, is_one, is_zero, known_one, known_zero, high, low, both, either, sum_table, sum_tables, choice_table, choice_tables, cell_tables}
+use Rattle.bb_sym.specs.Functions.{Function, table, is_one, is_zero, both, either, sum_table, sum_tables, choice_table, choice_tables, cell_tables}
 use Rattle.bb_sym.specs.Made.{one_table, zero_table}
 use Rattle.bb_sym.proofs.FunctionTables.{table_same, combined-table, constant-table, variable-table}
 use Rattle.bb_sym.proofs.PairLemmas.{same_four}
@@ -22,7 +22,7 @@ both-table n f g = combined-table n (λ a b c. a && b) f g f
 either-table : (n : ℕ) (f g : Function) → either (table n f) (table n g) ≡ table n (λ x. f x || g x)
 either-table n f g = combined-table n (λ a b c. a || b) f g f
 
-sum-table : (n : ℕ) (a b c e : Function) → sum_table (table n a) (table n b) (table n c) (table n e) ≡ table n (λ x. (a x && b x) || (c x && e x))
+pub sum-table : (n : ℕ) (a b c e : Function) → sum_table (table n a) (table n b) (table n c) (table n e) ≡ table n (λ x. (a x && b x) || (c x && e x))
 sum-table n a b c e = ap₂ (joined ◌||◌) (both-table n a b) (both-table n c e) ∙ either-table n (λ x. a x && b x) (λ x. c x && e x)
 
 choice-table : (n : ℕ) (c d t e : Function) → choice_table (table n c) (table n d) (table n t) (table n e) ≡ table n (λ x. ((c x && t x) || (d x && e x)) || (t x && e x))

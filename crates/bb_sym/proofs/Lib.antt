@@ -2,11 +2,14 @@ pub mod AlwaysWrong
 pub mod Budget
 pub mod CellTables
 pub mod FunctionTables
+pub mod InputCells
 pub mod KnownBits
 pub mod KnownLoop
 pub mod KnownTables
+pub mod KnownWrong
 pub mod LeastVectors
 pub mod MadeLemmas
+pub mod MismatchTables
 pub mod NetLoop
 pub mod OutputLoop
 pub mod OutputParts

@@ -5,8 +5,8 @@ use Rattle.bb_uniq.specs.declared.store.Ref.{Ref}
 use Rattle.bb_uniq.specs.Nodes.{NodeStore}
 use Rattle.bb_uniq.specs.Meaning.{Adds, IsTooMany}
 use Rattle.bb_sym.specs.Made.{Makes, AreTooMany, StandsFor}
-use Rattle.bb_sym.proofs.MadeLemmas.{Makes-then, Makes-one, too_many_within, too_many_then, too_many_one, within_append_left}
-use Rattle.bb_sym.proofs.OutputLoop.{first_refused, rest_refused, first_makes}
+use Rattle.bb_sym.proofs.MadeLemmas.{Makes-then, Makes-one, too_many_then, too_many_one}
+use Rattle.bb_sym.proofs.OutputLoop.{rest_refused, first_makes}
 
 -- two tables t and u, where the second is u after the first was made
 module _ (s m : NodeStore) (t u v : Truth) (first : Ref) (added : Adds s m t first.0) (same : v ≡ u) where

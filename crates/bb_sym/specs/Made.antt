@@ -7,7 +7,7 @@ use Rattle.bb_bits.specs.TruthSets.{HasMoreThan}
 use Rattle.bb_net.specs.declared.cell.Cell.{Cell}
 use Rattle.bb_net.specs.declared.cell.Cell.TheVariants.{Const, Input, Not, And, Or, Xor, Mux, BoxOut}
 use Rattle.bb_net.specs.Netlists.{Netlist}
-use Rattle.bb_sym.specs.Functions.{table, spec_bit_at, imp_bit, both, either, sum_table, choice_table}
+use Rattle.bb_sym.specs.Functions.{table, spec_bit, spec_bit_at, imp_bit, high, low, both, either, sum_table, choice_table}
 use Rattle.bb_uniq.specs.declared.store.Ref.{Ref}
 use Rattle.bb_uniq.specs.Nodes.{NodeStore, IsRef}
 use Rattle.bb_uniq.specs.Meaning.{truth_of, IsHeld, Keeps}
@@ -82,3 +82,13 @@ zero_table n high low (And a b) = either (low a) (low b)
 zero_table n high low (Or a b) = both (low a) (low b)
 zero_table n high low (Xor a b) = sum_table (high a) (high b) (low a) (low b)
 zero_table n high low (Mux c t e) = choice_table (high c) (low c) (low t) (low e)
+
+-- Refs for the cells of both nets over the inputs, by their places: the bits of the specification, and where those of the
+-- implementation are known to be 1 and to be 0
+pub record HaveKnown (s : NodeStore) (spec imp : Netlist) (of_spec ones zeros : List Ref) : Type 0 where
+  pub spec_whole : length of_spec ≡ length spec.cells
+  pub ones_whole : length ones ≡ length imp.cells
+  pub zeros_whole : length zeros ≡ length imp.cells
+  pub spec_cells : StandForAll s (λ place. table imp.inputs (spec_bit spec place)) of_spec
+  pub imp_ones : StandForAll s (high imp) ones
+  pub imp_zeros : StandForAll s (low imp) zeros

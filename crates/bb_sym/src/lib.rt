@@ -9,6 +9,7 @@ mod fault;
 mod found;
 mod known_cells;
 mod known_gates;
+mod mismatches;
 mod pins;
 mod searching;
 mod sums;

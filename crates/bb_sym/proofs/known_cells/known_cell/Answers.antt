@@ -1,4 +1,4 @@
-use Rattle.std.proofs.Common.{◌≡◌, Bool, not, List, [], ◌∷◌, ◌++◌, refl, sym, ap, ap₂, subst, cond}
+use Rattle.std.proofs.Common.{not, [], ◌∷◌, ◌++◌, refl, sym, ap, ap₂, subst}
 use Rattle.bb_bits.specs.Truth.{Truth, constant}
 use Rattle.bb_net.specs.declared.cell.Cell.{Cell}
 use Rattle.bb_uniq.specs.declared.store.Ref.{Ref}
@@ -7,7 +7,6 @@ use Rattle.bb_sym.specs.Functions.{both, either, sum_tables, choice_tables, cell
 use Rattle.bb_sym.specs.Made.{Makes, AreTooMany, ref_at}
 use Rattle.bb_sym.proofs.MadeLemmas.{Adds-leaf}
 use Rattle.bb_sym.proofs.PairLemmas.{two_made, same_four}
-use Rattle.bb_sym.proofs.KnownTables.{one-table, zero-table, cell_tables-same}
 use Rattle.bb_sym.proofs.known_cells.known_cell.Goals as goal
 
 pub returns-in-Const-clause-makes : goal.returns-in-Const-clause-makes

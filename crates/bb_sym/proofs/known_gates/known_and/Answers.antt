@@ -1,6 +1,5 @@
-use Rattle.std.proofs.Common.{rules, IsErrOf, ap, ap₂, ◌≡◌, ◌&&◌, ◌||◌, [], ◌∷◌}
-use Rattle.bb_bits.specs.Truth.{Truth, variable, complement, joined}
-use Rattle.bb_uniq.specs.Nodes.{NodeStore}
+use Rattle.std.proofs.Common.{rules, IsErrOf, ap₂, ◌||◌, [], ◌∷◌}
+use Rattle.bb_bits.specs.Truth.{Truth, joined}
 use Rattle.bb_uniq.specs.Meaning.{truth_of, IsTooMany}
 use Rattle.bb_sym.specs.declared.fault.RungFault.TheVariants.{Nodes}
 use Rattle.bb_sym.specs.Functions.{both, either}
