@@ -41,7 +41,7 @@ spec_table known spec inputs n place kept none e =
     (sym (known spec (take spec.inputs p) (drop spec.inputs p) kept none) ∙ known spec (take spec.inputs p) [] kept none))
     ∙ ap (λ k. bit_of (flat spec (take k p) []) place) e)
 
-map_same : {X : Type 0} (f g : ℕ → X) (ks : List ℕ) → ((k : ℕ) → f k ≡ g k) → map f ks ≡ map g ks
+pub map_same : {X : Type 0} (f g : ℕ → X) (ks : List ℕ) → ((k : ℕ) → f k ≡ g k) → map f ks ≡ map g ks
 map_same f g [] same = refl
 map_same f g (k ∷ ks) same = ap₂ (λ x xs. x ∷ xs) (same k) (map_same f g ks same)
 

@@ -15,11 +15,11 @@ use Rattle.bb_sym.proofs.FunctionTables.{combined-table}
 use Rattle.bb_sym.proofs.MadeLemmas.{StandForAll-kept}
 
 -- a Ref that is read at a place
-read_table : (s : NodeStore) (t : ℕ → Truth) (refs : List Ref) (place : ℕ) (x : Ref) → StandForAll s t refs → place < length refs → x ≡ get_or refs place x → truth_of s x.0 ≡ t place
+pub read_table : (s : NodeStore) (t : ℕ → Truth) (refs : List Ref) (place : ℕ) (x : Ref) → StandForAll s t refs → place < length refs → x ≡ get_or refs place x → truth_of s x.0 ≡ t place
 read_table s t refs place x stand l e =
     ap (λ (r : Ref). truth_of s r.0) (e ∙ get_or_default refs place x (record { 0 = 0 }) l) ∙ (stand place l).table
 
-out_there : (net : Netlist) → IsNetlist net → (j : ℕ) → j < length net.outs → slice_index net.outs j < length net.cells
+pub out_there : (net : Netlist) → IsNetlist net → (j : ℕ) → j < length net.outs → slice_index net.outs j < length net.cells
 out_there net kept j l = kept.outs_there j 0 l
 
 pub wrong_table : (s : NodeStore) (p : NetPair) → IsPair p → (of_spec of_imp : List Ref) → HaveCells s p.spec p.imp of_spec of_imp → (j : ℕ) → j < length p.imp.outs → (spec_outs imp_outs : List ℕ) → spec_outs ≡ p.spec.outs → imp_outs ≡ p.imp.outs →

@@ -4,7 +4,7 @@
 use Rattle.std.specs.Prelude.{ℕ, zero, suc, ◌+◌, ◌-◌, Bool, true, false, not, ◌&&◌, ◌||◌, List, [], ◌∷◌, ◌++◌, length, map, take, drop, slice_index, Option, Some, None}
 use Rattle.std.specs.List.{flat_map, list_any, range_with_len}
 use Rattle.bb_bits.specs.Bits.{xor}
-use Rattle.bb_bits.specs.Truth.{Truth, Bit, Halves, variable, quantified_block}
+use Rattle.bb_bits.specs.Truth.{Truth, Bit, Halves, constant, variable, complement, joined, quantified_block}
 use Rattle.bb_net.specs.declared.cell.Cell.{Cell}
 use Rattle.bb_net.specs.declared.cell.Cell.TheVariants.{Const, Input, Not, And, Or, Xor, Mux, BoxOut}
 use Rattle.bb_net.specs.Netlists.{Netlist, cell_at}
@@ -25,15 +25,6 @@ tables n fs = map (table n) fs
 
 abbrev pub variables : ℕ → List Truth
 variables n = map (variable n) (range_with_len 0 n)
-
-abbrev pub inverse : Function → Function
-inverse f = λ x. not (f x)
-
-abbrev pub both : Function → Function → Function
-both f g = λ x. f x && g x
-
-abbrev pub either : Function → Function → Function
-either f g = λ x. f x || g x
 
 abbrev pub differ : Function → Function → Function
 differ f g = λ x. xor (f x) (g x)
@@ -66,35 +57,64 @@ known_one imp place = λ x. is_one (tern_of (tern imp x) place)
 abbrev pub known_zero : Netlist → ℕ → Function
 known_zero imp place = λ x. is_zero (tern_of (tern imp x) place)
 
--- what is chosen of t where c holds and of e where d holds, or what both have, after that of which it is made
-abbrev pub chosen_functions : Function → Function → Function → Function → List Function
-chosen_functions c d t e = both c t ∷ both d e ∷ both t e ∷ either (both c t) (both d e) ∷ either (either (both c t) (both d e)) (both t e) ∷ []
+-- the tables that are joined at each point
+abbrev pub both : Truth → Truth → Truth
+both t u = joined ◌&&◌ t u
 
--- the functions of a cell, by whether its operands are known to be 1, or 0
-abbrev pub cell_functions : (ℕ → Function) → (ℕ → Function) → Cell → List Function
-cell_functions high low (Const b) = (λ x. b) ∷ (λ x. not b) ∷ []
-cell_functions high low (Input i) = (λ x. bit_of x i) ∷ (λ x. not (bit_of x i)) ∷ []
-cell_functions high low (BoxOut b p) = (λ x. false) ∷ []
-cell_functions high low (Not a) = low a ∷ high a ∷ []
-cell_functions high low (And a b) = both (high a) (high b) ∷ either (low a) (low b) ∷ []
-cell_functions high low (Or a b) = either (high a) (high b) ∷ both (low a) (low b) ∷ []
-cell_functions high low (Xor a b) =
-    both (high a) (low b) ∷ both (low a) (high b) ∷ either (both (high a) (low b)) (both (low a) (high b)) ∷
-    both (high a) (high b) ∷ both (low a) (low b) ∷ either (both (high a) (high b)) (both (low a) (low b)) ∷ []
-cell_functions high low (Mux c t e) = chosen_functions (high c) (low c) (high t) (high e) ++ chosen_functions (high c) (low c) (low t) (low e)
+abbrev pub either : Truth → Truth → Truth
+either t u = joined ◌||◌ t u
 
--- those of an output, by the bit that is wanted: known 1 where 0 is wanted, known 0 where 1 is, and either
-abbrev pub mismatches : Function → Function → Function → List Function
-mismatches wanted high low = inverse wanted ∷ both high (inverse wanted) ∷ both low wanted ∷ either (both high (inverse wanted)) (both low wanted) ∷ []
+-- "a and b, or c and e", and that of which it is made
+abbrev pub sum_table : Truth → Truth → Truth → Truth → Truth
+sum_table a b c e = either (both a b) (both c e)
+
+abbrev pub sum_tables : Truth → Truth → Truth → Truth → List Truth
+sum_tables a b c e = both a b ∷ both c e ∷ sum_table a b c e ∷ []
+
+-- what is chosen of t where c holds and of e where d holds, or what both have, and that of which it is made
+abbrev pub choice_table : Truth → Truth → Truth → Truth → Truth
+choice_table c d t e = either (sum_table c t d e) (both t e)
+
+abbrev pub choice_tables : Truth → Truth → Truth → Truth → List Truth
+choice_tables c d t e = sum_tables c t d e ++ both t e ∷ choice_table c d t e ∷ []
+
+-- the tables of a cell over n variables, by those of its operands: where they are known to be 1, and where to be 0
+abbrev pub cell_tables : ℕ → (ℕ → Truth) → (ℕ → Truth) → Cell → List Truth
+cell_tables n high low (Const b) = constant n b ∷ constant n (not b) ∷ []
+cell_tables n high low (Input i) = variable n i ∷ complement (variable n i) ∷ []
+cell_tables n high low (BoxOut b p) = constant n false ∷ []
+cell_tables n high low (Not a) = low a ∷ high a ∷ []
+cell_tables n high low (And a b) = both (high a) (high b) ∷ either (low a) (low b) ∷ []
+cell_tables n high low (Or a b) = both (low a) (low b) ∷ either (high a) (high b) ∷ []
+cell_tables n high low (Xor a b) = sum_tables (high a) (low b) (low a) (high b) ++ sum_tables (high a) (high b) (low a) (low b)
+cell_tables n high low (Mux c t e) = choice_tables (high c) (low c) (high t) (high e) ++ choice_tables (high c) (low c) (low t) (low e)
+
+-- where the value of a cell of the implementation is known to be 1, and where to be 0
+abbrev pub high : Netlist → ℕ → Truth
+high imp place = table imp.inputs (known_one imp place)
+
+abbrev pub low : Netlist → ℕ → Truth
+low imp place = table imp.inputs (known_zero imp place)
+
+-- the bit that is wanted at an output
+abbrev pub wanted : Netlist → Netlist → ℕ → Truth
+wanted spec imp j = table imp.inputs (spec_bit spec (slice_index spec.outs j))
+
+-- an output is known to be 1 where 0 is wanted, or known to be 0 where 1 is; and that of which it is made
+abbrev pub mismatch : Netlist → Netlist → ℕ → Truth
+mismatch spec imp j = sum_table (high imp (slice_index imp.outs j)) (complement (wanted spec imp j)) (low imp (slice_index imp.outs j)) (wanted spec imp j)
+
+abbrev pub mismatches : Netlist → Netlist → ℕ → List Truth
+mismatches spec imp j = complement (wanted spec imp j) ∷ sum_tables (high imp (slice_index imp.outs j)) (complement (wanted spec imp j)) (low imp (slice_index imp.outs j)) (wanted spec imp j)
+
+abbrev pub known_tables : Netlist → ℕ → List Truth
+known_tables imp place = cell_tables imp.inputs (high imp) (low imp) (cell_at imp.cells place)
 
 abbrev pub symbolic_functions : Netlist → Netlist → List Truth
 symbolic_functions spec imp =
-    let high = known_one imp in
-    let low = known_zero imp in
-    variables imp.inputs ++ tables imp.inputs (
-    map (spec_bit spec) (places spec)
-    ++ flat_map (λ place. cell_functions high low (cell_at imp.cells place)) (places imp)
-    ++ flat_map (λ j. mismatches (spec_bit spec (slice_index spec.outs j)) (high (slice_index imp.outs j)) (low (slice_index imp.outs j))) (outputs imp))
+    variables imp.inputs ++ (
+    tables imp.inputs (map (spec_bit spec) (places spec)) ++ (
+    flat_map (known_tables imp) (places imp) ++ flat_map (mismatches spec imp) (outputs imp)))
 
 -- Where boxes may give any bits, the variables are the inputs and then the output pins of the boxes, box after box.
 

@@ -1,13 +1,13 @@
 -- What calls of the diagram operations leave in a store: the tables that they made, by their beads, and the Refs that stand for
 -- functions.
-use Rattle.std.specs.Prelude.{◌≡◌, ◌<◌, ◌↔◌, ◌⊎◌, ℕ, ◌+◌, ◌&&◌, ◌||◌, Bool, true, List, length, slice_index_or}
+use Rattle.std.specs.Prelude.{◌≡◌, ◌<◌, ◌↔◌, ◌⊎◌, ℕ, ◌+◌, ◌&&◌, ◌||◌, Bool, true, false, not, List, length, slice_index_or}
 use Rattle.bb_bits.specs.Bits.{xor}
 use Rattle.bb_bits.specs.Truth.{Truth, truth_at, IsBeadOfAny, constant, variable, complement, joined, chosen}
 use Rattle.bb_bits.specs.TruthSets.{HasMoreThan}
 use Rattle.bb_net.specs.declared.cell.Cell.{Cell}
 use Rattle.bb_net.specs.declared.cell.Cell.TheVariants.{Const, Input, Not, And, Or, Xor, Mux, BoxOut}
 use Rattle.bb_net.specs.Netlists.{Netlist}
-use Rattle.bb_sym.specs.Functions.{table, spec_bit_at, imp_bit}
+use Rattle.bb_sym.specs.Functions.{table, spec_bit, spec_bit_at, imp_bit, high, low, both, either, sum_table, choice_table}
 use Rattle.bb_uniq.specs.declared.store.Ref.{Ref}
 use Rattle.bb_uniq.specs.Nodes.{NodeStore, IsRef}
 use Rattle.bb_uniq.specs.Meaning.{truth_of, IsHeld, Keeps}
@@ -60,3 +60,35 @@ pub record HaveCells (s : NodeStore) (spec imp : Netlist) (of_spec of_imp : List
   pub imp_whole : length of_imp ≡ length imp.cells
   pub spec_cells : StandForAll s (λ place. table s.vars (spec_bit_at spec imp.inputs place)) of_spec
   pub imp_cells : StandForAll s (λ place. table s.vars (imp_bit imp place)) of_imp
+
+-- the table of a cell that is 1 where it is known to be 1, by those of its operands
+abbrev pub one_table : ℕ → (ℕ → Truth) → (ℕ → Truth) → Cell → Truth
+one_table n high low (Const b) = constant n b
+one_table n high low (Input i) = variable n i
+one_table n high low (BoxOut b p) = constant n false
+one_table n high low (Not a) = low a
+one_table n high low (And a b) = both (high a) (high b)
+one_table n high low (Or a b) = either (high a) (high b)
+one_table n high low (Xor a b) = sum_table (high a) (low b) (low a) (high b)
+one_table n high low (Mux c t e) = choice_table (high c) (low c) (high t) (high e)
+
+-- the table that is 1 where it is known to be 0
+abbrev pub zero_table : ℕ → (ℕ → Truth) → (ℕ → Truth) → Cell → Truth
+zero_table n high low (Const b) = constant n (not b)
+zero_table n high low (Input i) = complement (variable n i)
+zero_table n high low (BoxOut b p) = constant n false
+zero_table n high low (Not a) = high a
+zero_table n high low (And a b) = either (low a) (low b)
+zero_table n high low (Or a b) = both (low a) (low b)
+zero_table n high low (Xor a b) = sum_table (high a) (high b) (low a) (low b)
+zero_table n high low (Mux c t e) = choice_table (high c) (low c) (low t) (low e)
+
+-- Refs for the cells of both nets over the inputs, by their places: the bits of the specification, and where those of the
+-- implementation are known to be 1 and to be 0
+pub record HaveKnown (s : NodeStore) (spec imp : Netlist) (of_spec ones zeros : List Ref) : Type 0 where
+  pub spec_whole : length of_spec ≡ length spec.cells
+  pub ones_whole : length ones ≡ length imp.cells
+  pub zeros_whole : length zeros ≡ length imp.cells
+  pub spec_cells : StandForAll s (λ place. table imp.inputs (spec_bit spec place)) of_spec
+  pub imp_ones : StandForAll s (high imp) ones
+  pub imp_zeros : StandForAll s (low imp) zeros

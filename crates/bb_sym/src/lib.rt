@@ -7,8 +7,12 @@ mod differences;
 mod each_output;
 mod fault;
 mod found;
+mod known_cells;
+mod known_gates;
+mod mismatches;
 mod pins;
 mod searching;
+mod sums;
 mod unknown;
 
 pub use all_outputs::output;

@@ -1,14 +1,20 @@
 //! Unknown boxes, over all vectors.
 
-ghost use Rattle.std.specs.Prelude.{◌≡◌, ◌≤◌, ℕ, Some, IfOk, OnOk, IsErrOf, IfSome, IfNone};
+ghost use Rattle.std.specs.Prelude.{◌≡◌, ◌≤◌, ℕ, length, Some, IfOk, OnOk, IsErrOf, IfSome, IfNone};
 ghost use Rattle.bb_bits.specs.Truth.{IsBeadOfAny};
 ghost use Rattle.bb_bits.specs.TruthSets.{HasMoreThan};
 ghost use Rattle.bb_net.specs.Conditions.{IsKnownWrong, MayBeRight, MayBeRightEverywhere};
-ghost use Rattle.bb_sym.specs.Functions.{symbolic_functions};
+ghost use Rattle.bb_sym.specs.Functions.{mismatch, symbolic_functions};
 ghost use Rattle.bb_sym.specs.Finds.{IsFirstFound};
+ghost use Rattle.bb_sym.specs.Made.{Makes, AreTooMany, StandForAll};
 
+use crate::mismatches::{input_cells, known_wrong_outputs};
+use crate::searching::first_true;
 use crate::{Found, RungFault};
+use bb_bits::truth;
+use bb_dd::{Diagrams, Ref};
 use bb_net::Pair;
+use bb_uniq::laws;
 use std::alloc::Global;
 
 /// The first output that is known and wrong at some vector although the boxes are unknown, and the least such vector.
@@ -30,8 +36,30 @@ pub fn symbolic(
     ensures nodes { IsErrOf result RungFault.Nodes → HasMoreThan (IsBeadOfAny (symbolic_functions pair.now.spec pair.now.imp)) nodes }
     ensures within { HasMoreThan (IsBeadOfAny (symbolic_functions pair.now.spec pair.now.imp)) nodes → OnOk result ⊥ }
 {
-    let _ = alloc;
-    let _ = nodes;
-    let _ = cache;
-    Err(RungFault::NoMemory)
+    truth::sizes();
+    laws::sequences();
+    let inputs = pair.imp().inputs();
+    let mut d = Diagrams::start(alloc, inputs, nodes, cache)?;
+    let wrong = symbolic_diagrams(alloc, &mut d, pair)?;
+    d.is_canonical();
+    let mut point = vec![in alloc; false; inputs as usize]?;
+    match first_true(&d, &wrong, &mut point) {
+        Some(j) => Ok(Some(Found {
+            output: Some(j as u32),
+            input: point,
+        })),
+        None => Ok(None),
+    }
+}
+
+/// Makes all functions of the check. The diagrams are, output by output, 1 where it is known and wrong.
+fn symbolic_diagrams(alloc: Global, d: &mut Diagrams, pair: &Pair) -> Result<Vec<Ref>, RungFault>
+    requires vars { pair.now.imp.inputs ≡ d.old.store.vars }
+    ensures refs { IfOk result (λ refs. (length refs.items ≡ length pair.now.imp.outs) × StandForAll d.new.store (mismatch pair.now.spec pair.now.imp) refs.items) }
+    ensures makes { OnOk result (Makes d.old.store d.new.store (symbolic_functions pair.now.spec pair.now.imp)) }
+    ensures nodes { IsErrOf result RungFault.Nodes → AreTooMany d.old.store (symbolic_functions pair.now.spec pair.now.imp) }
+{
+    let made = input_cells(alloc, d, pair)?;
+    let refs = known_wrong_outputs(alloc, d, pair, &made)?;
+    Ok(refs)
 }

@@ -1,0 +1,48 @@
+//! "`a` and `b`, or `c` and `e`", and the choice by a bit of which it may be known that it is 1 or that it is 0.
+
+ghost use Rattle.std.specs.Prelude.{◌≡◌, IfOk, OnOk, IsErrOf};
+ghost use Rattle.bb_uniq.specs.Nodes.{IsRef};
+ghost use Rattle.bb_uniq.specs.Meaning.{truth_of};
+ghost use Rattle.bb_sym.specs.Functions.{sum_table, sum_tables, choice_table, choice_tables};
+ghost use Rattle.bb_sym.specs.Made.{Makes, AreTooMany, StandsFor};
+
+use crate::RungFault;
+use bb_dd::{Diagrams, Ref};
+
+/// "`a` and `b`, or `c` and `e`".
+pub(crate) fn sum_of_products(
+    d: &mut Diagrams,
+    a: Ref,
+    b: Ref,
+    c: Ref,
+    e: Ref,
+) -> Result<Ref, RungFault>
+    requires a { IsRef d.old.store a.0 }
+    requires b { IsRef d.old.store b.0 }
+    requires c { IsRef d.old.store c.0 }
+    requires e { IsRef d.old.store e.0 }
+    ensures result { IfOk result (StandsFor d.new.store (sum_table (truth_of d.old.store a.0) (truth_of d.old.store b.0) (truth_of d.old.store c.0) (truth_of d.old.store e.0))) }
+    ensures makes { OnOk result (Makes d.old.store d.new.store (sum_tables (truth_of d.old.store a.0) (truth_of d.old.store b.0) (truth_of d.old.store c.0) (truth_of d.old.store e.0))) }
+    ensures nodes { IsErrOf result RungFault.Nodes → AreTooMany d.old.store (sum_tables (truth_of d.old.store a.0) (truth_of d.old.store b.0) (truth_of d.old.store c.0) (truth_of d.old.store e.0)) }
+{
+    let first = d.and(a, b)?;
+    let second = d.and(c, e)?;
+    let r = d.or(first, second)?;
+    Ok(r)
+}
+
+/// `t` where `c` is 1, `e` where `not_c` is 1, or 1 where both are.
+pub(crate) fn choice(d: &mut Diagrams, c: Ref, not_c: Ref, t: Ref, e: Ref) -> Result<Ref, RungFault>
+    requires c { IsRef d.old.store c.0 }
+    requires not_c { IsRef d.old.store not_c.0 }
+    requires t { IsRef d.old.store t.0 }
+    requires e { IsRef d.old.store e.0 }
+    ensures result { IfOk result (StandsFor d.new.store (choice_table (truth_of d.old.store c.0) (truth_of d.old.store not_c.0) (truth_of d.old.store t.0) (truth_of d.old.store e.0))) }
+    ensures makes { OnOk result (Makes d.old.store d.new.store (choice_tables (truth_of d.old.store c.0) (truth_of d.old.store not_c.0) (truth_of d.old.store t.0) (truth_of d.old.store e.0))) }
+    ensures nodes { IsErrOf result RungFault.Nodes → AreTooMany d.old.store (choice_tables (truth_of d.old.store c.0) (truth_of d.old.store not_c.0) (truth_of d.old.store t.0) (truth_of d.old.store e.0)) }
+{
+    let chosen = sum_of_products(d, c, t, not_c, e)?;
+    let same = d.and(t, e)?;
+    let r = d.or(chosen, same)?;
+    Ok(r)
+}
