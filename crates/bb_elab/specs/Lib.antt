@@ -1,6 +1,8 @@
 pub mod Callees
 pub mod Depths
 pub mod Recursions
+pub mod Outlines
+pub mod Placements
 pub mod Closures
 pub mod Hierarchy
 pub mod HierarchyLaws

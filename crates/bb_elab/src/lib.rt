@@ -9,7 +9,10 @@ mod flat;
 pub mod laws;
 pub mod list_laws;
 pub mod loop_laws;
+mod outline;
+mod placed;
 mod recursion;
+mod stored;
 pub mod table_laws;
 mod top;
 

@@ -51,4 +51,18 @@ impl Loose {
             outs,
         }
     }
+
+    /// The cells.
+    pub fn cells(&self) -> &[LooseCell]
+        ensures cells { result.now ≡ self.now.cells }
+    {
+        &self.cells
+    }
+
+    /// The boxes.
+    pub fn boxes(&self) -> &[BoxPins]
+        ensures boxes { result.now ≡ self.now.boxes }
+    {
+        &self.boxes
+    }
 }

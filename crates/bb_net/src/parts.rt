@@ -29,8 +29,8 @@ impl Loose {
         self.inputs
     }
 
-    // The places of the outputs.
-    pub(crate) fn output_places(&self) -> &[u32]
+    /// The places of the outputs.
+    pub fn output_places(&self) -> &[u32]
         ensures outs { result.now ≡ self.now.outs }
     {
         &self.outs
