@@ -17,6 +17,9 @@ pub mod InstanceNames
 pub mod KnownNets
 pub mod Levels
 pub mod ListFronts
+pub mod ListedEntries
+pub mod LoopPlaces
+pub mod NetNumbers
 pub mod ListNumbers
 pub mod ListValues
 pub mod ListWalks

@@ -1,6 +1,7 @@
 -- Laws that link closed walks in the list of cells of a design with loops of dependence.
-use Rattle.std.specs.Prelude.{ℕ, ◌↔◌, Contains}
-use Rattle.bb_net.specs.Loose.{LooseList, IsOnClosedWalk}
+use Rattle.std.specs.Prelude.{◌≡◌, ℕ, ◌+◌, ◌↔◌, Contains, Some, slice_get}
+use Rattle.bb_net.specs.Loose.{LooseList, IsOnClosedWalk, IsLeastOnClosedWalk}
+use Rattle.bb_elab.specs.Closures.{IsFirst}
 use Rattle.bb_elab.specs.Hierarchy.{Design}
 use Rattle.bb_elab.specs.ListLaws.{IsBounded}
 use Rattle.bb_elab.specs.Dependence.{IsOnLoop}
@@ -17,3 +18,8 @@ ListsWithoutWalks = (d : Design) (lowering : Lowering) (l : LooseList) → IsBou
 abbrev pub ListWalksAreLoops : Type 0
 ListWalksAreLoops = (d : Design) (lowering : Lowering) (l : LooseList) → IsBounded d → AreDrivenOnce d → IsLowering d lowering → (list : IsListOf d lowering l)
     → (b : Bit) → Contains (net_order d) b → IsOnClosedWalk l (list.number (NetBit b)) ↔ IsOnLoop d b
+
+-- the least place on a closed walk is that of the first bit on a loop
+abbrev pub LeastWalksAreFirstLoops : Type 0
+LeastWalksAreFirstLoops = (d : Design) (lowering : Lowering) (l : LooseList) → IsBounded d → AreDrivenOnce d → IsLowering d lowering → IsListOf d lowering l
+    → (k : ℕ) → IsLeastOnClosedWalk l k → (n : ℕ) × (b : Bit) × (k ≡ l.inputs + 2 + n) × (slice_get (net_order d) n ≡ Some b) × IsFirst (IsOnLoop d) (net_order d) b
