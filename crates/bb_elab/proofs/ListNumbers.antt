@@ -22,7 +22,7 @@ above : (a b n : ℕ) → a < b → AllByRecursion (λ y. (a == y) ≡ false) (r
 above a b zero lt = tt
 above a b (suc n) lt = (not_same a b lt, above a (b + 1) n (omega (arith, lt)))
 
-range_distinct : (a n : ℕ) → IsDistinct ◌==◌ (range_with_len a n)
+pub range_distinct : (a n : ℕ) → IsDistinct ◌==◌ (range_with_len a n)
 unfolding IsDistinct
 range_distinct a zero = tt
 range_distinct a (suc n) = (above a (a + 1) n (omega arith), range_distinct (a + 1) n)

@@ -1,5 +1,5 @@
 -- Laws that link the list of cells of a design, and a flat netlist that stands for it, with the worlds of the design.
-use Rattle.std.specs.Prelude.{◌≡◌, ℕ, Bool, List, [], ◌++◌, map, Contains, Option, Some, slice_index_or}
+use Rattle.std.specs.Prelude.{◌≡◌, ℕ, ◌≤◌, Bool, List, [], ◌++◌, map, length, Contains, Option, Some, slice_index_or}
 use Rattle.std.specs.List.{AllByRecursion}
 use Rattle.bb_ast.specs.Formed.{IsFormed}
 use Rattle.bb_ast.specs.Syntax.{PlainModule}
@@ -13,6 +13,7 @@ use Rattle.bb_elab.specs.NetBits.{top_inputs}
 use Rattle.bb_elab.specs.Places.{NetBit, Numbering, Lowering, IsLowering, IsListOf}
 use Rattle.bb_elab.specs.Refusals.{IsShallow, IsSmall, IsSoundDesign, IsSoundText, design_on}
 use Rattle.bb_elab.specs.Registers.{registers}
+use Rattle.bb_elab.specs.Sizes.{cells_in}
 use Rattle.bb_elab.specs.Stands.{box_number, StandsFor}
 use Rattle.bb_elab.specs.Texts.{path_text, bit_text}
 use Rattle.bb_elab.specs.Worlds.{World, Vector, TopInput, State, HasVector, IsWorld, FitDesign, outputs_in}
@@ -76,3 +77,7 @@ StandingNetsAgree = (d : Design) (f g : FlatNet) → IsAllowed d → StandsFor d
 abbrev pub SoundTextsAreAllowed : Type 0
 SoundTextsAreAllowed = (text : List PlainModule) (name : Option (List ℕ)) (top : PlainModule) → AllByRecursion IsFormed text → IsSound text → IsSoundText text name → top_of text name ≡ Some top
     → IsAllowed (design_on text top)
+
+-- a netlist that stands for a design has no more cells than the design
+abbrev pub NetsAreNoLarger : Type 0
+NetsAreNoLarger = (d : Design) (f : FlatNet) → IsBounded d → StandsFor d f → length f.net.cells ≤ cells_in d
