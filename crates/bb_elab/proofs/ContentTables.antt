@@ -51,7 +51,7 @@ listed_all P a (suc n) each =
     at t here ts there (suc k) fits e = subst (λ m. P m (get_or ts k e)) (omega arith) (there k (omega (arith, fits)) e)
 
 -- where no two elements are the same, equal elements stand at one place
-one_place : {A : Type 0} (xs : List A) → AllPairs ◌≢◌ xs → (i j : ℕ) (e : A) → i < length xs → j < length xs → get_or xs i e ≡ get_or xs j e → i ≡ j
+pub one_place : {A : Type 0} (xs : List A) → AllPairs ◌≢◌ xs → (i j : ℕ) (e : A) → i < length xs → j < length xs → get_or xs i e ≡ get_or xs j e → i ≡ j
 one_place xs apart i j e p q same = by (less_or_same i j)
   where
     by : (i < j) ⊎ ((j < i) ⊎ (i ≡ j)) → i ≡ j
@@ -60,36 +60,36 @@ one_place xs apart i j e p q same = by (less_or_same i j)
     by (inr (inr h)) = h
 
 module _ (d : Design) (f : FlatNet) (stands : StandsFor d f) where
-  abbrev none : BoxTexts
+  abbrev pub none : BoxTexts
   none = record { path = []; ins = []; outs = [] }
 
-  abbrev number_of_box : ℕ → ℕ
+  abbrev pub number_of_box : ℕ → ℕ
   number_of_box b = get_or stands.numbers b 0
 
   -- the box of the design for which a box of the netlist stands
-  abbrev box_of : ℕ → Scope
+  abbrev pub box_of : ℕ → Scope
   box_of b = box_number d (number_of_box b)
 
-  list_count : length stands.cells.boxes ≡ length (boxes d)
+  pub list_count : length stands.cells.boxes ≡ length (boxes d)
   list_count = ap length stands.listed.boxes ∙ length-map (enumerate_from 0 (boxes d)) (pins_of stands.listed.number) ∙ length-enumerated 0 (boxes d)
 
-  text_count : length f.boxes ≡ length f.net.boxes
+  pub text_count : length f.boxes ≡ length f.net.boxes
   text_count = ap length stands.boxes ∙ length-map stands.numbers (λ b. box_texts d (box_number d b)) ∙ stands.ordered.number_count ∙ sym stands.ordered.box_count
 
-  number_there : (b : ℕ) → b < length f.net.boxes → number_of_box b < length (boxes d)
+  pub number_there : (b : ℕ) → b < length f.net.boxes → number_of_box b < length (boxes d)
   number_there b fits = omega (arith, list_count, (stands.ordered.boxes b (omega (arith, fits, stands.ordered.box_count))).0)
 
   box_there : (b : ℕ) → b < length f.net.boxes → Contains (boxes d) (box_of b)
   box_there b fits = Contains-get_or (boxes d) (number_of_box b) (root d) (number_there b fits)
 
-  text_is : (b : ℕ) → b < length f.net.boxes → get_or f.boxes b none ≡ box_texts d (box_of b)
+  pub text_is : (b : ℕ) → b < length f.net.boxes → get_or f.boxes b none ≡ box_texts d (box_of b)
   text_is b fits = ap (λ all. get_or all b none) stands.boxes ∙ get_or-map (λ b. box_texts d (box_number d b)) stands.numbers b 0 none (omega (arith, fits, stands.ordered.box_count, stands.ordered.number_count))
 
-  path_is : (b : ℕ) → b < length f.net.boxes → path_of f b ≡ path_text (box_of b).path
+  pub path_is : (b : ℕ) → b < length f.net.boxes → path_of f b ≡ path_text (box_of b).path
   path_is b fits = ap (λ (t : BoxTexts). t.path) (text_is b fits)
 
   -- it has as many pins
-  pins_are : (b : ℕ) → b < length f.net.boxes → (length (box_at f.net.boxes b).ins ≡ length (input_bits (box_of b))) × (length (box_at f.net.boxes b).outs ≡ length (output_bits (box_of b)))
+  pub pins_are : (b : ℕ) → b < length f.net.boxes → (length (box_at f.net.boxes b).ins ≡ length (input_bits (box_of b))) × (length (box_at f.net.boxes b).outs ≡ length (output_bits (box_of b)))
   pins_are b fits =
       let order = stands.ordered.boxes b (omega (arith, fits, stands.ordered.box_count)) in
       let has = numbered_at (boxes d) (number_of_box b) (root d) (number_there b fits) in

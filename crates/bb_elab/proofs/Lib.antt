@@ -13,6 +13,7 @@ pub mod DepthHeights
 pub mod DepthWalks
 pub mod Enumerated
 pub mod Firsts
+pub mod FlatInvariants
 pub mod GivenDrives
 pub mod InstanceNames
 pub mod KnownNets

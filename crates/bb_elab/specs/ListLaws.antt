@@ -7,7 +7,7 @@ use Rattle.bb_bits.specs.Contents.{Contents, output_bit}
 use Rattle.bb_expr.specs.Faults.{IsSound}
 use Rattle.bb_net.specs.Loose.{LooseList, IsLoose, IsLooseValue}
 use Rattle.bb_net.specs.Values.{bit_of, value_of}
-use Rattle.bb_elab.specs.Flats.{FlatNet}
+use Rattle.bb_elab.specs.Flats.{FlatNet, ArePrintable, IsFlat}
 use Rattle.bb_elab.specs.Hierarchy.{Design, top_of}
 use Rattle.bb_elab.specs.NetBits.{top_inputs}
 use Rattle.bb_elab.specs.Places.{NetBit, Numbering, Lowering, IsLowering, IsListOf}
@@ -81,3 +81,7 @@ SoundTextsAreAllowed = (text : List PlainModule) (name : Option (List ℕ)) (top
 -- a netlist that stands for a design has no more cells than the design
 abbrev pub NetsAreNoLarger : Type 0
 NetsAreNoLarger = (d : Design) (f : FlatNet) → IsBounded d → StandsFor d f → length f.net.cells ≤ cells_in d
+
+-- one that stands for a sound design is a flat netlist, where its texts are printable
+abbrev pub StandingNetsAreFlat : Type 0
+StandingNetsAreFlat = (d : Design) (f : FlatNet) → IsAllowed d → StandsFor d f → ArePrintable f → IsFlat f

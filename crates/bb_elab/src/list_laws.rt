@@ -1,7 +1,7 @@
 //! Laws that link the list of cells of a design, and a flat netlist that stands for it, with the worlds of the design. Each function
 //! has a law as its contract and does nothing.
 
-ghost use Rattle.bb_elab.specs.ListLaws.{ListsAreLoose, ListsGiveWorlds, StandingNetsGiveOutputs, StandingNetsAgree, NetsAreNoLarger, SoundTextsAreAllowed};
+ghost use Rattle.bb_elab.specs.ListLaws.{ListsAreLoose, ListsGiveWorlds, StandingNetsGiveOutputs, StandingNetsAgree, NetsAreNoLarger, SoundTextsAreAllowed, StandingNetsAreFlat};
 
 use crate::laws::constructs_hold_bit_by_bit;
 use bb_expr::laws::{made_has_value, values_have_width};
@@ -47,4 +47,9 @@ pub fn standing_nets_agree()
 /// A netlist that stands for a design has no more cells than the design.
 pub fn nets_are_no_larger()
     ensures { NetsAreNoLarger }
+{}
+
+/// One that stands for a sound design is a flat netlist, where its texts are printable.
+pub fn standing_nets_are_flat()
+    ensures { StandingNetsAreFlat }
 {}
