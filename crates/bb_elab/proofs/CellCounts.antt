@@ -173,8 +173,20 @@ module _ (d : Design) (lowering : Lowering) (l : LooseList) (list : IsListOf d l
       let one = (wired.gates s gate outs ins (from_numbered 0 (parts d) (k, (s, GateInstance gate outs ins)) has)).0 in
       let joins = joining_places lowering list.number k gate (length ins) in
       let inverse = inverting_place lowering list.number k gate (length ins) in
-      omega (arith, whole k s (GateInstance gate outs ins) has, steps_within k s (GateInstance gate outs ins) has, ap length (mapped_cells s ins), gate-length ts gate (omega (arith, long, one)), long,
-        length-append (flat_map (λ e. (made_in s e (width_of s e)).cells) ins) (gate_cells gate ts), sum_by-append weight joins inverse, kept-length joins, kept-length inverse, joins_long, inverse_long (inverts gate))
+      omega (
+        arith,
+        whole k s (GateInstance gate outs ins) has,
+        steps_within k s (GateInstance gate outs ins) has,
+        ap length (mapped_cells s ins),
+        gate-length ts gate (omega (arith, long, one)),
+        long,
+        length-append (flat_map (λ e. (made_in s e (width_of s e)).cells) ins) (gate_cells gate ts),
+        sum_by-append weight joins inverse,
+        kept-length joins,
+        kept-length inverse,
+        joins_long,
+        inverse_long (inverts gate),
+      )
     where
       joins_long : length (joining_places lowering list.number k gate (length ins)) ≡ length ins - 1
       joins_long = length-map (range_with_len 0 (length ins - 1)) _ ∙ length-range 0 (length ins - 1)
@@ -259,10 +271,17 @@ module _ (d : Design) (lowering : Lowering) (l : LooseList) (list : IsListOf d l
   kept_within =
       let pins = flat_map box_places (enumerate_from 0 (boxes d)) in
       let others = flat_map (places_at lowering list.number) (enumerate_from 0 (parts d)) in
-      omega (arith, sum_by-append weight (front_places d lowering list.number) (operator_places d lowering list.number), sum_by-append weight pins others, front_kept,
-        flat_below box_places (λ (y : ℕ × Scope). outs y.1) (enumerate_from 0 (boxes d)) (λ y has. box_within y), sum-enumerated outs 0 (boxes d),
-        flat_below (places_at lowering list.number) (λ (y : ℕ × (Scope × Construct)). cell_count y.1) (enumerate_from 0 (parts d)) (λ y has. part_within y.0 y.1.0 y.1.1 has), sum-enumerated cell_count 0 (parts d),
-        scopes_count (scopes d))
+      omega (
+        arith,
+        sum_by-append weight (front_places d lowering list.number) (operator_places d lowering list.number),
+        sum_by-append weight pins others,
+        front_kept,
+        flat_below box_places (λ (y : ℕ × Scope). outs y.1) (enumerate_from 0 (boxes d)) (λ y has. box_within y),
+        sum-enumerated outs 0 (boxes d),
+        flat_below (places_at lowering list.number) (λ (y : ℕ × (Scope × Construct)). cell_count y.1) (enumerate_from 0 (parts d)) (λ y has. part_within y.0 y.1.0 y.1.1 has),
+        sum-enumerated cell_count 0 (parts d),
+        scopes_count (scopes d),
+      )
 
 -- a list in which all numbers below n stand is at least as long
 at_least : (ks : List ℕ) (n : ℕ) → ((k : ℕ) → k < n → Contains ks k) → n ≤ length ks

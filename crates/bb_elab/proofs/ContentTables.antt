@@ -11,7 +11,7 @@ use Rattle.bb_bits.specs.Tables.{TableBits, HasAllBits, rows_of, zero_table}
 use Rattle.bb_net.specs.Netlists.{Pins, box_at}
 use Rattle.bb_net.specs.Orders.{moved_pins}
 use Rattle.bb_net.specs.Pairs.{BoxTexts}
-use Rattle.bb_net.specs.Values.{bit_of, table_at, tabled_bit, FitBoxes}
+use Rattle.bb_net.specs.Values.{bit_of, value_of, table_at, tabled_bit, FitBoxes, ValueGoesByBoxes}
 use Rattle.bb_elab.specs.ContentTables.{AreTablesOf, TablesGiveValues, TablesGiveOutputs}
 use Rattle.bb_elab.specs.Flats.{FlatNet}
 use Rattle.bb_elab.specs.Hierarchy.{Design, Scope, root, boxes}
@@ -22,7 +22,6 @@ use Rattle.bb_elab.specs.Refusals.{AreApart, box_paths}
 use Rattle.bb_elab.specs.Stands.{box_number, box_texts, StandsFor}
 use Rattle.bb_elab.specs.Texts.{path_text}
 use Rattle.bb_elab.specs.Worlds.{FitDesign}
-use Rattle.bb_elab.proofs.BoxValues.{ValuesExist, ValuesAreUnique, value_same}
 use Rattle.bb_elab.proofs.CauseDecisions.{all_from}
 use Rattle.bb_elab.proofs.Enumerated.{enumerated_from, numbered_at, length-enumerated}
 use Rattle.bb_elab.proofs.Firsts.{less_or_same}
@@ -30,8 +29,11 @@ use Rattle.bb_elab.proofs.ListedPlaces.{box_is}
 use Rattle.bb_elab.proofs.WorldExists.{from_find}
 use Rattle.bb_elab.proofs.WorldLaws.{find_there}
 
-pub tables_give_values : ValuesExist → ValuesAreUnique → BitsAreChosen → TablesGiveValues
-tables_give_values exists unique chosen f contents tables x kept are = value_same exists unique f.net kept x (tabled_bit tables) (given_by_paths f contents) (λ b fits p pin ins long.
+pub tables_give_values : ValueGoesByBoxes → BitsAreChosen → TablesGiveValues
+tables_give_values by_boxes chosen f contents tables x kept are = by_boxes f.net kept x (tabled_bit tables) (given_by_paths f contents) (λ b p fits pin.
+    let value = bit_of (value_of f.net x (tabled_bit tables)) in
+    let ins = map value (box_at f.net.boxes b).ins in
+    let long = length-map (box_at f.net.boxes b).ins value in
     sym (ap (λ rows. output_bit rows ins p) (are.rows b fits) ∙ chosen (table_at tables b) ins p (long ∙ sym (are.fit.inputs b fits)) (omega (arith, pin, are.fit.outputs b fits))))
 
 pub tables_give_outputs : StandingNetsGiveOutputs → TablesGiveValues → TablesGiveOutputs

@@ -111,7 +111,7 @@ module _ (d : Design) (f : FlatNet) (bounded : IsBounded d) (sound : IsSoundDesi
       let listed : (k : ℕ) → k < length (boxes d) → get_or (box_paths d) k e ≡ path_text (box_number d k).path = λ k inside. get_or-map (λ s. path_text s.path) (boxes d) k (root d) e inside in
       let paths = length-map (boxes d) (λ s. path_text s.path) in
       let numbers : number_of_box d f stands i ≡ number_of_box d f stands j = one_place (box_paths d) (sound BoxCause) (number_of_box d f stands i) (number_of_box d f stands j) e (omega (arith, there_i, paths)) (omega (arith, there_j, paths))
-        (listed (number_of_box d f stands i) there_i ∙ sym path_i ∙ same ∙ path_j ∙ sym (listed (number_of_box d f stands j) there_j)) in
+      (listed (number_of_box d f stands i) there_i ∙ sym path_i ∙ same ∙ path_j ∙ sym (listed (number_of_box d f stands j) there_j)) in
       stands.ordered.numbers_apart i j 0 less (omega (arith, at_j, stands.ordered.box_count, stands.ordered.number_count)) numbers
 
   are_apart : AreApart f

@@ -1,6 +1,5 @@
 pub mod AllowedDesigns
 pub mod BitByBit
-pub mod BoxValues
 pub mod CalledInstances
 pub mod CalleeLaw
 pub mod CalleeLemmas

@@ -96,17 +96,22 @@ least_walks_are_first_loops d lowering l bounded once lowered list k least =
     let sum : l.inputs + 2 + n ≡ k = omega (arith, over) in
     let b = some_at (net_order d) n (omega (arith, sum, above, passed.1.1)) in
     let number_b = net_number d lowering l list n b.0 b.1 in
-    let loops = list_walks_are_loops d lowering l bounded once lowered list in
-    (n, b.0, sym sum, b.1, record {
-      before = take n (net_order d);
-      after = drop (suc n) (net_order d);
-      stands = split (net_order d) n b.0 b.1;
-      holds = (loops b.0 (there_at (net_order d) n b.0 b.1)).0 (subst (IsOnClosedWalk l) (sym (number_b ∙ sum)) least.on);
-      earlier = λ c has loop.
-          let j = taken (net_order d) n c has in
-          let number_c = net_number d lowering l list j.0 c j.2 in
-          least.least (list.number (NetBit c)) (omega (arith, number_c, j.1, sum)) ((loops c (there_at (net_order d) j.0 c j.2)).1 loop);
-    })
+    let loops = list_walks_are_loops d lowering l bounded once lowered list in (
+      n,
+      b.0,
+      sym sum,
+      b.1,
+      record {
+        before = take n (net_order d);
+        after = drop (suc n) (net_order d);
+        stands = split (net_order d) n b.0 b.1;
+        holds = (loops b.0 (there_at (net_order d) n b.0 b.1)).0 (subst (IsOnClosedWalk l) (sym (number_b ∙ sum)) least.on);
+        earlier = λ c has loop.
+            let j = taken (net_order d) n c has in
+            let number_c = net_number d lowering l list j.0 c j.2 in
+            least.least (list.number (NetBit c)) (omega (arith, number_c, j.1, sum)) ((loops c (there_at (net_order d) j.0 c j.2)).1 loop);
+      },
+    )
   where
     by_less : (m number : ℕ) → (number < k) ⊎ (k ≤ number) → number ≡ l.inputs + 2 + m → IsOnClosedWalk l number → k ≤ l.inputs + 2 + m
     by_less m number (inl h) same on = absurd (least.least _ h on)

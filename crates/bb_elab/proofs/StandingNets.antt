@@ -10,7 +10,7 @@ use Rattle.bb_net.specs.Loose.{LooseList, IsLoose, IsLooseValue}
 use Rattle.bb_net.specs.Netlists.{box_at}
 use Rattle.bb_net.specs.Orders.{renumbered, OrderKeepsValues}
 use Rattle.bb_net.specs.Pairs.{BoxTexts}
-use Rattle.bb_net.specs.Values.{bit_of, value_of}
+use Rattle.bb_net.specs.Values.{bit_of, value_of, ValueGoesByBoxes}
 use Rattle.bb_elab.specs.Flats.{FlatNet}
 use Rattle.bb_elab.specs.Hierarchy.{Design}
 use Rattle.bb_elab.specs.NetBits.{Bit, top_outputs}
@@ -23,7 +23,6 @@ use Rattle.bb_elab.specs.Registers.{RegisterBit, registers}
 use Rattle.bb_elab.specs.Stands.{box_number, box_texts, StandsFor}
 use Rattle.bb_elab.specs.Worlds.{World, Vector, HasVector, IsWorld, FitDesign, bit_in, next_bit, outputs_in}
 use Rattle.bb_elab.proofs.AllowedDesigns.{wired, ends, bits_there, legal, lists_are_loose}
-use Rattle.bb_elab.proofs.BoxValues.{ValuesExist, ValuesAreUnique, value_same}
 use Rattle.bb_elab.proofs.ListedData.{data_value}
 use Rattle.bb_elab.proofs.ListWorlds.{driven_world, has_vector}
 use Rattle.bb_elab.proofs.NextStates.{outputs_same, output_bits_in}
@@ -33,7 +32,7 @@ use Rattle.bb_elab.proofs.WorldBits.{worlds_are_driven}
 use Rattle.bb_elab.proofs.WorldExists.{vectors_have_worlds}
 use Rattle.bb_elab.proofs.WorldLaws.{worlds_agree_where_read}
 
-module _ (values : ValuesHaveWidth) (made : MadeHasValue) (bitwise : ConstructsHoldBitByBit) (keeps : OrderKeepsValues) (exists : ValuesExist) (unique : ValuesAreUnique)
+module _ (values : ValuesHaveWidth) (made : MadeHasValue) (bitwise : ConstructsHoldBitByBit) (keeps : OrderKeepsValues) (by_boxes : ValueGoesByBoxes)
     (d : Design) (f : FlatNet) (allowed : IsAllowed d) (stands : StandsFor d f) (contents : Contents) (x : Vector) (fit : FitDesign d contents) where
   abbrev l : LooseList
   l = stands.cells
@@ -83,15 +82,15 @@ module _ (values : ValuesHaveWidth) (made : MadeHasValue) (bitwise : ConstructsH
   moved [] there = refl
   moved (k ∷ all) there = ap₂ ◌∷◌ (sym (bits_at k (there k (contains_here k all)))) (moved all (λ n has. there n (contains_there k all n has)))
 
-  box_same : (b : ℕ) → b < length f.net.boxes → (p : ℕ) → p < length (box_at f.net.boxes b).outs → (ins : List Bool) → length ins ≡ length (box_at f.net.boxes b).ins → renumbered stands.numbers (given_by_contents d contents) b p ins ≡ given_by_paths f contents b p ins
-  box_same b fits p pin ins long =
+  box_same : (b p : ℕ) → b < length f.net.boxes → (ins : List Bool) → renumbered stands.numbers (given_by_contents d contents) b p ins ≡ given_by_paths f contents b p ins
+  box_same b p fits ins =
       let none : BoxTexts = record { path = []; ins = []; outs = [] } in
       let there : b < length stands.numbers = omega (arith, fits, stands.ordered.box_count, stands.ordered.number_count) in
       let text : get_or f.boxes b none ≡ box_texts d (box_number d (get_or stands.numbers b 0)) = ap (λ all. get_or all b none) stands.boxes ∙ get_or-map (λ b. box_texts d (box_number d b)) stands.numbers b 0 none there in
       ap (λ (t : BoxTexts). output_bit (contents t.path) ins p) (sym text)
 
   net_outs : map (bit_of (value_of f.net (vector_bits d x) (given_by_paths f contents))) f.net.outs ≡ map (bit_in list_world) (top_outputs d) ++ map (next_bit list_world) (registers d)
-  net_outs = ap (λ all. map (bit_of all) f.net.outs) (sym (value_same exists unique f.net stands.netlist (vector_bits d x) (renumbered stands.numbers (given_by_contents d contents)) (given_by_paths f contents) box_same))
+  net_outs = ap (λ all. map (bit_of all) f.net.outs) (sym (by_boxes f.net stands.netlist (vector_bits d x) (renumbered stands.numbers (given_by_contents d contents)) (given_by_paths f contents) (λ b p fits pin. box_same b p fits (map (bit_of net_bits) (box_at f.net.boxes b).ins))))
       ∙ ap (map (bit_of net_bits)) stands.ordered.outs ∙ moved l.outs (λ k has. All-contains (λ place. place < length l.cells) l.outs k loose.outs_there has) ∙ list_outs
 
   list_driven : IsDrivenWorld d contents list_world
@@ -111,10 +110,10 @@ module _ (values : ValuesHaveWidth) (made : MadeHasValue) (bitwise : ConstructsH
       let agree = worlds_agree_where_read read_needs_read d contents x w list_world (bits_there d allowed.bounded) (allowed.sound NoDriver) (allowed.sound Cycle) driven list_driven vector list_vector in
       output_bits_in d w ∙ outputs_same made d w list_world agree ∙ sym net_outs
 
-pub standing_nets_give_outputs : ValuesHaveWidth → MadeHasValue → ConstructsHoldBitByBit → OrderKeepsValues → ValuesExist → ValuesAreUnique → StandingNetsGiveOutputs
-standing_nets_give_outputs values made bitwise keeps exists unique d f allowed stands contents x fit = (
-  some_world values made bitwise keeps exists unique d f allowed stands contents x fit,
-  each_world values made bitwise keeps exists unique d f allowed stands contents x fit,
+pub standing_nets_give_outputs : ValuesHaveWidth → MadeHasValue → ConstructsHoldBitByBit → OrderKeepsValues → ValueGoesByBoxes → StandingNetsGiveOutputs
+standing_nets_give_outputs values made bitwise keeps by_boxes d f allowed stands contents x fit = (
+  some_world values made bitwise keeps by_boxes d f allowed stands contents x fit,
+  each_world values made bitwise keeps by_boxes d f allowed stands contents x fit,
 )
 
 pub standing_nets_agree : StandingNetsGiveOutputs → StandingNetsAgree

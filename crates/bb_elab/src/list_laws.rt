@@ -5,7 +5,7 @@ ghost use Rattle.bb_elab.specs.ListLaws.{ListsAreLoose, ListsGiveWorlds, Standin
 
 use crate::laws::constructs_hold_bit_by_bit;
 use bb_expr::laws::{made_has_value, values_have_width};
-use bb_net::{order_keeps_values, value_exists, value_is_unique};
+use bb_net::{order_keeps_values, value_goes_by_boxes};
 
 /// A sound text without faults has a design of which the laws below speak.
 pub fn sound_texts_are_allowed()
@@ -33,8 +33,7 @@ pub fn standing_nets_give_outputs()
     made_has_value();
     constructs_hold_bit_by_bit();
     order_keeps_values();
-    value_exists();
-    value_is_unique();
+    value_goes_by_boxes();
 }
 
 /// Two netlists that stand for one design have the same bits at their outputs.

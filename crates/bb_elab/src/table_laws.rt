@@ -4,14 +4,13 @@ ghost use Rattle.bb_elab.specs.ContentTables.{TablesGiveValues, ContentsHaveTabl
 
 use crate::list_laws::standing_nets_give_outputs;
 use bb_bits::{rows_are_chosen, rows_are_tables, rows_have_shape};
-use bb_net::{value_exists, value_is_unique};
+use bb_net::value_goes_by_boxes;
 
 /// A netlist has the same value by tables as by the contents whose tables they are.
 pub fn tables_give_values()
     ensures { TablesGiveValues }
 {
-    value_exists();
-    value_is_unique();
+    value_goes_by_boxes();
     rows_are_chosen();
 }
 

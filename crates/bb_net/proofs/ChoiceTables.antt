@@ -15,7 +15,7 @@ use Rattle.bb_bits.specs.RowLaws.{RowsHaveShape, BitsAreChosen, RowsHaveTable}
 use Rattle.bb_net.specs.declared.cell.Cell.{Cell}
 use Rattle.bb_net.specs.declared.cell.Cell.TheVariants.{Const, Input, Not, And, Or, Xor, Mux, BoxOut}
 use Rattle.bb_net.specs.Netlists.{Netlist, Pins, cell_at, box_at, IsNetlist}
-use Rattle.bb_net.specs.Values.{bit_of, gate, flat, flat_with, value_of, free_bit, tabled_bit, table_at, output_pins, FitBoxes}
+use Rattle.bb_net.specs.Values.{bit_of, gate, flat, flat_with, value_of, free_bit, tabled_bit, table_at, output_pins, FitBoxes, ValueGoesByBoxes}
 use Rattle.bb_net.specs.Agreement.{AllRight, TablesAgree}
 use Rattle.bb_net.specs.Conditions.{PinBits, all_outs, all_ins, Suit, Wins, SomeChoicesSuit, NoChoicesSuit, NoTablesAgree, SomeTablesAgree}
 use Rattle.bb_net.proofs.TableLemmas.{box_of_pin}
@@ -41,9 +41,7 @@ gate_box boxes x f g v (Mux a b c) same = refl
 gate_box boxes x f g v (BoxOut b p) same = same b p refl
 
 -- boxes that give the same at the bits of their input pins give the same value
-value_swap : (net : Netlist) → IsNetlist net → (x : List Bool) (f g : ℕ → ℕ → List Bool → Bool)
-    → ((b p : ℕ) → b < length net.boxes → p < length (box_at net.boxes b).outs → f b p (map (bit_of (value_of net x f)) (box_at net.boxes b).ins) ≡ g b p (map (bit_of (value_of net x f)) (box_at net.boxes b).ins))
-    → value_of net x f ≡ value_of net x g
+pub value_swap : ValueGoesByBoxes
 value_swap net kept x f g same =
     let value = value_exists_lem net x f kept.ordered in
     value_is_unique_lem net x g (value_of net x f) kept.ordered (record {

@@ -9,7 +9,7 @@ use Rattle.bb_bits.specs.Tables.{TableBits, HasAllBits, table_bit}
 pub use Rattle.bb_bits.specs.Bits.{xor}
 use Rattle.bb_net.specs.declared.cell.Cell.{Cell}
 use Rattle.bb_net.specs.declared.cell.Cell.TheVariants.{Const, Input, Not, And, Or, Xor, Mux, BoxOut}
-use Rattle.bb_net.specs.Netlists.{Netlist, Pins, cell_at, box_at}
+use Rattle.bb_net.specs.Netlists.{Netlist, Pins, cell_at, box_at, IsNetlist}
 
 -- the bit at a place of a list of bits
 abbrev pub bit_of : List Bool → ℕ → Bool
@@ -74,3 +74,9 @@ pub record FitBoxes (tables : List TableBits) (boxes : List Pins) : Type 0 where
 -- the value of the cells, for boxes that hold tables
 abbrev pub flat_with : Netlist → List Bool → List TableBits → List Bool
 flat_with net x tables = value_of net x (tabled_bit tables)
+
+-- boxes that give the same at the bits of their input pins give the same value
+abbrev pub ValueGoesByBoxes : Type 0
+ValueGoesByBoxes = (net : Netlist) → IsNetlist net → (x : List Bool) (one other : ℕ → ℕ → List Bool → Bool)
+    → ((b p : ℕ) → b < length net.boxes → p < length (box_at net.boxes b).outs → one b p (map (bit_of (value_of net x one)) (box_at net.boxes b).ins) ≡ other b p (map (bit_of (value_of net x one)) (box_at net.boxes b).ins))
+    → value_of net x one ≡ value_of net x other

@@ -29,5 +29,5 @@ pub use ordering::{NetFault, Ordered, order, order_has_no_walk, order_keeps_valu
 pub use pair::{BoxName, OutName, Pair};
 pub use rearranging::rearranged_keeps_values;
 pub use tern::{known_is_value, known_without_boxes, tern_exists, tern_is_unique};
-pub use value::{value_exists, value_is_unique};
+pub use value::{value_exists, value_goes_by_boxes, value_is_unique};
 pub use walks::dependences;

@@ -2,7 +2,7 @@
 
 ghost use Rattle.std.specs.Prelude.{◌≡◌, ◌≢◌, ◌+◌, ◌<◌, ◌≤◌, ℕ, [], length, slice_index, take, Bool, List};
 ghost use Rattle.bb_net.specs.Netlists.{Netlist, IsOrdered, IsPinAt, ReadsBefore, cell_at};
-ghost use Rattle.bb_net.specs.Values.{bit_of, gate, output_pins, value_of, IsValue, flat};
+ghost use Rattle.bb_net.specs.Values.{bit_of, gate, output_pins, value_of, IsValue, flat, ValueGoesByBoxes};
 
 use crate::{BoxPins, Cell, Net};
 
@@ -81,6 +81,11 @@ pub fn value_exists()
 pub fn value_is_unique()
     ensures { (net : Netlist) (x : List Bool) (box : ℕ → ℕ → List Bool → Bool) (bits : List Bool)
         → IsOrdered net → IsValue net x box bits → bits ≡ value_of net x box }
+{}
+
+/// Boxes that give the same at the bits of their input pins give the same value.
+pub fn value_goes_by_boxes()
+    ensures { ValueGoesByBoxes }
 {}
 
 impl Net {
