@@ -1,8 +1,10 @@
 pub mod CheckLemmas
 pub mod ClockLemmas
 pub mod Decisions
+pub mod DesignAgreements
 pub mod Firsts
 pub mod Loops
+pub mod NamedVectors
 pub mod PairExists
 pub mod PairLaws
 pub mod PairLemmas

@@ -25,7 +25,7 @@ use Rattle.bb_match.proofs.PairLemmas.{input_count, inputs_below, same_inputs, m
 pairs_head : {A : Type 0} (R : A → A → Type 0) (x : A) (xs : List A) → AllPairs R (x ∷ xs) → All (R x) xs
 pairs_head R x xs all k d lt = all 0 (suc k) d (omega arith) (omega (arith, lt))
 
-pairs_tail : {A : Type 0} (R : A → A → Type 0) (x : A) (xs : List A) → AllPairs R (x ∷ xs) → AllPairs R xs
+pub pairs_tail : {A : Type 0} (R : A → A → Type 0) (x : A) (xs : List A) → AllPairs R (x ∷ xs) → AllPairs R xs
 pairs_tail R x xs all i j d lt within = all (suc i) (suc j) d (omega (arith, lt)) (omega (arith, within))
 
 apart_both : {A : Type 0} (xs ys : List A) → AllPairs ◌≢◌ xs → AllPairs ◌≢◌ ys → All (λ x. All (λ y. x ≢ y) ys) xs → AllPairs ◌≢◌ (xs ++ ys)

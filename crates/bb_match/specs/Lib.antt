@@ -1,4 +1,5 @@
 pub mod CutPoints
+pub mod DesignAgreement
 pub mod Laws
 pub mod Pairing
 pub mod Places

@@ -1,6 +1,11 @@
 //! Laws of these definitions. Each function has a law as its contract and does nothing.
 
+ghost use Rattle.bb_match.specs.DesignAgreement.{TablesAgreeAsContents, NoTablesNoContents};
 ghost use Rattle.bb_match.specs.Laws.{NotFitAndRefused, FirstRefusalsAreOne, FitOrRefused, PairsAreOne, FittingHavePair};
+
+use bb_elab::list_laws::standing_nets_give_outputs;
+use bb_elab::table_laws::{contents_have_tables, tables_give_outputs, tables_have_contents};
+use bb_net::{rearranged_keeps_values, value_goes_by_boxes};
 
 /// No two netlists fit and are refused.
 pub fn not_fit_and_refused()
@@ -26,3 +31,27 @@ pub fn pairs_are_one()
 pub fn fitting_have_pair()
     ensures { FittingHavePair }
 {}
+
+/// Tables agree in a pair that stands for two sound designs exactly where the contents agree whose tables they are.
+pub fn tables_agree_as_contents()
+    ensures { TablesAgreeAsContents }
+{
+    value_goes_by_boxes();
+    rearranged_keeps_values();
+    standing_nets_give_outputs();
+    tables_give_outputs();
+    contents_have_tables();
+    tables_have_contents();
+}
+
+/// No tables agree in such a pair exactly where no contents do.
+pub fn no_tables_no_contents()
+    ensures { NoTablesNoContents }
+{
+    value_goes_by_boxes();
+    rearranged_keeps_values();
+    standing_nets_give_outputs();
+    tables_give_outputs();
+    contents_have_tables();
+    tables_have_contents();
+}
