@@ -5,6 +5,7 @@ pub mod CalledInstances
 pub mod CalleeLaw
 pub mod CalleeLemmas
 pub mod CauseDecisions
+mod CellSums
 pub mod ContentTables
 pub mod Deciding
 pub mod DependenceWalks
