@@ -5,6 +5,7 @@ pub mod CalleeLaw
 pub mod CalleeLemmas
 pub mod CauseDecisions
 pub mod CellCounts
+mod CellSums
 pub mod ContentTables
 pub mod Deciding
 pub mod DependenceWalks

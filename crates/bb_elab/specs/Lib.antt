@@ -12,6 +12,7 @@ pub mod Contexts
 pub mod Constructs
 pub mod GateFunctions
 pub mod Registers
+pub mod Weights
 pub mod Worlds
 pub mod DrivenWorlds
 pub mod Drivers

@@ -2,6 +2,7 @@
 #![tactic(auto)]
 
 mod callees;
+mod cells;
 mod depth;
 mod elaborating;
 mod fault;

@@ -1,0 +1,19 @@
+use Rattle.std.proofs.Common.{◌≡◌, ℕ, ◌-◌, List, [], ◌∷◌, map, Option, All, sym, ap, ◌∙◌, subst, arith}
+use Rattle.std.specs.Prelude.{◌^◌, sum_by, option_to_list, IfSome}
+use Rattle.std.specs.List.{flat_map}
+use Rattle.bb_ast.specs.Syntax.{Expression, PlainConns}
+use Rattle.bb_ast.specs.Views.{expression, optional_view, named_view, arm_view, gate_view, conns_view, call_view, body_view, item_view}
+use Rattle.bb_expr.specs.Shares.{capped, own_cells}
+use Rattle.bb_expr.specs.Standing.{StandsAt, ranges_at, conns_expressions, item_expressions}
+use Rattle.bb_elab.specs.Weights.{assigned_cells, initial_cells, assignment_cells, inputs_of, inversions, gate_weight, item_cells, IsNarrowNet, AreNarrowNets}
+use Rattle.bb_elab.proofs.CellSums.{share_more, share_all, all_here, all_within, sum_flat}
+use Rattle.bb_elab.proofs.cells.all_cells.Goals as goal
+
+pub own_cells-requires : goal.own_cells-requires
+own_cells-requires c = record { stands = all_here (StandsAt c.args.checked.now c.args.place) expression c.args.all.now c.loop-expr.expr-index c.expr-item.result c.loop-expr-test.true c.expr-item.is c.requires.stands }
+
+pub loop-expr-preserved : goal.loop-expr-preserved
+loop-expr-preserved c = share_more (own_cells (ranges_at c.args.checked.now c.args.place)) expression c.args.all.now c.loop-expr.expr-index (2 ^ 64 - 1) c.expr-item.result c.loop-expr.total c.own_cells.result c.saturating_add-total.result c.loop-expr-test.true c.expr-item.is c.loop-expr.invariant c.own_cells.ensures.cells c.saturating_add-total.ensures
+
+pub returns : goal.returns
+returns c = record { cells = share_all (own_cells (ranges_at c.args.checked.now c.args.place)) expression c.args.all.now c.loop-expr.expr-index (2 ^ 64 - 1) c.loop-expr.total c.loop-expr-test.false c.loop-expr.invariant }

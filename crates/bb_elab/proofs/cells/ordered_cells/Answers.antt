@@ -1,0 +1,19 @@
+use Rattle.std.proofs.Common.{◌≡◌, ℕ, ◌-◌, List, [], ◌∷◌, map, Option, All, sym, ap, ◌∙◌, subst, arith}
+use Rattle.std.specs.Prelude.{◌^◌, sum_by, option_to_list, IfSome}
+use Rattle.std.specs.List.{flat_map}
+use Rattle.bb_ast.specs.Syntax.{Expression, PlainConns}
+use Rattle.bb_ast.specs.Views.{expression, optional_view, named_view, arm_view, gate_view, conns_view, call_view, body_view, item_view}
+use Rattle.bb_expr.specs.Shares.{capped, own_cells}
+use Rattle.bb_expr.specs.Standing.{StandsAt, ranges_at, conns_expressions, item_expressions}
+use Rattle.bb_elab.specs.Weights.{assigned_cells, initial_cells, assignment_cells, inputs_of, inversions, gate_weight, item_cells, IsNarrowNet, AreNarrowNets}
+use Rattle.bb_elab.proofs.CellSums.{share_more, share_all, all_here, all_within, sum_flat}
+use Rattle.bb_elab.proofs.cells.ordered_cells.Goals as goal
+
+pub connected_cells-requires : goal.connected_cells-requires
+connected_cells-requires c = record { stands = all_within (StandsAt c.args.checked.now c.args.place) option_to_list optional_view c.args.all.now c.loop-value.value-index c.value-item.result c.loop-value-test.true c.value-item.is c.requires.stands }
+
+pub loop-value-preserved : goal.loop-value-preserved
+loop-value-preserved c = share_more (λ (x : Option Expression). sum_by (own_cells (ranges_at c.args.checked.now c.args.place)) (option_to_list x)) optional_view c.args.all.now c.loop-value.value-index (2 ^ 64 - 1) c.value-item.result c.loop-value.total c.connected_cells.result c.saturating_add-total.result c.loop-value-test.true c.value-item.is c.loop-value.invariant c.connected_cells.ensures.cells c.saturating_add-total.ensures
+
+pub returns : goal.returns
+returns c = record { cells = share_all (λ (x : Option Expression). sum_by (own_cells (ranges_at c.args.checked.now c.args.place)) (option_to_list x)) optional_view c.args.all.now c.loop-value.value-index (2 ^ 64 - 1) c.loop-value.total c.loop-value-test.false c.loop-value.invariant ∙ ap capped (sym (sum_flat (own_cells (ranges_at c.args.checked.now c.args.place)) option_to_list (map optional_view c.args.all.now))) }
