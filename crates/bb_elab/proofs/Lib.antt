@@ -16,6 +16,7 @@ pub mod GivenDrives
 pub mod InstanceNames
 pub mod KnownNets
 pub mod Levels
+pub mod ListSteps
 pub mod ListFronts
 pub mod ListNumbers
 pub mod ListValues
