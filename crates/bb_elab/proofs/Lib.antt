@@ -37,6 +37,7 @@ pub mod RecursionLoops
 pub mod RecursiveNames
 pub mod RefusalLaws
 pub mod ScopeLaws
+pub mod ScopePlacing
 pub mod SoundBits
 pub mod SoundConstructs
 pub mod SoundModules

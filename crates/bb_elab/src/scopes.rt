@@ -26,29 +26,44 @@ pub(crate) struct Placing {
     pub bits: u32,
 }
 
-// Puts a scope of a module behind the others, and gives its number. The scopes in it are not known yet.
+// A scope of a module, with so many bits before it. The scopes in it are not known yet.
+fn new_scope(
+    alloc: Global,
+    sketch: &Sketch,
+    bits: u32,
+    place: usize,
+    instance: Option<Instance>,
+) -> Placed
+    ensures added { IsAdded sketch.now bits place instance result }
+    ensures inside { result.children.items ≡ [] }
+{
+    let boxed = instance.is_some() && sketch.empty;
+    Placed {
+        module: place,
+        instance,
+        boxed,
+        first: bits,
+        children: Vec::new(alloc),
+    }
+}
+
+// Puts a scope of a module behind the others, and gives its number.
 fn add_scope(
     alloc: Global,
     sketch: &Sketch,
     placing: &mut Placing,
-    module: usize,
+    place: usize,
     instance: Option<Instance>,
 ) -> Result<u32, NoMemory>
     requires few { length placing.old.scopes.items < 2 ^ 32 }
     requires fit { placing.old.bits + sketch.now.bits < 2 ^ 32 }
     ensures number { IfOk result (λ number. number ≡ length placing.old.scopes.items) }
     ensures bits { OnOk result (placing.new.bits ≡ placing.old.bits + sketch.now.bits) }
-    ensures scopes { OnOk result ((p : Placed) × (placing.new.scopes.items ≡ placing.old.scopes.items ++ p ∷ []) × IsAdded sketch.now placing.old.bits module instance p) }
+    ensures scopes { OnOk result ((p : Placed) × (placing.new.scopes.items ≡ placing.old.scopes.items ++ p ∷ []) × IsAdded sketch.now placing.old.bits place instance p) }
 {
     let number = placing.scopes.len() as u32;
-    let boxed = instance.is_some() && sketch.empty;
-    placing.scopes.push(Placed {
-        module,
-        instance,
-        boxed,
-        first: placing.bits,
-        children: Vec::new(alloc),
-    })?;
+    let scope = new_scope(alloc, sketch, placing.bits, place, instance);
+    placing.scopes.push(scope)?;
     placing.bits += sketch.bits as u32;
     Ok(number)
 }
@@ -68,20 +83,33 @@ fn place_scope(
     called: &[Vec<usize>],
     sketches: &[Sketch],
     placing: &mut Placing,
-    module: usize,
+    place: usize,
     instance: Option<Instance>,
     levels: u8,
 ) -> Result<u32, NoMemory>
-    requires next { (d : Design) × (s : Scope) × (rest : List Scope) × IsNext d (map (λ list. list.items) called.now) sketches.now placing.old module instance levels s rest }
-    ensures placed { IfOk result (λ number. (d : Design) (s : Scope) (rest : List Scope) → IsNext d (map (λ list. list.items) called.now) sketches.now placing.old module instance levels s rest
+    requires next { (d : Design) × (s : Scope) × (rest : List Scope) × IsNext d (map (λ list. list.items) called.now) sketches.now placing.old place instance levels s rest }
+    ensures placed { IfOk result (λ number. (d : Design) (s : Scope) (rest : List Scope) → IsNext d (map (λ list. list.items) called.now) sketches.now placing.old place instance levels s rest
         → IsPlacedNext d placing.old placing.new number rest) }
 {
-    let number = add_scope(alloc, &sketches[module], placing, module, instance)?;
-    let mut children = Vec::with_capacity(alloc, called[module].len())?;
-    for k in 0..called[module].len() {
-        let name = sketches[module].names[k].clone()?;
-        let inside = Some(Instance { scope: number, name });
-        children.push(place_scope(alloc, called, sketches, placing, called[module][k], inside, levels - 1)?)?;
+    let sketch = &sketches[place];
+    let targets = &called[place];
+    let number = add_scope(alloc, sketch, placing, place, instance)?;
+    let mut children = Vec::with_capacity(alloc, targets.len())?;
+    for k in 0..targets.len() {
+        let inside = Instance {
+            scope: number,
+            name: sketch.names[k].clone()?,
+        };
+        let child = place_scope(
+            alloc,
+            called,
+            sketches,
+            placing,
+            targets[k],
+            Some(inside),
+            levels - 1,
+        )?;
+        children.push(child)?;
     }
     set_children(&mut placing.scopes, number as usize, children);
     Ok(number)

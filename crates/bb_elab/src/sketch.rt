@@ -71,7 +71,11 @@ fn sketch_of(alloc: Global, of: &CheckedModule) -> Result<Sketch, NoMemory>
     ensures sketch { IfOk result (IsSketch (syntax (module_facts of.now))) }
 {
     let names = names_in(alloc, &of.module.items)?;
-    Ok(Sketch { names, bits: bits_of(&of.nets), empty: of.empty })
+    Ok(Sketch {
+        names,
+        bits: bits_of(&of.nets),
+        empty: of.empty,
+    })
 }
 
 /// The same for each module.
