@@ -381,3 +381,29 @@ module _ (d : Design) (lists : List (Vec ℕ Global)) (sketches : List Sketch) (
 
   pub named_there : (sketch : Sketch) → IsSketch s.source sketch → (k : ℕ) → k < length list.items → k < length sketch.names.items
   named_there sketch sketched k lt = omega (arith, lt, as_many, ap length sketched.names, length-map (instances_of s.source) (λ (j : Instance). j.name))
+
+-- the top and all below it
+
+pub top_next : (text : List PlainModule) (called : List (List ℕ)) (sketches : List Sketch) (top : ℕ) (t : PlainModule) (placing : Placing) → slice_get text top ≡ Some t → MayBePlaced (design_on text t) → AreSketched text called sketches
+    → placing.scopes.items ≡ [] → placing.bits ≡ 0 → IsNext (design_on text t) called sketches placing top None 64 (root (design_on text t)) []
+top_next text called sketches top t placing at may sketched empty bits = record {
+  may = may;
+  sketched = sketched;
+  behind = ap (λ l. drop (length l) (scopes (design_on text t))) empty ∙ sym (append-nil (scopes (design_on text t)));
+  bits = bits ∙ sym (ap (λ l. bits_before (design_on text t) (length l)) empty);
+  source = at;
+  is = (ap length empty, refl);
+  long = omega arith;
+}
+
+pub all_placed : (d : Design) (old new : Placing) (number : ℕ) → old.scopes.items ≡ [] → IsPlacedNext d old new number [] → ArePlaced d new.scopes.items
+all_placed d old new number empty done = record {
+  count = at_end (scopes d) (length new.scopes.items) done.within done.behind;
+  each = λ k s p scope at. done.each k s p (omega (arith, ap length empty)) scope at;
+}
+  where
+    at_end : {A : Type 0} (xs : List A) (k : ℕ) → k ≤ length xs → drop k xs ≡ [] → k ≡ length xs
+    at_end [] zero le e = refl
+    at_end [] (suc k) le e = absurd (omega (arith, le))
+    at_end (x ∷ xs) zero le e = cc
+    at_end (x ∷ xs) (suc k) le e = ap suc (at_end xs k (omega (arith, le)) e)

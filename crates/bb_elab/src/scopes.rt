@@ -69,11 +69,12 @@ fn add_scope(
 }
 
 // Sets the numbers of the scopes that stand in a scope.
-fn set_children(scopes: &mut [Placed], number: usize, children: Vec<u32>)
-    requires there { number < length scopes.old }
-    ensures set { (p : Placed) → slice_get scopes.old number ≡ Some p → scopes.new ≡ slice_set scopes.old number (with_children children p) }
+fn set_children(placing: &mut Placing, number: usize, children: Vec<u32>)
+    requires there { number < length placing.old.scopes.items }
+    ensures set { (p : Placed) → slice_get placing.old.scopes.items number ≡ Some p → placing.new.scopes.items ≡ slice_set placing.old.scopes.items number (with_children children p) }
+    ensures bits { placing.new.bits ≡ placing.old.bits }
 {
-    scopes[number].children = children;
+    placing.scopes[number].children = children;
 }
 
 // Places the scope of a module and all scopes below it, and gives its number. Recursion goes as deep as instances stand below
@@ -111,7 +112,7 @@ fn place_scope(
         )?;
         children.push(child)?;
     }
-    set_children(&mut placing.scopes, number as usize, children);
+    set_children(placing, number as usize, children);
     Ok(number)
 }
 
