@@ -45,6 +45,7 @@ pub mod SoundNames
 pub mod SoundRefusals
 pub mod SoundSpots
 pub mod StandingNets
+pub mod Tallies
 pub mod TermNets
 pub mod TextLaws
 pub mod TopLaws
