@@ -18,6 +18,7 @@ pub mod GivenDrives
 pub mod InstanceNames
 pub mod KnownNets
 pub mod Levels
+pub mod ListSteps
 pub mod ListFronts
 pub mod ListedEntries
 pub mod LoopPlaces
@@ -41,6 +42,7 @@ pub mod RecursionLoops
 pub mod RecursiveNames
 pub mod RefusalLaws
 pub mod ScopeLaws
+pub mod ScopePlacing
 pub mod SoundBits
 pub mod SoundConstructs
 pub mod SoundModules
@@ -48,6 +50,7 @@ pub mod SoundNames
 pub mod SoundRefusals
 pub mod SoundSpots
 pub mod StandingNets
+pub mod Tallies
 pub mod TermNets
 pub mod TextLaws
 pub mod TopLaws

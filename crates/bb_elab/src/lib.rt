@@ -4,6 +4,7 @@
 mod callees;
 mod cells;
 mod depth;
+mod drivers;
 mod elaborating;
 mod fault;
 mod flat;
@@ -13,6 +14,8 @@ pub mod loop_laws;
 mod outline;
 mod placed;
 mod recursion;
+mod scopes;
+mod sketch;
 mod stored;
 pub mod table_laws;
 mod top;

@@ -1,0 +1,89 @@
+//! How often each bit of a design is driven.
+//!
+//! One pass over all constructs counts at the number of each bit that is driven there. More than two drivers are told as two.
+
+ghost use Rattle.std.specs.Prelude.{◌≡◌, ◌+◌, ◌<◌, ◌++◌, ◌∷◌, [], ℕ, List, All, length, IfOk};
+ghost use Rattle.std.specs.List.{flat_map};
+ghost use Rattle.bb_elab.specs.DrivenNumbers.{numbers_from, part_numbers, scope_numbers, driven_numbers, IsInside, MayBeCounted, IsTally};
+ghost use Rattle.bb_elab.specs.Hierarchy.{Design};
+ghost use Rattle.bb_elab.specs.ListLaws.{IsBounded};
+ghost use Rattle.bb_elab.specs.NetBits.{net_order};
+ghost use Rattle.bb_elab.specs.Placements.{ArePlaced, AreOutlined, AreCounts};
+
+use crate::outline::{Outline, Part};
+use crate::placed::Placed;
+use bb_bits::NoMemory;
+use std::alloc::Global;
+
+// One driver more of a bit.
+fn count(counts: &mut [u8], bit: usize)
+    requires there { bit < length counts.old }
+    ensures tally { (numbers : List ℕ) → IsTally numbers counts.old → IsTally (numbers ++ bit ∷ []) counts.new }
+{
+    if counts[bit] < 2 {
+        counts[bit] += 1;
+    }
+}
+
+// One driver more of each of these bits of the scope whose first bit has that number.
+fn count_bits(counts: &mut [u8], first: u32, bits: &[u32])
+    requires there { All (λ k. k < length counts.old) (numbers_from first bits.now) }
+    ensures tally { (numbers : List ℕ) → IsTally numbers counts.old → IsTally (numbers ++ numbers_from first bits.now) counts.new }
+{
+    for bit in bits {
+        count(counts, first as usize + *bit as usize);
+    }
+}
+
+// The bits that a construct of a scope drives.
+fn count_part(counts: &mut [u8], placed: &[Placed], scope: &Placed, part: &Part)
+    requires inside { IsInside placed.now scope.now part.now }
+    requires there { All (λ k. k < length counts.old) (part_numbers placed.now scope.now part.now) }
+    ensures tally { (numbers : List ℕ) → IsTally numbers counts.old → IsTally (numbers ++ part_numbers placed.now scope.now part.now) counts.new }
+{
+    match part {
+        Part::Assignment { left, .. } => count_bits(counts, scope.first, left),
+        Part::Gate { outs, .. } => count_bits(counts, scope.first, outs),
+        Part::Register { left, .. } => count_bits(counts, scope.first, left),
+        Part::Supply { bits, .. } => count_bits(counts, scope.first, bits),
+        Part::Input { instance, pin, .. } => {
+            let child = scope.children[*instance as usize];
+            count_bits(counts, placed[child as usize].first, pin)
+        }
+        Part::Output { left, .. } => count_bits(counts, scope.first, left),
+    }
+}
+
+// The bits that constructs of a scope drive.
+fn count_parts(counts: &mut [u8], placed: &[Placed], scope: &Placed, parts: &[Part])
+    requires inside { All (IsInside placed.now scope.now) parts.now }
+    requires there { All (λ k. k < length counts.old) (flat_map (part_numbers placed.now scope.now) parts.now) }
+    ensures tally { (numbers : List ℕ) → IsTally numbers counts.old → IsTally (numbers ++ flat_map (part_numbers placed.now scope.now) parts.now) counts.new }
+{
+    for part in parts {
+        count_part(counts, placed, scope, part);
+    }
+}
+
+// The bits that a scope drives: the outputs of a box, or what its constructs drive.
+fn count_scope(counts: &mut [u8], placed: &[Placed], outlines: &[Outline], scope: &Placed)
+    requires counted { MayBeCounted placed.now outlines.now (length counts.old) scope.now }
+    ensures tally { (numbers : List ℕ) → IsTally numbers counts.old → IsTally (numbers ++ scope_numbers placed.now outlines.now scope.now) counts.new }
+{
+    let outline = &outlines[scope.module];
+    if scope.boxed {
+        count_bits(counts, scope.first, &outline.outputs);
+    } else {
+        count_parts(counts, placed, scope, &outline.parts);
+    }
+}
+
+// The bits that all scopes drive.
+fn count_scopes(counts: &mut [u8], placed: &[Placed], outlines: &[Outline])
+    requires counted { All (MayBeCounted placed.now outlines.now (length counts.old)) placed.now }
+    ensures tally { (numbers : List ℕ) → IsTally numbers counts.old → IsTally (numbers ++ flat_map (scope_numbers placed.now outlines.now) placed.now) counts.new }
+{
+    for scope in placed {
+        count_scope(counts, placed, outlines, scope);
+    }
+}
