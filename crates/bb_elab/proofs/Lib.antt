@@ -27,6 +27,7 @@ pub mod ListedSources
 pub mod LooseLists
 pub mod ModuleCells
 pub mod NamedTops
+pub mod NetNumbers
 pub mod NextStates
 pub mod Operators
 pub mod PartBits

@@ -9,6 +9,7 @@ mod flat;
 pub mod laws;
 pub mod list_laws;
 pub mod loop_laws;
+mod net_starts;
 mod outline;
 mod placed;
 mod recursion;
