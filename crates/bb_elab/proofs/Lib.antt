@@ -15,6 +15,7 @@ pub mod Firsts
 pub mod GivenDrives
 pub mod InstanceNames
 pub mod KnownNets
+pub mod LeftBits
 pub mod Levels
 pub mod ListFronts
 pub mod ListNumbers
@@ -48,6 +49,7 @@ pub mod TermNets
 pub mod TextLaws
 pub mod TopLaws
 pub mod TopLemmas
+pub mod Turns
 pub mod WalkLemmas
 pub mod WalkLoops
 pub mod WalksByPlaces

@@ -7,6 +7,7 @@ mod elaborating;
 mod fault;
 mod flat;
 pub mod laws;
+mod left_bits;
 pub mod list_laws;
 pub mod loop_laws;
 mod net_starts;

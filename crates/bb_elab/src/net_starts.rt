@@ -70,7 +70,6 @@ pub(crate) fn starts_of(alloc: Global, nets: &[NetInfo]) -> Result<Vec<u32>, NoM
 // Whether a net is a port of that side.
 fn is_port_of(net: &NetInfo, input: bool) -> bool
     ensures port { result ≡ is_port_of input net.now }
-    ensures side { result ≡ is_port_of input net.now }
 {
     match net.port {
         Some(Dir::Input) => input,
@@ -90,7 +89,6 @@ pub(crate) fn port_bits(
     requires long { length starts.now ≡ length nets.now }
     ensures bits { IfOk result (λ numbers. (path : Path) →
         AreAt (flat_map (bits_of_net path) nets.now) numbers.items (flat_map (bits_of_net path) (filter (is_port_of input) nets.now))) }
-    ensures few { IfOk result (λ numbers. length numbers.items ≤ length numbers.items) }
 {
     let mut bits = Vec::new(alloc);
     for k in 0..nets.len() {

@@ -7,6 +7,6 @@ pub loop-turn-preserved : goal.loop-turn-preserved
 loop-turn-preserved c =
     let more = c.in_ok-push.ensures.items in (
       more ∙ ap (λ l. l ++ (c.args.from + c.loop-turn.turn) ∷ []) c.loop-turn.invariant.0 ∙ append_assoc c.args.numbers.now.items (range_with_len c.args.from c.loop-turn.turn) ((c.args.from + c.loop-turn.turn) ∷ [])
-      ∙ ap (λ l. c.args.numbers.now.items ++ l) (sym (run-more c.args.from c.loop-turn.turn)),
+          ∙ ap (λ l. c.args.numbers.now.items ++ l) (sym (run-more c.args.from c.loop-turn.turn)),
       ap length more ∙ omega (arith, length-append c.loop-turn.numbers.items ((c.args.from + c.loop-turn.turn) ∷ []), c.loop-turn.invariant.1),
     )

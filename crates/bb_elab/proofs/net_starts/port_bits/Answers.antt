@@ -31,6 +31,8 @@ loop-k-preserved c = λ path. elim c.if-is_port_of.branch [
       (subst (λ b. AreAt (flat_map (bits_of_net path) c.args.nets.now) b.items (flat_map (bits_of_net path) (filter (is_port_of c.args.input) (take c.loop-k.k c.args.nets.now)))) (sym w.bits-is) (c.loop-k.invariant path))
 ]
 
-pub returns-clause-bits : goal.returns-clause-bits
-returns-clause-bits c = λ path. subst (λ l. AreAt (flat_map (bits_of_net path) c.args.nets.now) c.loop-k.bits.items (flat_map (bits_of_net path) (filter (is_port_of c.args.input) l)))
-    (take_all c.loop-k.k c.args.nets.now c.loop-k-test.false) (c.loop-k.invariant path)
+pub returns : goal.returns
+returns c = record {
+  bits = λ path. subst (λ l. AreAt (flat_map (bits_of_net path) c.args.nets.now) c.loop-k.bits.items (flat_map (bits_of_net path) (filter (is_port_of c.args.input) l)))
+      (take_all c.loop-k.k c.args.nets.now c.loop-k-test.false) (c.loop-k.invariant path);
+}
