@@ -27,6 +27,7 @@ pub mod ListedPlaces
 pub mod ListedSources
 pub mod LooseLists
 pub mod ModuleCells
+pub mod ModulePlaces
 pub mod NamedTops
 pub mod NetNumbers
 pub mod NextStates

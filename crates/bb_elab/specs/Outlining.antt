@@ -12,11 +12,12 @@ use Rattle.bb_expr.specs.Nets.{nets_of}
 use Rattle.bb_expr.specs.Ranges.{range_width}
 use Rattle.bb_expr.specs.Spots.{module_named}
 use Rattle.bb_expr.specs.Standing.{StandsAt}
+use Rattle.bb_elab.specs.declared.outline.Part.{Part}
 use Rattle.bb_elab.specs.declared.placed.Placed.{Placed}
 use Rattle.bb_elab.specs.Constructs.{Construct, Assignment, GateInstance, Register, SupplyNet, InputConnection, OutputConnection, BoxContents, body_constructs}
 use Rattle.bb_elab.specs.Hierarchy.{Scope, Instance, instances_of}
-use Rattle.bb_elab.specs.NetBits.{Bit}
-use Rattle.bb_elab.specs.Outlines.{IsOutline, net_start}
+use Rattle.bb_elab.specs.NetBits.{written_bits}
+use Rattle.bb_elab.specs.Outlines.{IsOutline, IsPartOf, net_start}
 use Rattle.bb_elab.specs.Reading.{cells_at}
 
 -- the module at a place of a checked text
@@ -45,15 +46,20 @@ abbrev pub is_port_of : Bool → NetInfo → Bool
 is_port_of true net = list_any is_input (option_to_list net.port)
 is_port_of false net = list_any (λ dir. not (is_input dir)) (option_to_list net.port)
 
--- a left side of the module at a place
+-- what stands in the module at a place can be looked up there
 abbrev pub FitsAt : List ModuleFacts → ℕ → Expression → Type 0
 FitsAt checked k e = IsSomeAnd (slice_get checked k) (λ m. AreFit m e)
+
+-- a clock is one bit
+pub record IsClockAt (checked : List ModuleFacts) (k : ℕ) (e : Expression) : Type 0 where
+  pub fits : FitsAt checked k e
+  pub one : length (written_bits (scope_of (module_in checked k)) e) ≡ 1
 
 -- what is written and what is read in a construct can be looked up
 abbrev pub Fits : List ModuleFacts → ℕ → Construct → Type 0
 Fits checked k (Assignment left right) = FitsAt checked k left × StandsAt checked k right
 Fits checked k (GateInstance gate outs ins) = All (FitsAt checked k) outs × All (StandsAt checked k) ins
-Fits checked k (Register r) = FitsAt checked k r.left × StandsAt checked k r.right × FitsAt checked k r.clock
+Fits checked k (Register r) = StandsAt checked k r.left × StandsAt checked k r.right × IsClockAt checked k r.clock
 Fits checked k (SupplyNet high n) = FitsAt checked k (Net n)
 Fits checked k (InputConnection i pin e) = StandsAt checked k e
 Fits checked k (OutputConnection i pin e) = FitsAt checked k e
@@ -63,6 +69,10 @@ Fits checked k BoxContents = Unit {0}
 pub record IsMakeable (checked : List ModuleFacts) (k : ℕ) (c : Construct) : Type 0 where
   pub fits : Fits checked k c
   pub few : length (cells_at (scope_of (module_in checked k), c)) ≤ 2000000
+
+-- a part stands for a construct of the module at a place
+abbrev pub IsPartAt : List ModuleFacts → ℕ → Part → Construct → Type 0
+IsPartAt checked k = IsPartOf (map syntax checked) (module_in checked k)
 
 -- the module has few bits, and its constructs make few cells
 pub record IsModest (text : List PlainModule) (m : PlainModule) : Type 0 where

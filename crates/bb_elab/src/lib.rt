@@ -4,6 +4,7 @@
 mod callees;
 mod depth;
 mod elaborating;
+mod expression_steps;
 mod fault;
 mod flat;
 pub mod laws;
