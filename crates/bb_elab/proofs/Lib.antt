@@ -13,10 +13,12 @@ pub mod DepthHeights
 pub mod DepthWalks
 pub mod Enumerated
 pub mod Firsts
+pub mod FirstLoops
 pub mod FlatInvariants
 pub mod GivenDrives
 pub mod InstanceNames
 pub mod KnownNets
+pub mod LeftBits
 pub mod Levels
 pub mod ListSteps
 pub mod ListFronts
@@ -32,7 +34,9 @@ pub mod ListedPlaces
 pub mod ListedSources
 pub mod LooseLists
 pub mod ModuleCells
+pub mod ModulePlaces
 pub mod NamedTops
+pub mod NetNumbers
 pub mod NextStates
 pub mod Operators
 pub mod PartBits
@@ -55,6 +59,7 @@ pub mod TermNets
 pub mod TextLaws
 pub mod TopLaws
 pub mod TopLemmas
+pub mod Turns
 pub mod WalkLemmas
 pub mod WalkLoops
 pub mod WalksByPlaces

@@ -1,122 +1,118 @@
--- In the list of cells the bits of nets stand behind the constants and the inputs, in net order.
-use Rattle.std.proofs.Common.{◌≡◌, ◌⊎◌, ℕ, suc, ◌+◌, ◌-◌, ◌<◌, ◌≤◌, true, false, List, [], ◌∷◌, ◌++◌, map, take, drop, length, get_or, slice_get, Contains, Some, refl, sym, ap, ◌∙◌, subst, inl, inr, arith, length-append}
-use Rattle.std.specs.List.{range_with_len}
-use Rattle.std.proofs.lemmas.List.{length-map, get_or-append-add, get_or_append_left}
-use Rattle.std.proofs.lemmas.List.Elements.{Contains-get_or, Contains-append_left}
-use Rattle.std.proofs.lemmas.List.FromFn.{get_or-range_with_len}
-use Rattle.std.proofs.lemmas.Option.{slice_get-get_or}
-use Rattle.bb_net.specs.declared.loose.LooseCell.TheVariants as cell
-use Rattle.bb_net.specs.Loose.{LooseList, loose_at, operands, IsOnClosedWalk, IsLeastOnClosedWalk}
-use Rattle.bb_elab.specs.Closures.{IsFirst}
-use Rattle.bb_elab.specs.Dependence.{IsOnLoop}
-use Rattle.bb_elab.specs.Hierarchy.{Design}
-use Rattle.bb_elab.specs.LoopLaws.{LeastWalksAreFirstLoops}
-use Rattle.bb_elab.specs.NetBits.{Bit, net_order}
-use Rattle.bb_elab.specs.Places.{Constant, Input, NetBit, Lowering, IsLowering, given, place_in, operator_places, IsListOf}
-use Rattle.bb_elab.specs.Registers.{cut_bits}
-use Rattle.bb_elab.proofs.AllowedDesigns.{wired}
-use Rattle.bb_elab.proofs.CalleeLaw.{got, got-map}
-use Rattle.bb_elab.proofs.CalledInstances.{there_at}
-use Rattle.bb_elab.proofs.CauseDecisions.{from_map, less_or_not}
-use Rattle.bb_elab.proofs.ListedEntries.{Entry}
-use Rattle.bb_elab.proofs.ListedPlaces.{listed_cell, net_listed}
-use Rattle.bb_elab.proofs.LoopPlaces.{closed_walk_passes}
-use Rattle.bb_elab.proofs.RecursiveNames.{some_at, split, taken}
-use Rattle.bb_elab.proofs.TopLaws.{contains_cases, none_in_nil}
-use Rattle.bb_elab.proofs.WalkLoops.{list_walks_are_loops}
-use Rattle.bb_elab.proofs.WrittenValue.{length-range}
+-- The bits of a scope by numbers: those of a net stand side by side behind those of the nets before it.
+use Rattle.std.proofs.Common.{◌≡◌, ◌⊎◌, ℕ, zero, suc, ◌+◌, ◌<◌, ◌≤◌, Bool, true, false, cond, List, [], ◌∷◌, ◌++◌, map, length, take, get_or, Option, Some, refl, sym, ap, ◌∙◌, subst, inl, inr, arith, length-append, append-nil}
+use Rattle.std.specs.Prelude.{slice_get, sum_by, filter}
+use Rattle.std.specs.List.{flat_map, range_with_len, slice_index_or}
+use Rattle.std.proofs.lemmas.Grind.{flat_map-append}
+use Rattle.std.proofs.lemmas.List.{map-append}
+use Rattle.std.proofs.lemmas.List.Elements.{filter_more}
+use Rattle.std.proofs.lemmas.List.FromFn.{length-map-range_with_len}
+use Rattle.std.proofs.lemmas.List.Sums.{sum_by_more_le, sum_by-cons}
+use Rattle.std.proofs.lemmas.Option.{slice_get_within, slice_get_read, get_or_from_slice_get}
+use Rattle.bb_expr.specs.declared.net.NetInfo.{NetInfo}
+use Rattle.bb_expr.specs.Ranges.{range_width}
+use Rattle.bb_elab.specs.Hierarchy.{Path}
+use Rattle.bb_elab.specs.NetBits.{Bit, bits_from, bits_of_net}
+use Rattle.bb_elab.specs.Outlines.{AreAt, net_start}
+use Rattle.bb_elab.specs.Outlining.{AreStarts, bit_count}
+use Rattle.bb_elab.proofs.Firsts.{less_or_same}
 
-module _ (d : Design) (lowering : Lowering) (l : LooseList) (list : IsListOf d lowering l) where
-  abbrev number_of : Entry → ℕ
-  number_of x = list.number x.0
+pub got_left : {A : Type 0} (xs ys : List A) (k : ℕ) (x : A) → slice_get xs k ≡ Some x → slice_get (xs ++ ys) k ≡ Some x
+got_left [] ys k x e = absurd (grind (arith, e))
+got_left (z ∷ xs) ys zero x e = e
+got_left (z ∷ xs) ys (suc k) x e = got_left xs ys k x e
 
-  abbrev first : List Entry
-  first = (Constant false, cell.Const false) ∷ (Constant true, cell.Const true) ∷ map (λ i. (Input i, cell.Input i)) (range_with_len 0 (length (cut_bits d)))
-
-  abbrev net_entry : Bit → Entry
-  net_entry b = (NetBit b, cell.Copy (list.number (place_in (given d lowering) b)))
-
-  abbrev nets : List Entry
-  nets = map net_entry (net_order d)
-
-  first_length : length first ≡ l.inputs + 2
-  first_length = omega (arith, length-map {B = Entry} (range_with_len 0 (length (cut_bits d))) (λ i. (Input i, cell.Input i)), length-range 0 (length (cut_bits d)), list.inputs)
-
-  -- what stands at a place of the front has its number
-  front_number : (k : ℕ) (x : Entry) → slice_get (first ++ nets) k ≡ Some x → number_of x ≡ k
-  front_number k x at =
-      let g = got (map number_of (first ++ nets)) k (number_of x) 0 (got-map number_of (first ++ nets) k x at) in
-      let fits : k < length (first ++ nets) = omega (arith, g.0, length-map (first ++ nets) number_of) in
-      sym g.1 ∙ ap (λ r. get_or r k 0) list.front ∙ get_or-range_with_len 0 (length (first ++ nets)) k 0 fits ∙ omega arith
-
-  net_at : (n : ℕ) (b : Bit) → slice_get (net_order d) n ≡ Some b → slice_get (first ++ nets) (length first + n) ≡ Some (net_entry b)
-  net_at n b at =
-      let none : Entry = (Constant false, cell.Const false) in
-      let g = got nets n (net_entry b) none (got-map net_entry (net_order d) n b at) in
-      slice_get-get_or (first ++ nets) (length first + n) none (omega (arith, g.0, length-append first nets)) ∙ ap Some (get_or-append-add first nets n none ∙ g.1)
-
-  -- the bit with a number has its place behind the constants and the inputs
-  pub net_number : (n : ℕ) (b : Bit) → slice_get (net_order d) n ≡ Some b → list.number (NetBit b) ≡ l.inputs + 2 + n
-  net_number n b at = front_number (length first + n) (net_entry b) (net_at n b at) ∙ ap (λ m. m + n) first_length
-
-  quiet : (x : Entry) → Contains first x → operands l.boxes x.1 ≡ []
-  quiet x has = zero_one (contains_cases (Constant false, cell.Const false) ((Constant true, cell.Const true) ∷ map (λ i. (Input i, cell.Input i)) (range_with_len 0 (length (cut_bits d)))) x has)
-    where
-      input : Contains (map (λ i. (Input i, cell.Input i)) (range_with_len 0 (length (cut_bits d)))) x → operands l.boxes x.1 ≡ []
-      input h = let i = from_map {B = Entry} (λ i. (Input i, cell.Input i)) (range_with_len 0 (length (cut_bits d))) x h in subst (λ (y : Entry). operands l.boxes y.1 ≡ []) i.2 refl
-
-      one : ((Constant true, cell.Const true) ≡ x) ⊎ Contains (map (λ i. (Input i, cell.Input i)) (range_with_len 0 (length (cut_bits d)))) x → operands l.boxes x.1 ≡ []
-      one (inl e) = subst (λ (y : Entry). operands l.boxes y.1 ≡ []) e refl
-      one (inr h) = input h
-
-      zero_one : ((Constant false, cell.Const false) ≡ x) ⊎ Contains ((Constant true, cell.Const true) ∷ map (λ i. (Input i, cell.Input i)) (range_with_len 0 (length (cut_bits d)))) x → operands l.boxes x.1 ≡ []
-      zero_one (inl e) = subst (λ (y : Entry). operands l.boxes y.1 ≡ []) e refl
-      zero_one (inr h) = one (contains_cases (Constant true, cell.Const true) (map (λ i. (Input i, cell.Input i)) (range_with_len 0 (length (cut_bits d)))) x h)
-
-  -- the constants and the inputs are on no closed walk
-  pub first_are_quiet : (k : ℕ) → k < l.inputs + 2 → IsOnClosedWalk l k → ⊥
-  first_are_quiet k low (fits, n, (to, has, rest)) =
-      let none : Entry = (Constant false, cell.Const false) in
-      let inside : k < length first = omega (arith, low, first_length) in
-      let x = get_or first k none in
-      let there : Contains first x = Contains-get_or first k none inside in
-      let at : slice_get (first ++ nets) k ≡ Some x = slice_get-get_or (first ++ nets) k none (omega (arith, inside, length-append first nets)) ∙ ap Some (get_or_append_left first nets none k inside) in
-      let is = ap (loose_at l) (sym (front_number k x at)) ∙ listed_cell d lowering l list x.0 x.1 (Contains-append_left (first ++ nets) (operator_places d lowering list.number) x (Contains-append_left first nets x there)) in
-      none_in_nil to (subst (λ os. Contains os to) (ap (operands l.boxes) is ∙ quiet x there) has)
-
-pub least_walks_are_first_loops : LeastWalksAreFirstLoops
-least_walks_are_first_loops d lowering l bounded once lowered list k least =
-    let passed = closed_walk_passes d lowering l list lowered (wired d bounded) k least.on in
-    let m = passed.1.0 in
-    let at_m : slice_get (net_order d) m ≡ Some passed.0 = slice_get-get_or (net_order d) m passed.0 passed.1.1 ∙ ap Some passed.1.2 in
-    let number_m = net_number d lowering l list m passed.0 at_m in
-    let above : k ≤ l.inputs + 2 + m = by_less m (list.number (NetBit passed.0)) (less_or_not (list.number (NetBit passed.0)) k) number_m passed.2 in
-    let over : l.inputs + 2 ≤ k = over_first (less_or_not k (l.inputs + 2)) in
-    let n = k - (l.inputs + 2) in
-    let sum : l.inputs + 2 + n ≡ k = omega (arith, over) in
-    let b = some_at (net_order d) n (omega (arith, sum, above, passed.1.1)) in
-    let number_b = net_number d lowering l list n b.0 b.1 in
-    let loops = list_walks_are_loops d lowering l bounded once lowered list in (
-      n,
-      b.0,
-      sym sum,
-      b.1,
-      record {
-        before = take n (net_order d);
-        after = drop (suc n) (net_order d);
-        stands = split (net_order d) n b.0 b.1;
-        holds = (loops b.0 (there_at (net_order d) n b.0 b.1)).0 (subst (IsOnClosedWalk l) (sym (number_b ∙ sum)) least.on);
-        earlier = λ c has loop.
-            let j = taken (net_order d) n c has in
-            let number_c = net_number d lowering l list j.0 c j.2 in
-            least.least (list.number (NetBit c)) (omega (arith, number_c, j.1, sum)) ((loops c (there_at (net_order d) j.0 c j.2)).1 loop);
-      },
-    )
+pub got_right : {A : Type 0} (xs ys : List A) (k : ℕ) → slice_get (xs ++ ys) (length xs + k) ≡ slice_get ys k
+got_right [] ys k = ap (slice_get ys) (omega arith)
+got_right (z ∷ xs) ys k = ap (slice_get (z ∷ (xs ++ ys))) (next (length xs)) ∙ got_right xs ys k
   where
-    by_less : (m number : ℕ) → (number < k) ⊎ (k ≤ number) → number ≡ l.inputs + 2 + m → IsOnClosedWalk l number → k ≤ l.inputs + 2 + m
-    by_less m number (inl h) same on = absurd (least.least _ h on)
-    by_less m number (inr h) same on = omega (arith, h, same)
+    next : (n : ℕ) → suc n + k ≡ suc (n + k)
+    next n = omega arith
 
-    over_first : (k < l.inputs + 2) ⊎ (l.inputs + 2 ≤ k) → l.inputs + 2 ≤ k
-    over_first (inl h) = absurd (first_are_quiet d lowering l list k h least.on)
-    over_first (inr h) = h
+-- what stands in the list of one element stands behind the lists of those before it
+pub got_flat : {A B : Type 0} (f : A → List B) (xs : List A) (k : ℕ) (x : A) (j : ℕ) (y : B) → slice_get xs k ≡ Some x → slice_get (f x) j ≡ Some y
+    → slice_get (flat_map f xs) (length (flat_map f (take k xs)) + j) ≡ Some y
+got_flat f [] k x j y e at = absurd (grind (arith, e))
+got_flat f (z ∷ xs) zero x j y e at = ap (slice_get (f z ++ flat_map f xs)) (none j) ∙ got_left (f z) (flat_map f xs) j y (subst (λ w. slice_get (f w) j ≡ Some y) (sym (same e)) at)
+  where
+    none : (i : ℕ) → 0 + i ≡ i
+    none i = omega arith
+
+    same : Some z ≡ Some x → z ≡ x
+    same h = grind (arith, h)
+got_flat f (z ∷ xs) (suc k) x j y e at =
+    ap (slice_get (f z ++ flat_map f xs)) (ap (λ n. n + j) (length-append (f z) (flat_map f (take k xs))) ∙ omega arith)
+    ∙ got_right (f z) (flat_map f xs) (length (flat_map f (take k xs)) + j) ∙ got_flat f xs k x j y e at
+
+pub got_run : {A : Type 0} (f : ℕ → A) (a n k : ℕ) → k < n → slice_get (map f (range_with_len a n)) k ≡ Some (f (a + k))
+got_run f a zero k lt = absurd (omega (arith, lt))
+got_run f a (suc n) zero lt = ap (λ j. Some (f j)) (omega arith)
+got_run f a (suc n) (suc k) lt = got_run f (a + 1) n k (omega (arith, lt)) ∙ ap (λ j. Some (f j)) (omega arith)
+
+pub bits-long : (path : Path) (nets : List NetInfo) → length (flat_map (bits_of_net path) nets) ≡ bit_count nets
+bits-long path [] = refl
+bits-long path (net ∷ nets) =
+    length-append (bits_of_net path net) (flat_map (bits_of_net path) nets)
+    ∙ omega (arith, length-map-range_with_len {X = Bit} (λ k. record { path = path; net = net.name; place = k }) 0 (range_width net.range), bits-long path nets, sum_by-cons (λ (x : NetInfo). range_width x.range) net nets)
+
+-- numbers of two lists side by side
+pub at_both : {A : Type 0} (all : List A) (a b : List ℕ) (xs ys : List A) → AreAt all a xs → AreAt all b ys → AreAt all (a ++ b) (xs ++ ys)
+at_both all a b xs ys p q = map-append (slice_get all) a b ∙ ap (λ l. l ++ map (slice_get all) b) p ∙ ap (λ l. map Some xs ++ l) q ∙ sym (map-append Some xs ys)
+
+-- a bit of a net by its number
+pub net_bit_at : (path : Path) (nets : List NetInfo) (k : ℕ) (net : NetInfo) (place : ℕ) → slice_get nets k ≡ Some net → place < range_width net.range
+    → slice_get (flat_map (bits_of_net path) nets) (net_start nets k + place) ≡ Some (record { path = path; net = net.name; place = place })
+net_bit_at path nets k net place e lt =
+    ap (λ n. slice_get (flat_map (bits_of_net path) nets) (n + place)) (sym (bits-long path (take k nets)))
+    ∙ got_flat (bits_of_net path) nets k net place (record { path = path; net = net.name; place = place }) e
+    (got_run (λ i. record { path = path; net = net.name; place = i }) 0 (range_width net.range) place lt ∙ ap (λ i. Some (record { path = path; net = net.name; place = i })) (omega arith))
+
+-- bits of a net side by side, by their numbers
+pub run_at : (path : Path) (nets : List NetInfo) (k : ℕ) (net : NetInfo) (from place count : ℕ) → slice_get nets k ≡ Some net → from ≡ net_start nets k + place → place + count ≤ range_width net.range
+    → AreAt (flat_map (bits_of_net path) nets) (range_with_len from count) (bits_from path net.name place count)
+run_at path nets k net from place zero e is lt = refl
+run_at path nets k net from place (suc count) e is lt =
+    let first = ap (slice_get (flat_map (bits_of_net path) nets)) is ∙ net_bit_at path nets k net place e (omega (arith, lt)) in
+    let rest = run_at path nets k net (from + 1) (place + 1) count e (omega (arith, is)) (omega (arith, lt)) in
+    ap (λ o. o ∷ map (slice_get (flat_map (bits_of_net path) nets)) (range_with_len (from + 1) count)) first
+    ∙ ap (λ l. Some (record { path = path; net = net.name; place = place }) ∷ l) rest
+
+-- a net's bits are among those of all nets
+pub net_fits : (nets : List NetInfo) (k : ℕ) (net : NetInfo) → slice_get nets k ≡ Some net → net_start nets k + range_width net.range ≤ bit_count nets
+net_fits nets k net e =
+    let within = slice_get_within nets k net e in
+    subst (λ (x : NetInfo). net_start nets k + range_width x.range ≤ bit_count nets) (get_or_from_slice_get nets k net net e) (sum_by_more_le (λ (x : NetInfo). range_width x.range) nets k net within)
+
+pub run-more : (a n : ℕ) → range_with_len a (n + 1) ≡ range_with_len a n ++ (a + n) ∷ []
+run-more a zero = ap (λ i. i ∷ []) (omega arith)
+run-more a (suc n) = ap (range_with_len a) (next n) ∙ ap (λ l. a ∷ l) (run-more (a + 1) n ∙ ap (λ i. range_with_len (a + 1) n ++ i ∷ []) (omega arith))
+  where
+    next : (i : ℕ) → suc i + 1 ≡ suc (i + 1)
+    next i = omega arith
+
+-- the bits of one more net that is chosen, and those after one that is not
+pub chosen_more : (path : Path) (test : NetInfo → Bool) (nets : List NetInfo) (starts : List ℕ) → AreStarts nets starts → (k : ℕ) (net : NetInfo) (old now : List ℕ) (from count : ℕ) → k < length nets → net ≡ get_or nets k net
+    → AreAt (flat_map (bits_of_net path) nets) old (flat_map (bits_of_net path) (filter test (take k nets))) → test net ≡ true → from ≡ slice_index_or starts k 0 → count ≡ range_width net.range
+    → now ≡ old ++ range_with_len from count → AreAt (flat_map (bits_of_net path) nets) now (flat_map (bits_of_net path) (filter test (take (k + 1) nets)))
+chosen_more path test nets starts are k net old now from count lt is before on start many more =
+    let there = slice_get_read nets (length nets) k net refl lt is in
+    let first : from ≡ net_start nets k + 0 = start ∙ get_or_from_slice_get starts k (net_start nets k) 0 (are.each k lt) ∙ omega arith in
+    let bits : AreAt (flat_map (bits_of_net path) nets) (range_with_len from count) (bits_of_net path net) = subst (λ n. AreAt (flat_map (bits_of_net path) nets) (range_with_len from n) (bits_of_net path net)) (sym many) (run_at path nets k net from 0 (range_width net.range) there first (omega arith)) in
+    let chosen : filter test (take (k + 1) nets) ≡ filter test (take k nets) ++ net ∷ [] = filter_more test nets k net lt ∙ ap (λ (x : NetInfo). filter test (take k nets) ++ cond (test x) (x ∷ []) []) (sym is) ∙ ap (λ b. filter test (take k nets) ++ cond b (net ∷ []) []) on in
+    let all : flat_map (bits_of_net path) (filter test (take (k + 1) nets)) ≡ flat_map (bits_of_net path) (filter test (take k nets)) ++ bits_of_net path net =
+    ap (flat_map (bits_of_net path)) chosen ∙ flat_map-append (bits_of_net path) (filter test (take k nets)) (net ∷ []) ∙ ap (λ l. flat_map (bits_of_net path) (filter test (take k nets)) ++ l) (append-nil (bits_of_net path net)) in
+    subst (AreAt (flat_map (bits_of_net path) nets) now) (sym all) (subst (λ l. AreAt (flat_map (bits_of_net path) nets) l (flat_map (bits_of_net path) (filter test (take k nets)) ++ bits_of_net path net)) (sym more)
+    (at_both (flat_map (bits_of_net path) nets) old (range_with_len from count) (flat_map (bits_of_net path) (filter test (take k nets))) (bits_of_net path net) before bits))
+
+pub passed_over : (test : NetInfo → Bool) (nets : List NetInfo) (k : ℕ) (net : NetInfo) → k < length nets → net ≡ get_or nets k net → test net ≡ false → filter test (take (k + 1) nets) ≡ filter test (take k nets)
+passed_over test nets k net lt is off =
+    filter_more test nets k net lt ∙ ap (λ (x : NetInfo). filter test (take k nets) ++ cond (test x) (x ∷ []) []) (sym is) ∙ ap (λ b. filter test (take k nets) ++ cond b (net ∷ []) []) off ∙ append-nil (filter test (take k nets))
+
+-- the first bits of the nets so far and of one more
+pub starts_more : (nets : List NetInfo) (starts now : List ℕ) (i next : ℕ) → next ≡ bit_count (take i nets) → length starts ≡ i → ((k : ℕ) → k < i → slice_get starts k ≡ Some (net_start nets k)) → now ≡ starts ++ next ∷ []
+    → (k : ℕ) → k < i + 1 → slice_get now k ≡ Some (net_start nets k)
+starts_more nets starts now i next is long each more k lt = by (less_or_same k i)
+  where
+    by : (k < i) ⊎ ((i < k) ⊎ (k ≡ i)) → slice_get now k ≡ Some (net_start nets k)
+    by (inl h) = ap (λ l. slice_get l k) more ∙ got_left starts (next ∷ []) k (net_start nets k) (each k h)
+    by (inr (inl h)) = absurd (omega (arith, h, lt))
+    by (inr (inr e)) = ap (λ l. slice_get l k) more ∙ ap (slice_get (starts ++ next ∷ [])) (omega (arith, e, long)) ∙ got_right starts (next ∷ []) 0 ∙ ap Some (is ∙ ap (net_start nets) (sym e))

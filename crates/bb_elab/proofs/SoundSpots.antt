@@ -52,7 +52,7 @@ between r i h = by (or_cases (nat_le r.left i && nat_le i r.right) (nat_le r.rig
     by (inr down) = inr (at_most r.right i (and_first (nat_le r.right i) _ down), at_most i r.left (and_second (nat_le r.right i) _ down))
 
 -- the bits from an index to another are among those of the net
-part_fits : (r : Option Range) (i j : ℕ) → has_bits r i j ≡ true → place_of r i + (distance i j + 1) ≤ range_width r
+pub part_fits : (r : Option Range) (i j : ℕ) → has_bits r i j ≡ true → place_of r i + (distance i j + 1) ≤ range_width r
 part_fits None i j h = absurd (true≢false (sym h))
 part_fits (Some r) i j h =
     let both = and_first (is_index r i && is_index r j) (nat_le (distance r.left i) (distance r.left j)) h in

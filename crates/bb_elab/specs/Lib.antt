@@ -2,6 +2,7 @@ pub mod Callees
 pub mod Depths
 pub mod Recursions
 pub mod Outlines
+pub mod Outlining
 pub mod Placements
 pub mod DrivenNumbers
 pub mod Sketches
