@@ -17,6 +17,7 @@ pub mod InstanceNames
 pub mod KnownNets
 pub mod Levels
 pub mod ListFronts
+pub mod ListingLoops
 pub mod ListNumbers
 pub mod ListValues
 pub mod ListWalks

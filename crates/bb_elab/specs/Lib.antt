@@ -3,6 +3,7 @@ pub mod Depths
 pub mod Recursions
 pub mod Outlines
 pub mod Placements
+pub mod Listing
 pub mod Closures
 pub mod Hierarchy
 pub mod HierarchyLaws

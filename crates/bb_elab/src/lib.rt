@@ -1,17 +1,23 @@
 //! Elaboration: the hierarchy of a checked source as one flat netlist with named inputs, registers, outputs and boxes.
 #![tactic(auto)]
 
+mod box_cells;
 mod callees;
 mod depth;
 mod elaborating;
 mod fault;
 mod flat;
+mod gate_cells;
 pub mod laws;
 pub mod list_laws;
+mod listing;
 pub mod loop_laws;
 mod outline;
+mod part_cells;
 mod placed;
 mod recursion;
+mod sources;
+mod step_cells;
 mod stored;
 pub mod table_laws;
 mod top;
