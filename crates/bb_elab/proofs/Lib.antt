@@ -25,6 +25,7 @@ pub mod ListFronts
 pub mod ListedEntries
 pub mod LoopPlaces
 pub mod NetNumbers
+pub mod ListingLoops
 pub mod ListNumbers
 pub mod ListValues
 pub mod ListWalks

@@ -7,6 +7,7 @@ pub mod Placements
 pub mod DrivenNumbers
 pub mod Sketches
 pub mod Placings
+pub mod Listing
 pub mod Closures
 pub mod Hierarchy
 pub mod HierarchyLaws

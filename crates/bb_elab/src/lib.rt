@@ -1,6 +1,7 @@
 //! Elaboration: the hierarchy of a checked source as one flat netlist with named inputs, registers, outputs and boxes.
 #![tactic(auto)]
 
+mod box_cells;
 mod callees;
 mod cells;
 mod depth;
@@ -9,16 +10,21 @@ mod elaborating;
 mod expression_steps;
 mod fault;
 mod flat;
+mod gate_cells;
 pub mod laws;
 mod left_bits;
 pub mod list_laws;
+mod listing;
 pub mod loop_laws;
 mod net_starts;
 mod outline;
+mod part_cells;
 mod placed;
 mod recursion;
 mod scopes;
 mod sketch;
+mod sources;
+mod step_cells;
 mod stored;
 pub mod table_laws;
 mod top;

@@ -1,0 +1,123 @@
+//! The cells of gates.
+//!
+//! An input is joined to those before it by an operator each, and a gate that inverts ends with a complement.
+
+ghost use Rattle.std.specs.Prelude.{◌≡◌, slice_index, IfOk};
+ghost use Rattle.bb_elab.specs.GateFunctions.{inverts};
+ghost use Rattle.bb_elab.specs.Places.{join_cell};
+ghost use Rattle.bb_elab.specs.Listing.{with_terminals, joined, inverted, with_gate};
+
+use crate::sources::{behind, next_place};
+use crate::step_cells::add_steps;
+use bb_ast::Gate;
+use bb_bits::NoMemory;
+use bb_expr::Lowered;
+use bb_net::LooseCell;
+use std::alloc::Global;
+
+// The operator that joins the inputs of a gate; buf and not have none to join.
+fn join_cell(gate: &Gate, a: u32, b: u32) -> LooseCell
+    ensures cell { result ≡ join_cell gate.now a b }
+{
+    match gate {
+        Gate::And | Gate::Nand => LooseCell::And(a, b),
+        Gate::Or | Gate::Nor => LooseCell::Or(a, b),
+        Gate::Xor | Gate::Xnor => LooseCell::Xor(a, b),
+        Gate::Buf | Gate::Not => LooseCell::Copy(a),
+    }
+}
+
+// Whether a gate inverts.
+fn inverts(gate: &Gate) -> bool
+    ensures inverts { result ≡ inverts gate.now }
+{
+    matches!(gate, Gate::Nand | Gate::Nor | Gate::Xnor | Gate::Not)
+}
+
+// The first bit of an input, by the number of its step.
+fn first_bit(lowered: &Lowered) -> u32
+    ensures step { result ≡ slice_index lowered.now.bits.items 0 }
+{
+    match lowered.bits.first() {
+        Some(step) => *step,
+        None => 0,
+    }
+}
+
+// Puts the cells of the inputs of a gate behind others, and gives the places of the inputs.
+fn add_terminals(
+    alloc: Global,
+    start: u32,
+    bits: u32,
+    starts: &[u32],
+    ins: &[Lowered],
+    cells: &mut Vec<LooseCell>,
+) -> Result<Vec<u32>, NoMemory>
+    ensures places { IfOk result (λ places. places.items ≡ (with_terminals start bits starts.now cells.old.items ins.now).places) }
+    ensures added { IfOk result (λ places. cells.new.items ≡ (with_terminals start bits starts.now cells.old.items ins.now).cells) }
+{
+    let mut places = Vec::with_capacity(alloc, ins.len())?;
+    for lowered in ins {
+        let base = add_steps(start, bits, starts, lowered, cells)?;
+        places.push(behind(base, first_bit(lowered))?)?;
+    }
+    Ok(places)
+}
+
+// Joins the inputs at these places, and gives the place of all of them together.
+fn add_joins(
+    start: u32,
+    gate: &Gate,
+    places: &[u32],
+    cells: &mut Vec<LooseCell>,
+) -> Result<u32, NoMemory>
+    ensures place { IfOk result (λ place. place ≡ (joined start gate.now cells.old.items places.now).place) }
+    ensures added { IfOk result (λ place. cells.new.items ≡ (joined start gate.now cells.old.items places.now).cells) }
+{
+    let [first, rest @ ..] = places else {
+        return Ok(0);
+    };
+    let mut place = *first;
+    for terminal in rest {
+        let next = next_place(start, cells)?;
+        cells.push(join_cell(gate, place, *terminal))?;
+        place = next;
+    }
+    Ok(place)
+}
+
+// Puts the complement behind the cells of a gate that inverts, and gives the place of the gate.
+fn add_inverter(
+    start: u32,
+    gate: &Gate,
+    place: u32,
+    cells: &mut Vec<LooseCell>,
+) -> Result<u32, NoMemory>
+    ensures place { IfOk result (λ last. last ≡ (inverted start gate.now (record { cells = cells.old.items; place = place })).place) }
+    ensures added { IfOk result (λ last. cells.new.items ≡ (inverted start gate.now (record { cells = cells.old.items; place = place })).cells) }
+{
+    if !inverts(gate) {
+        return Ok(place);
+    }
+    let next = next_place(start, cells)?;
+    cells.push(LooseCell::Not(place))?;
+    Ok(next)
+}
+
+/// Puts the cells of a gate behind others, the first of which stands at the place `start`, and gives its place.
+pub(crate) fn add_gate(
+    alloc: Global,
+    start: u32,
+    bits: u32,
+    starts: &[u32],
+    gate: &Gate,
+    ins: &[Lowered],
+    cells: &mut Vec<LooseCell>,
+) -> Result<u32, NoMemory>
+    ensures place { IfOk result (λ place. place ≡ (with_gate start bits starts.now gate.now cells.old.items ins.now).place) }
+    ensures added { IfOk result (λ place. cells.new.items ≡ (with_gate start bits starts.now gate.now cells.old.items ins.now).cells) }
+{
+    let places = add_terminals(alloc, start, bits, starts, ins, cells)?;
+    let place = add_joins(start, gate, &places, cells)?;
+    add_inverter(start, gate, place, cells)
+}

@@ -1,0 +1,169 @@
+//! The list of cells of a design.
+//!
+//! Constants and inputs stand first, then a copy for each bit of a net, then the pins of boxes, and then what the constructs
+//! make, scope by scope. Since the places of the first two are known beforehand, what gives each bit is noted while the others
+//! are made, and the copies are made last.
+
+ghost use Rattle.std.specs.Prelude.{◌≡◌, ◌+◌, ◌^◌, ◌<◌, ◌++◌, ◌∷◌, ℕ, None, Some, length, map, replicate, slice_get, IfOk, OnOk};
+ghost use Rattle.std.specs.List.{fold};
+ghost use Rattle.std.specs.Option.{option_map_or};
+ghost use Rattle.bb_net.specs.declared.loose.LooseCell.TheVariants as cell;
+ghost use Rattle.bb_elab.specs.Listing.{Sheet, Boxed, sheet_view, boxed_view, place_or_zero, first_sources, input_numbers, bit_count, boxed_in, sheet_on, cells_before, outs_of, finished, listed_on, listed};
+ghost use Rattle.bb_elab.specs.Hierarchy.{Design};
+ghost use Rattle.bb_elab.specs.ListLaws.{IsBounded};
+ghost use Rattle.bb_elab.specs.Placements.{ArePlaced, AreOutlined, AreStored};
+ghost use Rattle.bb_elab.specs.Places.{Lowering, IsLowering, IsListOf};
+ghost use Rattle.bb_elab.specs.Refusals.{AreDrivenOnce};
+
+use crate::box_cells::{BoxedLists, add_boxes, moved};
+use crate::outline::Outline;
+use crate::part_cells::{SheetLists, add_scopes};
+use crate::placed::Placed;
+use crate::sources::{behind, count_of, give_in_row, place_or_zero};
+use crate::stored::Stored;
+use bb_bits::NoMemory;
+use bb_net::{Loose, LooseCell};
+use std::alloc::Global;
+
+// How many bits the nets of a scope have.
+fn bits_of(scope: &Placed, outlines: &[Outline]) -> u32
+    ensures bits { result ≡ option_map_or (λ o. o.bits) (slice_get outlines.now scope.now.module) 0 }
+{
+    match outlines.get(scope.module) {
+        Some(outline) => outline.bits,
+        None => 0,
+    }
+}
+
+// How many bits the nets of all scopes have.
+fn bit_count(placed: &[Placed], outlines: &[Outline]) -> Result<u32, NoMemory>
+    ensures count { IfOk result (λ n. n ≡ bit_count placed.now outlines.now) }
+{
+    let mut count = 0;
+    for scope in placed {
+        count = behind(count, bits_of(scope, outlines))?;
+    }
+    Ok(count)
+}
+
+// The bits that are inputs.
+fn input_numbers(alloc: Global, top: &Outline, stored: &[Stored]) -> Result<Vec<u32>, NoMemory>
+    ensures numbers { IfOk result (λ numbers. numbers.items ≡ input_numbers top.now stored.now) }
+{
+    let mut numbers = Vec::with_capacity(alloc, top.inputs.len())?;
+    numbers.extend_from_slice(&top.inputs)?;
+    for register in stored {
+        numbers.push(register.bit)?;
+    }
+    Ok(numbers)
+}
+
+// The place that gives each bit, where only inputs are given.
+fn first_sources(alloc: Global, bits: u32, inputs: &[u32]) -> Result<Vec<Option<u32>>, NoMemory>
+    ensures sources { IfOk result (λ sources. sources.items ≡ first_sources bits inputs.now) }
+{
+    let mut sources = vec![in alloc; None; bits as usize]?;
+    give_in_row(&mut sources, 0, inputs, 2)?;
+    Ok(sources)
+}
+
+// The constants, the inputs, and a copy for each bit of a net.
+#[tactic(auto, using(crate::proofs::ListingLoops::rows_grow))]
+fn cells_before(
+    alloc: Global,
+    inputs: u32,
+    sources: &[Option<u32>],
+) -> Result<Vec<LooseCell>, NoMemory>
+    ensures cells { IfOk result (λ cells. cells.items ≡ cells_before inputs sources.now) }
+{
+    let mut cells = Vec::with_capacity(alloc, sources.len())?;
+    cells.push(LooseCell::Const(false))?;
+    cells.push(LooseCell::Const(true))?;
+    for input in 0..inputs {
+        cells.push(LooseCell::Input(input))?;
+    }
+    for source in sources {
+        cells.push(LooseCell::Copy(source.unwrap_or(0)))?;
+    }
+    Ok(cells)
+}
+
+// The places of the outputs: those of the top, and then the data of the registers.
+fn outs_of(
+    alloc: Global,
+    nets: u32,
+    top: &Outline,
+    stored: &[Stored],
+    next: &[Option<u32>],
+) -> Result<Vec<u32>, NoMemory>
+    ensures outs { IfOk result (λ outs. outs.items ≡ outs_of nets top.now stored.now next.now) }
+{
+    let mut outs = moved(alloc, nets, &top.outputs)?;
+    for register in stored {
+        outs.push(place_or_zero(next, register.bit))?;
+    }
+    Ok(outs)
+}
+
+// The list of cells, for so many bits and these inputs, where the bits of nets stand from the place `nets` on and the other
+// cells from the place `start` on.
+fn listed_on(
+    alloc: Global,
+    bits: u32,
+    inputs: &[u32],
+    nets: u32,
+    start: u32,
+    placed: &[Placed],
+    outlines: &[Outline],
+    stored: &[Stored],
+    top: &Outline,
+) -> Result<Loose, NoMemory>
+    ensures list { IfOk result (λ l. l ≡ listed_on bits inputs.now nets start placed.now outlines.now stored.now top.now) }
+{
+    let mut boxed = BoxedLists {
+        cells: Vec::new(alloc),
+        sources: first_sources(alloc, bits, inputs)?,
+        boxes: Vec::new(alloc),
+    };
+    add_boxes(alloc, nets, start, placed, outlines, &mut boxed)?;
+    let BoxedLists {
+        cells,
+        sources,
+        boxes,
+    } = boxed;
+    let mut sheet = SheetLists {
+        cells,
+        sources,
+        next: vec![in alloc; None; bits as usize]?,
+    };
+    add_scopes(alloc, nets, start, placed, outlines, &mut sheet)?;
+    let count = count_of(inputs)?;
+    let mut cells = cells_before(alloc, count, &sheet.sources)?;
+    cells.extend_from_slice(&sheet.cells)?;
+    let outs = outs_of(alloc, nets, top, stored, &sheet.next)?;
+    Ok(Loose::of(count, cells, boxes, outs))
+}
+
+// The list of cells of a design whose top has that outline.
+fn listed(
+    alloc: Global,
+    placed: &[Placed],
+    outlines: &[Outline],
+    stored: &[Stored],
+    top: &Outline,
+) -> Result<Loose, NoMemory>
+    ensures list { IfOk result (λ l. l ≡ listed placed.now outlines.now stored.now top.now) }
+    ensures fits { IfOk result (λ l. length l.cells < 2 ^ 32) }
+{
+    let inputs = input_numbers(alloc, top, stored)?;
+    let bits = bit_count(placed, outlines)?;
+    let nets = behind(2, count_of(&inputs)?)?;
+    let start = behind(nets, bits)?;
+    let list = listed_on(
+        alloc, bits, &inputs, nets, start, placed, outlines, stored, top,
+    )?;
+    if list.cells().len() > u32::MAX as usize {
+        return Err(NoMemory);
+    }
+    Ok(list)
+}

@@ -1,0 +1,80 @@
+//! The cells of the steps of an expression.
+
+ghost use Rattle.std.specs.Prelude.{◌≡◌, ◌+◌, ◌++◌, length, map, IfOk, OnOk};
+ghost use Rattle.bb_elab.specs.Places.{step_cell};
+ghost use Rattle.bb_elab.specs.Listing.{constant_place, net_bit_place, cells_of_steps, with_steps};
+
+use crate::sources::{behind, next_place};
+use bb_bits::NoMemory;
+use bb_expr::{BitStep, Lowered};
+use bb_net::LooseCell;
+
+/// The place of a constant.
+pub(crate) fn constant_place(high: bool) -> u32
+    ensures place { result ≡ constant_place high }
+{
+    if high { 1 } else { 0 }
+}
+
+// The place of a bit of a net, where those of the scope stand from a place on.
+fn net_bit(bits: u32, starts: &[u32], net: u32, bit: u32) -> Result<u32, NoMemory>
+    ensures place { IfOk result (λ n. n ≡ net_bit_place bits starts.now net bit) }
+{
+    let start = match starts.get(net as usize) {
+        Some(start) => *start,
+        None => 0,
+    };
+    behind(behind(bits, start)?, bit)
+}
+
+// A step as a cell, where the first step stands at a place.
+fn step_cell(base: u32, bits: u32, starts: &[u32], step: BitStep) -> Result<LooseCell, NoMemory>
+    ensures cell { IfOk result (λ c. c ≡ step_cell constant_place (λ a. base + a) (net_bit_place bits starts.now) step) }
+{
+    match step {
+        BitStep::Const(high) => Ok(LooseCell::Copy(constant_place(high))),
+        BitStep::Net(net, bit) => Ok(LooseCell::Copy(net_bit(bits, starts, net, bit)?)),
+        BitStep::Not(a) => Ok(LooseCell::Not(behind(base, a)?)),
+        BitStep::And(a, b) => Ok(LooseCell::And(behind(base, a)?, behind(base, b)?)),
+        BitStep::Or(a, b) => Ok(LooseCell::Or(behind(base, a)?, behind(base, b)?)),
+        BitStep::Xor(a, b) => Ok(LooseCell::Xor(behind(base, a)?, behind(base, b)?)),
+        BitStep::Mux(c, t, e) => Ok(LooseCell::Mux(
+            behind(base, c)?,
+            behind(base, t)?,
+            behind(base, e)?,
+        )),
+    }
+}
+
+// Puts the cells of steps behind others, where the first stands at a place.
+fn add_cells(
+    base: u32,
+    bits: u32,
+    starts: &[u32],
+    steps: &[BitStep],
+    cells: &mut Vec<LooseCell>,
+) -> Result<(), NoMemory>
+    ensures added { OnOk result (cells.new.items ≡ cells.old.items ++ cells_of_steps bits starts.now base steps.now) }
+{
+    for step in steps {
+        cells.push(step_cell(base, bits, starts, *step)?)?;
+    }
+    Ok(())
+}
+
+/// Puts the cells of an expression behind others, the first of which stands at the place `start`, and gives the place of its
+/// first step.
+pub(crate) fn add_steps(
+    start: u32,
+    bits: u32,
+    starts: &[u32],
+    lowered: &Lowered,
+    cells: &mut Vec<LooseCell>,
+) -> Result<u32, NoMemory>
+    ensures base { IfOk result (λ base. base ≡ start + length cells.old.items) }
+    ensures added { OnOk result (cells.new.items ≡ with_steps start bits starts.now cells.old.items lowered.now) }
+{
+    let base = next_place(start, cells)?;
+    add_cells(base, bits, starts, &lowered.steps, cells)?;
+    Ok(base)
+}
