@@ -37,7 +37,6 @@ pub mod LooseLists
 pub mod ModuleCells
 pub mod ModulePlaces
 pub mod NamedTops
-pub mod NetNumbers
 pub mod NextStates
 pub mod Operators
 pub mod PartBits
