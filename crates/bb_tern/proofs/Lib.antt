@@ -4,3 +4,4 @@ pub mod Passes
 pub mod PackLemmas
 pub mod Hits
 pub mod FirstHits
+pub mod PatternLengths

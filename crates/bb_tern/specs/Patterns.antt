@@ -1,7 +1,7 @@
 -- The patterns of a simulation, for so many inputs: all 0; all 1; each input alone 1, in order; each alone 0; and then drawn
 -- ones. They are drawn bit by bit by a shift register of 64 bits (Marsaglia, Xorshift RNGs, 2003, with the shifts 13, 7 and
 -- 17), which goes on over all of them.
-use Rattle.std.specs.Prelude.{ℕ, zero, suc, ◌*◌, ◌/◌, ◌%◌, ◌^◌, Bool, true, false, nat_le, List, ◌∷◌, ◌++◌, map, replicate, slice_set, bit_xor}
+use Rattle.std.specs.Prelude.{◌≡◌, ℕ, zero, suc, ◌*◌, ◌/◌, ◌%◌, ◌^◌, Bool, true, false, nat_le, List, ◌∷◌, ◌++◌, map, replicate, slice_set, length, All, bit_xor}
 use Rattle.std.specs.List.{range_with_len}
 
 -- the next state: three shifts, each within 64 bits
@@ -36,3 +36,7 @@ abbrev pub patterns : ℕ → ℕ → ℕ → List (List Bool)
 patterns inputs drawn seed =
     replicate inputs false ∷ replicate inputs true ∷
     map (alone inputs true false) (range_with_len 0 inputs) ++ (map (alone inputs false true) (range_with_len 0 inputs) ++ map (drawn_pattern inputs seed) (range_with_len 0 drawn))
+
+-- each has a bit for each input
+abbrev pub PatternsAreVectors : Type 0
+PatternsAreVectors = (inputs drawn seed : ℕ) → All (λ x. length x ≡ inputs) (patterns inputs drawn seed)

@@ -3,6 +3,7 @@
 
 mod drawing;
 mod lanes;
+pub mod laws;
 mod packing;
 mod passing;
 mod simulation;

@@ -1,0 +1,59 @@
+-- What the checks say, from what they answer.
+use Rattle.std.proofs.Common.{◌≡◌, ℕ, zero, suc, ◌<◌, Bool, List, map, length, get_or, All, true, false, [], ◌∷◌, ◌++◌, ◌+◌, append_assoc, Option, None, Some, Vec, Global, refl, sym, ap, subst, ◌∙◌, arith}
+use Rattle.std.proofs.lemmas.List.{get_or-map, length-map, drop_more}
+use Rattle.std.specs.Prelude.{drop, vec_items, Result, Ok, Err, IfOk, IfSome, IfNone, OnOk, IsErrOf}
+use Rattle.bb_bits.specs.Truth.{Truth}
+use Rattle.bb_net.specs.Conditions.{IsFirstHit}
+use Rattle.bb_net.specs.Pairs.{NetPair}
+use Rattle.bb_sym.specs.declared.fault.RungFault.{RungFault}
+use Rattle.bb_sym.specs.declared.fault.RungFault.TheVariants as faults
+use Rattle.bb_sym.specs.declared.found.Found.{Found}
+use Rattle.bb_rungs.specs.declared.line.Line.{Line}
+use Rattle.bb_rungs.specs.declared.line.Said.{Said}
+use Rattle.bb_rungs.specs.declared.line.Said.TheVariants.{Error}
+use Rattle.bb_rungs.specs.declared.options.Options.{Options}
+use Rattle.bb_rungs.specs.declared.rung.Rung.{Rung}
+use Rattle.bb_rungs.specs.Rungs.{AreTooMany, MayFind, Finding, TooMany, Without, MayHit, MaySay, Hit, Climbs, End, Step, ends, tried, told}
+
+some_one : {A : Type 0} (a b : A) → Some a ≡ Some b → a ≡ b
+some_one a b e = cc e
+
+pub finds : {E : Type 0} (o : Options) (functions : List Truth) (Finds : Found → Type 0) (none : Type 0) (answer : Result (Option Found) RungFault) (result : Result Said E)
+    → IfOk answer (λ a. IfSome a Finds) → IfOk answer (λ a. IfNone a none) → (IsErrOf answer faults.Nodes → AreTooMany o functions) → (AreTooMany o functions → OnOk answer ⊥)
+    → IfOk result (λ said. told answer ≡ Some said) → IfOk result (MayFind o functions Finds none)
+finds o functions Finds none (Ok (Some f)) (Ok said) found missing nodes within e = Finding within f found (sym (some_one _ said e))
+finds o functions Finds none (Ok None) (Ok said) found missing nodes within e = Without within missing (sym (some_one _ said e))
+finds o functions Finds none (Err faults.Nodes) (Ok said) found missing nodes within e = TooMany (nodes refl) (sym (some_one _ said e))
+finds o functions Finds none (Err faults.NoMemory) (Ok said) found missing nodes within e = cc e
+finds o functions Finds none (Ok a) (Err x) found missing nodes within e = tt
+finds o functions Finds none (Err f) (Err x) found missing nodes within e = tt
+
+-- lists of bits with a bit for each input
+pub each_long : (n : ℕ) (tried : List (Vec Bool Global)) (all : List (List Bool)) → map vec_items tried ≡ all → All (λ x. length x ≡ n) all → (k : ℕ) (d : Vec Bool Global) → k < length tried → length (get_or tried k d).items ≡ n
+each_long n tried all same long k d fits =
+    let at : get_or all k d.items ≡ (get_or tried k d).items = ap (λ l. get_or l k d.items) (sym same) ∙ get_or-map vec_items tried k d d.items fits in
+    ap length (sym at) ∙ long k d.items (omega (arith, fits, ap length same, length-map tried vec_items))
+
+pub some_holds : {A : Type 0} (o : Option A) (P : A → Type 0) → IfSome o P → (h : A) → o ≡ Some h → P h
+some_holds None P all h is = cc is
+some_holds (Some x) P all h is = subst P (some_one x h is) all
+
+pub hits : (p : NetPair) (o : Options) (patterns : List (List Bool)) → patterns ≡ tried p o → (found : Found) (j : ℕ) → found.output ≡ Some j → IsFirstHit p.spec p.imp patterns found.input.items j → MayHit p o (Error found)
+hits p o patterns same found j is hit = Hit found j is (subst (λ all. IsFirstHit p.spec p.imp all found.input.items j) same hit) refl
+
+-- the checks so far, and those behind them
+abbrev pub Goes : NetPair → Options → List Rung → ℕ → List Line → Type 0
+Goes p o rungs k lines = (more : List Line) → Climbs p o (drop k rungs) more → Climbs p o rungs (lines ++ more)
+
+module _ (p : NetPair) (o : Options) (rungs : List Rung) (k : ℕ) (r : Rung) (fits : k < length rungs) (at : r ≡ get_or rungs k r) (lines : List Line) (said : Said) (goes : Goes p o rungs k lines) (says : MaySay p o r said) where
+  abbrev line : Line
+  line = record { rung = r; said = said }
+
+  next : drop k rungs ≡ r ∷ drop (k + 1) rungs
+  next = drop_more rungs k r fits ∙ ap (λ z. z ∷ drop (k + 1) rungs) (sym at)
+
+  pub climb_ends : ends o line ≡ true → Climbs p o rungs (lines ++ line ∷ [])
+  climb_ends last = goes (line ∷ []) (subst (λ rs. Climbs p o rs (line ∷ [])) (sym next) (End refl says last))
+
+  pub climb_goes : ends o line ≡ false → Goes p o rungs (k + 1) (lines ++ line ∷ [])
+  climb_goes on more rest = subst (Climbs p o rungs) (sym (append_assoc lines (line ∷ []) more)) (goes (line ∷ more) (subst (λ rs. Climbs p o rs (line ∷ more)) (sym next) (Step refl says on rest)))

@@ -1,0 +1,2 @@
+pub mod ErrorLaw
+pub mod Findings

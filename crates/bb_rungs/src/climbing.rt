@@ -1,0 +1,133 @@
+//! The checks of a pair, one after another.
+
+ghost use Rattle.std.specs.Prelude.{◌≡◌, [], ◌∷◌, ◌++◌, if◌then◌else◌, Some, IfOk, OnOk};
+ghost use Rattle.bb_rungs.specs.declared.rung.Rung.TheVariants as rungs;
+ghost use Rattle.bb_rungs.specs.Rungs.{AreBounds, IsClimb, MayHit, MaySay, asked_rungs, ends, is_asked, told};
+
+use crate::line::{Line, Said};
+use crate::options::Options;
+use crate::rung::Rung;
+use bb_bits::NoMemory;
+use bb_net::Pair;
+use bb_sym::{Found, RungFault, local, output, symbolic};
+use bb_tern::laws::patterns_are_vectors;
+use bb_tern::{patterns, simulate};
+use std::alloc::Global;
+
+// What patterns say.
+fn ternary(alloc: Global, pair: &Pair, options: &Options) -> Result<Said, NoMemory>
+    requires bounds { AreBounds options.now }
+    ensures said { IfOk result (MayHit pair.now options.now) }
+{
+    patterns_are_vectors();
+    let tried = patterns(alloc, pair.imp().inputs(), options.patterns, options.seed)?;
+    match simulate(alloc, pair, &tried)? {
+        Some(hit) => Ok(Said::Error(Found {
+            output: Some(hit.output),
+            input: hit.pattern,
+        })),
+        None => Ok(Said::Nothing),
+    }
+}
+
+// What a check by diagrams says.
+fn said(answer: Result<Option<Found>, RungFault>) -> Result<Said, NoMemory>
+    ensures said { IfOk result (λ said. told answer ≡ Some said) }
+{
+    match answer {
+        Ok(Some(found)) => Ok(Said::Error(found)),
+        Ok(None) => Ok(Said::Nothing),
+        Err(RungFault::Nodes) => Ok(Said::Nodes),
+        Err(RungFault::NoMemory) => Err(NoMemory),
+    }
+}
+
+fn symbolic_says(alloc: Global, pair: &Pair, options: &Options) -> Result<Said, NoMemory>
+    requires bounds { AreBounds options.now }
+    ensures said { IfOk result (MaySay pair.now options.now rungs.Symbolic) }
+{
+    said(symbolic(alloc, pair, options.nodes, options.cache))
+}
+
+fn local_says(alloc: Global, pair: &Pair, options: &Options) -> Result<Said, NoMemory>
+    requires bounds { AreBounds options.now }
+    ensures said { IfOk result (MaySay pair.now options.now rungs.Local) }
+{
+    said(local(alloc, pair, options.nodes, options.cache))
+}
+
+fn output_says(alloc: Global, pair: &Pair, options: &Options) -> Result<Said, NoMemory>
+    requires bounds { AreBounds options.now }
+    ensures said { IfOk result (MaySay pair.now options.now rungs.Output) }
+{
+    said(output(alloc, pair, options.nodes, options.cache))
+}
+
+// What a check says.
+fn say(alloc: Global, pair: &Pair, options: &Options, rung: Rung) -> Result<Said, NoMemory>
+    requires bounds { AreBounds options.now }
+    ensures said { IfOk result (MaySay pair.now options.now rung) }
+{
+    match rung {
+        Rung::Ternary => ternary(alloc, pair, options),
+        Rung::Symbolic => symbolic_says(alloc, pair, options),
+        Rung::Local => local_says(alloc, pair, options),
+        Rung::Output => output_says(alloc, pair, options),
+    }
+}
+
+// Whether a check is asked for.
+fn is_asked(options: &Options, rung: Rung) -> bool
+    ensures asked { result ≡ is_asked options.now rung }
+{
+    options.from.rank() <= rung.rank() && rung.rank() <= options.to.rank()
+}
+
+// Puts a check into a list if it is asked for.
+fn push_asked(options: &Options, rung: Rung, list: &mut Vec<Rung>) -> Result<(), NoMemory>
+    ensures pushed { OnOk result (list.new.items ≡ list.old.items ++ (if is_asked options.now rung then rung ∷ [] else [])) }
+{
+    if is_asked(options, rung) {
+        list.push(rung)?;
+    }
+    Ok(())
+}
+
+// The checks that are asked for, in order.
+fn asked(alloc: Global, options: &Options) -> Result<Vec<Rung>, NoMemory>
+    ensures asked { IfOk result (λ list. list.items ≡ asked_rungs options.now) }
+{
+    let mut list = Vec::new(alloc);
+    push_asked(options, Rung::Ternary, &mut list)?;
+    push_asked(options, Rung::Symbolic, &mut list)?;
+    push_asked(options, Rung::Local, &mut list)?;
+    push_asked(options, Rung::Output, &mut list)?;
+    Ok(list)
+}
+
+// Whether the checks end behind this line.
+fn ends(options: &Options, line: &Line) -> bool
+    ensures ends { result ≡ ends options.now line.now }
+{
+    matches!(line.said, Said::Error(_)) && !options.all
+}
+
+/// Runs the checks that are asked for, one after another, and tells what each says. They end after the first error, unless
+/// all are asked for.
+pub fn climb(alloc: Global, pair: &Pair, options: &Options) -> Result<Vec<Line>, NoMemory>
+    requires bounds { AreBounds options.now }
+    ensures lines { IfOk result (λ lines. IsClimb pair.now options.now lines.items) }
+{
+    let rungs = asked(alloc, options)?;
+    let mut lines = Vec::new(alloc);
+    for rung in &rungs {
+        let said = say(alloc, pair, options, *rung)?;
+        let line = Line { rung: *rung, said };
+        let last = ends(options, &line);
+        lines.push(line)?;
+        if last {
+            return Ok(lines);
+        }
+    }
+    Ok(lines)
+}

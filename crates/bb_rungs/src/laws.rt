@@ -1,0 +1,14 @@
+//! Laws of what checks say. Each function has a law as its contract and does nothing.
+
+ghost use Rattle.bb_rungs.specs.Laws.{ErrorsExcludeTables};
+
+use bb_net::conditions_weaken;
+use bb_tern::laws::patterns_are_vectors;
+
+/// Where a check says that there is an error, no tables agree.
+pub fn errors_exclude_tables()
+    ensures { ErrorsExcludeTables }
+{
+    conditions_weaken();
+    patterns_are_vectors();
+}

@@ -1,0 +1,22 @@
+//! Which checks are run, and their bounds.
+
+use crate::rung::Rung;
+
+/// Which checks are run, and their bounds.
+#[derive(Clone, Copy, Debug)]
+pub struct Options {
+    /// The first check.
+    pub from: Rung,
+    /// The last one.
+    pub to: Rung,
+    /// Whether the checks go on after an error.
+    pub all: bool,
+    /// How many patterns are drawn beside those that are always tried: at most 4,096.
+    pub patterns: u32,
+    /// Where the drawing starts.
+    pub seed: u64,
+    /// How many nodes a check by diagrams may hold: at most 50,000,000.
+    pub nodes: u32,
+    /// How many results it may remember: 1 to 1,048,576.
+    pub cache: u32,
+}

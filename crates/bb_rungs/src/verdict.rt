@@ -1,0 +1,63 @@
+//! The verdict of the checks that were run.
+
+ghost use Rattle.std.specs.Prelude.{◌≡◌};
+ghost use Rattle.std.specs.List.{list_any};
+ghost use Rattle.bb_rungs.specs.Reports.{is_error, verdict_of, verdict_name, status_of};
+
+use crate::line::{Line, Said};
+
+/// What all checks together say.
+#[derive(Clone, Copy, Debug, PartialEq, Eq)]
+pub enum Verdict {
+    /// No contents of the boxes agree.
+    Error,
+    /// The question is open.
+    Open,
+}
+
+impl Verdict {
+    /// Its name in reports.
+    pub fn name(self) -> &'static str
+        ensures name { result.now ≡ verdict_name self }
+    {
+        match self {
+            Verdict::Error => "error",
+            Verdict::Open => "open",
+        }
+    }
+
+    /// The status with which the program ends.
+    pub fn status(self) -> u8
+        ensures status { result ≡ status_of self }
+    {
+        match self {
+            Verdict::Error => 1,
+            Verdict::Open => 3,
+        }
+    }
+}
+
+// Whether a check says that there is a mistake.
+fn is_error(line: &Line) -> bool
+    ensures error { result ≡ is_error line.now }
+{
+    matches!(line.said, Said::Error(_))
+}
+
+// Whether one of them does.
+fn any_error(lines: &[Line]) -> bool
+    ensures any { result ≡ list_any is_error lines.now }
+{
+    lines.iter().any(|line| is_error(line))
+}
+
+/// The verdict of the checks that were run: an error where one says so.
+pub fn verdict_of(lines: &[Line]) -> Verdict
+    ensures verdict { result ≡ verdict_of lines.now }
+{
+    if any_error(lines) {
+        Verdict::Error
+    } else {
+        Verdict::Open
+    }
+}
