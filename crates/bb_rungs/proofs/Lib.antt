@@ -1,2 +1,3 @@
 pub mod ErrorLaw
 pub mod Findings
+pub mod ToldLaw

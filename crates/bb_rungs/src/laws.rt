@@ -1,6 +1,6 @@
 //! Laws of what checks say. Each function has a law as its contract and does nothing.
 
-ghost use Rattle.bb_rungs.specs.Laws.{ErrorsExcludeTables};
+ghost use Rattle.bb_rungs.specs.Laws.{ErrorsExcludeTables, ClimbsAreTold};
 
 use bb_net::conditions_weaken;
 use bb_tern::laws::patterns_are_vectors;
@@ -10,5 +10,12 @@ pub fn errors_exclude_tables()
     ensures { ErrorsExcludeTables }
 {
     conditions_weaken();
+    patterns_are_vectors();
+}
+
+/// What checks find can be told by the names of the pair.
+pub fn climbs_are_told()
+    ensures { ClimbsAreTold }
+{
     patterns_are_vectors();
 }

@@ -1,0 +1,5 @@
+use Rattle.bb_rungs.proofs.ToldLaw.{climbs_are_told}
+use Rattle.bb_rungs.proofs.laws.climbs_are_told.Goals as goal
+
+pub returns : goal.returns
+returns c = climbs_are_told c.patterns_are_vectors.ensures
