@@ -26,6 +26,7 @@ pub mod ListedData
 pub mod ListedPlaces
 pub mod ListedSources
 pub mod LooseLists
+pub mod MarkLemmas
 pub mod ModuleCells
 pub mod NamedTops
 pub mod NextStates

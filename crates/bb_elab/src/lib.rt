@@ -13,6 +13,7 @@ pub mod loop_laws;
 mod outline;
 mod placed;
 mod recursion;
+mod register_bits;
 mod stored;
 pub mod table_laws;
 mod top;
