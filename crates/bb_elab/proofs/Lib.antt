@@ -28,7 +28,9 @@ pub mod ListedSources
 pub mod LooseLists
 pub mod MarkLemmas
 pub mod ModuleCells
+pub mod ModulesAt
 pub mod NamedTops
+pub mod NarrowNets
 pub mod NextStates
 pub mod Operators
 pub mod PartBits
@@ -38,6 +40,7 @@ pub mod RecursionLoops
 pub mod RecursiveNames
 pub mod RefusalLaws
 pub mod ScopeLaws
+pub mod SizeTotals
 pub mod SoundBits
 pub mod SoundConstructs
 pub mod SoundModules

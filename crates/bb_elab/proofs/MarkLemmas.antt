@@ -96,7 +96,7 @@ abbrev pub any_bit : List ℕ → ℕ → Bit
 any_bit n p = record { path = []; net = n; place = p }
 
 module _ (m : PlainModule) (differ : NetNamesDiffer) (n : List ℕ) where
-  names_are : map (λ (net : NetInfo). net.name) (nets_of m) ≡ net_names m
+  pub names_are : map (λ (net : NetInfo). net.name) (nets_of m) ≡ net_names m
   names_are = map-map (λ (net : NetInfo). net.name) (net_of m) (net_names m) ∙ map-id (net_names m)
 
   pub named_at : (j : ℕ) → lookup (same_name n) (placed 0 (map (λ net. net.name) (nets_of m))) ≡ Some j → slice_get (nets_of m) j ≡ Some (net_of m n)

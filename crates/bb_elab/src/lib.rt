@@ -14,6 +14,7 @@ mod outline;
 mod placed;
 mod recursion;
 mod register_bits;
+mod size;
 mod stored;
 pub mod table_laws;
 mod top;

@@ -20,8 +20,8 @@ use bb_expr::CheckedModule;
 use bb_expr::laws::net_names_differ;
 use std::alloc::Global;
 
-// How many bits a net with this range has.
-fn width_of(range: Option<Range>) -> usize
+/// How many bits a net with this range has.
+pub(crate) fn width_of(range: Option<Range>) -> usize
     ensures width { result ≡ range_width range }
 {
     match range {
