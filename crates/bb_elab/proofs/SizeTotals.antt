@@ -23,7 +23,7 @@ none_at (suc n) (suc k) = none_at n k
 none_capped : (m : ℕ) → 0 ≡ min m 0
 none_capped m = omega arith
 
-add_capped : (m a b c d e f : ℕ) → min m a ≡ min m b → min m c ≡ min m d → e ≡ a + c → f ≡ b + d → min m e ≡ min m f
+pub add_capped : (m a b c d e f : ℕ) → min m a ≡ min m b → min m c ≡ min m d → e ≡ a + c → f ≡ b + d → min m e ≡ min m f
 add_capped m a b c d e f x y p q = omega (arith, x, y, p, q)
 
 -- sums that are the same as far as they are told are so together

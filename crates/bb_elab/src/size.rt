@@ -3,12 +3,13 @@
 //! What a scope adds is counted once for each module. Then rounds over the lists of callees sum up what all instances below a
 //! module add, however many there are: no scope is built. Sums stop at the greatest number of 64 bits.
 
-ghost use Rattle.std.specs.Prelude.{◌≡◌, ◌+◌, ◌<◌, ◌≤◌, [], false, true, ℕ, All, Some, filter, if◌then◌else◌, length, map, slice_get, slice_index_or, sum_by, IfOk};
+ghost use Rattle.std.specs.Prelude.{◌≡◌, ◌+◌, ◌<◌, ◌≤◌, [], false, true, ℕ, All, Some, filter, if◌then◌else◌, length, map, nat_lt, slice_get, slice_index_or, sum_by, IfOk};
 ghost use Rattle.bb_ast.specs.Syntax.{PlainModule};
 ghost use Rattle.bb_expr.specs.Checked.{syntax};
 ghost use Rattle.bb_expr.specs.Shares.{capped};
 ghost use Rattle.bb_elab.specs.Callees.{callees};
-ghost use Rattle.bb_elab.specs.Refusals.{IsTold, IsAbsent, Size, design_on};
+ghost use Rattle.bb_elab.specs.Refusals.{IsTold, IsAbsent, Size, design_on, most_bits, most_cells};
+ghost use Rattle.bb_elab.specs.Sizes.{cells_in, bits_and_instances};
 ghost use Rattle.bb_elab.specs.Weights.{bit_count, construct_cells, instance_cells, is_input_net, is_output_net, net_width, total_below};
 
 use crate::cells::items_cells;
@@ -174,4 +175,22 @@ fn totals(alloc: Global, callees: &[Vec<usize>], own: &[u64]) -> Result<Vec<u64>
         totals = next_totals(alloc, callees, own, &totals)?;
     }
     Ok(totals)
+}
+
+// Whether there are too many bits and instances.
+fn has_many_bits(
+    alloc: Global,
+    checked: &Checked,
+    called: &[Vec<usize>],
+    bits: &[u64],
+    top: usize,
+) -> Result<bool, NoMemory>
+    requires called { map (λ list. list.items) called.now ≡ map (callees (map syntax checked.now)) (map syntax checked.now) }
+    requires bits { bits.now ≡ map (λ m. capped (bit_count m + 1)) (map syntax checked.now) }
+    requires top { top < length checked.now }
+    ensures many { IfOk result (λ many. (t : PlainModule) → slice_get (map syntax checked.now) top ≡ Some t → many ≡ nat_lt most_bits (bits_and_instances (design_on (map syntax checked.now) t))) }
+{
+    let _modules = checked.modules();
+    let below = totals(alloc, called, bits)?;
+    Ok(bits[top].saturating_add(below[top]) > MOST_BITS + 1)
 }
