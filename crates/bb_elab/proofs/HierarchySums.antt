@@ -38,7 +38,7 @@ pub sum_both : {X : Type 0} (f g : X → ℕ) (xs : List X) → sum_by f xs + su
 sum_both f g [] = refl
 sum_both f g (x ∷ xs) = omega (arith, sum_by-cons f x xs, sum_by-cons g x xs, sum_by-cons (λ x. f x + g x) x xs, sum_both f g xs)
 
-sum_ones : {X : Type 0} (xs : List X) → length xs ≡ sum_by (λ x. 1) xs
+pub sum_ones : {X : Type 0} (xs : List X) → length xs ≡ sum_by (λ x. 1) xs
 sum_ones [] = refl
 sum_ones (x ∷ xs) = omega (arith, sum_ones xs, sum_by-cons (λ x. 1) x xs)
 

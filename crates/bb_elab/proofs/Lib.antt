@@ -6,6 +6,7 @@ pub mod CalleeLaw
 pub mod CalleeLemmas
 pub mod CauseDecisions
 mod CellSums
+pub mod ConstructCounts
 pub mod ContentTables
 pub mod Deciding
 pub mod DependenceWalks
@@ -40,6 +41,7 @@ pub mod RecursionLemmas
 pub mod RecursionLoops
 pub mod RecursiveNames
 pub mod RefusalLaws
+pub mod RegisterCounts
 pub mod ScopeLaws
 pub mod SizeTotals
 pub mod SoundBits

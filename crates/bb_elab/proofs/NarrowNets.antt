@@ -32,7 +32,7 @@ use Rattle.bb_elab.proofs.SoundSpots.{net_used}
 use Rattle.bb_elab.proofs.TopLaws.{contains_here, contains_there, contains_cases, none_in_nil}
 
 -- what an element gives stands among what all give
-each_there : {A B : Type 0} (gives : List A → A → List B) (before xs : List A) (x : A) → Contains xs x → (earlier : List A) × ((z : B) → Contains (gives earlier x) z → Contains (each_from gives before xs) z)
+pub each_there : {A B : Type 0} (gives : List A → A → List B) (before xs : List A) (x : A) → Contains xs x → (earlier : List A) × ((z : B) → Contains (gives earlier x) z → Contains (each_from gives before xs) z)
 each_there gives before [] x has = absurd (none_in_nil x has)
 each_there gives before (y ∷ ys) x has = by (contains_cases y ys x has) (each_there gives (before ++ y ∷ []) ys x)
   where

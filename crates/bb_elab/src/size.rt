@@ -16,7 +16,7 @@ use crate::cells::items_cells;
 use crate::register_bits::{registers_in, width_of};
 use bb_ast::Dir;
 use bb_bits::NoMemory;
-use bb_expr::laws::net_names_differ;
+use bb_expr::laws::{assignable_is_nets, cells_are_counted, made_has_value, net_names_differ, values_have_width};
 use bb_expr::{Checked, NetInfo};
 use bb_parse::laws::texts_are_long;
 use std::alloc::Global;
@@ -193,4 +193,51 @@ fn has_many_bits(
     let _modules = checked.modules();
     let below = totals(alloc, called, bits)?;
     Ok(bits[top].saturating_add(below[top]) > MOST_BITS + 1)
+}
+
+// Whether there are too many cells, where the bits and instances are not too many.
+fn has_many_cells(
+    alloc: Global,
+    checked: &Checked,
+    called: &[Vec<usize>],
+    bits: &[u64],
+    top: usize,
+) -> Result<bool, NoMemory>
+    requires called { map (λ list. list.items) called.now ≡ map (callees (map syntax checked.now)) (map syntax checked.now) }
+    requires bits { bits.now ≡ map (λ m. capped (bit_count m + 1)) (map syntax checked.now) }
+    requires top { top < length checked.now }
+    ensures many { IfOk result (λ many. (t : PlainModule) → slice_get (map syntax checked.now) top ≡ Some t → bits_and_instances (design_on (map syntax checked.now) t) ≤ most_bits
+        → many ≡ nat_lt most_cells (cells_in (design_on (map syntax checked.now) t))) }
+{
+    values_have_width();
+    made_has_value();
+    cells_are_counted();
+    assignable_is_nets();
+    let modules = checked.modules();
+    let constructs = construct_weights(alloc, checked, bits)?;
+    let instances = instance_weights(alloc, checked, &constructs)?;
+    let below = totals(alloc, called, &instances)?;
+    let inputs = port_bits(&modules[top].nets, true);
+    let own = constructs[top].saturating_add(inputs).saturating_add(2);
+    Ok(own.saturating_add(below[top]) > MOST_CELLS)
+}
+
+/// Whether there are too many bits of nets and instances, or too many cells.
+pub(crate) fn is_too_large(
+    alloc: Global,
+    checked: &Checked,
+    called: &[Vec<usize>],
+    top: usize,
+) -> Result<bool, NoMemory>
+    requires called { map (λ list. list.items) called.now ≡ map (callees (map syntax checked.now)) (map syntax checked.now) }
+    requires top { top < length checked.now }
+    ensures large { IfOk result (λ large. large ≡ true → (t : PlainModule) → slice_get (map syntax checked.now) top ≡ Some t → IsTold (design_on (map syntax checked.now) t) Size []) }
+    ensures small { IfOk result (λ large. large ≡ false → (t : PlainModule) → slice_get (map syntax checked.now) top ≡ Some t → IsAbsent (design_on (map syntax checked.now) t) Size) }
+{
+    let bits = bit_weights(alloc, checked)?;
+    if has_many_bits(alloc, checked, called, &bits, top)? {
+        return Ok(true);
+    }
+    let many = has_many_cells(alloc, checked, called, &bits, top)?;
+    Ok(many)
 }
