@@ -174,7 +174,7 @@ module _ (counted : CellsAreCounted) (made_value : MadeHasValue) (long_value : V
         let g = λ (x : ℕ × Option Expression). connection i (pin_at target x.0) x.1 in
         sum_flat count g (enumerate_from 0 places)
         ∙ sum_same (λ x. sum_by count (g x)) (λ (x : ℕ × Option Expression). sum_by (own_cells (range_of s.source)) (option_to_list x.1)) (enumerate_from 0 places)
-            (λ x has. sum_connection i (pin_at target x.0) x.1 (λ e some. port x.0 x.1 has) (λ c h. legal c (into_flat g (enumerate_from 0 places) x c has h)))
+        (λ x has. sum_connection i (pin_at target x.0) x.1 (λ e some. port x.0 x.1 has) (λ c h. legal c (into_flat g (enumerate_from 0 places) x c has h)))
         ∙ sum_enumerated (λ (o : Option Expression). sum_by (own_cells (range_of s.source)) (option_to_list o)) 0 places
         ∙ sym (sum_flat (own_cells (range_of s.source)) option_to_list places)
       where
@@ -184,7 +184,7 @@ module _ (counted : CellsAreCounted) (made_value : MadeHasValue) (long_value : V
         let g = λ (x : List ℕ × Option Expression). connection i (pin_named target x.0) x.1 in
         sum_flat count g all
         ∙ sum_same (λ x. sum_by count (g x)) (λ (x : List ℕ × Option Expression). sum_by (own_cells (range_of s.source)) (option_to_list x.1)) all
-            (λ x has. sum_connection i (pin_named target x.0) x.1 (λ e some. named x.0 e all refl (subst (λ o. Contains all (x.0, o)) some has)) (λ c h. legal c (into_flat g all x c has h)))
+        (λ x has. sum_connection i (pin_named target x.0) x.1 (λ e some. named x.0 e all refl (subst (λ o. Contains all (x.0, o)) some has)) (λ c h. legal c (into_flat g all x c has h)))
         ∙ sym (sum_flat (own_cells (range_of s.source)) (λ (x : List ℕ × Option Expression). option_to_list x.1) all)
 
   module _ (here : Contains text s.source) where
@@ -224,18 +224,18 @@ module _ (counted : CellsAreCounted) (made_value : MadeHasValue) (long_value : V
     sum_body earlier (Gates gate all) fine =
         sum_map count (λ x. gate_construct gate x.1) all
         ∙ sum_same (λ (x : Option (List ℕ) × List Expression). count (gate_construct gate x.1)) (λ x. gate_weight (range_of s.source) gate x.1) all
-            (λ x has. sum_gate gate x.1 (body_legal no_contents s text earlier (Gates gate all) fine (gate_construct gate x.1) (contains-map (λ (x : Option (List ℕ) × List Expression). gate_construct gate x.1) all x has)))
+        (λ x has. sum_gate gate x.1 (body_legal no_contents s text earlier (Gates gate all) fine (gate_construct gate x.1) (contains-map (λ (x : Option (List ℕ) × List Expression). gate_construct gate x.1) all x has)))
     sum_body earlier (Calls name calls) fine =
         let m = target_is earlier name calls fine in
         let there = (from_find (λ x. same_name x.name name) text m.0 m.1).0 in
         ap (λ o. sum_by count (flat_map (connections o) calls)) m.1 ∙ sum_flat count (connections (Some m.0)) calls
         ∙ sum_same (λ x. sum_by count (connections (Some m.0) x)) (λ x. sum_by (own_cells (range_of s.source)) (conns_expressions x.1)) calls
-            (λ x has. sum_connections m.0 there x (few_places earlier name calls fine x has m.0 m.1) (named_port earlier name calls fine x has m.0 m.1)
-            (λ c h. body_legal no_contents s text earlier (Calls name calls) fine c (subst (λ o. Contains (flat_map (connections o) calls) c) (sym m.1) (into_flat (connections (Some m.0)) calls x c has h))))
+        (λ x has. sum_connections m.0 there x (few_places earlier name calls fine x has m.0 m.1) (named_port earlier name calls fine x has m.0 m.1)
+        (λ c h. body_legal no_contents s text earlier (Calls name calls) fine c (subst (λ o. Contains (flat_map (connections o) calls) c) (sym m.1) (into_flat (connections (Some m.0)) calls x c has h))))
     sum_body earlier (Always r) fine = sum_one count (Register r) ∙ assigned_made (width_of s r.left) r.right
 
     -- the constructs of all items
     pub sum_items : sum_by count (flat_map (λ item. body_constructs text item.body) s.source.items) ≡ sum_by (λ item. item_cells (range_of s.source) item.body) s.source.items
     sum_items = sum_flat count (λ (item : PlainItem). body_constructs text item.body) s.source.items
         ∙ sum_same (λ (item : PlainItem). sum_by count (body_constructs text item.body)) (λ item. item_cells (range_of s.source) item.body) s.source.items
-            (λ item has. let spots = spot_sound text sound s.source here item has in sum_body spots.0 item.body spots.1)
+        (λ item has. let spots = spot_sound text sound s.source here item has in sum_body spots.0 item.body spots.1)

@@ -42,7 +42,7 @@ pub sum_ones : {X : Type 0} (xs : List X) → length xs ≡ sum_by (λ x. 1) xs
 sum_ones [] = refl
 sum_ones (x ∷ xs) = omega (arith, sum_ones xs, sum_by-cons (λ x. 1) x xs)
 
-abbrev weight_or : (PlainModule → ℕ) → Option PlainModule → ℕ
+abbrev pub weight_or : (PlainModule → ℕ) → Option PlainModule → ℕ
 weight_or weight None = 0
 weight_or weight (Some m) = weight m
 
@@ -61,9 +61,9 @@ module _ (text : List PlainModule) (sound : IsSound text) (weight : PlainModule 
       ∙ ap (sum_by (λ c. sum_by (λ (c : Scope). weight c.source) (c ∷ below n text c))) (children_are text sound s.source here s refl)
       ∙ sum_map (λ c. sum_by (λ (c : Scope). weight c.source) (c ∷ below n text c)) (child text s) is
       ∙ sum_same (λ i. sum_by (λ (c : Scope). weight c.source) (child text s i ∷ below n text (child text s i))) (λ i. weight_at weight text (place_of text i) + total_below (called text) (weight_at weight text) n (place_of text i)) is
-          (λ i has. sum_by-cons (λ (c : Scope). weight c.source) (child text s i) (below n text (child text s i))
-          ∙ ap (λ w. w + sum_by (λ (c : Scope). weight c.source) (below n text (child text s i))) (ap (weight_or weight) (sym (stands text sound s.source here i has)))
-          ∙ ap (λ t. weight_at weight text (place_of text i) + t) (sum_below n (child text s i) (place_of text i) (stands text sound s.source here i has)))
+      (λ i has. sum_by-cons (λ (c : Scope). weight c.source) (child text s i) (below n text (child text s i))
+      ∙ ap (λ w. w + sum_by (λ (c : Scope). weight c.source) (below n text (child text s i))) (ap (weight_or weight) (sym (stands text sound s.source here i has)))
+      ∙ ap (λ t. weight_at weight text (place_of text i) + t) (sum_below n (child text s i) (place_of text i) (stands text sound s.source here i has)))
       ∙ sym (sum_map (λ j. weight_at weight text j + total_below (called text) (weight_at weight text) n j) (place_of text) is)
       ∙ ap (sum_by (λ j. weight_at weight text j + total_below (called text) (weight_at weight text) n j)) (sym (called_here text sound s.source here k at))
 
@@ -110,7 +110,7 @@ capped_there m f weight is (x ∷ text) zero = ap (min m) (is x) ∙ twice m (we
     twice m a = omega arith
 capped_there m f weight is (x ∷ text) (suc j) = capped_there m f weight is text j
 
-got_map : (f : PlainModule → ℕ) (text : List PlainModule) (j : ℕ) (t : PlainModule) → slice_get text j ≡ Some t → slice_index_or (map f text) j 0 ≡ f t
+pub got_map : (f : PlainModule → ℕ) (text : List PlainModule) (j : ℕ) (t : PlainModule) → slice_get text j ≡ Some t → slice_index_or (map f text) j 0 ≡ f t
 got_map f [] j t e = cc
 got_map f (x ∷ text) zero t e = let is : x ≡ t = grind (arith, e) in ap f is
 got_map f (x ∷ text) (suc j) t e = got_map f text j t e

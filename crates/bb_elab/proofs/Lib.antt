@@ -6,6 +6,7 @@ pub mod CalleeLaw
 pub mod CalleeLemmas
 pub mod CauseDecisions
 mod CellSums
+pub mod CellTotals
 pub mod ConstructCounts
 pub mod ContentTables
 pub mod Deciding

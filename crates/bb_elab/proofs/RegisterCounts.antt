@@ -146,10 +146,10 @@ stored_count s =
     let p = s.path in
     ap (λ bits. length (filter (λ b. list_any (same_bit b) (stored_in s)) bits)) (scope_moved m p) ∙ filter_moved (λ b. list_any (same_bit b) (stored_in s)) (moved p) (scope_bits (any_scope m))
     ∙ filter_same (λ c. list_any (same_bit (moved p c)) (stored_in s)) (λ c. list_any (same_bit c) (stored_bits m)) (scope_bits (any_scope m)) (λ c has.
-        both _ _
-        (λ on. any_there c (stored_bits m) (moved_back p (stored_bits m) (stored_in_moved m []) c (path_moved [] (scope_bits (any_scope m)) c (subst (λ l. Contains l c) (scope_moved m []) has))
-        (subst (λ l. Contains l (moved p c)) (stored_in_moved m p) (any_from (moved p c) (stored_in s) on))))
-        (λ on. any_there (moved p c) (stored_in s) (subst (λ l. Contains l (moved p c)) (sym (stored_in_moved m p)) (contains-map (moved p) (stored_bits m) c (any_from c (stored_bits m) on)))))
+    both _ _
+    (λ on. any_there c (stored_bits m) (moved_back p (stored_bits m) (stored_in_moved m []) c (path_moved [] (scope_bits (any_scope m)) c (subst (λ l. Contains l c) (scope_moved m []) has))
+    (subst (λ l. Contains l (moved p c)) (stored_in_moved m p) (any_from (moved p c) (stored_in s) on))))
+    (λ on. any_there (moved p c) (stored_in s) (subst (λ l. Contains l (moved p c)) (sym (stored_in_moved m p)) (contains-map (moved p) (stored_bits m) c (any_from c (stored_bits m) on)))))
 
 -- the whole design
 

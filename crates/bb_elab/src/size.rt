@@ -16,7 +16,9 @@ use crate::cells::items_cells;
 use crate::register_bits::{registers_in, width_of};
 use bb_ast::Dir;
 use bb_bits::NoMemory;
-use bb_expr::laws::{assignable_is_nets, cells_are_counted, made_has_value, net_names_differ, values_have_width};
+use bb_expr::laws::{
+    assignable_is_nets, cells_are_counted, made_has_value, net_names_differ, values_have_width,
+};
 use bb_expr::{Checked, NetInfo};
 use bb_parse::laws::texts_are_long;
 use std::alloc::Global;
