@@ -64,7 +64,7 @@ all_some : {A B : Type 0} (h : A → Option B) (g : A → B) (xs : List A) → (
 all_some h g [] same = refl
 all_some h g (x ∷ xs) same = ap (λ o. cons_option o (filter_map h xs)) (same x (contains_here x xs)) ∙ ap (λ l. g x ∷ l) (all_some h g xs (λ y has. same y (contains_there x xs y has)))
 
-any-map : {A B : Type 0} (p : B → Bool) (f : A → B) (xs : List A) → list_any p (map f xs) ≡ list_any (λ x. p (f x)) xs
+pub any-map : {A B : Type 0} (p : B → Bool) (f : A → B) (xs : List A) → list_any p (map f xs) ≡ list_any (λ x. p (f x)) xs
 any-map p f [] = refl
 any-map p f (x ∷ xs) = ap (λ b. p (f x) || b) (any-map p f xs)
 

@@ -43,7 +43,7 @@ tail : {A : Type 0} (x : A) (xs : List A) → AllPairs ◌≢◌ (x ∷ xs) → 
 tail x xs apart i j d less within = apart (suc i) (suc j) d (omega (arith, less)) (omega (arith, within))
 
 -- where names differ, a name is found at its place
-holds-place : (names : List (List ℕ)) (s : ℕ) (n : List ℕ) (d : ℕ) → AllPairs ◌≢◌ names → slice_get names d ≡ Some n → lookup (same_name n) (placed s names) ≡ Some (s + d)
+pub holds-place : (names : List (List ℕ)) (s : ℕ) (n : List ℕ) (d : ℕ) → AllPairs ◌≢◌ names → slice_get names d ≡ Some n → lookup (same_name n) (placed s names) ≡ Some (s + d)
 holds-place [] s n d apart e = cc
 holds-place (m ∷ ms) s n zero apart e =
     let is : m ≡ n = grind (arith, e) in

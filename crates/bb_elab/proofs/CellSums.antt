@@ -1,9 +1,9 @@
 -- Sums that stop at a greatest number, element by element; and what stands in a checked module is as narrow as a net may be.
-use Rattle.std.proofs.Common.{◌≡◌, ◌⊎◌, ℕ, zero, suc, ◌+◌, ◌-◌, ◌≤◌, ◌<◌, List, [], ◌∷◌, ◌++◌, map, length, take, drop, get_or, All, Option, Some, None, refl, sym, ap, ◌∙◌, subst, inl, inr, arith}
-use Rattle.std.specs.Prelude.{sum_by, min, max, slice_get, IsSomeAnd}
+use Rattle.std.proofs.Common.{◌≡◌, ◌⊎◌, ℕ, zero, suc, ◌+◌, ◌-◌, ◌≤◌, ◌<◌, Bool, true, false, filter, List, [], ◌∷◌, ◌++◌, map, length, take, drop, get_or, All, Option, Some, None, refl, sym, ap, ◌∙◌, subst, inl, inr, arith}
+use Rattle.std.specs.Prelude.{if◌then◌else◌, sum_by, min, max, slice_get, IsSomeAnd}
 use Rattle.std.specs.List.{flat_map}
 use Rattle.std.specs.Option.{option_and_then}
-use Rattle.std.proofs.lemmas.List.{length-map, length-drop, drop-map, drop_all, get_or-map, map_more, take_all}
+use Rattle.std.proofs.lemmas.List.{length-map, length-drop, drop-map, drop_all, get_or-map, map_more, map-append, take_more, take_all}
 use Rattle.std.proofs.lemmas.List.Elements.{All-contains, Contains-append_left, Contains-append_right}
 use Rattle.std.proofs.lemmas.List.Sums.{sum_by-cons, sum_by_push, sum_by-append}
 use Rattle.bb_ast.specs.declared.expr.Expr.{Expr}
@@ -78,3 +78,33 @@ pub inputs_there : (gate : Gate) (terms : List Expr) (k : ℕ) → k ≡ min (ou
 inputs_there gate terms k is =
     ap (map expression) (take_whole (output_count gate (length terms)) k terms is) ∙ sym (drop-map expression (output_count gate (length terms)) terms)
     ∙ ap (λ n. drop (output_count gate n) (map expression terms)) (sym (length-map terms expression))
+
+-- sums over a list as it stands
+module _ {X : Type 0} (g : X → ℕ) (xs : List X) (i : ℕ) (m : ℕ) where
+  pub share_step : (x : X) (before here now : ℕ) → i < length xs → x ≡ get_or xs i x → before ≡ min m (sum_by g (take i xs)) → here ≡ min m (g x) → now ≡ min (before + here) m → now ≡ min m (sum_by g (take (i + 1) xs))
+  share_step x before here now within at so_far more is =
+      two_shares m (sum_by g (take i xs)) (g x) before here now so_far more is
+      ∙ ap (min m) (sym (ap (sum_by g) (take_more xs i x within ∙ ap (λ y. take i xs ++ y ∷ []) (sym at)) ∙ sum_by_push g (take i xs) x))
+
+  pub share_end : (total : ℕ) → length xs ≤ i → total ≡ min m (sum_by g (take i xs)) → total ≡ min m (sum_by g xs)
+  share_end total past is = is ∙ ap (λ ys. min m (sum_by g ys)) (take_all i xs past)
+
+pub sum_kept : {X : Type 0} (p : X → Bool) (g : X → ℕ) (xs : List X) → sum_by g (filter p xs) ≡ sum_by (λ x. if p x then g x else 0) xs
+sum_kept p g [] = refl
+sum_kept p g (x ∷ xs) = by (p x) ∙ ap (λ n. (if p x then g x else 0) + n) (sum_kept p g xs) ∙ sym (sum_by-cons (λ x. if p x then g x else 0) x xs)
+  where
+    by : (b : Bool) → sum_by g (if b then x ∷ filter p xs else filter p xs) ≡ (if b then g x else 0) + sum_by g (filter p xs)
+    by true = sum_by-cons g x (filter p xs)
+    by false = omega arith
+
+pub turned : (m a result : ℕ) → result ≡ min a m → result ≡ min m a
+turned m a result is = omega (arith, is)
+
+pub one_added : (m n before result : ℕ) → 1 ≤ m → before ≡ min m n → result ≡ min (before + 1) m → result ≡ min m (n + 1)
+one_added m n before result le so_far is = omega (arith, le, so_far, is)
+
+pub maps_more : {A B C D : Type 0} (f : C → D) (g : B → C) (h : A → B) (xs : List A) (i : ℕ) (x : A) → i < length xs → x ≡ get_or xs i x
+    → map f (map g (map h (take (i + 1) xs))) ≡ map f (map g (map h (take i xs))) ++ f (g (h x)) ∷ []
+maps_more f g h xs i x within at =
+    ap (λ l. map f (map g l)) (map_more h xs i x within ∙ ap (λ y. map h (take i xs) ++ h y ∷ []) (sym at)) ∙ ap (map f) (map-append g (map h (take i xs)) (h x ∷ []))
+    ∙ map-append f (map g (map h (take i xs))) (g (h x) ∷ [])

@@ -6,6 +6,8 @@ pub mod CalleeLemmas
 pub mod CauseDecisions
 pub mod CellCounts
 mod CellSums
+pub mod CellTotals
+pub mod ConstructCounts
 pub mod ContentTables
 pub mod Deciding
 pub mod DependenceWalks
@@ -16,6 +18,7 @@ pub mod Firsts
 pub mod FirstLoops
 pub mod FlatInvariants
 pub mod GivenDrives
+pub mod HierarchySums
 pub mod InstanceNames
 pub mod KnownNets
 pub mod LeftBits
@@ -34,9 +37,12 @@ pub mod ListedData
 pub mod ListedPlaces
 pub mod ListedSources
 pub mod LooseLists
+pub mod MarkLemmas
 pub mod ModuleCells
 pub mod ModulePlaces
+pub mod ModulesAt
 pub mod NamedTops
+pub mod NarrowNets
 pub mod NextStates
 pub mod Operators
 pub mod PartBits
@@ -45,8 +51,10 @@ pub mod RecursionLemmas
 pub mod RecursionLoops
 pub mod RecursiveNames
 pub mod RefusalLaws
+pub mod RegisterCounts
 pub mod ScopeLaws
 pub mod ScopePlacing
+pub mod SizeTotals
 pub mod SoundBits
 pub mod SoundConstructs
 pub mod SoundModules

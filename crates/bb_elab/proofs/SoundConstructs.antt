@@ -168,7 +168,7 @@ module _ (contents : Contents) (s : Scope) where
       written : (e : Expression) → IsTerminal s true e → MayBeDriven s 1 e
       written e h = record { assignable = not_false (is_assignable e) h.1; width = h.0 }
 
-  body_legal : (text : List PlainModule) (earlier : List Declaration) (body : PlainBody) → ((spot : Spot) → Contains (item_spots text earlier body) spot → IsSoundSpot text s spot)
+  pub body_legal : (text : List PlainModule) (earlier : List Declaration) (body : PlainBody) → ((spot : Spot) → Contains (item_spots text earlier body) spot → IsSoundSpot text s spot)
       → (c : Construct) → Contains (body_constructs text body) c → IsLegal contents s c
   body_legal text earlier (Ports port names) sound c has = absurd (none_in_nil c has)
   body_legal text earlier (Nets range nets) sound c has = let y = from_flat initial_construct nets c has in initial_fits y.0 c y.2

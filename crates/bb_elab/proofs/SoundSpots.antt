@@ -72,7 +72,7 @@ module _ (text : List PlainModule) (s : Scope) where
   no_instance Driven n bits h = or_second _ (is_instance s.source n) (not_told _ n h)
   no_instance Stored n bits h = or_second _ (is_instance s.source n) (not_told _ n h)
 
-  net_used : (how : Use) (n : List ℕ) (bits : Option (ℕ × ℕ)) → IsSoundSpot text s (Used how n bits) → Contains (net_names s.source) n
+  pub net_used : (how : Use) (n : List ℕ) (bits : Option (ℕ × ℕ)) → IsSoundSpot text s (Used how n bits) → Contains (net_names s.source) n
   net_used how n bits sound = known_net s.source n (not_false (is_known s.source n) (not_told (not (is_known s.source n)) n (sound (name_faults.Unknown, unknown) (1, omega arith, refl))))
       (no_instance how n bits (sound (name_faults.Role, wrong_role) (4, omega arith, refl)))
 

@@ -81,7 +81,7 @@ same_equal a b = (bytes_eq-Decides a b).0
 pub same_self : (a : List ℕ) → same_name a a ≡ true
 same_self a = (bytes_eq-Decides a a).1 refl
 
-both : (a b : Bool) → (a ≡ true → b ≡ true) → (b ≡ true → a ≡ true) → a ≡ b
+pub both : (a b : Bool) → (a ≡ true → b ≡ true) → (b ≡ true → a ≡ true) → a ≡ b
 both true b f g = sym (f refl)
 both false true f g = g refl
 both false false f g = refl

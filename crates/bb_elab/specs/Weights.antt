@@ -1,9 +1,10 @@
 -- No clause of a public call rests on this file: it says what functions inside the crate find.
 -- What a module adds to the size of a design, once for each scope of it: bits, and cells, construct by construct. Modules and
 -- their callees go by their places in the text.
-use Rattle.std.specs.Prelude.{ℕ, zero, suc, ◌+◌, ◌-◌, ◌≤◌, max, Bool, not, if◌then◌else◌, List, [], ◌∷◌, map, length, drop, sum_by, Option, Some, None, option_to_list, slice_get, All, IfSome, IsSomeAnd}
+use Rattle.std.specs.Prelude.{◌≡◌, ◌⊎◌, ℕ, zero, suc, ◌+◌, ◌-◌, ◌<◌, ◌≤◌, ◌&&◌, nat_le, nat_lt, max, Bool, false, not, if◌then◌else◌, List, [], ◌∷◌, map, length, drop, sum_by, Option, Some, None, option_to_list, slice_get, All, IfSome, IsSomeAnd}
 use Rattle.std.specs.List.{filter, flat_map, list_any, slice_index_or}
 use Rattle.bb_ast.specs.declared.module.Gate.{Gate}
+use Rattle.bb_ast.specs.declared.module.Range.{Range}
 use Rattle.bb_ast.specs.Gates.{output_count}
 use Rattle.bb_ast.specs.Syntax.{Expression, PlainBody, Nets, Assign, Gates, Calls, Always, PlainItem, PlainModule}
 use Rattle.bb_expr.specs.declared.net.NetInfo.{NetInfo}
@@ -13,13 +14,13 @@ use Rattle.bb_expr.specs.Declarations.{range_of}
 use Rattle.bb_expr.specs.Faults.{is_input, widest}
 use Rattle.bb_expr.specs.Fit.{HasNet, ranges_in}
 use Rattle.bb_expr.specs.Nets.{nets_of, is_empty}
-use Rattle.bb_expr.specs.Ranges.{range_width}
+use Rattle.bb_expr.specs.Ranges.{distance, range_width, place_of}
 use Rattle.bb_expr.specs.Shares.{own_cells}
 use Rattle.bb_expr.specs.Standing.{conns_expressions}
 use Rattle.bb_expr.specs.Widths.{Ranges, own_width}
 use Rattle.bb_elab.specs.GateFunctions.{inverts}
 use Rattle.bb_elab.specs.Hierarchy.{Scope}
-use Rattle.bb_elab.specs.NetBits.{Bit, same_bit, scope_bits, written_bits}
+use Rattle.bb_elab.specs.NetBits.{Bit, same_bit, bits_from, bits_named, scope_bits, written_bits}
 
 -- cells
 
@@ -76,6 +77,23 @@ any_scope m = record { path = []; source = m }
 
 abbrev pub stored_bits : PlainModule → List Bit
 stored_bits m = flat_map (λ item. stored_by (any_scope m) item.body) m.items
+
+-- whether the bit of a net at a place is among those from an index to another, or all of them
+abbrev pub is_among : Option Range → Option (ℕ × ℕ) → ℕ → Bool
+is_among range None p = nat_lt p (range_width range)
+is_among range (Some x) p = nat_le (place_of range x.0) p && nat_lt p (place_of range x.0 + (distance x.0 x.1 + 1))
+
+-- these bits of a net, or all of them
+abbrev pub named_bits : PlainModule → List ℕ → Option (ℕ × ℕ) → List Bit
+named_bits m n None = bits_named (any_scope m) n
+named_bits m n (Some x) = bits_from [] n (place_of (range_of m n) x.0) (distance x.0 x.1 + 1)
+
+-- the bits of nets, net by net, are marked where they are among these; a net of which none is marked may have no marks
+pub record AreMarks (nets : List NetInfo) (marks : List (List Bool)) (bits : List Bit) : Type 0 where
+  pub long : length marks ≡ length nets
+  pub whole : (k : ℕ) (net : NetInfo) → slice_get nets k ≡ Some net → (length (slice_index_or marks k []) ≡ 0) ⊎ (length (slice_index_or marks k []) ≡ range_width net.range)
+  pub marked : (k p : ℕ) (net : NetInfo) → slice_get nets k ≡ Some net → p < range_width net.range
+      → slice_index_or (slice_index_or marks k []) p false ≡ list_any (same_bit (record { path = []; net = net.name; place = p })) bits
 
 -- how many of its bits are stored to
 abbrev pub register_count : PlainModule → ℕ

@@ -11,7 +11,8 @@ ghost use Rattle.bb_expr.specs.Widths.{own_width};
 ghost use Rattle.bb_elab.specs.GateFunctions.{inverts};
 ghost use Rattle.bb_elab.specs.Weights.{assigned_cells, initial_cells, assignment_cells, inputs_of, inversions, gate_weight, item_cells, IsNarrowNet, AreNarrowNets};
 
-use bb_ast::{Body, Call, Conns, Expr, Gate, GateCall, Item, Range};
+use crate::register_bits::width_of;
+use bb_ast::{Body, Call, Conns, Expr, Gate, GateCall, Item};
 use bb_bits::Name;
 use bb_expr::laws::standing_is_fit;
 use bb_expr::{Checked, cells, own_width};
@@ -38,17 +39,6 @@ fn assigned_cells(checked: &Checked, place: u32, left: u32, right: &Expr) -> u64
     cells(checked, place, right, width)
 }
 
-// How many bits a net with this range has.
-fn range_width(range: Option<Range>) -> u32
-    requires few { range_width range ≤ 65536 }
-    ensures width { result ≡ range_width range }
-{
-    match range {
-        Some(range) => range.left.abs_diff(range.right) + 1,
-        None => 1,
-    }
-}
-
 // How many bits the net of that name has.
 fn net_width(checked: &Checked, place: u32, name: &Name) -> u32
     requires narrow { IsNarrowNet checked.now place name.now }
@@ -57,7 +47,7 @@ fn net_width(checked: &Checked, place: u32, name: &Name) -> u32
 {
     let scope = &checked.modules()[place as usize];
     let net = scope.index.get(name).copied().unwrap();
-    range_width(scope.nets[net as usize].range)
+    width_of(scope.nets[net as usize].range) as u32
 }
 
 // The cells of what is assigned to a wire where it is declared.

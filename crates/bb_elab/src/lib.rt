@@ -25,6 +25,8 @@ mod scopes;
 mod sketch;
 mod sources;
 mod step_cells;
+mod register_bits;
+mod size;
 mod stored;
 pub mod table_laws;
 mod top;
