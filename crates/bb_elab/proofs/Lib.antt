@@ -10,6 +10,8 @@ pub mod Deciding
 pub mod DependenceWalks
 pub mod DepthHeights
 pub mod DepthWalks
+pub mod DistinctBits
+pub mod DriverNumbers
 pub mod Enumerated
 pub mod Firsts
 pub mod GivenDrives

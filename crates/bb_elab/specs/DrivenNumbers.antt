@@ -47,6 +47,11 @@ abbrev pub IsInside : List Placed → Placed → Part → Type 0
 IsInside all p (part.Input instance pin value) = (instance < length p.children.items) × (slice_index_or p.children.items instance 0 < length all)
 IsInside all p part = Unit {0}
 
+-- the inputs of the top are there, among so many bits
+pub record MayCountInputs (outlines : List Outline) (bits : ℕ) (p : Placed) : Type 0 where
+  pub outlined : p.module < length outlines
+  pub numbers : All (λ k. k < bits) (input_numbers outlines p)
+
 -- what a scope drives is there, among so many bits
 pub record MayBeCounted (all : List Placed) (outlines : List Outline) (bits : ℕ) (p : Placed) : Type 0 where
   pub outlined : p.module < length outlines
