@@ -6,11 +6,12 @@ use Rattle.std.specs.List.{AllZip, enumerate_from, flat_map, slice_index_or}
 use Rattle.std.proofs.lemmas.Grind.{flat_map-append}
 use Rattle.std.proofs.lemmas.List.{map-append, length-map, length-drop}
 use Rattle.std.proofs.lemmas.List.Elements.{All-contains, All-cons, All-nil}
-use Rattle.std.proofs.lemmas.Option.{get_or_from_slice_get}
+use Rattle.std.proofs.lemmas.Option.{slice_get_read}
 use Rattle.bb_ast.specs.Syntax.{Expression, PlainModule}
 use Rattle.bb_expr.specs.Declarations.{range_of}
 use Rattle.bb_expr.specs.Faults.{IsSound}
 use Rattle.bb_expr.specs.Laws.{ValuesHaveWidth, MadeHasValue}
+use Rattle.bb_expr.specs.Nets.{nets_of}
 use Rattle.bb_expr.specs.Spots.{Pin, module_named}
 use Rattle.bb_expr.specs.Terms.{Term, bit_of}
 use Rattle.bb_expr.specs.Terms as term
@@ -33,7 +34,7 @@ use Rattle.bb_elab.proofs.CalledInstances.{there_at}
 use Rattle.bb_elab.proofs.CalleeLaw.{got}
 use Rattle.bb_elab.proofs.CauseDecisions.{all_from}
 use Rattle.bb_elab.proofs.RecursiveNames.{some_at}
-use Rattle.bb_elab.proofs.ScopePlacing.{some_same, zip_long, bits_around}
+use Rattle.bb_elab.proofs.ScopePlacing.{some_same, bits_long, bits_around}
 use Rattle.bb_elab.proofs.SoundConstructs.{sound_constructs_are_legal}
 use Rattle.bb_elab.proofs.SoundSpots.{source_there}
 use Rattle.bb_elab.proofs.TopLaws.{contains_here, contains_there, contains_cases, none_in_nil}
@@ -362,3 +363,41 @@ module _ (values : ValuesHaveWidth) (cells : MadeHasValue) (d : Design) (bounded
     pub scopes_there : All (MayBeCounted all outlines (length (net_order d))) all
     scopes_there = zip_all (AreNumbered all (scopes d)) (MayBeCounted all outlines (length (net_order d)))
         (λ p s z. let o = outlined z.0 s p z.2 z.1 in may_be_counted d all placed z.0 s p z.2 (placed.each z.0 s p z.2 z.1) outlines o.0 o.1 o.2) all (scopes d) (zip_numbered all (scopes d) placed.count)
+
+-- the last scope
+module _ (d : Design) (all : List Placed) (outlines : List Outline) (placed : ArePlaced d all) (outlined : AreOutlined d all outlines) where
+  abbrev last : ℕ
+  last = length all - 1
+
+  there : last < length all
+  there = omega (arith, placed.count)
+
+  scope_last : (s : Scope) × IsScopeAt d last s
+  scope_last = some_at (scopes d) last (omega (arith, placed.count))
+
+  module _ (p : Placed) (is_last : p ≡ get_or all last p) where
+    here : slice_get all last ≡ Some p
+    here = slice_get_read all (length all) last p refl there is_last
+
+    outline_last : (o : Outline) × (slice_get outlines p.module ≡ Some o) × IsOutline d.text scope_last.0.source o
+    outline_last = outlined last scope_last.0 p scope_last.1 here
+
+    pub last_outlined : p.module < length outlines
+    last_outlined = let o = outline_last in (got outlines p.module o.0 o.0 o.1).0
+
+    pub last_bits : (bits : ℕ) → ((o : Outline) → slice_get outlines p.module ≡ Some o → bits ≡ p.first + o.bits) → bits ≡ length (net_order d)
+    last_bits bits counted =
+        let s = scope_last.0 in
+        let is = placed.each last s p scope_last.1 here in
+        let o = outline_last in
+        let width : o.0.bits ≡ length (scope_bits s) = o.2.bits ∙ sym (bits_long s.path (nets_of s.source)) in
+        let none : drop (suc last) (scopes d) ≡ [] = drop_past (scopes d) (suc last) (omega (arith, placed.count)) in
+        let front = flat_map scope_bits (take last (scopes d)) in
+        let behind : length (scope_bits s ++ flat_map scope_bits (drop (suc last) (scopes d))) ≡ length (scope_bits s) = ap (λ l. length (scope_bits s ++ flat_map scope_bits l)) none ∙ ap length (append-nil (scope_bits s)) in
+        counted o.0 o.1 ∙ ap₂ ◌+◌ is.first width ∙ sym (ap length (bits_around d last s scope_last.1) ∙ length-append front (scope_bits s ++ flat_map scope_bits (drop (suc last) (scopes d))) ∙ ap (λ n. length front + n) behind)
+      where
+        drop_past : (xs : List Scope) (n : ℕ) → length xs ≤ n → drop n xs ≡ []
+        drop_past [] zero le = refl
+        drop_past [] (suc n) le = refl
+        drop_past (x ∷ xs) zero le = absurd (omega (arith, le))
+        drop_past (x ∷ xs) (suc n) le = drop_past xs n (omega (arith, le))

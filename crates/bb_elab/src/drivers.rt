@@ -4,6 +4,7 @@
 
 ghost use Rattle.std.specs.Prelude.{◌≡◌, ◌+◌, ◌<◌, ◌++◌, ◌∷◌, [], ℕ, List, All, Some, length, slice_get, IfOk};
 ghost use Rattle.std.specs.List.{flat_map};
+ghost use Rattle.bb_elab.specs.declared.outline.Outline.{Outline};
 ghost use Rattle.bb_elab.specs.declared.placed.Placed.{Placed};
 ghost use Rattle.bb_elab.specs.DrivenNumbers.{numbers_from, top_numbers, part_numbers, scope_numbers, driven_numbers, IsInside, MayCountInputs, MayBeCounted, IsTally};
 ghost use Rattle.bb_elab.specs.Hierarchy.{Design};
@@ -110,13 +111,20 @@ fn count_drivers(counts: &mut [u8], placed: &[Placed], outlines: &[Outline])
     count_scopes(counts, placed, outlines);
 }
 
+// How many bits a scope has together with those before it.
+fn bits_through(scope: &Placed, outlines: &[Outline]) -> usize
+    requires outlined { scope.now.module < length outlines.now }
+    ensures bits { (o : Outline) → slice_get outlines.now scope.now.module ≡ Some o → result ≡ scope.now.first + o.bits }
+{
+    scope.first as usize + outlines[scope.module].bits as usize
+}
+
 /// How many bits the scopes of a design have.
 pub(crate) fn bit_count(placed: &[Placed], outlines: &[Outline]) -> usize
     requires design { (d : Design) × ArePlaced d placed.now × AreOutlined d placed.now outlines.now }
     ensures bits { (d : Design) → ArePlaced d placed.now → AreOutlined d placed.now outlines.now → result ≡ length (net_order d) }
 {
-    let last = placed.len() - 1;
-    placed[last].first as usize + outlines[placed[last].module].bits as usize
+    bits_through(&placed[placed.len() - 1], outlines)
 }
 
 /// For each bit of a design how often it is driven, where 2 stands for more.
