@@ -6,6 +6,7 @@ pub mod CalleeLaw
 pub mod CalleeLemmas
 pub mod CauseDecisions
 pub mod ContentTables
+pub mod CountedDrivers
 pub mod Deciding
 pub mod DependenceWalks
 pub mod DepthHeights

@@ -2,15 +2,16 @@
 //!
 //! One pass over all constructs counts at the number of each bit that is driven there. More than two drivers are told as two.
 
-ghost use Rattle.std.specs.Prelude.{◌≡◌, ◌+◌, ◌<◌, ◌++◌, ◌∷◌, [], ℕ, List, All, Some, length, slice_get, IfOk};
+ghost use Rattle.std.specs.Prelude.{◌≡◌, ◌+◌, ◌<◌, ◌++◌, ◌∷◌, [], ℕ, List, All, Some, length, slice_get, IfNone, IfOk, IfSome};
 ghost use Rattle.std.specs.List.{flat_map};
 ghost use Rattle.bb_elab.specs.declared.outline.Outline.{Outline};
 ghost use Rattle.bb_elab.specs.declared.placed.Placed.{Placed};
-ghost use Rattle.bb_elab.specs.DrivenNumbers.{numbers_from, top_numbers, part_numbers, scope_numbers, driven_numbers, IsInside, MayCountInputs, MayBeCounted, IsTally};
+ghost use Rattle.bb_elab.specs.DrivenNumbers.{numbers_from, top_numbers, part_numbers, scope_numbers, driven_numbers, IsInside, MayCountInputs, MayBeCounted, IsTally, IsFirstAt};
 ghost use Rattle.bb_elab.specs.Hierarchy.{Design};
 ghost use Rattle.bb_elab.specs.ListLaws.{IsBounded};
 ghost use Rattle.bb_elab.specs.NetBits.{net_order};
 ghost use Rattle.bb_elab.specs.Placements.{ArePlaced, AreOutlined, AreCounts};
+ghost use Rattle.bb_elab.specs.Refusals.{AreDrivenOnce, IsDrivenTwice};
 
 use crate::outline::{Outline, Part};
 use crate::placed::Placed;
@@ -142,4 +143,17 @@ pub(crate) fn driver_counts(
     let mut counts = vec![in alloc; 0u8; bit_count(placed, outlines)]?;
     count_drivers(&mut counts, placed, outlines);
     Ok(counts)
+}
+
+/// The number of the first bit that is driven twice, if there is one.
+pub(crate) fn first_driven_twice(counts: &[u8]) -> Option<usize>
+    ensures some { IfSome result (λ k. (d : Design) → AreCounts d counts.now → IsFirstAt d (IsDrivenTwice d) k) }
+    ensures none { IfNone result ((d : Design) → IsBounded d → AreCounts d counts.now → AreDrivenOnce d) }
+{
+    for k in 0..counts.len() {
+        if counts[k] >= 2 {
+            return Some(k);
+        }
+    }
+    None
 }
