@@ -48,6 +48,7 @@ pub mod SoundNames
 pub mod SoundRefusals
 pub mod SoundSpots
 pub mod StandingNets
+pub mod StoredNotes
 pub mod Tallies
 pub mod TermNets
 pub mod TextLaws

@@ -60,7 +60,7 @@ none_counted counts n is k lt = ap (λ l. get_or l k 0) is ∙ zeros n k
     zeros (suc n) zero = refl
     zeros (suc n) (suc k) = zeros n k
 
-not_same : (n k : ℕ) → n ≡ k → (n == k) ≡ false → ⊥
+pub not_same : (n k : ℕ) → n ≡ k → (n == k) ≡ false → ⊥
 not_same n k same e = grind (arith, nat_tests, same, e)
 
 -- bits that stand at one place each are counted at their numbers
