@@ -158,7 +158,7 @@ zip_flat all R f g each [] (y ∷ ys) zipped = absurd zipped
 zip_flat all R f g each (x ∷ xs) [] zipped = absurd zipped
 zip_flat all R f g each (x ∷ xs) (y ∷ ys) zipped = at_append all (f x) (flat_map f xs) (g y) (flat_map g ys) (each x y zipped.0) (zip_flat all R f g each xs ys zipped.1)
 
-zip_all : {A B : Type 0} (R : A → B → Type 0) (P : A → Type 0) → ((x : A) (y : B) → R x y → P x) → (xs : List A) (ys : List B) → AllZip R xs ys → All P xs
+pub zip_all : {A B : Type 0} (R : A → B → Type 0) (P : A → Type 0) → ((x : A) (y : B) → R x y → P x) → (xs : List A) (ys : List B) → AllZip R xs ys → All P xs
 zip_all R P each [] [] zipped = All-nil P
 zip_all R P each [] (y ∷ ys) zipped = absurd zipped
 zip_all R P each (x ∷ xs) [] zipped = absurd zipped
@@ -171,7 +171,7 @@ zip_other R (x ∷ xs) [] k y zipped at = absurd zipped
 zip_other R (x ∷ xs) (z ∷ ys) zero y zipped at = (x, refl, subst (R x) (some_same z y at) zipped.0)
 zip_other R (x ∷ xs) (z ∷ ys) (suc k) y zipped at = zip_other R xs ys k y zipped.1 at
 
-zip_by : {A B : Type 0} (R : A → B → Type 0) (xs : List A) (ys : List B) → length xs ≡ length ys → ((k : ℕ) (x : A) (y : B) → slice_get xs k ≡ Some x → slice_get ys k ≡ Some y → R x y) → AllZip R xs ys
+pub zip_by : {A B : Type 0} (R : A → B → Type 0) (xs : List A) (ys : List B) → length xs ≡ length ys → ((k : ℕ) (x : A) (y : B) → slice_get xs k ≡ Some x → slice_get ys k ≡ Some y → R x y) → AllZip R xs ys
 zip_by R [] [] long each = tt
 zip_by R [] (y ∷ ys) long each = absurd (omega (arith, long))
 zip_by R (x ∷ xs) [] long each = absurd (omega (arith, long))

@@ -39,6 +39,7 @@ pub mod RecursionLemmas
 pub mod RecursionLoops
 pub mod RecursiveNames
 pub mod RefusalLaws
+pub mod RegisterNumbers
 pub mod ScopeLaws
 pub mod ScopePlacing
 pub mod SoundBits

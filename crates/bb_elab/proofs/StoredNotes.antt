@@ -1,12 +1,12 @@
 -- Register bits noted at their numbers, one after another.
 use Rattle.std.proofs.Common.{◌≡◌, ◌≢◌, ◌⊎◌, ◌+◌, ◌<◌, ◌≤◌, ◌++◌, ℕ, zero, suc, Bool, true, false, if◌then◌else◌, List, [], ◌∷◌, map, length, take, drop, get_or, All, Option, Some, None, refl, sym, ap, ◌∙◌, subst, inl, inr, arith, append-nil, append_assoc, true≢false}
-use Rattle.std.specs.Prelude.{◌==◌, replicate, slice_get, is_none}
+use Rattle.std.specs.Prelude.{◌==◌, replicate, slice_get, is_some}
 use Rattle.std.specs.List.{find, filter_map, cons_option, flat_map, AllZip, slice_set}
 use Rattle.std.proofs.lemmas.Bool.Decides.{nat_tests}
-use Rattle.std.proofs.lemmas.List.{get_or-set_same, get_or-set_other, length-set, get_or_default, take_all}
+use Rattle.std.proofs.lemmas.List.{get_or-set_same, get_or-set_other, length-set, length-map, get_or-map, get_or_default}
 use Rattle.std.proofs.lemmas.List.Elements.{filter_map-append}
 use Rattle.bb_elab.specs.declared.stored.Stored.{Stored}
-use Rattle.bb_elab.specs.StoredNumbers.{AreNotes}
+use Rattle.bb_elab.specs.StoredNumbers.{stored_from, IsStorable, AreNotes}
 use Rattle.bb_elab.proofs.ListSteps.{front_more}
 use Rattle.bb_elab.proofs.Tallies.{not_same}
 
@@ -78,12 +78,13 @@ module _ (all : List Stored) (notes : List (Option Stored)) (x : Stored) (there 
       by (inl same) = subst (λ j. get_or notes j None ≡ find (at j) (all ++ x ∷ [])) same here
       by (inr other) = kept k other lt
 
-pub noted_or_not : (all : List Stored) (notes : List (Option Stored)) (x : Stored) (d : Option Stored) → x.bit < length notes → AreNotes all notes → (is_none (get_or notes x.bit d) ≡ true → AreNotes (all ++ x ∷ []) (slice_set notes x.bit (Some x))) × (is_none (get_or notes x.bit d) ≡ false → AreNotes (all ++ x ∷ []) notes)
-noted_or_not all notes x d there noted = by (get_or notes x.bit d) (get_or_default notes x.bit None d there)
+pub noted_or_not : (all : List Stored) (notes : List (Option Stored)) (x : Stored) → x.bit < length notes → AreNotes all notes
+    → (is_some (get_or notes x.bit None) ≡ false → AreNotes (all ++ x ∷ []) (slice_set notes x.bit (Some x))) × (is_some (get_or notes x.bit None) ≡ true → AreNotes (all ++ x ∷ []) notes)
+noted_or_not all notes x there noted = by (get_or notes x.bit None) refl
   where
-    by : (o : Option Stored) → get_or notes x.bit None ≡ o → (is_none o ≡ true → AreNotes (all ++ x ∷ []) (slice_set notes x.bit (Some x))) × (is_none o ≡ false → AreNotes (all ++ x ∷ []) notes)
-    by None e = ((λ _. noted_first all notes x there noted e), (λ f. absurd (true≢false f)))
-    by (Some y) e = ((λ f. absurd (true≢false (sym f))), (λ _. noted_before all notes x there noted y e))
+    by : (o : Option Stored) → get_or notes x.bit None ≡ o → (is_some o ≡ false → AreNotes (all ++ x ∷ []) (slice_set notes x.bit (Some x))) × (is_some o ≡ true → AreNotes (all ++ x ∷ []) notes)
+    by None e = ((λ _. noted_first all notes x there noted e), (λ f. absurd (true≢false (sym f))))
+    by (Some y) e = ((λ f. absurd (true≢false f)), (λ _. noted_before all notes x there noted y e))
 
 -- these have been noted besides
 abbrev pub NotesMore : List (Option Stored) → List (Option Stored) → List Stored → Type 0
@@ -96,9 +97,10 @@ notes_more a b c xs ys zs first second same all was =
 pub notes_whole : {A : Type 0} (f : List A → List Stored) (xs : List A) (k : ℕ) (a b : List (Option Stored)) → take k xs ≡ xs → NotesMore a b (f (take k xs)) → NotesMore a b (f xs)
 notes_whole f xs k a b all noted = subst (λ l. NotesMore a b (f l)) all noted
 
-pub kept_more : {A B : Type 0} (h : A → Option B) (xs : List A) (k : ℕ) (x : A) (before now : List B) → k < length xs → x ≡ get_or xs k x → before ≡ filter_map h (take k xs) → now ≡ before ++ cons_option (h x) [] → now ≡ filter_map h (take (k + 1) xs)
-kept_more h xs k x before now lt at was is =
-    is ∙ ap (λ l. l ++ cons_option (h x) []) was ∙ sym (filter_map-append h (take k xs) (x ∷ [])) ∙ ap (filter_map h) (sym (front_more xs k x lt at))
+pub kept_more : {A B : Type 0} (h : A → Option B) (xs : List A) (k : ℕ) (x d : A) (before now : List B) → k < length xs → get_or xs k d ≡ x → before ≡ filter_map h (take k xs) → now ≡ before ++ cons_option (h x) []
+    → now ≡ filter_map h (take (k + 1) xs)
+kept_more h xs k x d before now lt at was is =
+    is ∙ ap (λ l. l ++ cons_option (h x) []) was ∙ sym (filter_map-append h (take k xs) (x ∷ [])) ∙ ap (filter_map h) (sym (front_more xs k x lt (sym at ∙ get_or_default xs k d x lt)))
 
 pub no_notes_are : (notes : List (Option Stored)) (n : ℕ) → notes ≡ replicate n None → AreNotes [] notes
 no_notes_are notes n is k lt = ap (λ l. get_or l k None) is ∙ none n k
@@ -107,3 +109,12 @@ no_notes_are notes n is k lt = ap (λ l. get_or l k None) is ∙ none n k
     none zero k = refl
     none (suc n) zero = refl
     none (suc n) (suc k) = none n k
+
+-- the register bit made of one bit is there
+pub storable_at : (n first : ℕ) (left : List ℕ) (clock : ℕ) (falling : Bool) (k : ℕ) → k < length left → All (IsStorable n) (stored_from first left clock falling) → (first + get_or left k 0 < n) × (first + clock < n)
+storable_at n first left clock falling k lt all =
+    let f : ℕ → Stored = λ x. (record { bit = first + x; clock = first + clock; falling = falling }) in
+    storable_is n (get_or (map f left) k (f 0)) (f (get_or left k 0)) (get_or-map f left k 0 (f 0) lt) (all k (f 0) (omega (arith, lt, length-map left f)))
+  where
+    storable_is : (n : ℕ) (x y : Stored) → x ≡ y → IsStorable n x → IsStorable n y
+    storable_is n x y same at = subst (IsStorable n) same at

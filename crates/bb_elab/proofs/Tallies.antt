@@ -42,15 +42,15 @@ module _ {A : Type 0} (xs : List A) (k : ℕ) (x : A) (lt : k < length xs) (at :
   pub all_of_one : {B : Type 0} (P : B → Type 0) (f : A → List B) → All P (flat_map f xs) → All P (f x)
   all_of_one P f all = all_from P (f x) (λ y has. All-contains P (flat_map f xs) y all (into_flat f xs x y (item_there xs k x lt at) has))
 
+drop_past : {A : Type 0} (xs : List A) (k : ℕ) → length xs ≤ k → drop k xs ≡ []
+drop_past [] zero le = refl
+drop_past [] (suc k) le = refl
+drop_past (x ∷ xs) zero le = absurd (omega (arith, le))
+drop_past (x ∷ xs) (suc k) le = drop_past xs k (omega (arith, le))
+
 -- what has been written stands there
-pub written_back : (n : ℕ) (old new : List ℕ) → length new ≡ length old → n ≡ length old → take n (new ++ drop (length new) old) ≡ new
-written_back n old new long is = ap (λ l. take n (new ++ l)) (past old (length new) (omega (arith, long))) ∙ ap (take n) (append-nil new) ∙ take_all n new (omega (arith, long, is))
-  where
-    past : (xs : List ℕ) (k : ℕ) → length xs ≤ k → drop k xs ≡ []
-    past [] zero le = refl
-    past [] (suc k) le = refl
-    past (x ∷ xs) zero le = absurd (omega (arith, le))
-    past (x ∷ xs) (suc k) le = past xs k (omega (arith, le))
+pub written_back : {A : Type 0} (n : ℕ) (old new : List A) → length new ≡ length old → n ≡ length old → take n (new ++ drop (length new) old) ≡ new
+written_back n old new long is = ap (λ l. take n (new ++ l)) (drop_past old (length new) (omega (arith, long))) ∙ ap (take n) (append-nil new) ∙ take_all n new (omega (arith, long, is))
 
 pub none_counted : (counts : List ℕ) (n : ℕ) → counts ≡ replicate n 0 → IsTally [] counts
 none_counted counts n is k lt = ap (λ l. get_or l k 0) is ∙ zeros n k
@@ -65,7 +65,7 @@ not_same n k same e = grind (arith, nat_tests, same, e)
 
 -- bits that stand at one place each are counted at their numbers
 module _ (all : List Bit) (distinct : IsDistinct all) where
-  test_same : (k n : ℕ) (b x : Bit) → slice_get all k ≡ Some b → slice_get all n ≡ Some x → (n == k) ≡ same_bit b x
+  pub test_same : (k n : ℕ) (b x : Bit) → slice_get all k ≡ Some b → slice_get all n ≡ Some x → (n == k) ≡ same_bit b x
   test_same k n b x at here = by (n == k) refl (same_bit b x) refl
     where
       by : (t : Bool) → (n == k) ≡ t → (u : Bool) → same_bit b x ≡ u → (n == k) ≡ same_bit b x
