@@ -9,10 +9,13 @@ mod CellSums
 pub mod CellTotals
 pub mod ConstructCounts
 pub mod ContentTables
+pub mod CountedDrivers
 pub mod Deciding
 pub mod DependenceWalks
 pub mod DepthHeights
 pub mod DepthWalks
+pub mod DistinctBits
+pub mod DriverNumbers
 pub mod Enumerated
 pub mod Firsts
 pub mod FirstLoops
@@ -52,6 +55,7 @@ pub mod RecursionLoops
 pub mod RecursiveNames
 pub mod RefusalLaws
 pub mod RegisterCounts
+pub mod RegisterNumbers
 pub mod ScopeLaws
 pub mod ScopePlacing
 pub mod SizeTotals
@@ -62,6 +66,7 @@ pub mod SoundNames
 pub mod SoundRefusals
 pub mod SoundSpots
 pub mod StandingNets
+pub mod StoredNotes
 pub mod Tallies
 pub mod TermNets
 pub mod TextLaws

@@ -101,16 +101,16 @@ less_or_same (suc n) (suc k) = by (less_or_same n k)
     by (inl lt) = inl (omega (arith, lt))
     by (inr le) = inr (omega (arith, le))
 
-some_same : {A : Type 0} (x y : A) → Some x ≡ Some y → x ≡ y
+pub some_same : {A : Type 0} (x y : A) → Some x ≡ Some y → x ≡ y
 some_same x y e = grind (arith, e)
 
-zip_at : {A B : Type 0} (R : A → B → Type 0) (xs : List A) (ys : List B) (k : ℕ) (x : A) (y : B) → AllZip R xs ys → slice_get xs k ≡ Some x → slice_get ys k ≡ Some y → R x y
+pub zip_at : {A B : Type 0} (R : A → B → Type 0) (xs : List A) (ys : List B) (k : ℕ) (x : A) (y : B) → AllZip R xs ys → slice_get xs k ≡ Some x → slice_get ys k ≡ Some y → R x y
 zip_at R [] ys k x y all e f = cc
 zip_at R (a ∷ xs) [] k x y all e f = cc
 zip_at R (a ∷ xs) (b ∷ ys) zero x y all e f = subst (R x) (some_same b y f) (subst (λ z. R z b) (some_same a x e) all.0)
 zip_at R (a ∷ xs) (b ∷ ys) (suc k) x y all e f = zip_at R xs ys k x y all.1 e f
 
-zip_long : {A B : Type 0} (R : A → B → Type 0) (xs : List A) (ys : List B) → AllZip R xs ys → length xs ≡ length ys
+pub zip_long : {A B : Type 0} (R : A → B → Type 0) (xs : List A) (ys : List B) → AllZip R xs ys → length xs ≡ length ys
 zip_long R [] [] all = refl
 zip_long R [] (y ∷ ys) all = absurd all
 zip_long R (x ∷ xs) [] all = absurd all
@@ -118,7 +118,7 @@ zip_long R (x ∷ xs) (y ∷ ys) all = ap suc (zip_long R xs ys all.1)
 
 -- bits of scopes
 
-bits_long : (path : Path) (nets : List NetInfo) → length (flat_map (bits_of_net path) nets) ≡ sum_by (λ net. range_width net.range) nets
+pub bits_long : (path : Path) (nets : List NetInfo) → length (flat_map (bits_of_net path) nets) ≡ sum_by (λ net. range_width net.range) nets
 bits_long path nets = length-flat_map (bits_of_net path) nets ∙ same nets
   where
     one : (net : NetInfo) → length (bits_of_net path net) ≡ range_width net.range
@@ -133,11 +133,13 @@ bits_after d n s at =
     ap (λ l. length (flat_map scope_bits l)) (take_at (scopes d) n s at) ∙ ap length (flat_map-append scope_bits (take n (scopes d)) (s ∷ [])) ∙ length-append (flat_map scope_bits (take n (scopes d))) (flat_map scope_bits (s ∷ []))
     ∙ ap (λ l. bits_before d n + length l) (append-nil (scope_bits s))
 
+-- the bits of a scope among all
+pub bits_around : (d : Design) (n : ℕ) (s : Scope) → IsScopeAt d n s → net_order d ≡ flat_map scope_bits (take n (scopes d)) ++ (scope_bits s ++ flat_map scope_bits (drop (suc n) (scopes d)))
+bits_around d n s at = ap (flat_map scope_bits) (split (scopes d) n s at) ∙ flat_map-append scope_bits (take n (scopes d)) (s ∷ drop (suc n) (scopes d))
+
 bits_fit : (d : Design) (n : ℕ) (s : Scope) → IsScopeAt d n s → bits_before d n + length (scope_bits s) ≤ length (net_order d)
 bits_fit d n s at =
-    let parts : net_order d ≡ flat_map scope_bits (take n (scopes d)) ++ (scope_bits s ++ flat_map scope_bits (drop (suc n) (scopes d))) =
-    ap (flat_map scope_bits) (split (scopes d) n s at) ∙ flat_map-append scope_bits (take n (scopes d)) (s ∷ drop (suc n) (scopes d)) in
-    omega (arith, ap length parts, length-append (flat_map scope_bits (take n (scopes d))) (scope_bits s ++ flat_map scope_bits (drop (suc n) (scopes d))), length-append (scope_bits s) (flat_map scope_bits (drop (suc n) (scopes d))))
+    omega (arith, ap length (bits_around d n s at), length-append (flat_map scope_bits (take n (scopes d))) (scope_bits s ++ flat_map scope_bits (drop (suc n) (scopes d))), length-append (scope_bits s) (flat_map scope_bits (drop (suc n) (scopes d))))
 
 cut_off : (a b : ℕ) → a ≤ b → min a b ≡ a
 cut_off a b le = omega arith

@@ -8,6 +8,9 @@ use Rattle.bb_elab.specs.declared.outline.Part.{Part}
 use Rattle.bb_elab.specs.declared.outline.Part.TheVariants as part
 use Rattle.bb_elab.specs.declared.outline.Outline.{Outline}
 use Rattle.bb_elab.specs.declared.placed.Placed.{Placed}
+use Rattle.bb_elab.specs.Closures.{IsFirst}
+use Rattle.bb_elab.specs.Hierarchy.{Design}
+use Rattle.bb_elab.specs.NetBits.{Bit, net_order}
 
 -- the numbers of bits of a scope in the design, where its first has this number
 abbrev pub numbers_from : ℕ → List ℕ → List ℕ
@@ -47,6 +50,11 @@ abbrev pub IsInside : List Placed → Placed → Part → Type 0
 IsInside all p (part.Input instance pin value) = (instance < length p.children.items) × (slice_index_or p.children.items instance 0 < length all)
 IsInside all p part = Unit {0}
 
+-- the inputs of the top are there, among so many bits
+pub record MayCountInputs (outlines : List Outline) (bits : ℕ) (p : Placed) : Type 0 where
+  pub outlined : p.module < length outlines
+  pub numbers : All (λ k. k < bits) (input_numbers outlines p)
+
 -- what a scope drives is there, among so many bits
 pub record MayBeCounted (all : List Placed) (outlines : List Outline) (bits : ℕ) (p : Placed) : Type 0 where
   pub outlined : p.module < length outlines
@@ -60,3 +68,7 @@ times k numbers = length (filter (λ n. n == k) numbers)
 -- for each number how often it stands in a list, where 2 stands for more
 abbrev pub IsTally : List ℕ → List ℕ → Type 0
 IsTally numbers counts = (k : ℕ) → k < length counts → slice_index_or counts k 0 ≡ min 2 (times k numbers)
+
+-- the bit with a number is the first in net order of which it holds
+abbrev pub IsFirstAt : Design → (Bit → Type 0) → ℕ → Type 0
+IsFirstAt d P k = (b : Bit) × (slice_get (net_order d) k ≡ Some b) × IsFirst P (net_order d) b

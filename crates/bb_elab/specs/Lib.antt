@@ -5,6 +5,7 @@ pub mod Outlines
 pub mod Outlining
 pub mod Placements
 pub mod DrivenNumbers
+pub mod StoredNumbers
 pub mod Sketches
 pub mod Placings
 pub mod Listing

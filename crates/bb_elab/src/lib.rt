@@ -21,6 +21,7 @@ mod outline;
 mod part_cells;
 mod placed;
 mod recursion;
+mod registers;
 mod scopes;
 mod sketch;
 mod sources;
