@@ -1,6 +1,7 @@
 //! Elaboration: the hierarchy of a checked source as one flat netlist with named inputs, registers, outputs and boxes.
 #![tactic(auto)]
 
+mod assigning;
 mod callees;
 mod depth;
 mod elaborating;
@@ -8,6 +9,7 @@ mod expression_steps;
 mod fault;
 mod flat;
 pub mod laws;
+mod gating;
 mod left_bits;
 pub mod list_laws;
 pub mod loop_laws;
