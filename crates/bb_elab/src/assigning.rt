@@ -35,7 +35,13 @@ fn assignment(
     standing_is_fit();
     let scope = scope_at(checked, module);
     let bits = left_bits(alloc, scope, starts, left)?;
-    let right = steps_beside(alloc, checked, module, right, own_width(checked, module, left))?;
+    let right = steps_beside(
+        alloc,
+        checked,
+        module,
+        right,
+        own_width(checked, module, left),
+    )?;
     Ok(Part::Assignment { left: bits, right })
 }
 

@@ -23,4 +23,3 @@ pub loop-term-preserved : goal.loop-term-preserved
 loop-term-preserved c =
     zip_next (λ (l : Lowered) (e : Expression). IsMadeIn (module_in c.args.checked.now c.args.module) l e (λ s. width_of s e)) expression c.args.terms.now c.loop-term.term-index c.term-item.result c.loop-term-test.true c.term-item.is []
     c.loop-term.ins.items c.push.new.self.items c.in_ok-steps_alone.field-0 c.loop-term.invariant c.in_ok-steps_alone.ensures.made c.in_ok-push.ensures.items
-
