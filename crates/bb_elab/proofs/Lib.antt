@@ -5,6 +5,7 @@ pub mod CalledInstances
 pub mod CalleeLaw
 pub mod CalleeLemmas
 pub mod CauseDecisions
+pub mod Connections
 pub mod ContentTables
 pub mod Deciding
 pub mod DependenceWalks
@@ -33,6 +34,7 @@ pub mod NetNumbers
 pub mod NextStates
 pub mod Operators
 pub mod PartBits
+pub mod PortNets
 pub mod ReadingLaw
 pub mod RecursionLemmas
 pub mod RecursionLoops

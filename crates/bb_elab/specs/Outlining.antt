@@ -78,3 +78,14 @@ IsPartAt checked k = IsPartOf (map syntax checked) (module_in checked k)
 pub record IsModest (text : List PlainModule) (m : PlainModule) : Type 0 where
   pub bits : bit_count (nets_of m) ≤ 1000000
   pub cells : (c : Construct) → Contains (module_constructs text m) c → length (cells_at (scope_of m, c)) ≤ 2000000
+
+-- the module at a place is there, and the numbers of the first bits of its nets are kept at that place
+pub record IsStarted (checked : List ModuleFacts) (starts : List (List ℕ)) (k : ℕ) : Type 0 where
+  pub there : k < length checked
+  pub kept : k < length starts
+  pub each : AreStarts (nets_of (module_in checked k)) (slice_index_or starts k [])
+
+-- the instance with a number in the module at a place is one of the module at another place
+pub record IsCallAt (checked : List ModuleFacts) (k instance target : ℕ) (called : Instance) : Type 0 where
+  pub there : slice_get (instances_of (module_in checked k)) instance ≡ Some called
+  pub meant : module_named (map syntax checked) called.target ≡ Some (module_in checked target)

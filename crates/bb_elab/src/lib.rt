@@ -3,6 +3,7 @@
 
 mod assigning;
 mod callees;
+mod connecting;
 mod depth;
 mod elaborating;
 mod expression_steps;

@@ -27,9 +27,6 @@ scope_at-requires c =
 pub net_bits-requires-clause-has : goal.net_bits-requires-clause-has
 net_bits-requires-clause-has c = (fits c).right
 
-pub net_bits-requires-clause-bounded : goal.net_bits-requires-clause-bounded
-net_bits-requires-clause-bounded c = (fits c).bounded
-
 pub loop-name-init : goal.loop-name-init
 loop-name-init c = λ before all. zip_begin (IsPartAt c.args.checked.now c.args.module) before c.args.parts.now.items all
 
