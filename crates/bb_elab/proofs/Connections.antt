@@ -1,15 +1,16 @@
 -- What is connected to a port of an instance, as a part of a module.
-use Rattle.std.proofs.Common.{◌≡◌, ℕ, List, [], ◌∷◌, map, Some, refl, sym, ap, ◌∙◌, subst, if◌then◌else◌, Vec, Global}
-use Rattle.std.specs.Prelude.{option_map}
+use Rattle.std.proofs.Common.{◌≡◌, ℕ, List, [], ◌∷◌, map, Some, None, refl, sym, ap, ◌∙◌, subst, if◌then◌else◌, Vec, Global}
+use Rattle.std.specs.Prelude.{option_map, slice_get}
 use Rattle.std.specs.List.{AllZip}
+use Rattle.std.specs.Option.{option_and_then}
 use Rattle.bb_ast.specs.declared.module.Dir.{Dir}
 use Rattle.bb_ast.specs.declared.module.Dir.TheVariants as dirs
-use Rattle.bb_ast.specs.Syntax.{Expression, PlainModule}
+use Rattle.bb_ast.specs.Syntax.{Expression, PlainHead, PlainModule}
 use Rattle.bb_expr.specs.Checked.{ModuleFacts, syntax}
 use Rattle.bb_expr.specs.Declarations.{range_of, port_direction}
 use Rattle.bb_expr.specs.Faults.{is_input}
 use Rattle.bb_expr.specs.Ranges.{range_width}
-use Rattle.bb_expr.specs.Spots.{Pin, pin_named}
+use Rattle.bb_expr.specs.Spots.{Pin, pin_named, pin_at}
 use Rattle.bb_expr.specs.declared.step.Lowered.{Lowered}
 use Rattle.bb_elab.specs.declared.outline.Part.{Part}
 use Rattle.bb_elab.specs.declared.outline.Part.TheVariants as part
@@ -45,3 +46,10 @@ module _ (checked : List ModuleFacts) (k instance target : ℕ) (called : Instan
   pub output_part : (left : Vec ℕ Global) → port_direction (module_in checked target) port ≡ Some dirs.Output → AreBitsIn (module_in checked k) left.items (λ s. written_bits s e)
       → AllZip (IsPartAt checked k) (part.Output instance pin left ∷ []) (connection called.name (pin_named (module_in checked target) port) (Some e))
   output_part left direction written = stands_for checked k (module_in checked target) called.name port dirs.Output e (part.Output instance pin left) direction (pin_in checked k instance target called is port dirs.Output pin.items bits, written)
+
+-- the port at a place of the header
+pub pin-at : (m : PlainModule) (k : ℕ) (head : PlainHead) → slice_get m.heads k ≡ Some head → pin_at m k ≡ pin_named m head.name
+pin-at m k head is = ap (option_and_then (λ (h : PlainHead). pin_named m h.name)) is
+
+pub pin-past : (m : PlainModule) (k : ℕ) → slice_get m.heads k ≡ None → pin_at m k ≡ None
+pin-past m k is = ap (option_and_then (λ (h : PlainHead). pin_named m h.name)) is

@@ -1,11 +1,15 @@
 -- Loops over lists that are seen as other lists: one more element.
-use Rattle.std.proofs.Common.{◌≡◌, ℕ, zero, suc, ◌+◌, ◌<◌, ◌≤◌, List, [], ◌∷◌, ◌++◌, map, length, take, get_or, refl, sym, ap, ◌∙◌, subst, arith, append-nil, append_assoc}
+use Rattle.std.proofs.Common.{◌≡◌, ℕ, zero, suc, ◌+◌, ◌<◌, ◌≤◌, List, [], ◌∷◌, ◌++◌, map, Contains, length, take, get_or, refl, sym, ap, ◌∙◌, subst, arith, append-nil, append_assoc}
 use Rattle.std.specs.Prelude.{All}
-use Rattle.std.specs.List.{AllZip, flat_map}
+use Rattle.std.specs.List.{AllZip, enumerate_from, flat_map}
 use Rattle.std.proofs.lemmas.Grind.{flat_map-append}
-use Rattle.std.proofs.lemmas.List.{map-append, length-map, take_all}
+use Rattle.std.proofs.lemmas.List.{map-append, length-map, length-take, take_all}
+use Rattle.std.proofs.lemmas.List.Elements.{All-contains}
 use Rattle.std.proofs.lemmas.Option.{slice_get_read, get_or_from_slice_get}
+use Rattle.bb_elab.proofs.CalledInstances.{there_at}
 use Rattle.bb_elab.proofs.CalleeLaw.{got-map}
+use Rattle.bb_elab.proofs.CauseDecisions.{all_from}
+use Rattle.bb_elab.proofs.ReadingLaw.{into_flat}
 
 -- the element itself
 pub all_here : {A B : Type 0} (P : B → Type 0) (v : A → B) (xs : List A) (i : ℕ) (x : A) → i < length xs → x ≡ get_or xs i x → All P (map v xs) → P (v x)
@@ -59,3 +63,30 @@ zip_next R v xs i x lt is before old now p earlier here more =
     subst (λ l. AllZip R l (before ++ map v (take (i + 1) xs))) (sym more)
     (subst (AllZip R (old ++ p ∷ [])) (append_assoc before (map v (take i xs)) (v x ∷ []) ∙ ap (λ l. before ++ l) (sym (taken-more v xs i x lt is)))
     (zip_both R old (before ++ map v (take i xs)) (p ∷ []) (v x ∷ []) earlier (here, tt)))
+
+-- what holds of all holds of what one gives
+pub all_flat : {A B : Type 0} (P : B → Type 0) (g : A → List B) (xs : List A) (x : A) → Contains xs x → All P (flat_map g xs) → All P (g x)
+all_flat P g xs x has all = all_from P (g x) (λ y here. All-contains P (flat_map g xs) y all (into_flat g xs x y has here))
+
+numbered-push : {A : Type 0} (s : ℕ) (xs : List A) (x : A) → enumerate_from s (xs ++ x ∷ []) ≡ enumerate_from s xs ++ (s + length xs, x) ∷ []
+numbered-push s [] x = ap (λ k. (k, x) ∷ []) (omega arith)
+numbered-push s (y ∷ ys) x = ap (λ l. (s, y) ∷ l) (numbered-push (s + 1) ys x ∙ ap (λ k. enumerate_from (s + 1) ys ++ (k, x) ∷ []) (omega arith))
+
+pub numbered-more : {A B : Type 0} (v : A → B) (xs : List A) (i : ℕ) (x : A) → i < length xs → x ≡ get_or xs i x → enumerate_from 0 (map v (take (i + 1) xs)) ≡ enumerate_from 0 (map v (take i xs)) ++ (i, v x) ∷ []
+numbered-more v xs i x lt is =
+    ap (enumerate_from 0) (taken-more v xs i x lt is) ∙ numbered-push 0 (map v (take i xs)) (v x)
+    ∙ ap (λ k. enumerate_from 0 (map v (take i xs)) ++ (k, v x) ∷ []) (omega (arith, length-map (take i xs) v, length-take i xs, lt))
+
+pub zip_numbered : {A B C D : Type 0} (R : C → D → Type 0) (v : A → B) (xs : List A) (i : ℕ) (x : A) → i < length xs → x ≡ get_or xs i x → (g : ℕ × B → List D) (before : List D) (old now : List C)
+    → AllZip R old (before ++ flat_map g (enumerate_from 0 (map v (take i xs)))) → ((b : List D) → AllZip R old b → AllZip R now (b ++ g (i, v x))) → AllZip R now (before ++ flat_map g (enumerate_from 0 (map v (take (i + 1) xs))))
+zip_numbered R v xs i x lt is g before old now earlier adds =
+    let seen = flat_map g (enumerate_from 0 (map v (take i xs))) in
+    subst (AllZip R now) (append_assoc before seen (g (i, v x)) ∙ ap (λ l. before ++ l) (sym (ap (flat_map g) (numbered-more v xs i x lt is) ∙ flat_map-append g (enumerate_from 0 (map v (take i xs))) ((i, v x) ∷ []) ∙ ap (λ l. seen ++ l) (append-nil (g (i, v x))))))
+    (adds (before ++ seen) earlier)
+
+-- parts behind others
+pub zip_added : {C D : Type 0} (R : C → D → Type 0) (old more now : List C) (before zs : List D) → AllZip R old before → AllZip R more zs → now ≡ old ++ more → AllZip R now (before ++ zs)
+zip_added R old more now before zs p q is = subst (λ l. AllZip R l (before ++ zs)) (sym is) (zip_both R old before more zs p q)
+
+pub seen_there : {A B : Type 0} (v : A → B) (xs : List A) (i : ℕ) (x : A) → i < length xs → x ≡ get_or xs i x → Contains (map v xs) (v x)
+seen_there v xs i x lt is = there_at (map v xs) i (v x) (got-map v xs i x (slice_get_read xs (length xs) i x refl lt is))

@@ -33,8 +33,8 @@ fn port_direction(scope: &CheckedModule, name: &Name) -> Option<Dir>
     }
 }
 
-// What is connected to the port of that name of an instance, where it is a port and not left open.
-fn connected(
+/// What is connected to the port of that name of an instance, where it is a port and not left open.
+pub(crate) fn connected(
     alloc: Global,
     checked: &Checked,
     module: u32,

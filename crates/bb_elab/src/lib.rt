@@ -3,6 +3,7 @@
 
 mod assigning;
 mod callees;
+mod calling;
 mod connecting;
 mod depth;
 mod elaborating;
