@@ -8,6 +8,7 @@ pub mod CellCounts
 mod CellSums
 pub mod CellTotals
 pub mod ConstructCounts
+pub mod Connections
 pub mod ContentTables
 pub mod CountedDrivers
 pub mod Deciding
@@ -49,6 +50,7 @@ pub mod NarrowNets
 pub mod NextStates
 pub mod Operators
 pub mod PartBits
+pub mod PortNets
 pub mod ReadingLaw
 pub mod RecursionLemmas
 pub mod RecursionLoops

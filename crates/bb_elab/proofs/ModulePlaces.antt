@@ -3,7 +3,7 @@ use Rattle.std.proofs.Common.{◌≡◌, ℕ, ◌≤◌, ◌<◌, List, [], leng
 use Rattle.std.specs.Prelude.{All, IsSomeAnd, max, slice_get}
 use Rattle.std.specs.Option.{option_and_then, option_map_or}
 use Rattle.std.proofs.lemmas.Option.{slice_get_within, get_or_from_slice_get}
-use Rattle.bb_ast.specs.Syntax.{Expression}
+use Rattle.bb_ast.specs.Syntax.{Expression, PlainModule}
 use Rattle.bb_expr.specs.declared.step.Lowered.{Lowered}
 use Rattle.bb_expr.specs.Cells.{made, cell_count}
 use Rattle.bb_expr.specs.Checked.{ModuleFacts, syntax, HasNets, IsChecked}
@@ -16,8 +16,10 @@ use Rattle.bb_expr.specs.Lowered.{IsLowered}
 use Rattle.bb_expr.specs.Nets.{nets_of}
 use Rattle.bb_expr.specs.Standing.{StandsAt, nets_at, ranges_at}
 use Rattle.bb_expr.specs.Widths.{Ranges, own_width}
-use Rattle.bb_elab.specs.Contexts.{width_of}
-use Rattle.bb_elab.specs.Outlines.{IsMadeIn}
+use Rattle.bb_elab.specs.Hierarchy.{Scope}
+use Rattle.bb_elab.specs.NetBits.{Bit, scope_bits}
+use Rattle.bb_elab.specs.Contexts.{width_of, context_width}
+use Rattle.bb_elab.specs.Outlines.{AreAt, AreBitsIn, IsMadeIn}
 use Rattle.bb_elab.specs.Outlining.{module_in, scope_of}
 use Rattle.bb_elab.proofs.LeftBits.{fit_here}
 
@@ -61,3 +63,10 @@ module _ (checked : List ModuleFacts) (k : ℕ) (f : ModuleFacts) (there : slice
       subst (λ n. IsLowered (nets_of (module_in checked k)) (range_of (module_in checked k)) e n l.steps.items l.bits.items) wide
       (subst (λ nets. IsLowered nets (range_of (module_in checked k)) e w l.steps.items l.bits.items) (nets-are ok)
       (subst (λ (r : Ranges). IsLowered (nets_at checked k) r e w l.steps.items l.bits.items) ranges-are lowered))
+
+  pub beside_context : (l : Lowered) (left right : Expression) (least : ℕ) → least ≡ own_width (range_of (module_in checked k)) left → IsMadeIn (module_in checked k) l right (λ s. max least (width_of s right))
+      → IsMadeIn (module_in checked k) l right (λ s. context_width s left right)
+  beside_context l left right least is made = subst (λ n. IsLowered (nets_of (module_in checked k)) (range_of (module_in checked k)) right (max n (width_of (scope_of (module_in checked k)) right)) l.steps.items l.bits.items) is made
+
+  pub bits_meant : (numbers : List ℕ) (bits : Scope → List Bit) → AreBitsIn (syntax f) numbers bits → AreBitsIn (module_in checked k) numbers bits
+  bits_meant numbers bits are path = subst (λ (m : PlainModule). AreAt (scope_bits (record { path = path; source = m })) numbers (bits (record { path = path; source = m }))) (sym module-is) (are path)

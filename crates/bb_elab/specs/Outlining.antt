@@ -1,6 +1,6 @@
 -- No clause of a public call rests on this file: it says what functions inside the crate find.
 -- What the outline of a module is made of, and what is asked of the module for it.
-use Rattle.std.specs.Prelude.{◌≡◌, ℕ, ◌<◌, ◌≤◌, ◌^◌, Bool, true, false, not, List, [], ◌∷◌, map, length, sum_by, All, Contains, Option, Some, IsSomeAnd, option_to_list, slice_get}
+use Rattle.std.specs.Prelude.{◌≡◌, ℕ, ◌+◌, ◌<◌, ◌≤◌, ◌^◌, Bool, true, false, not, List, [], ◌∷◌, map, length, sum_by, All, Contains, Option, Some, IsSomeAnd, option_to_list, slice_get}
 use Rattle.std.specs.List.{AllZip, flat_map, list_any, slice_index_or}
 use Rattle.std.specs.Option.{option_map_or}
 use Rattle.bb_ast.specs.Syntax.{Expression, Net, PlainModule}
@@ -78,3 +78,19 @@ IsPartAt checked k = IsPartOf (map syntax checked) (module_in checked k)
 pub record IsModest (text : List PlainModule) (m : PlainModule) : Type 0 where
   pub bits : bit_count (nets_of m) ≤ 1000000
   pub cells : (c : Construct) → Contains (module_constructs text m) c → length (cells_at (scope_of m, c)) ≤ 2000000
+
+-- the module at a place is there, and the numbers of the first bits of its nets are kept at that place
+pub record IsStarted (checked : List ModuleFacts) (starts : List (List ℕ)) (k : ℕ) : Type 0 where
+  pub there : k < length checked
+  pub kept : k < length starts
+  pub each : AreStarts (nets_of (module_in checked k)) (slice_index_or starts k [])
+
+-- the instance with a number in the module at a place is one of the module at another place
+pub record IsCallAt (checked : List ModuleFacts) (k instance target : ℕ) (called : Instance) : Type 0 where
+  pub there : slice_get (instances_of (module_in checked k)) instance ≡ Some called
+  pub meant : module_named (map syntax checked) called.target ≡ Some (module_in checked target)
+
+-- instances that stand side by side in the module at a place, of which the first has a number, and the places of their modules
+pub record AreCallsAt (checked : List ModuleFacts) (k : ℕ) (targets : List ℕ) (first : ℕ) (all : List Instance) : Type 0 where
+  pub room : first + length all ≤ length targets
+  pub each : (j : ℕ) (called : Instance) → slice_get all j ≡ Some called → IsCallAt checked k (first + j) (slice_index_or targets (first + j) 0) called

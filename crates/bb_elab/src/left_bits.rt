@@ -75,7 +75,6 @@ fn add_net(
     requires nets { HasNets (module_facts scope.now) }
     requires starts { AreStarts scope.now.nets.items starts.now }
     requires has { HasNet (module_facts scope.now) name.now }
-    requires bounded { range_width (ranges_in (module_facts scope.now) name.now) ≤ 65536 }
     ensures bits { (before : Scope → List Bit) → AreBitsIn (syntax (module_facts scope.now)) numbers.old.items before
         → OnOk result (AreBitsIn (syntax (module_facts scope.now)) numbers.new.items (λ s. before s ++ bits_named s name.now)) }
 {
@@ -160,7 +159,6 @@ pub(crate) fn net_bits(
     requires nets { HasNets (module_facts scope.now) }
     requires starts { AreStarts scope.now.nets.items starts.now }
     requires has { HasNet (module_facts scope.now) name.now }
-    requires bounded { range_width (ranges_in (module_facts scope.now) name.now) ≤ 65536 }
     ensures bits { IfOk result (λ numbers. AreBitsIn (syntax (module_facts scope.now)) numbers.items (λ s. bits_named s name.now)) }
 {
     let mut numbers = Vec::new(alloc);

@@ -4,6 +4,10 @@
 mod box_cells;
 mod callees;
 mod cells;
+mod assigning;
+mod callees;
+mod calling;
+mod connecting;
 mod depth;
 mod drivers;
 mod elaborating;
@@ -11,6 +15,7 @@ mod expression_steps;
 mod fault;
 mod flat;
 mod gate_cells;
+mod gating;
 pub mod laws;
 mod left_bits;
 pub mod list_laws;

@@ -1,11 +1,17 @@
-use Rattle.std.proofs.Common.{◌≡◌, ◌++◌, ℕ, ◌∙◌, sym, ap, subst}
+use Rattle.std.proofs.Common.{◌≡◌, ◌++◌, ℕ, ◌∙◌, sym, ap, subst, arith}
 use Rattle.std.specs.Result.{OnOk}
 use Rattle.bb_expr.specs.Checked.{module_facts, syntax}
 use Rattle.bb_expr.specs.Fit.{ranges_in}
 use Rattle.bb_expr.specs.Ranges.{range_width}
 use Rattle.bb_elab.specs.NetBits.{bits_from}
 use Rattle.bb_elab.specs.Outlines.{AreBitsIn}
+use Rattle.bb_elab.proofs.LeftBits.{start_fits}
 use Rattle.bb_elab.proofs.left_bits.add_net.Goals as goal
+
+pub range_width-count-requires : goal.range_width-count-requires
+range_width-count-requires c =
+    let fits = start_fits (module_facts c.args.scope.now) c.args.starts.now c.requires.nets c.requires.starts c.args.name.now c.requires.has c.requires.has.place c.requires.has.kept in
+    record { few = omega (arith, fits, ap range_width c.net_range.ensures.range) }
 
 pub returns : goal.returns
 returns c =
