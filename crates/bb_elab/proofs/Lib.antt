@@ -1,5 +1,6 @@
 pub mod AllowedDesigns
 pub mod BitByBit
+pub mod BitNumbers
 pub mod BoxValues
 pub mod CalledInstances
 pub mod CalleeLaw
@@ -25,10 +26,12 @@ pub mod ListWorlds
 pub mod ListedData
 pub mod ListedPlaces
 pub mod ListedSources
+pub mod ListedSteps
 pub mod LooseLists
 pub mod ModuleCells
 pub mod NamedTops
 pub mod NextStates
+pub mod NoneTwice
 pub mod Operators
 pub mod PartBits
 pub mod ReadingLaw
