@@ -23,7 +23,10 @@ pub mod ListNumbers
 pub mod ListValues
 pub mod ListWalks
 pub mod ListWorlds
+pub mod ListedConstructs
 pub mod ListedData
+pub mod ListedGates
+pub mod ListedParts
 pub mod ListedPlaces
 pub mod ListedSources
 pub mod ListedSteps

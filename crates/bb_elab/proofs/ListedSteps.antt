@@ -95,15 +95,16 @@ module _ (lowering : Lowering) (number : Numbering) (k : ℕ) (s : Scope) (bits 
   abbrev pub steps_from : ℕ → ℕ → List Entry
   steps_from x n = flat_map (step_cells lowering number k s) (range_with_len x n)
 
-  pub record TerminalsFit (start : ℕ) (t after : Terminals) (x n : ℕ) : Type 0 where
+  pub record TerminalsFit (start : ℕ) (t after : Terminals) (x n last : ℕ) : Type 0 where
     pub cells : after.cells ≡ t.cells ++ cells_in (steps_from x n)
     pub places : after.places ≡ t.places ++ map terminal_at (range_with_len x n)
     pub row : AreInRow number (start + length t.cells) (steps_from x n)
+    pub long : start + length after.cells ≡ last
 
   pub terminals_fit : (start : ℕ) (ls : List Lowered) (x : ℕ) (t : Terminals) (at : ℕ → ℕ) → ((i : ℕ) (l : Lowered) → slice_get ls i ≡ Some l → IsLoweredAt (x + i) (at i) l)
       → at 0 ≡ start + length t.cells → ((i : ℕ) (l : Lowered) → slice_get ls i ≡ Some l → at (suc i) ≡ at i + length l.steps.items)
-      → TerminalsFit start t (fold (with_terminal start bits starts) t ls) x (length ls)
-  terminals_fit start [] x t at low first next = record { cells = sym (append-nil t.cells); places = sym (append-nil t.places); row = no_row number (start + length t.cells) }
+      → TerminalsFit start t (fold (with_terminal start bits starts) t ls) x (length ls) (at (length ls))
+  terminals_fit start [] x t at low first next = record { cells = sym (append-nil t.cells); places = sym (append-nil t.places); row = no_row number (start + length t.cells); long = sym first }
   terminals_fit start (l ∷ ls) x t at low first next =
       build (terminals_fit start ls (x + 1) (with_terminal start bits starts t l) (λ i. at (suc i))
         (λ i m e. subst (λ y. IsLoweredAt y (at (suc i)) m) (omega arith) (low (suc i) m e))
@@ -127,8 +128,8 @@ module _ (lowering : Lowering) (number : Numbering) (k : ℕ) (s : Scope) (bits 
       place : terminal_at x ≡ start + length t.cells + slice_index l.bits.items 0
       place = lowest.stands (slice_index (lowering k x).bits 0) ∙ ap₂ ◌+◌ first (ap (λ (z : Steps). slice_index z.bits 0) lowest.is)
 
-      build : TerminalsFit start (with_terminal start bits starts t l) (fold (with_terminal start bits starts) (with_terminal start bits starts t l) ls) (x + 1) (length ls)
-          → TerminalsFit start t (fold (with_terminal start bits starts) (with_terminal start bits starts t l) ls) x (suc (length ls))
+      build : TerminalsFit start (with_terminal start bits starts t l) (fold (with_terminal start bits starts) (with_terminal start bits starts t l) ls) (x + 1) (length ls) (at (suc (length ls)))
+          → TerminalsFit start t (fold (with_terminal start bits starts) (with_terminal start bits starts t l) ls) x (suc (length ls)) (at (suc (length ls)))
       build rest = record {
         cells = rest.cells ∙ ap (λ c. (t.cells ++ c) ++ cells_in (steps_from (x + 1) (length ls))) (sym here) ∙ append_assoc t.cells (cells_in (step_cells lowering number k s x)) (cells_in (steps_from (x + 1) (length ls)))
             ∙ ap (λ c. t.cells ++ c) (sym (map-append (λ (e : Entry). e.1) (step_cells lowering number k s x) (steps_from (x + 1) (length ls))));
@@ -137,4 +138,5 @@ module _ (lowering : Lowering) (number : Numbering) (k : ℕ) (s : Scope) (bits 
         row = both_rows number (start + length t.cells) (step_cells lowering number k s x) (steps_from (x + 1) (length ls))
             (subst (λ n. AreInRow number n (step_cells lowering number k s x)) first (steps_row x (at 0) l lowest))
             (subst (λ n. AreInRow number n (steps_from (x + 1) (length ls))) behind rest.row);
+        long = rest.long;
       }
