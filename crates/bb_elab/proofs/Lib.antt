@@ -23,6 +23,7 @@ pub mod ListNumbers
 pub mod ListValues
 pub mod ListWalks
 pub mod ListWorlds
+pub mod ListedBlocks
 pub mod ListedConstructs
 pub mod ListedData
 pub mod ListedGates

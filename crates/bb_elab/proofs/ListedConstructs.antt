@@ -48,6 +48,11 @@ steps_next (m ∷ ls) (suc i) l e =
     length-append m.steps.items (flat_map (λ (l : Lowered). l.steps.items) (take (suc i) ls))
     ∙ omega (arith, steps_next ls i l e, length-append m.steps.items (flat_map (λ (l : Lowered). l.steps.items) (take i ls)))
 
+-- the gates among constructs have inputs
+abbrev pub HasInputs : Construct → Type 0
+HasInputs (GateInstance gate outs ins) = 1 ≤ length ins
+HasInputs c = Unit {0}
+
 module _ (d : Design) (lowering : Lowering) (number : Numbering) (nets start : ℕ) (constants : (b : Bool) → number (Constant b) ≡ constant_place b) (net_places : (b : Bit) → number (NetBit b) ≡ nets + bit_number d b)
     (k : ℕ) (s : Scope) (site : Site) (is_site : IsSiteOf d s site) (a : Sheet) where
   abbrev AreAtHere : List Lowered → Type 0
@@ -107,11 +112,6 @@ module _ (d : Design) (lowering : Lowering) (number : Numbering) (nets start : �
 
     gate_place_is : (with_gate start (nets + site.first) site.starts gate a.cells ins).place ≡ number (gate_place lowering gate k (length es))
     gate_place_is = gate_is.place ∙ ap (λ n. number (gate_place lowering gate k n)) (sym counted ∙ zipped_long (λ l e. IsMadeIn s.source l e (λ s. width_of s e)) ins es made)
-
-  -- the gates among constructs have inputs
-  abbrev pub HasInputs : Construct → Type 0
-  HasInputs (GateInstance gate outs ins) = 1 ≤ length ins
-  HasInputs c = Unit {0}
 
   abbrev Here : Part → Construct → Type 0
   Here q c = Puts d lowering number nets start (k, (s, c)) a (with_part nets start site a q)
