@@ -24,6 +24,7 @@ pub mod ListValues
 pub mod ListWalks
 pub mod ListWorlds
 pub mod ListedBlocks
+pub mod ListedBoxes
 pub mod ListedConstructs
 pub mod ListedData
 pub mod ListedGates
