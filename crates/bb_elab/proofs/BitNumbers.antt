@@ -131,7 +131,7 @@ pub record IsSiteOf (d : Design) (s : Scope) (site : Site) : Type 0 where
   pub inner : (j : ℕ) (called : Instance) (target : PlainModule) → slice_get (instances_of s.source) j ≡ Some called → module_named d.text called.target ≡ Some target
       → (i : ℕ) (b : Bit) → slice_get (scope_bits (record { path = path_to s.path called.name; source = target })) i ≡ Some b → bit_number d b ≡ site.inner j + i
 
-nets_long : (path : Path) (nets : List NetInfo) → length (flat_map (bits_of_net path) nets) ≡ sum_by (λ net. range_width net.range) nets
+pub nets_long : (path : Path) (nets : List NetInfo) → length (flat_map (bits_of_net path) nets) ≡ sum_by (λ net. range_width net.range) nets
 nets_long path [] = refl
 nets_long path (net ∷ nets) =
     length-append (bits_of_net path net) (flat_map (bits_of_net path) nets)

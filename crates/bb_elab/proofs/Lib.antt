@@ -14,6 +14,7 @@ pub mod DepthWalks
 pub mod Enumerated
 pub mod Firsts
 pub mod GivenDrives
+pub mod GivenPlaces
 pub mod InstanceNames
 pub mod KnownNets
 pub mod Levels
