@@ -31,6 +31,7 @@ pub mod ListedData
 pub mod ListedGates
 pub mod ListedParts
 pub mod ListedPlaces
+pub mod ListedScopes
 pub mod ListedSources
 pub mod ListedSteps
 pub mod LooseLists
