@@ -1,5 +1,7 @@
 pub mod AllowedDesigns
 pub mod BitByBit
+pub mod BitNumbers
+pub mod BoxValues
 pub mod CalledInstances
 pub mod CalleeLaw
 pub mod CalleeLemmas
@@ -23,6 +25,7 @@ pub mod FirstLoops
 pub mod FlatInvariants
 pub mod GivenDrives
 pub mod HierarchySums
+pub mod GivenPlaces
 pub mod InstanceNames
 pub mod KnownNets
 pub mod LeftBits
@@ -37,9 +40,16 @@ pub mod ListNumbers
 pub mod ListValues
 pub mod ListWalks
 pub mod ListWorlds
+pub mod ListedBlocks
+pub mod ListedBoxes
+pub mod ListedConstructs
 pub mod ListedData
+pub mod ListedGates
+pub mod ListedParts
 pub mod ListedPlaces
+pub mod ListedScopes
 pub mod ListedSources
+pub mod ListedSteps
 pub mod LooseLists
 pub mod MarkLemmas
 pub mod ModuleCells
@@ -48,6 +58,7 @@ pub mod ModulesAt
 pub mod NamedTops
 pub mod NarrowNets
 pub mod NextStates
+pub mod NoneTwice
 pub mod Operators
 pub mod PartBits
 pub mod PortNets

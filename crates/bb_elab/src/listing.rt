@@ -22,6 +22,7 @@ use crate::placed::Placed;
 use crate::sources::{behind, count_of, give_in_row, place_or_zero};
 use crate::stored::Stored;
 use bb_bits::NoMemory;
+use bb_expr::laws::net_names_differ;
 use bb_net::{Loose, LooseCell};
 use std::alloc::Global;
 
@@ -165,5 +166,22 @@ fn listed(
     if list.cells().len() > u32::MAX as usize {
         return Err(NoMemory);
     }
+    Ok(list)
+}
+
+/// The list of cells of a design.
+pub(crate) fn list_cells(
+    alloc: Global,
+    placed: &[Placed],
+    outlines: &[Outline],
+    stored: &[Stored],
+) -> Result<Loose, NoMemory>
+    requires design { (d : Design) × ArePlaced d placed.now × AreOutlined d placed.now outlines.now × AreStored d stored.now × IsBounded d × AreDrivenOnce d }
+    ensures list { IfOk result (λ l. (d : Design) → ArePlaced d placed.now → AreOutlined d placed.now outlines.now → AreStored d stored.now → IsBounded d → AreDrivenOnce d
+        → (lowering : Lowering) × IsLowering d lowering × IsListOf d lowering l) }
+{
+    net_names_differ();
+    let top = &outlines[placed[0].module];
+    let list = listed(alloc, placed, outlines, stored, top)?;
     Ok(list)
 }

@@ -1,0 +1,175 @@
+-- The numbers of bits in net order, and what they are for the bits of a scope, of its nets and of its instances.
+use Rattle.std.proofs.Common.{◌≡◌, ◌≢◌, ◌⊎◌, ℕ, zero, suc, ◌+◌, ◌<◌, ◌==◌, Bool, true, false, if◌then◌else◌, List, [], ◌∷◌, ◌++◌, map, flat_map, length, take, get_or, Contains, Option, Some, None, refl, sym, ap, ◌∙◌, subst, inl, inr, arith, length-append, true≢false}
+use Rattle.std.specs.Prelude.{slice_get, sum_by, IfSome}
+use Rattle.std.specs.List.{AllZip, range_with_len}
+use Rattle.std.specs.Option.{option_map_or, option_and_then}
+use Rattle.std.proofs.lemmas.List.FromFn.{length-map-range_with_len}
+use Rattle.std.proofs.lemmas.List.Sums.{sum_by-cons}
+use Rattle.std.proofs.lemmas.Option.{slice_get_within, slice_get-get_or}
+use Rattle.bb_ast.specs.Syntax.{PlainModule}
+use Rattle.bb_expr.specs.declared.net.NetInfo.{NetInfo}
+use Rattle.bb_expr.specs.declared.step.BitStep.TheVariants as steps
+use Rattle.bb_expr.specs.FitLaws.{NetNamesDiffer}
+use Rattle.bb_expr.specs.Lowered.{Reads, name_at}
+use Rattle.bb_expr.specs.Nets.{net_of, nets_of}
+use Rattle.bb_expr.specs.Ranges.{range_width}
+use Rattle.bb_expr.specs.Spots.{module_named}
+use Rattle.bb_elab.specs.declared.outline.Outline.{Outline}
+use Rattle.bb_elab.specs.declared.placed.Placed.{Placed}
+use Rattle.bb_elab.specs.Hierarchy.{Instance, Path, Design, Scope, instances_of, path_to, scopes}
+use Rattle.bb_elab.specs.NetBits.{Bit, same_bit, bits_of_net, scope_bits, net_order}
+use Rattle.bb_elab.specs.Listing.{Site, inner_first, site_of}
+use Rattle.bb_elab.specs.ListLaws.{IsBounded}
+use Rattle.bb_elab.specs.Outlines.{AreAt, IsOutline, net_start}
+use Rattle.bb_elab.specs.Placements.{ArePlaced, IsPlacedAt, IsScopeAt, IsChildAt}
+use Rattle.bb_elab.proofs.NoneTwice.{NoneTwice, bits_none}
+use Rattle.bb_elab.proofs.TopLaws.{contains_here, contains_there}
+use Rattle.bb_elab.proofs.WorldLaws.{same_bit_is, same_bit_self}
+
+pub got_left : {A : Type 0} (xs ys : List A) (k : ℕ) (x : A) → slice_get xs k ≡ Some x → slice_get (xs ++ ys) k ≡ Some x
+got_left [] ys k x e = absurd (grind (arith, e))
+got_left (z ∷ xs) ys zero x e = e
+got_left (z ∷ xs) ys (suc k) x e = got_left xs ys k x e
+
+pub got_right : {A : Type 0} (xs ys : List A) (k : ℕ) → slice_get (xs ++ ys) (length xs + k) ≡ slice_get ys k
+got_right [] ys k = ap (slice_get ys) (omega arith)
+got_right (z ∷ xs) ys k = ap (slice_get (z ∷ (xs ++ ys))) (next (length xs)) ∙ got_right xs ys k
+  where
+    next : (n : ℕ) → suc n + k ≡ suc (n + k)
+    next n = omega arith
+
+-- what stands in the list of one element stands behind the lists of those before it
+pub got_flat : {A B : Type 0} (f : A → List B) (xs : List A) (k : ℕ) (x : A) (j : ℕ) (y : B) → slice_get xs k ≡ Some x → slice_get (f x) j ≡ Some y
+    → slice_get (flat_map f xs) (length (flat_map f (take k xs)) + j) ≡ Some y
+got_flat f [] k x j y e at = absurd (grind (arith, e))
+got_flat f (z ∷ xs) zero x j y e at = ap (slice_get (f z ++ flat_map f xs)) (none j) ∙ got_left (f z) (flat_map f xs) j y (subst (λ w. slice_get (f w) j ≡ Some y) (sym (same e)) at)
+  where
+    none : (i : ℕ) → 0 + i ≡ i
+    none i = omega arith
+
+    same : Some z ≡ Some x → z ≡ x
+    same h = grind (arith, h)
+got_flat f (z ∷ xs) (suc k) x j y e at =
+    ap (slice_get (f z ++ flat_map f xs)) (ap (λ n. n + j) (length-append (f z) (flat_map f (take k xs))) ∙ omega arith)
+    ∙ got_right (f z) (flat_map f xs) (length (flat_map f (take k xs)) + j) ∙ got_flat f xs k x j y e at
+
+pub got_run : {A : Type 0} (f : ℕ → A) (a n k : ℕ) → k < n → slice_get (map f (range_with_len a n)) k ≡ Some (f (a + k))
+got_run f a zero k lt = absurd (omega (arith, lt))
+got_run f a (suc n) zero lt = ap (λ j. Some (f j)) (omega arith)
+got_run f a (suc n) (suc k) lt = got_run f (a + 1) n k (omega (arith, lt)) ∙ ap (λ j. Some (f j)) (omega arith)
+
+-- elements of lists that lie side by side
+pub zipped_right : {A B : Type 0} (R : A → B → Type 0) (xs : List A) (ys : List B) → AllZip R xs ys → (k : ℕ) (y : B) → slice_get ys k ≡ Some y → (x : A) × (slice_get xs k ≡ Some x) × R x y
+zipped_right R [] [] all k y e = absurd (grind (arith, e))
+zipped_right R [] (z ∷ ys) all k y e = absurd all
+zipped_right R (x ∷ xs) [] all k y e = absurd all
+zipped_right R (x ∷ xs) (z ∷ ys) all zero y e = let same : z ≡ y = grind (arith, e) in (x, refl, subst (R x) same all.0)
+zipped_right R (x ∷ xs) (z ∷ ys) all (suc k) y e = zipped_right R xs ys all.1 k y e
+
+-- where a bit stands in a list
+unfoldable pub place_among : List Bit → Bit → ℕ
+place_among [] b = 0
+place_among (x ∷ xs) b = if same_bit b x then 0 else suc (place_among xs b)
+
+standing : (xs : List Bit) → NoneTwice xs → (k : ℕ) (b : Bit) → slice_get xs k ≡ Some b → place_among xs b ≡ k
+unfolding place_among NoneTwice
+standing [] none k b e = absurd (grind (arith, e))
+standing (x ∷ xs) none zero b e =
+    let same : x ≡ b = grind (arith, e) in
+    ap (λ (t : Bool). if t then 0 else suc (place_among xs b)) (ap (same_bit b) same ∙ same_bit_self b)
+standing (x ∷ xs) none (suc k) b e = by (same_bit b x) refl (standing xs none.1 k b e)
+  where
+    there : (ys : List Bit) (j : ℕ) → slice_get ys j ≡ Some b → Contains ys b
+    there [] j h = absurd (grind (arith, h))
+    there (y ∷ ys) zero h = let same : y ≡ b = grind (arith, h) in subst (Contains (y ∷ ys)) same (contains_here y ys)
+    there (y ∷ ys) (suc j) h = contains_there y ys b (there ys j h)
+
+    by : (t : Bool) → same_bit b x ≡ t → place_among xs b ≡ k → (if t then 0 else suc (place_among xs b)) ≡ suc k
+    by true h rest = absurd (none.0 (subst (Contains xs) (same_bit_is b x h) (there xs k e)))
+    by false h rest = ap suc rest
+
+meant : (xs : List Bit) (k : ℕ) (b c : Bit) → slice_get xs k ≡ Some b → place_among xs c ≡ k → b ≡ c
+unfolding place_among
+meant [] k b c e at = absurd (grind (arith, e))
+meant (x ∷ xs) zero b c e at = by (same_bit c x) refl at
+  where
+    by : (t : Bool) → same_bit c x ≡ t → (if t then 0 else suc (place_among xs c)) ≡ 0 → b ≡ c
+    by true h z = let same : x ≡ b = grind (arith, e) in sym same ∙ sym (same_bit_is c x h)
+    by false h z = absurd (omega (arith, z))
+meant (x ∷ xs) (suc k) b c e at = by (same_bit c x) at (meant xs k b c e)
+  where
+    by : (t : Bool) → (if t then 0 else suc (place_among xs c)) ≡ suc k → (place_among xs c ≡ k → b ≡ c) → b ≡ c
+    by true z rest = absurd (omega (arith, z))
+    by false z rest = rest (omega (arith, z))
+
+-- the number of a bit in net order
+unfoldable pub bit_number : Design → Bit → ℕ
+bit_number d b = place_among (net_order d) b
+
+module _ (names : NetNamesDiffer) (d : Design) (bounded : IsBounded d) where
+  pub numbered : (k : ℕ) (b : Bit) → slice_get (net_order d) k ≡ Some b → bit_number d b ≡ k
+  unfolding bit_number
+  numbered k b e = standing (net_order d) (bits_none names d bounded) k b e
+
+  pub told_apart : (k : ℕ) (b c : Bit) → slice_get (net_order d) k ≡ Some b → same_bit b c ≡ (k == bit_number d c)
+  unfolding bit_number
+  told_apart k b c e = by (same_bit b c) (k == place_among (net_order d) c) refl refl
+    where
+      by : (s t : Bool) → same_bit b c ≡ s → (k == place_among (net_order d) c) ≡ t → s ≡ t
+      by true true p q = refl
+      by false false p q = refl
+      by true false p q = let same : place_among (net_order d) c ≡ k = ap (place_among (net_order d)) (sym (same_bit_is b c p)) ∙ numbered k b e in absurd (grind (arith, same, q))
+      by false true p q =
+          let same : place_among (net_order d) c ≡ k = grind (arith, q) in
+          absurd (true≢false (sym (same_bit_self b) ∙ ap (same_bit b) (meant (net_order d) k b c e same) ∙ p))
+
+-- what the numbers of a scope tell
+pub record IsSiteOf (d : Design) (s : Scope) (site : Site) : Type 0 where
+  pub own : (i : ℕ) (b : Bit) → slice_get (scope_bits s) i ≡ Some b → bit_number d b ≡ site.first + i
+  pub nets : (n i : ℕ) → Reads (nets_of s.source) 0 (steps.Net n i)
+      → bit_number d (record { path = s.path; net = name_at (nets_of s.source) n; place = i }) ≡ site.first + option_map_or (λ k. k) (slice_get site.starts n) 0 + i
+  pub inner : (j : ℕ) (called : Instance) (target : PlainModule) → slice_get (instances_of s.source) j ≡ Some called → module_named d.text called.target ≡ Some target
+      → (i : ℕ) (b : Bit) → slice_get (scope_bits (record { path = path_to s.path called.name; source = target })) i ≡ Some b → bit_number d b ≡ site.inner j + i
+
+pub nets_long : (path : Path) (nets : List NetInfo) → length (flat_map (bits_of_net path) nets) ≡ sum_by (λ net. range_width net.range) nets
+nets_long path [] = refl
+nets_long path (net ∷ nets) =
+    length-append (bits_of_net path net) (flat_map (bits_of_net path) nets)
+    ∙ omega (arith, length-map-range_with_len {X = Bit} (λ k. record { path = path; net = net.name; place = k }) 0 (range_width net.range), nets_long path nets, sum_by-cons (λ (x : NetInfo). range_width x.range) net nets)
+
+module _ (names : NetNamesDiffer) (d : Design) (bounded : IsBounded d) (placed : List Placed) (are : ArePlaced d placed) where
+  -- a scope begins with its first bit
+  pub first_bits : (k : ℕ) (s : Scope) (p : Placed) → IsScopeAt d k s → slice_get placed k ≡ Some p → (i : ℕ) (b : Bit) → slice_get (scope_bits s) i ≡ Some b → bit_number d b ≡ p.first + i
+  first_bits k s p at has i b e =
+      numbered names d bounded (p.first + i) b (ap (λ n. slice_get (net_order d) (n + i)) (are.each k s p at has).first ∙ got_flat scope_bits (scopes d) k s i b at e)
+
+  pub site_is : (k : ℕ) (s : Scope) (p : Placed) (o : Outline) → IsScopeAt d k s → slice_get placed k ≡ Some p → IsOutline d.text s.source o → IsSiteOf d s (site_of placed p o)
+  site_is k s p o at has outline = record {
+    own = first_bits k s p at has;
+    nets = λ n i reads.
+        let all = nets_of s.source in
+        let net = get_or all n (net_of s.source []) in
+        let got : slice_get all n ≡ Some net = slice_get-get_or all n (net_of s.source []) reads.0 in
+        let fits : i < range_width net.range = subst (λ q. IfSome q (λ (x : NetInfo). i < range_width x.range)) got reads.1 in
+        let name : name_at all n ≡ net.name = ap (λ q. option_map_or (λ (x : NetInfo). x.name) q []) got in
+        let start : option_map_or (λ j. j) (slice_get o.starts.items n) 0 ≡ net_start all n = ap (λ q. option_map_or (λ (j : ℕ). j) q 0) (outline.starts n reads.0) in
+        let bit : Bit = record { path = s.path; net = name_at all n; place = i } in
+        let there : slice_get (scope_bits s) (length (flat_map (bits_of_net s.path) (take n all)) + i) ≡ Some bit =
+            got_flat (bits_of_net s.path) all n net i bit got (got_run (λ j. record { path = s.path; net = net.name; place = j }) 0 (range_width net.range) i fits
+            ∙ ap (λ (j : ℕ). Some (record { path = s.path; net = net.name; place = j })) (none i) ∙ ap (λ (m : List ℕ). Some (record { path = s.path; net = m; place = i })) (sym name)) in
+        first_bits k s p at has _ bit there ∙ omega (arith, start, nets_long s.path (take n all));
+    inner = λ j called target there found i b e.
+        let child = zipped_right (IsChildAt d s) p.children.items (instances_of s.source) (are.each k s p at has).children j called there in
+        let c = child.0 in
+        let same : child.2.0 ≡ target = grind (arith, child.2.1, found) in
+        let stands : IsScopeAt d c (record { path = path_to s.path called.name; source = target }) = subst (λ m. IsScopeAt d c (record { path = path_to s.path called.name; source = m })) same child.2.2 in
+        let q = placed_there c (record { path = path_to s.path called.name; source = target }) stands in
+        let inner : inner_first placed p j ≡ q.0.first = ap (λ o. option_map_or (λ (z : Placed). z.first) (option_and_then (slice_get placed) o) 0) child.1 ∙ ap (λ o. option_map_or (λ (z : Placed). z.first) o 0) q.1 in
+        first_bits c (record { path = path_to s.path called.name; source = target }) q.0 stands q.1 i b e ∙ ap (λ n. n + i) (sym inner);
+  }
+    where
+      none : (i : ℕ) → 0 + i ≡ i
+      none i = omega arith
+
+      placed_there : (c : ℕ) (z : Scope) → IsScopeAt d c z → (q : Placed) × (slice_get placed c ≡ Some q)
+      placed_there c z stands = (get_or placed c p, slice_get-get_or placed c p (omega (arith, are.count, slice_get_within (scopes d) c z stands)))
