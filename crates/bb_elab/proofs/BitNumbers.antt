@@ -155,8 +155,8 @@ module _ (names : NetNamesDiffer) (d : Design) (bounded : IsBounded d) (placed :
         let start : option_map_or (λ j. j) (slice_get o.starts.items n) 0 ≡ net_start all n = ap (λ q. option_map_or (λ (j : ℕ). j) q 0) (outline.starts n reads.0) in
         let bit : Bit = record { path = s.path; net = name_at all n; place = i } in
         let there : slice_get (scope_bits s) (length (flat_map (bits_of_net s.path) (take n all)) + i) ≡ Some bit =
-            got_flat (bits_of_net s.path) all n net i bit got (got_run (λ j. record { path = s.path; net = net.name; place = j }) 0 (range_width net.range) i fits
-            ∙ ap (λ (j : ℕ). Some (record { path = s.path; net = net.name; place = j })) (none i) ∙ ap (λ (m : List ℕ). Some (record { path = s.path; net = m; place = i })) (sym name)) in
+        got_flat (bits_of_net s.path) all n net i bit got (got_run (λ j. record { path = s.path; net = net.name; place = j }) 0 (range_width net.range) i fits
+        ∙ ap (λ (j : ℕ). Some (record { path = s.path; net = net.name; place = j })) (none i) ∙ ap (λ (m : List ℕ). Some (record { path = s.path; net = m; place = i })) (sym name)) in
         first_bits k s p at has _ bit there ∙ omega (arith, start, nets_long s.path (take n all));
     inner = λ j called target there found i b e.
         let child = zipped_right (IsChildAt d s) p.children.items (instances_of s.source) (are.each k s p at has).children j called there in

@@ -26,6 +26,7 @@ pub mod FlatInvariants
 pub mod GivenDrives
 pub mod HierarchySums
 pub mod GivenPlaces
+pub mod Growth
 pub mod InstanceNames
 pub mod KnownNets
 pub mod LeftBits
@@ -78,6 +79,7 @@ pub mod SoundModules
 pub mod SoundNames
 pub mod SoundRefusals
 pub mod SoundSpots
+pub mod StageRefusals
 pub mod StandingNets
 pub mod StoredNotes
 pub mod Tallies

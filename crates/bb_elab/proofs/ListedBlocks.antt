@@ -134,7 +134,7 @@ module _ (d : Design) (lowering : Lowering) (number : Numbering) (nets start : �
           let first = places_at lowering number (k, x) in
           let others = flat_map (places_at lowering number) (enumerate_from (k + 1) xs) in
           let long : length (sheet_at (k + 1)).cells ≡ length (sheet_at k).cells + length first =
-              ap length here.cells ∙ length-append (sheet_at k).cells (cells_in first) ∙ ap (λ n. length (sheet_at k).cells + n) (length-map {B = LooseCell} first (λ (e : Entry). e.1)) in
+          ap length here.cells ∙ length-append (sheet_at k).cells (cells_in first) ∙ ap (λ n. length (sheet_at k).cells + n) (length-map {B = LooseCell} first (λ (e : Entry). e.1)) in
           subst (λ n. PutAll k (x ∷ xs) (sheet_at n)) (omega arith) (record {
             cells = rest.cells ∙ ap (λ c. c ++ cells_in others) here.cells ∙ append_assoc (sheet_at k).cells (cells_in first) (cells_in others) ∙ ap (λ c. (sheet_at k).cells ++ c) (sym (map-append (λ (e : Entry). e.1) first others));
             row = both_rows number (start + length (sheet_at k).cells) first others here.row (subst (λ n. AreInRow number n others) (omega (arith, long)) rest.row);

@@ -35,7 +35,7 @@ module _ (lowering : Lowering) (number : Numbering) (k : ℕ) (gate : Gate) (sta
   joins_fit zero x j before stands = record { cells = sym (append-nil j.cells); place = before ∙ ap (λ n. number (joined_place lowering k n)) (omega arith); row = no_row number (start + length j.cells) }
   joins_fit (suc m) x j before stands =
       build (joins_fit m (x + 1) (joined_to start gate j (terminal (x + 1))) placed
-        (λ i. ap (λ n. number (Joined k (suc n))) (omega arith) ∙ stands (i + 1) ∙ omega (arith, long)))
+      (λ i. ap (λ n. number (Joined k (suc n))) (omega arith) ∙ stands (i + 1) ∙ omega (arith, long)))
     where
       one : x + 1 ≡ suc x
       one = omega arith

@@ -111,7 +111,7 @@ module _ (d : Design) (lowering : Lowering) (number : Numbering) (nets start : �
     inner_bits instance numbers i pin is =
         ap (λ (n : List ℕ). map (bit_number d) (pin_bits (path_to s.path n) pin)) (sym is.named)
         ∙ numbers_are (bit_number d) (scope_bits (record { path = path_to s.path is.called.name; source = is.target })) (site.inner instance) (is_site.inner instance is.called is.target is.there is.meant) numbers
-          (pin_bits (path_to s.path is.called.name) pin) (is.bits (path_to s.path is.called.name))
+        (pin_bits (path_to s.path is.called.name) pin) (is.bits (path_to s.path is.called.name))
 
     -- a construct with one expression
     module _ (l : Lowered) (at : AreLoweredAt (l ∷ [])) (e : Expression) (w : ℕ) (made : IsLowered (nets_of s.source) (range_of s.source) e w l.steps.items l.bits.items) where

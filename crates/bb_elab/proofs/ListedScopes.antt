@@ -86,5 +86,5 @@ module _ (names : NetNamesDiffer) (d : Design) (bounded : IsBounded d) (placed :
   pub counted : bit_count placed outlines ≡ length (net_order d)
   counted =
       counts_from (scopes d) placed 0 are.count (λ k s p at has. let o = outlined k s p at has in
-        ap (λ z. option_map_or (λ (o : Outline). o.bits) z 0) o.1 ∙ o.2.bits ∙ sym (nets_long s.path (nets_of s.source)))
+      ap (λ z. option_map_or (λ (o : Outline). o.bits) z 0) o.1 ∙ o.2.bits ∙ sym (nets_long s.path (nets_of s.source)))
       ∙ omega arith

@@ -107,8 +107,8 @@ module _ (lowering : Lowering) (number : Numbering) (k : ℕ) (s : Scope) (bits 
   terminals_fit start [] x t at low first next = record { cells = sym (append-nil t.cells); places = sym (append-nil t.places); row = no_row number (start + length t.cells); long = sym first }
   terminals_fit start (l ∷ ls) x t at low first next =
       build (terminals_fit start ls (x + 1) (with_terminal start bits starts t l) (λ i. at (suc i))
-        (λ i m e. subst (λ y. IsLoweredAt y (at (suc i)) m) (omega arith) (low (suc i) m e))
-        (next 0 l refl ∙ omega (arith, first, grown)) (λ i m e. next (suc i) m e))
+      (λ i m e. subst (λ y. IsLoweredAt y (at (suc i)) m) (omega arith) (low (suc i) m e))
+      (next 0 l refl ∙ omega (arith, first, grown)) (λ i m e. next (suc i) m e))
     where
       lowest : IsLoweredAt x (at 0) l
       lowest = subst (λ y. IsLoweredAt y (at 0) l) (omega arith) (low 0 l refl)

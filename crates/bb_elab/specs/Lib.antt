@@ -27,6 +27,7 @@ pub mod Dependence
 pub mod Sizes
 pub mod Places
 pub mod Flats
+pub mod Stages
 pub mod Stands
 pub mod Refusals
 pub mod Laws

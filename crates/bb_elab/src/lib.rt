@@ -1,12 +1,11 @@
 //! Elaboration: the hierarchy of a checked source as one flat netlist with named inputs, registers, outputs and boxes.
 #![tactic(auto)]
 
+mod assigning;
 mod box_cells;
 mod callees;
-mod cells;
-mod assigning;
-mod callees;
 mod calling;
+mod cells;
 mod connecting;
 mod depth;
 mod drivers;
@@ -16,6 +15,8 @@ mod fault;
 mod flat;
 mod gate_cells;
 mod gating;
+mod growing;
+mod hierarchy;
 pub mod laws;
 mod left_bits;
 pub mod list_laws;
@@ -23,18 +24,20 @@ mod listing;
 pub mod loop_laws;
 mod net_starts;
 mod outline;
+mod outlining;
 mod part_cells;
 mod placed;
 mod recursion;
+mod register_bits;
 mod registers;
 mod scopes;
+mod size;
 mod sketch;
 mod sources;
 mod step_cells;
-mod register_bits;
-mod size;
 mod stored;
 pub mod table_laws;
+mod texts;
 mod top;
 
 pub use elaborating::elaborate;

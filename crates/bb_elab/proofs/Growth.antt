@@ -1,0 +1,81 @@
+-- What the stages of the scopes, drivers and registers of a design ask for and give, for the design with a module on top.
+use Rattle.std.proofs.Common.{◌≡◌, ◌⊎◌, ◌^◌, ℕ, ◌<◌, ◌≤◌, List, length, Some, refl, sym, ap, ◌∙◌, subst, inl, inr, arith}
+use Rattle.std.specs.Prelude.{slice_get}
+use Rattle.std.proofs.lemmas.Option.{slice_get_within}
+use Rattle.bb_ast.specs.Syntax.{PlainModule}
+use Rattle.bb_elab.specs.declared.fault.ElabFault.TheVariants.{DrivenTwice}
+use Rattle.bb_elab.specs.declared.outline.Outline.{Outline}
+use Rattle.bb_elab.specs.declared.placed.Placed.{Placed}
+use Rattle.bb_elab.specs.declared.stored.Stored.{Stored}
+use Rattle.bb_elab.specs.DrivenNumbers.{IsFirstAt}
+use Rattle.bb_elab.specs.Hierarchy.{Design}
+use Rattle.bb_elab.specs.ListLaws.{IsBounded}
+use Rattle.bb_elab.specs.NetBits.{Bit, net_order}
+use Rattle.bb_elab.specs.Placements.{ArePlaced, AreOutlined, AreCounts, AreStored}
+use Rattle.bb_elab.specs.Refusals.{TwoDrivers, IsDrivenTwice, AreDrivenOnce, IsSmall, IsRefusalOf, design_on}
+use Rattle.bb_elab.specs.Stages.{AtTop, IsFinite, AreGrown}
+use Rattle.bb_elab.specs.Texts.{bit_text}
+use Rattle.bb_elab.proofs.RecursiveNames.{some_at}
+use Rattle.bb_elab.proofs.StageRefusals.{refused, finite_clear}
+
+module _ (text : List PlainModule) (top : ℕ) (lt : top < length text) (finite : AtTop text top IsFinite) (placed : List Placed) (scopes : AtTop text top (λ d. ArePlaced d placed)) where
+  -- the module on top, and the design
+  abbrev head : (t : PlainModule) × (slice_get text top ≡ Some t)
+  head = some_at text top lt
+
+  abbrev pub design : Design
+  design = design_on text head.0
+
+  pub bounded : IsBounded design
+  bounded = (finite head.0 head.1).bounded
+
+  pub for_outlines : (seen : List Placed) → seen ≡ placed → (d : Design) × (d.text ≡ text) × ArePlaced d seen × IsSmall d
+  for_outlines seen same = (design, refl, subst (ArePlaced design) (sym same) (scopes head.0 head.1), bounded.small)
+
+  module _ (outlines : List Outline) (made : (d : Design) → d.text ≡ text → ArePlaced d placed → IsSmall d → AreOutlined d placed outlines) where
+    outlined_at : AtTop text top (λ d. AreOutlined d placed outlines)
+    outlined_at t at = made (design_on text t) refl (scopes t at) (finite t at).bounded.small
+
+    pub for_counts : (seen : List Placed) (looked : List Outline) → seen ≡ placed → looked ≡ outlines → (d : Design) × ArePlaced d seen × AreOutlined d seen looked × IsBounded d
+    for_counts seen looked same alike = (
+      design,
+      subst (ArePlaced design) (sym same) (scopes head.0 head.1),
+      subst (λ p. AreOutlined design p looked) (sym same) (subst (AreOutlined design placed) (sym alike) (outlined_at head.0 head.1)),
+      bounded,
+    )
+
+    pub for_bits : (seen : List Placed) (looked : List Outline) → seen ≡ placed → looked ≡ outlines → (d : Design) × ArePlaced d seen × AreOutlined d seen looked
+    for_bits seen looked same alike = let all = for_counts seen looked same alike in (all.0, all.1, all.2)
+
+    pub for_registers : (seen : List Placed) (looked : List Outline) → seen ≡ placed → looked ≡ outlines → (bits : ℕ) → ((d : Design) → ArePlaced d placed → AreOutlined d placed outlines → bits ≡ length (net_order d))
+        → (d : Design) × ArePlaced d seen × AreOutlined d seen looked × IsBounded d × (bits ≡ length (net_order d))
+    unfolding for_counts
+    for_registers seen looked same alike bits long = let all = for_counts seen looked same alike in (all.0, all.1, all.2, all.3, long design (scopes head.0 head.1) (outlined_at head.0 head.1))
+
+    module _ (counts : List ℕ) (counted : (d : Design) → ArePlaced d placed → AreOutlined d placed outlines → IsBounded d → AreCounts d counts) where
+      pub counted_at : AtTop text top (λ d. AreCounts d counts)
+      counted_at t at = counted (design_on text t) (scopes t at) (outlined_at t at) (finite t at).bounded
+
+      -- a bit that is driven twice
+      module _ (k : ℕ) (found : (d : Design) → AreCounts d counts → IsFirstAt d (IsDrivenTwice d) k) where
+        pub few : k < 2 ^ 32
+        few = let b = found design (counted_at head.0 head.1) in let small = bounded.small.0 in let fits = slice_get_within (net_order design) k b.0 b.1 in omega (arith, small, fits)
+
+        pub twice : (n : List ℕ) → ((d : Design) → d.text ≡ text → ArePlaced d placed → (b : Bit) → slice_get (net_order d) k ≡ Some b → n ≡ bit_text d b) → AtTop text top (λ d. IsRefusalOf d (DrivenTwice n))
+        twice n named t at =
+            let d = design_on text t in
+            let b = found d (counted_at t at) in
+            refused d TwoDrivers (DrivenTwice n) (record { name = n; is = refl; told = (b.0, b.2, named d refl (scopes t at) b.0 b.1) }) (finite_clear d (finite t at))
+
+      pub grown : (stored : List Stored) → ((d : Design) → IsBounded d → AreCounts d counts → AreDrivenOnce d)
+          → (bits : ℕ) → ((d : Design) → ArePlaced d placed → AreOutlined d placed outlines → bits ≡ length (net_order d))
+          → ((d : Design) → ArePlaced d placed → AreOutlined d placed outlines → IsBounded d → bits ≡ length (net_order d) → AreStored d stored) → AtTop text top (λ d. AreGrown d placed outlines counts stored)
+      grown stored once bits long registers t at =
+          let d = design_on text t in
+          record {
+            scopes = scopes t at;
+            outlined = outlined_at t at;
+            counted = counted_at t at;
+            once = once d (finite t at).bounded (counted_at t at);
+            registers = registers d (scopes t at) (outlined_at t at) (finite t at).bounded (long d (scopes t at) (outlined_at t at));
+          }

@@ -1,0 +1,48 @@
+-- No clause of a public call rests on this file: it says what functions inside the crate find.
+-- The stages of elaboration, each with what holds of the design behind it.
+use Rattle.std.specs.Prelude.{◌≡◌, ℕ, List, Some, slice_get}
+use Rattle.bb_ast.specs.Syntax.{PlainModule}
+use Rattle.bb_net.specs.Loose.{LooseList}
+use Rattle.bb_net.specs.Netlists.{Netlist}
+use Rattle.bb_net.specs.Orders.{IsOrderOf}
+use Rattle.bb_elab.specs.declared.fault.ElabFault.{ElabFault}
+use Rattle.bb_elab.specs.declared.outline.Outline.{Outline}
+use Rattle.bb_elab.specs.declared.placed.Placed.{Placed}
+use Rattle.bb_elab.specs.declared.stored.Stored.{Stored}
+use Rattle.bb_elab.specs.Hierarchy.{Design}
+use Rattle.bb_elab.specs.ListLaws.{IsBounded}
+use Rattle.bb_elab.specs.Placements.{ArePlaced, AreOutlined, AreCounts, AreStored}
+use Rattle.bb_elab.specs.Places.{Lowering, IsLowering, IsListOf}
+use Rattle.bb_elab.specs.Refusals.{IsHierarchy, AreDrivenOnce, AreDriven, IsAcyclic, Cause, fault_of, IsTold, design_on}
+
+-- it holds of the design of a text with the module at a place on top
+abbrev pub AtTop : List PlainModule → ℕ → (Design → Type 0) → Type 0
+AtTop text top P = (t : PlainModule) → slice_get text top ≡ Some t → P (design_on text t)
+
+-- a cause holds, and the fault tells it
+pub record TellsOf (d : Design) (cause : Cause) (fault : ElabFault) : Type 0 where
+  pub name : List ℕ
+  pub is : fault ≡ fault_of cause name
+  pub told : IsTold d cause name
+
+-- it is neither recursive nor too deep nor too large
+pub record IsFinite (d : Design) : Type 0 where
+  pub hierarchy : IsHierarchy d
+  pub bounded : IsBounded d
+
+-- its scopes, the constructs of its modules, its drivers and its registers are found, and no bit is driven twice
+pub record AreGrown (d : Design) (placed : List Placed) (outlines : List Outline) (counts : List ℕ) (stored : List Stored) : Type 0 where
+  pub scopes : ArePlaced d placed
+  pub outlined : AreOutlined d placed outlines
+  pub counted : AreCounts d counts
+  pub once : AreDrivenOnce d
+  pub registers : AreStored d stored
+
+-- its list of cells, put in order; no read bit lacks a driver, and there is no loop
+pub record AreArranged (d : Design) (list : LooseList) (net : Netlist) (numbers : List ℕ) : Type 0 where
+  pub lowering : Lowering
+  pub lowered : IsLowering d lowering
+  pub listed : IsListOf d lowering list
+  pub ordered : IsOrderOf list net numbers
+  pub driven : AreDriven d
+  pub acyclic : IsAcyclic d
