@@ -1,4 +1,5 @@
 pub mod AllowedDesigns
+pub mod ArrangedLists
 pub mod BitByBit
 pub mod BitNumbers
 pub mod BoxValues
@@ -88,6 +89,7 @@ pub mod TextLaws
 pub mod TopLaws
 pub mod TopLemmas
 pub mod Turns
+pub mod UndrivenBits
 pub mod WalkLemmas
 pub mod WalkLoops
 pub mod WalksByPlaces

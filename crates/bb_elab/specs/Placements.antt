@@ -1,6 +1,7 @@
 -- No clause of a public call rests on this file: it says what functions inside the crate find.
 -- The scopes and the bits of a design by numbers: scopes in elaboration order, bits in net order.
-use Rattle.std.specs.Prelude.{◌≡◌, ℕ, ◌<◌, min, List, [], ◌∷◌, length, map, take, Option, Some, None, slice_get}
+use Rattle.std.specs.Prelude.{◌≡◌, ℕ, ◌<◌, min, Bool, false, List, [], ◌∷◌, length, map, take, Option, Some, None, slice_get}
+use Rattle.std.specs.Bool.{Decides}
 use Rattle.std.specs.List.{AllZip, filter, flat_map, slice_index_or}
 use Rattle.bb_ast.specs.Syntax.{PlainModule}
 use Rattle.bb_expr.specs.Spots.{module_named}
@@ -11,6 +12,7 @@ use Rattle.bb_elab.specs.declared.stored.Stored.{Stored}
 use Rattle.bb_elab.specs.Hierarchy.{Design, Scope, Instance, path_to, instances_of, scopes, is_box}
 use Rattle.bb_elab.specs.NetBits.{Bit, same_bit, net_order, scope_bits, written_bits}
 use Rattle.bb_elab.specs.Drivers.{driven_bits}
+use Rattle.bb_elab.specs.Reading.{IsRead}
 use Rattle.bb_elab.specs.Registers.{RegisterBit, registers}
 use Rattle.bb_elab.specs.Outlines.{AreAt, IsOutline}
 
@@ -66,3 +68,8 @@ pub record IsStoredAt (d : Design) (x : Stored) (r : RegisterBit) : Type 0 where
 -- the register bits of a design, in net order
 abbrev pub AreStored : Design → List Stored → Type 0
 AreStored d all = AllZip (IsStoredAt d) all (registers d)
+
+-- for each bit whether it is read
+pub record AreReads (d : Design) (marks : List Bool) : Type 0 where
+  pub count : length marks ≡ length (net_order d)
+  pub each : (k : ℕ) (b : Bit) → slice_get (net_order d) k ≡ Some b → Decides (slice_index_or marks k false) (IsRead d b)

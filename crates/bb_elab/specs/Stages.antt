@@ -3,9 +3,10 @@
 use Rattle.std.specs.Prelude.{◌≡◌, ℕ, List, Some, slice_get}
 use Rattle.bb_ast.specs.Syntax.{PlainModule}
 use Rattle.bb_net.specs.Loose.{LooseList}
-use Rattle.bb_net.specs.Netlists.{Netlist}
+use Rattle.bb_net.specs.Netlists.{Netlist, IsNetlist}
 use Rattle.bb_net.specs.Orders.{IsOrderOf}
 use Rattle.bb_elab.specs.declared.fault.ElabFault.{ElabFault}
+use Rattle.bb_elab.specs.declared.growing.Grown.{Grown}
 use Rattle.bb_elab.specs.declared.outline.Outline.{Outline}
 use Rattle.bb_elab.specs.declared.placed.Placed.{Placed}
 use Rattle.bb_elab.specs.declared.stored.Stored.{Stored}
@@ -43,6 +44,17 @@ pub record AreArranged (d : Design) (list : LooseList) (net : Netlist) (numbers 
   pub lowering : Lowering
   pub lowered : IsLowering d lowering
   pub listed : IsListOf d lowering list
+  pub netlist : IsNetlist net
   pub ordered : IsOrderOf list net numbers
   pub driven : AreDriven d
   pub acyclic : IsAcyclic d
+
+-- a finite design of a text, with its scopes, constructs, drivers and registers
+pub record HasGrown (text : List PlainModule) (d : Design) (g : Grown) : Type 0 where
+  pub of_text : d.text ≡ text
+  pub finite : IsFinite d
+  pub grown : AreGrown d g.placed.items g.outlines.items g.counts.items g.stored.items
+
+-- a list is that of its cells, where its expressions are lowered in some way
+abbrev pub IsListed : Design → LooseList → Type 0
+IsListed d list = (lowering : Lowering) × IsLowering d lowering × IsListOf d lowering list

@@ -1,6 +1,7 @@
 //! Elaboration: the hierarchy of a checked source as one flat netlist with named inputs, registers, outputs and boxes.
 #![tactic(auto)]
 
+mod arranging;
 mod assigning;
 mod box_cells;
 mod callees;
@@ -27,6 +28,7 @@ mod outline;
 mod outlining;
 mod part_cells;
 mod placed;
+mod reading;
 mod recursion;
 mod register_bits;
 mod registers;
@@ -39,6 +41,7 @@ mod stored;
 pub mod table_laws;
 mod texts;
 mod top;
+mod undriven;
 
 pub use elaborating::elaborate;
 pub use fault::ElabFault;

@@ -22,8 +22,8 @@ impl Loose {
         self.boxes.len()
     }
 
-    // The number of inputs.
-    pub(crate) fn input_count(&self) -> u32
+    /// The number of inputs.
+    pub fn input_count(&self) -> u32
         ensures count { result ≡ self.now.inputs }
     {
         self.inputs

@@ -34,7 +34,7 @@ overflow_cast-number c =
     let made = subst (λ p. (d : Design) → d.text ≡ text → ArePlaced d p → IsSmall d → AreOutlined d p outlines) c.deref.ensures.value c.in_ok-outlines.ensures.outlined in
     let counts = c.in_ok-counts.counts.items in
     let counted = subst (λ o. (d : Design) → ArePlaced d placed → AreOutlined d placed o → IsBounded d → AreCounts d counts) c.deref-3.ensures.value
-      (subst (λ p. (d : Design) → ArePlaced d p → AreOutlined d p c.deref-3.result.now → IsBounded d → AreCounts d counts) c.deref-2.ensures.value c.in_ok-counts.ensures.counts) in
+    (subst (λ p. (d : Design) → ArePlaced d p → AreOutlined d p c.deref-3.result.now → IsBounded d → AreCounts d counts) c.deref-2.ensures.value c.in_ok-counts.ensures.counts) in
     let found = subst (λ all. (d : Design) → AreCounts d all → IsFirstAt d (IsDrivenTwice d) c.in-Some.number) c.deref-4.ensures.value c.in-Some.ensures.some in
     let low = few text c.args.top lt c.requires.finite placed c.in_ok-placed.ensures.placed outlines made counts counted c.in-Some.number found in
     omega (arith, low)
@@ -48,10 +48,10 @@ returns-in-Some-clause-fault c =
     let made = subst (λ p. (d : Design) → d.text ≡ text → ArePlaced d p → IsSmall d → AreOutlined d p outlines) c.deref.ensures.value c.in_ok-outlines.ensures.outlined in
     let counts = c.in_ok-counts.counts.items in
     let counted = subst (λ o. (d : Design) → ArePlaced d placed → AreOutlined d placed o → IsBounded d → AreCounts d counts) c.deref-3.ensures.value
-      (subst (λ p. (d : Design) → ArePlaced d p → AreOutlined d p c.deref-3.result.now → IsBounded d → AreCounts d counts) c.deref-2.ensures.value c.in_ok-counts.ensures.counts) in
+    (subst (λ p. (d : Design) → ArePlaced d p → AreOutlined d p c.deref-3.result.now → IsBounded d → AreCounts d counts) c.deref-2.ensures.value c.in_ok-counts.ensures.counts) in
     let found = subst (λ all. (d : Design) → AreCounts d all → IsFirstAt d (IsDrivenTwice d) c.in-Some.number) c.deref-4.ensures.value c.in-Some.ensures.some in
     inr (twice text c.args.top lt c.requires.finite placed c.in_ok-placed.ensures.placed outlines made counts counted c.in-Some.number found c.in_ok-bit_name.field-0
-      (subst (λ p. (d : Design) → d.text ≡ text → ArePlaced d p → (b : Bit) → slice_get (net_order d) c.in-Some.number ≡ Some b → c.in_ok-bit_name.field-0 ≡ bit_text d b) c.deref-in-Some.ensures.value c.in_ok-bit_name.ensures.name))
+    (subst (λ p. (d : Design) → d.text ≡ text → ArePlaced d p → (b : Bit) → slice_get (net_order d) c.in-Some.number ≡ Some b → c.in_ok-bit_name.field-0 ≡ bit_text d b) c.deref-in-Some.ensures.value c.in_ok-bit_name.ensures.name))
 
 pub bit_count-requires : goal.bit_count-requires
 bit_count-requires c =
@@ -70,7 +70,7 @@ stored_bits-requires c =
     let outlines = c.in_ok-outlines.outlines.items in
     let made = subst (λ p. (d : Design) → d.text ≡ text → ArePlaced d p → IsSmall d → AreOutlined d p outlines) c.deref.ensures.value c.in_ok-outlines.ensures.outlined in
     let long = subst (λ o. (d : Design) → ArePlaced d placed → AreOutlined d placed o → c.bit_count.result ≡ length (net_order d)) c.deref-8.ensures.value
-      (subst (λ p. (d : Design) → ArePlaced d p → AreOutlined d p c.deref-8.result.now → c.bit_count.result ≡ length (net_order d)) c.deref-7.ensures.value c.bit_count.ensures.bits) in
+    (subst (λ p. (d : Design) → ArePlaced d p → AreOutlined d p c.deref-8.result.now → c.bit_count.result ≡ length (net_order d)) c.deref-7.ensures.value c.bit_count.ensures.bits) in
     record { design = for_registers text c.args.top lt c.requires.finite placed c.in_ok-placed.ensures.placed outlines made c.deref-5.result.now c.deref-6.result.now c.deref-5.ensures.value c.deref-6.ensures.value c.bit_count.result long }
 
 pub returns-clause-grown : goal.returns-clause-grown
@@ -82,10 +82,10 @@ returns-clause-grown c =
     let made = subst (λ p. (d : Design) → d.text ≡ text → ArePlaced d p → IsSmall d → AreOutlined d p outlines) c.deref.ensures.value c.in_ok-outlines.ensures.outlined in
     let counts = c.in_ok-counts.counts.items in
     let counted = subst (λ o. (d : Design) → ArePlaced d placed → AreOutlined d placed o → IsBounded d → AreCounts d counts) c.deref-3.ensures.value
-      (subst (λ p. (d : Design) → ArePlaced d p → AreOutlined d p c.deref-3.result.now → IsBounded d → AreCounts d counts) c.deref-2.ensures.value c.in_ok-counts.ensures.counts) in
+    (subst (λ p. (d : Design) → ArePlaced d p → AreOutlined d p c.deref-3.result.now → IsBounded d → AreCounts d counts) c.deref-2.ensures.value c.in_ok-counts.ensures.counts) in
     let long = subst (λ o. (d : Design) → ArePlaced d placed → AreOutlined d placed o → c.bit_count.result ≡ length (net_order d)) c.deref-8.ensures.value
-      (subst (λ p. (d : Design) → ArePlaced d p → AreOutlined d p c.deref-8.result.now → c.bit_count.result ≡ length (net_order d)) c.deref-7.ensures.value c.bit_count.ensures.bits) in
+    (subst (λ p. (d : Design) → ArePlaced d p → AreOutlined d p c.deref-8.result.now → c.bit_count.result ≡ length (net_order d)) c.deref-7.ensures.value c.bit_count.ensures.bits) in
     let registers = subst (λ o. (d : Design) → ArePlaced d placed → AreOutlined d placed o → IsBounded d → c.bit_count.result ≡ length (net_order d) → AreStored d c.in_ok-stored.stored.items) c.deref-6.ensures.value
-      (subst (λ p. (d : Design) → ArePlaced d p → AreOutlined d p c.deref-6.result.now → IsBounded d → c.bit_count.result ≡ length (net_order d) → AreStored d c.in_ok-stored.stored.items) c.deref-5.ensures.value c.in_ok-stored.ensures.stored) in
+    (subst (λ p. (d : Design) → ArePlaced d p → AreOutlined d p c.deref-6.result.now → IsBounded d → c.bit_count.result ≡ length (net_order d) → AreStored d c.in_ok-stored.stored.items) c.deref-5.ensures.value c.in_ok-stored.ensures.stored) in
     let once = subst (λ all. (d : Design) → IsBounded d → AreCounts d all → AreDrivenOnce d) c.deref-4.ensures.value (subst (λ o. IfNone o ((d : Design) → IsBounded d → AreCounts d c.deref-4.result.now → AreDrivenOnce d)) c.in_default.is c.first_driven_twice.ensures.none) in
     grown text c.args.top lt c.requires.finite placed c.in_ok-placed.ensures.placed outlines made counts counted c.in_ok-stored.stored.items once c.bit_count.result long registers

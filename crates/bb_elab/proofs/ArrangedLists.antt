@@ -1,0 +1,100 @@
+-- The order of the list of cells of a design, or the first bit on a loop.
+use Rattle.std.proofs.Common.{◌≡◌, ◌^◌, ℕ, ◌+◌, ◌-◌, ◌<◌, ◌≤◌, Bool, List, length, refl, subst, sym, ap, ◌∙◌, ◌⊎◌, inl, inr, arith}
+use Rattle.std.proofs.lemmas.Option.{slice_get_within}
+use Rattle.std.specs.Prelude.{slice_get, Some, Result, Ok, Err, IfErr, IsErrAnd}
+use Rattle.bb_ast.specs.Syntax.{PlainModule}
+use Rattle.bb_net.specs.Loose.{LooseList, IsLoose, IsOnClosedWalk, IsLeastOnClosedWalk}
+use Rattle.bb_elab.specs.declared.fault.ElabFault.{ElabFault}
+use Rattle.bb_elab.specs.declared.fault.ElabFault.TheVariants.{Loop, Undriven}
+use Rattle.bb_elab.specs.declared.growing.Grown.{Grown}
+use Rattle.bb_elab.specs.declared.outline.Outline.{Outline}
+use Rattle.bb_elab.specs.declared.placed.Placed.{Placed}
+use Rattle.bb_elab.specs.declared.stored.Stored.{Stored}
+use Rattle.bb_elab.specs.DrivenNumbers.{IsFirstAt}
+use Rattle.bb_elab.specs.Hierarchy.{Design}
+use Rattle.bb_elab.specs.ListLaws.{IsBounded, ListsAreLoose}
+use Rattle.bb_elab.specs.LoopLaws.{ListsWithoutWalks, LeastWalksAreFirstLoops}
+use Rattle.bb_elab.specs.NetBits.{Bit, net_order}
+use Rattle.bb_elab.specs.Placements.{ArePlaced, AreOutlined, AreCounts, AreStored, AreReads}
+use Rattle.bb_elab.specs.Places.{Lowering, IsLowering, IsListOf}
+use Rattle.bb_elab.specs.Refusals.{IsAcyclic, AreDrivenOnce, IsUndriven, AreDriven, TwoDrivers, NoDriver, Cycle, IsRefusalOf}
+use Rattle.bb_elab.specs.Stages.{IsFinite, HasGrown, IsListed, TellsOf}
+use Rattle.bb_elab.specs.Texts.{bit_text}
+use Rattle.bb_elab.proofs.StageRefusals.{refused, and_clear, finite_clear}
+
+module _ (text : List PlainModule) (g : Grown) (l : LooseList) where
+  pub is_loose : ListsAreLoose → (x : (d : Design) × HasGrown text d g × IsListed d l) → IsLoose l
+  is_loose law (d, has, (lowering, lowered, listed)) = law d lowering l has.finite.bounded lowered listed
+
+  pub acyclic : ListsWithoutWalks → ((k : ℕ) → IsOnClosedWalk l k → ⊥) → (d : Design) → HasGrown text d g → IsListed d l → IsAcyclic d
+  acyclic law none d has (lowering, lowered, listed) = law d lowering l has.finite.bounded has.grown.once lowered listed none
+
+  module _ (law : LeastWalksAreFirstLoops) (place : ℕ) (least : IsLeastOnClosedWalk l place) where
+    pub behind : (x : (d : Design) × HasGrown text d g × IsListed d l) → l.inputs + 2 ≤ place
+    behind (d, has, (lowering, lowered, listed)) = let f = law d lowering l has.finite.bounded has.grown.once lowered listed place least in omega (arith, f.2)
+
+    pub on_loop : (n : List ℕ) (inputs : ℕ) → inputs ≡ l.inputs → ((d : Design) → d.text ≡ text → ArePlaced d g.placed.items → (b : Bit) → slice_get (net_order d) (place - 2 - inputs) ≡ Some b → n ≡ bit_text d b)
+        → (d : Design) → HasGrown text d g → IsListed d l → TellsOf d Cycle (Loop n)
+    on_loop n inputs same named d has (lowering, lowered, listed) =
+        let f = law d lowering l has.finite.bounded has.grown.once lowered listed place least in
+        let number : f.0 ≡ place - 2 - inputs = omega (arith, f.2, same) in
+        record { name = n; is = refl; told = (f.1, f.4, named d has.of_text has.grown.scopes f.1 (subst (λ m. slice_get (net_order d) m ≡ Some f.1) number f.3)) }
+
+  -- which bits are read
+  module _ (read : List Bool) (reads : (d : Design) (lowering : Lowering) → IsBounded d → AreDrivenOnce d → IsLowering d lowering → IsListOf d lowering l → AreStored d g.stored.items → length g.counts.items ≡ length (net_order d) → AreReads d read) where
+    pub reads_at : (d : Design) → HasGrown text d g → IsListed d l → AreReads d read
+    reads_at d has (lowering, lowered, listed) = reads d lowering has.finite.bounded has.grown.once lowered listed has.grown.registers has.grown.counted.count
+
+    pub as_many : (x : (d : Design) × HasGrown text d g × IsListed d l) → length read ≡ length g.counts.items
+    as_many (d, has, listed) = (reads_at d has listed).count ∙ sym has.grown.counted.count
+
+    module _ (k : ℕ) (found : (d : Design) → IsBounded d → AreCounts d g.counts.items → AreReads d read → IsFirstAt d (IsUndriven d) k) where
+      pub few : (x : (d : Design) × HasGrown text d g × IsListed d l) → k < 2 ^ 32
+      few (d, has, listed) =
+          let b = found d has.finite.bounded has.grown.counted (reads_at d has listed) in
+          let small = has.finite.bounded.small.0 in
+          let fits = slice_get_within (net_order d) k b.0 b.1 in omega (arith, small, fits)
+
+      pub undriven : (n : List ℕ) → ((d : Design) → d.text ≡ text → ArePlaced d g.placed.items → (b : Bit) → slice_get (net_order d) k ≡ Some b → n ≡ bit_text d b)
+          → (d : Design) → HasGrown text d g → IsListed d l → TellsOf d NoDriver (Undriven n)
+      undriven n named d has listed =
+          let b = found d has.finite.bounded has.grown.counted (reads_at d has listed) in
+          record { name = n; is = refl; told = (b.0, b.2, named d has.of_text has.grown.scopes b.0 b.1) }
+
+    pub all_are : ((d : Design) → IsBounded d → AreCounts d g.counts.items → AreReads d read → AreDriven d) → (d : Design) → HasGrown text d g → IsListed d l → AreDriven d
+    all_are none d has listed = none d has.finite.bounded has.grown.counted (reads_at d has listed)
+
+  pub for_reads : (seen : List Stored) → seen ≡ g.stored.items → (bits : ℕ) → bits ≡ length g.counts.items → (x : (d : Design) × HasGrown text d g × IsListed d l)
+      → (d : Design) × (lowering : Lowering) × IsBounded d × AreDrivenOnce d × IsLowering d lowering × IsListOf d lowering l × AreStored d seen × (bits ≡ length (net_order d))
+  for_reads seen same bits long (d, has, (lowering, lowered, listed)) =
+      (d, lowering, has.finite.bounded, has.grown.once, lowered, listed, subst (AreStored d) (sym same) has.grown.registers, long ∙ has.grown.counted.count)
+
+module _ (text : List PlainModule) (g : Grown) (placed : List Placed) (outlines : List Outline) (stored : List Stored) (scopes : placed ≡ g.placed.items) (made : outlines ≡ g.outlines.items) (registers : stored ≡ g.stored.items) where
+  seen : (d : Design) → HasGrown text d g → ArePlaced d placed × AreOutlined d placed outlines × AreStored d stored
+  seen d has = (
+    subst (ArePlaced d) (sym scopes) has.grown.scopes,
+    subst (λ p. AreOutlined d p outlines) (sym scopes) (subst (AreOutlined d g.placed.items) (sym made) has.grown.outlined),
+    subst (AreStored d) (sym registers) has.grown.registers,
+  )
+
+  pub for_list : (x : (d : Design) × HasGrown text d g) → (d : Design) × ArePlaced d placed × AreOutlined d placed outlines × AreStored d stored × IsBounded d × AreDrivenOnce d
+  for_list (d, has) = let all = seen d has in (d, all.0, all.1, all.2, has.finite.bounded, has.grown.once)
+
+  pub listed_at : (l : LooseList) → ((d : Design) → ArePlaced d placed → AreOutlined d placed outlines → AreStored d stored → IsBounded d → AreDrivenOnce d → IsListed d l) → (d : Design) → HasGrown text d g → IsListed d l
+  listed_at l law d has = let all = seen d has in law d all.0 all.1 all.2 has.finite.bounded has.grown.once
+
+-- the cause that is told is the first
+pub first_undriven_cause : (d : Design) (fault : ElabFault) → IsFinite d → AreDrivenOnce d → TellsOf d NoDriver fault → IsRefusalOf d fault
+first_undriven_cause d fault finite once tells = refused d NoDriver fault tells (and_clear d TwoDrivers (finite_clear d finite) once)
+
+pub first_loop_cause : (d : Design) (fault : ElabFault) → IsFinite d → AreDrivenOnce d → AreDriven d → TellsOf d Cycle fault → IsRefusalOf d fault
+first_loop_cause d fault finite once driven tells = refused d Cycle fault tells (and_clear d NoDriver (and_clear d TwoDrivers (finite_clear d finite) once) driven)
+
+pub told_on : {A P Q : Type 0} → A ⊎ P → (P → Q) → A ⊎ Q
+told_on (inl none) next = inl none
+told_on (inr tells) next = inr (next tells)
+
+-- what a call refuses is refused
+pub if_err : {A E : Type 0} (r : Result A E) (P : E → Type 0) (e : E) → IsErrAnd r (λ x. x ≡ e) → P e → IfErr r P
+if_err (Ok x) P e same holds = tt
+if_err (Err y) P e same holds = subst P (sym same) holds
