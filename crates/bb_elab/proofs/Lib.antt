@@ -9,6 +9,7 @@ mod CellSums
 pub mod CellTotals
 pub mod ConstructCounts
 pub mod ContentTables
+pub mod CopyMarks
 pub mod Deciding
 pub mod DependenceWalks
 pub mod DepthHeights

@@ -17,6 +17,7 @@ pub mod Worlds
 pub mod DrivenWorlds
 pub mod Drivers
 pub mod Reading
+pub mod ReadPlaces
 pub mod Dependence
 pub mod Sizes
 pub mod Places

@@ -12,6 +12,7 @@ pub mod list_laws;
 pub mod loop_laws;
 mod outline;
 mod placed;
+mod reading;
 mod recursion;
 mod register_bits;
 mod size;
