@@ -61,7 +61,7 @@ unmarked_less (true ∷ marks) zero lt off = absurd (true≢false off)
 unmarked_less (false ∷ marks) zero lt off = omega arith
 unmarked_less (b ∷ marks) (suc k) lt off = let rest = unmarked_less marks k (omega (arith, lt)) off in omega (arith, rest)
 
-leads_on : {A : Type 0} (steps : List (A × A)) (a b c : A) → Leads steps a b → Contains steps (b, c) → Leads steps a c
+pub leads_on : {A : Type 0} (steps : List (A × A)) (a b c : A) → Leads steps a b → Contains steps (b, c) → Leads steps a c
 leads_on steps a b c (One has) step = More has (One step)
 leads_on steps a b c (More {y = y} has rest) step = More has (leads_on steps y b c rest step)
 

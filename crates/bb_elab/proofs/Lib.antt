@@ -10,6 +10,7 @@ pub mod CellTotals
 pub mod ConstructCounts
 pub mod ContentTables
 pub mod CopyMarks
+pub mod CopyWalks
 pub mod Deciding
 pub mod DependenceWalks
 pub mod DepthHeights

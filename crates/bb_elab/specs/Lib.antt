@@ -28,3 +28,4 @@ pub mod Laws
 pub mod ListLaws
 pub mod ContentTables
 pub mod LoopLaws
+pub mod CopyLaws

@@ -3,6 +3,7 @@
 
 mod callees;
 mod cells;
+pub mod copy_laws;
 mod depth;
 mod elaborating;
 mod fault;
