@@ -9,6 +9,7 @@ mod CellSums
 pub mod CellTotals
 pub mod ConstructCounts
 pub mod ContentTables
+pub mod CopyLoops
 pub mod CopyMarks
 pub mod CopyWalks
 pub mod Deciding
