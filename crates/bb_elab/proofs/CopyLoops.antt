@@ -48,18 +48,18 @@ use Rattle.bb_elab.proofs.ListWalks.{input, terminals_are}
 use Rattle.bb_elab.proofs.TopLaws.{contains_here, contains_cases, none_in_nil, kept_from}
 use Rattle.bb_elab.proofs.WorldExists.{from_find, from_numbered}
 
--- whether a place is that of a bit, and the bit
-abbrev is_net : Place → Bool
-is_net (NetBit b) = true
-is_net (Constant b) = false
-is_net (Input i) = false
-is_net (Step k x j) = false
-is_net (Joined k x) = false
-is_net (Inverted k) = false
-is_net (BoxPin b p) = false
+-- whether a place is neither that of a bit of a net nor that of an input
+abbrev pub is_plain : Place → Bool
+is_plain (NetBit b) = false
+is_plain (Input i) = false
+is_plain (Constant b) = true
+is_plain (Step k x j) = true
+is_plain (Joined k x) = true
+is_plain (Inverted k) = true
+is_plain (BoxPin b p) = true
 
-not_net : (p : Place) (b : Bit) → is_net p ≡ false → p ≡ NetBit b → ⊥
-not_net p b off e = let on : is_net p ≡ true = ap is_net e in grind (arith, off, on)
+pub not_plain : (p q : Place) → is_plain p ≡ true → is_plain q ≡ false → p ≡ q → ⊥
+not_plain p q on off e = let same : true ≡ false = sym on ∙ ap is_plain e ∙ off in grind (arith, same)
 
 bit_at : Place → Bit → Bit
 bit_at (NetBit b) c = b
@@ -70,44 +70,44 @@ bit_at (Joined k x) c = c
 bit_at (Inverted k) c = c
 bit_at (BoxPin b p) c = c
 
-net_same : (b c : Bit) → NetBit b ≡ NetBit c → b ≡ c
+pub net_same : (b c : Bit) → NetBit b ≡ NetBit c → b ≡ c
 unfolding bit_at
 net_same b c e = ap (λ p. bit_at p b) e
 
-module _ (d : Design) (lowering : Lowering) (l : LooseList) (list : IsListOf d lowering l) (lowered : IsLowering d lowering) (wired : IsWired d) (e : Bit) (there : Contains (net_order d) e) where
+-- copies that lead to a place, which is that of a bit or of an input, and the bits from which they lead there
+module _ (d : Design) (lowering : Lowering) (l : LooseList) (list : IsListOf d lowering l) (lowered : IsLowering d lowering) (wired : IsWired d) (goal : ℕ) (Tail : Bit → Type 0)
+    (not_last : (p : Place) (u : LooseCell) → IsListed d lowering l list p u → is_plain p ≡ true → list.number p ≡ goal → ⊥)
+    (at_net : (b : Bit) → Contains (net_order d) b → list.number (NetBit b) ≡ goal → Tail b)
+    (at_input : (i : ℕ) (b : Bit) → Contains (enumerate_from 0 (cut_bits d)) (i, b) → list.number (Input i) ≡ goal → Tail b)
+    (closed : (b c : Bit) → Contains (copies d) (b, c) → Tail c → Tail b) where
   abbrev pub place : Bit → ℕ
   place b = list.number (NetBit b)
 
-  -- so many copies lead from a place to that of the bit
+  -- so many copies lead from a place to that one
   abbrev pub Walk : ℕ → ℕ → Type 0
-  Walk zero k = k ≡ place e
+  Walk zero k = k ≡ goal
   Walk (suc n) k = (q : ℕ) × Contains (copy_steps l.cells) (k, q) × Walk n q
-
-  -- the bit, or a copy of it
-  abbrev pub Tail : Bit → Type 0
-  Tail b = Follows d b e
 
   abbrev pub Below : List Bit → Type 0
   Below low = (c : Bit) × Contains low c × Tail c
-
-  -- a place that is no bit's is not the last
-  not_last : (p : Place) (u : LooseCell) → IsListed d lowering l list p u → is_net p ≡ false → list.number p ≡ place e → ⊥
-  not_last p u listed off same = not_net p e off (one_place_listed d lowering l list p (NetBit e) u _ listed (net_listed d lowering l list e there) same)
 
   -- the first step of a walk
   first_step : (n : ℕ) (p : Place) (u : LooseCell) → IsListed d lowering l list p u → Walk (suc n) (list.number p) → (q : ℕ) × (u ≡ cell.Copy q) × Walk n q
   first_step n p u listed walk = let f = copy_from l.cells (list.number p) walk.0 (cell.Const false) walk.1 in (walk.0, sym (listed_cell d lowering l list p u listed) ∙ f.1, walk.2)
 
-  no_walk : (n : ℕ) (p : Place) (u : LooseCell) → IsListed d lowering l list p u → is_net p ≡ false → ((q : ℕ) → u ≡ cell.Copy q → ⊥) → Walk n (list.number p) → ⊥
+  no_walk : (n : ℕ) (p : Place) (u : LooseCell) → IsListed d lowering l list p u → is_plain p ≡ true → ((q : ℕ) → u ≡ cell.Copy q → ⊥) → Walk n (list.number p) → ⊥
   no_walk zero p u listed off none walk = not_last p u listed off walk
   no_walk (suc n) p u listed off none walk = let f = first_step n p u listed walk in none f.0 f.1
 
-  -- constants and inputs lead nowhere
+  -- constants lead nowhere
   pub constant_ends : (n : ℕ) (b : Bool) → Walk n (list.number (Constant b)) → ⊥
   constant_ends n b walk = no_walk n (Constant b) _ (constant_listed d lowering l list b) refl (λ q e. cc) walk
 
-  pub input_ends : (n : ℕ) (i : ℕ) → i < length (cut_bits d) → Walk n (list.number (Input i)) → ⊥
-  input_ends n i fits walk = no_walk n (Input i) _ (input_listed d lowering l list i fits) refl (λ q e. cc) walk
+  input_only : (n : ℕ) (i : ℕ) (b : Bit) → Contains (enumerate_from 0 (cut_bits d)) (i, b) → Walk n (list.number (Input i)) → Tail b
+  input_only zero i b has walk = at_input i b has walk
+  input_only (suc n) i b has walk =
+      let j = enumerated_from 0 (cut_bits d) i b has in
+      let f = first_step n (Input i) _ (input_listed d lowering l list i (omega (arith, j.1, j.2))) walk in cc
 
   abbrev pub Nets : ℕ → Type 0
   Nets n = (b : Bit) → Contains (net_order d) b → Walk n (place b) → Tail b
@@ -278,49 +278,48 @@ module _ (d : Design) (lowering : Lowering) (l : LooseList) (list : IsListOf d l
     abbrev others : List (Bit × Place)
     others = flat_map (given_at lowering) (enumerate_from 0 (parts d))
 
-    passes : (y : Bit × Place) → Contains (given d lowering) y → Walk n (list.number y.1) → Passes (drives d) y
+    passes : (y : Bit × Place) → Contains (given d lowering) y → Walk n (list.number y.1) → Passes (drives d) y ⊎ Tail y.0
     passes y has walk = by (Contains-append_cases (inputs ++ box_pins) others y has)
       where
-        first : Contains inputs y ⊎ Contains box_pins y → Passes (drives d) y
+        first : Contains inputs y ⊎ Contains box_pins y → Passes (drives d) y ⊎ Tail y.0
         first (inl h) =
             let i = from_map {B = Bit × Place} (λ x. (x.1, Input x.0)) (enumerate_from 0 (cut_bits d)) y h in
-            let j = enumerated_from 0 (cut_bits d) i.0.0 i.0.1 i.1 in
-            absurd (input_ends n i.0.0 (omega (arith, j.1, j.2)) (subst (λ (u : Bit × Place). Walk n (list.number u.1)) (sym i.2) walk))
+            inr (subst (λ (u : Bit × Place). Tail u.0) i.2 (input_only n i.0.0 i.0.1 i.1 (subst (λ (u : Bit × Place). Walk n (list.number u.1)) (sym i.2) walk)))
         first (inr h) =
             let b = from_flat given_by_box (enumerate_from 0 (boxes d)) y h in
             let s = b.0.1 in
             let p = from_map {B = Bit × Place} (λ (x : ℕ × Bit). (x.1, BoxPin b.0.0 x.0)) (enumerate_from 0 (output_bits s)) y b.2 in
             absurd (pins_end n b.0.0 s b.1 p.0.0 p.0.1 p.1 (subst (λ (u : Bit × Place). Walk n (list.number u.1)) (sym p.2) walk))
 
-        by : Contains (inputs ++ box_pins) y ⊎ Contains others y → Passes (drives d) y
+        by : Contains (inputs ++ box_pins) y ⊎ Contains others y → Passes (drives d) y ⊎ Tail y.0
         by (inl h) = first (Contains-append_cases inputs box_pins y h)
         by (inr h) =
             let p = from_flat (given_at lowering) (enumerate_from 0 (parts d)) y h in
             let z = part_passes p.0.0 p.0.1.0 p.0.1.1 p.1 y p.2 walk in
-            (z.0, part_driven d p.0.1 (from_numbered 0 (parts d) p.0 p.1) z.0 z.1, z.2)
+            inl (z.0, part_driven d p.0.1 (from_numbered 0 (parts d) p.0 p.1) z.0 z.1, z.2)
 
     -- a step or more from the place of a bit lead along copies
-    pub net_leads : (b : Bit) → Contains (net_order d) b → Walk (suc n) (place b) → Leads (copies d) b e
+    net_leads : (b : Bit) → Contains (net_order d) b → Walk (suc n) (place b) → Tail b
     net_leads b has walk =
         let f = first_step n (NetBit b) (cell.Copy (list.number (place_in (given d lowering) b))) (net_listed d lowering l list b has) walk in
         found (find (λ (y : Bit × Place). same_bit b y.0) (given d lowering)) refl (subst (Walk n) (sym (copies_one (list.number (place_in (given d lowering) b)) f.0 f.1)) f.2)
       where
-        leads : (c : Bit) → Contains (copies d) (b, c) → Tail c → Leads (copies d) b e
-        leads c step (inl same) = One (subst (λ u. Contains (copies d) (b, u)) same step)
-        leads c step (inr rest) = More step rest
-
-        found : (o : Option (Bit × Place)) → find (λ (y : Bit × Place). same_bit b y.0) (given d lowering) ≡ o → Walk n (list.number (option_map_or (λ (u : Bit × Place). u.1) o (Constant false))) → Leads (copies d) b e
+        found : (o : Option (Bit × Place)) → find (λ (y : Bit × Place). same_bit b y.0) (given d lowering) ≡ o → Walk n (list.number (option_map_or (λ (u : Bit × Place). u.1) o (Constant false))) → Tail b
         found None is walk = absurd (constant_ends n false walk)
         found (Some y) is walk =
             let at = from_find (λ (y : Bit × Place). same_bit b y.0) (given d lowering) y is in
-            let z = passes y at.0 walk in
-            let bit : z.0.bit ≡ b = z.2.0 ∙ sym (same_bit_is b y.0 at.1) in
-            let c = z.2.1 in
-            leads c.0 (subst (λ u. Contains (copies d) (u, c.0)) bit (into_flat (λ (z : Drive). map (λ e. (z.bit, e)) (copied z.source)) (drives d) z.0 (z.0.bit, c.0) z.1 (contains-map {B = Bit × Bit} (λ e. (z.0.bit, e)) (copied z.0.source) c.0 c.1))) c.2
+            from (passes y at.0 walk) (same_bit_is b y.0 at.1)
+          where
+            from : Passes (drives d) y ⊎ Tail y.0 → b ≡ y.0 → Tail b
+            from (inr tail) same = subst Tail (sym same) tail
+            from (inl z) same =
+                let bit : z.0.bit ≡ b = z.2.0 ∙ sym same in
+                let c = z.2.1 in
+                closed b c.0 (subst (λ u. Contains (copies d) (u, c.0)) bit (into_flat (λ (z : Drive). map (λ e. (z.bit, e)) (copied z.source)) (drives d) z.0 (z.0.bit, c.0) z.1 (contains-map {B = Bit × Bit} (λ e. (z.0.bit, e)) (copied z.0.source) c.0 c.1))) c.2
 
-  claims : (n : ℕ) → Claims n
+  pub claims : (n : ℕ) → Claims n
   claims zero = record {
-    nets = λ b has walk. inl (net_same b e (one_place_listed d lowering l list (NetBit b) (NetBit e) _ _ (net_listed d lowering l list b has) (net_listed d lowering l list e there) walk));
+    nets = λ b has walk. at_net b has walk;
     steps = steps_zero;
     joins = λ k s gate outs ins has. joins_zero k s gate outs ins has;
   }
@@ -328,22 +327,54 @@ module _ (d : Design) (lowering : Lowering) (l : LooseList) (list : IsListOf d l
       let c = claims n in
       let next = steps_more n c.nets in
       record {
-        nets = λ b has walk. inr (net_leads n c b has walk);
+        nets = λ b has walk. net_leads n c b has walk;
         steps = next;
         joins = λ k s gate outs ins has. joins_more k s gate outs ins has n next (c.joins k s gate outs ins has);
       }
 
-  walk_of : (k : ℕ) → Leads (copy_steps l.cells) k (place e) → (n : ℕ) × Walk n k
-  walk_of k (One {y = y} has) = (1, (place e, has, refl))
+  walk_of : (k : ℕ) → Leads (copy_steps l.cells) k goal → (n : ℕ) × Walk n k
+  walk_of k (One has) = (1, (goal, has, refl))
   walk_of k (More {y = y} has rest) = let r = walk_of y rest in (suc r.0, (y, has, r.1))
 
+  pub walk_from : (k : ℕ) → FollowsAt l.cells k goal → (n : ℕ) × Walk n k
+  walk_from k (inl same) = (0, same)
+  walk_from k (inr leads) = walk_of k leads
+
   -- copies in the list are copies of bits
-  pub followed : (b : Bit) → Contains (net_order d) b → FollowsAt l.cells (place b) (place e) → Follows d b e
-  followed b has (inl same) = (claims 0).nets b has same
-  followed b has (inr leads) = let w = walk_of (place b) leads in (claims w.0).nets b has w.1
+  pub followed : (b : Bit) → Contains (net_order d) b → FollowsAt l.cells (place b) goal → Tail b
+  followed b has follows = let w = walk_from (place b) follows in (claims w.0).nets b has w.1
+
+module _ (d : Design) (lowering : Lowering) (l : LooseList) (list : IsListOf d lowering l) (lowered : IsLowering d lowering) (wired : IsWired d) where
+  copy_closed : (e b c : Bit) → Contains (copies d) (b, c) → Follows d c e → Follows d b e
+  copy_closed e b c step (inl same) = inr (One (subst (λ u. Contains (copies d) (b, u)) same step))
+  copy_closed e b c step (inr rest) = inr (More step rest)
+
+  -- to the place of a bit
+  pub bits_followed : (e : Bit) → Contains (net_order d) e → (b : Bit) → Contains (net_order d) b → FollowsAt l.cells (list.number (NetBit b)) (list.number (NetBit e)) → Follows d b e
+  bits_followed e there = followed d lowering l list lowered wired (list.number (NetBit e)) (λ b. Follows d b e)
+      (λ p u listed on same. not_plain p (NetBit e) on refl (one_place_listed d lowering l list p (NetBit e) u _ listed (net_listed d lowering l list e there) same))
+      (λ b has same. inl (net_same b e (one_place_listed d lowering l list (NetBit b) (NetBit e) _ _ (net_listed d lowering l list b has) (net_listed d lowering l list e there) same)))
+      (λ i b has same. let j = enumerated_from 0 (cut_bits d) i b has in let no = one_place_listed d lowering l list (Input i) (NetBit e) _ _ (input_listed d lowering l list i (omega (arith, j.1, j.2))) (net_listed d lowering l list e there) same in cc)
+      (copy_closed e)
+
+  -- to the place of an input
+  pub inputs_followed : (i : ℕ) (e : Bit) → Contains (enumerate_from 0 (cut_bits d)) (i, e) → (b : Bit) → Contains (net_order d) b → FollowsAt l.cells (list.number (NetBit b)) (list.number (Input i)) → Follows d b e
+  inputs_followed i e there =
+      let j = enumerated_from 0 (cut_bits d) i e there in
+      let listed_there = input_listed d lowering l list i (omega (arith, j.1, j.2)) in
+      followed d lowering l list lowered wired (list.number (Input i)) (λ b. Follows d b e)
+      (λ p u listed on same. not_plain p (Input i) on refl (one_place_listed d lowering l list p (Input i) u _ listed listed_there same))
+      (λ b has same. let no = one_place_listed d lowering l list (NetBit b) (Input i) _ _ (net_listed d lowering l list b has) listed_there same in cc)
+      (λ k b has same.
+          let m = enumerated_from 0 (cut_bits d) k b has in
+          let one = one_place_listed d lowering l list (Input k) (Input i) _ _ (input_listed d lowering l list k (omega (arith, m.1, m.2))) listed_there same in
+          let number : k ≡ i = grind (arith, one) in
+          let place : m.0 ≡ j.0 = omega (arith, number, m.1, j.1) in
+          inl (sym (m.3 b) ∙ ap (λ n. get_or (cut_bits d) n b) place ∙ j.3 b))
+      (copy_closed e)
 
 pub copies_are_listed : CopiesAreListed
 copies_are_listed d lowering l bounded once lowered list b c has there = (
-  (λ at. followed d lowering l list lowered (wired d bounded) c there b has at),
+  (λ at. bits_followed d lowering l list lowered (wired d bounded) c there b has at),
   (λ follows. follows_at d lowering l list lowered (wired d bounded) (bits_there d bounded) once b c follows),
 )
