@@ -50,7 +50,7 @@ pub copies_one : (a b : ℕ) → Copy a ≡ Copy b → a ≡ b
 copies_one a b e = grind (arith, e)
 
 -- how many are not marked
-pub unmarked : List Bool → ℕ
+unfoldable pub unmarked : List Bool → ℕ
 unmarked [] = 0
 unmarked (b ∷ marks) = (if b then 0 else 1) + unmarked marks
 

@@ -7,6 +7,8 @@ pub mod CalleeLemmas
 pub mod CauseDecisions
 mod CellSums
 pub mod CellTotals
+pub mod ClockInputs
+pub mod ClockWalks
 pub mod ConstructCounts
 pub mod ContentTables
 pub mod CopyLoops

@@ -3,6 +3,7 @@
 
 mod callees;
 mod cells;
+mod clocks;
 pub mod copy_laws;
 mod depth;
 mod elaborating;
