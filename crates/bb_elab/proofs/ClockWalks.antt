@@ -67,8 +67,11 @@ module _ (l : LooseList) where
   few_left zero k source marks long is there before = omega (arith, unmarked_less marks k (omega (arith, there, long)) (here_unmarked 0 k source marks is before))
   few_left (suc n) k source marks long is there before =
       let lt : k < length marks = omega (arith, there, long) in
-      omega (arith, unmarked_less marks k lt (here_unmarked (suc n) k source marks is before),
-      few_left n is.0 source (set marks k true) (length-set marks k true ∙ long) is.3 is.1 (one_behind n k source marks lt is before))
+      omega (
+        arith,
+        unmarked_less marks k lt (here_unmarked (suc n) k source marks is before),
+        few_left n is.0 source (set marks k true) (length-set marks k true ∙ long) is.3 is.1 (one_behind n k source marks lt is before),
+      )
 
   none_marked : (n : ℕ) → unmarked (replicate n false) ≡ n
   unfolding unmarked

@@ -366,11 +366,11 @@ module _ (d : Design) (lowering : Lowering) (l : LooseList) (list : IsListOf d l
       (λ p u listed on same. not_plain p (Input i) on refl (one_place_listed d lowering l list p (Input i) u _ listed listed_there same))
       (λ b has same. let no = one_place_listed d lowering l list (NetBit b) (Input i) _ _ (net_listed d lowering l list b has) listed_there same in cc)
       (λ k b has same.
-          let m = enumerated_from 0 (cut_bits d) k b has in
-          let one = one_place_listed d lowering l list (Input k) (Input i) _ _ (input_listed d lowering l list k (omega (arith, m.1, m.2))) listed_there same in
-          let number : k ≡ i = grind (arith, one) in
-          let place : m.0 ≡ j.0 = omega (arith, number, m.1, j.1) in
-          inl (sym (m.3 b) ∙ ap (λ n. get_or (cut_bits d) n b) place ∙ j.3 b))
+      let m = enumerated_from 0 (cut_bits d) k b has in
+      let one = one_place_listed d lowering l list (Input k) (Input i) _ _ (input_listed d lowering l list k (omega (arith, m.1, m.2))) listed_there same in
+      let number : k ≡ i = grind (arith, one) in
+      let place : m.0 ≡ j.0 = omega (arith, number, m.1, j.1) in
+      inl (sym (m.3 b) ∙ ap (λ n. get_or (cut_bits d) n b) place ∙ j.3 b))
       (copy_closed e)
 
 pub copies_are_listed : CopiesAreListed
