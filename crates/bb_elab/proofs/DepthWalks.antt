@@ -244,3 +244,18 @@ depth_refused text name t n is flat told = inr (t, is, record { cause = Depth; n
     earlier BoxTexts before = absurd (omega (arith, before))
     earlier RegisterTexts before = absurd (omega (arith, before))
     earlier PortTexts before = absurd (omega (arith, before))
+
+pub size_refused : (text : List PlainModule) (name : Option (List ℕ)) (t : PlainModule) → top_of text name ≡ Some t → IsAbsent (design_on text t) Recursion → IsAbsent (design_on text t) Depth → IsTold (design_on text t) Size []
+    → IsFirstRefusal text name faults.TooLarge
+size_refused text name t is flat shallow told = inr (t, is, record { cause = Size; name = []; is = refl; told = told; earlier = earlier })
+  where
+    earlier : (other : Cause) → rank other < 2 → IsAbsent (design_on text t) other
+    earlier Recursion before = flat
+    earlier Depth before = shallow
+    earlier Size before = absurd (omega (arith, before))
+    earlier TwoDrivers before = absurd (omega (arith, before))
+    earlier NoDriver before = absurd (omega (arith, before))
+    earlier Cycle before = absurd (omega (arith, before))
+    earlier BoxTexts before = absurd (omega (arith, before))
+    earlier RegisterTexts before = absurd (omega (arith, before))
+    earlier PortTexts before = absurd (omega (arith, before))

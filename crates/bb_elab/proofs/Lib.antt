@@ -10,10 +10,15 @@ pub mod CauseDecisions
 pub mod CellCounts
 mod CellSums
 pub mod CellTotals
+pub mod ClockInputs
+pub mod ClockWalks
 pub mod ConstructCounts
 pub mod Connections
 pub mod ContentTables
 pub mod CountedDrivers
+pub mod CopyLoops
+pub mod CopyMarks
+pub mod CopyWalks
 pub mod Deciding
 pub mod DependenceWalks
 pub mod DepthHeights

@@ -23,6 +23,7 @@ pub mod Worlds
 pub mod DrivenWorlds
 pub mod Drivers
 pub mod Reading
+pub mod ReadPlaces
 pub mod Dependence
 pub mod Sizes
 pub mod Places
@@ -34,3 +35,4 @@ pub mod Laws
 pub mod ListLaws
 pub mod ContentTables
 pub mod LoopLaws
+pub mod CopyLaws

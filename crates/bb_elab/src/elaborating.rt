@@ -12,6 +12,7 @@ use crate::depth::low_instance;
 use crate::fault::ElabFault;
 use crate::flat::Flat;
 use crate::recursion::recursive_module;
+use crate::size::is_too_large;
 use crate::top::place_of_top;
 use bb_expr::Checked;
 use std::alloc::Global;
@@ -34,13 +35,17 @@ pub fn elaborate(alloc: Global, checked: &Checked, top: Option<&[u8]>) -> Result
         return Err(ElabFault::NoTop);
     };
     let mut callees = callees_of(alloc, checked)?;
-    // Found first, since the search for a recursion empties the lists.
+    // Both are found first, since the search for a recursion empties the lists.
     let low = low_instance(alloc, checked, &callees, top)?;
+    let large = is_too_large(alloc, checked, &callees, top)?;
     if let Some(name) = recursive_module(alloc, checked, &mut callees, top)? {
         return Err(ElabFault::Recursive { name });
     }
     if let Some(name) = low {
         return Err(ElabFault::TooDeep { name });
+    }
+    if large {
+        return Err(ElabFault::TooLarge);
     }
     Err(ElabFault::NoMemory)
 }

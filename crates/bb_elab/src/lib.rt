@@ -8,6 +8,8 @@ mod callees;
 mod calling;
 mod cells;
 mod connecting;
+mod clocks;
+pub mod copy_laws;
 mod depth;
 mod drivers;
 mod elaborating;

@@ -1,27 +1,149 @@
-//! Stub.
+//! Which bits of nets are read.
+//!
+//! In the list of cells a place is read where a cell that is no copy reads it, as an input pin of a box, an output or a clock;
+//! and where a copy is read, so is the place of which it is a copy. From each such place copies are followed up to a place that is
+//! marked already, so each copy is followed once.
 
-ghost use Rattle.std.specs.Prelude.{◌≡◌, ◌+◌, length, IfOk};
-ghost use Rattle.bb_elab.specs.Hierarchy.{Design};
-ghost use Rattle.bb_elab.specs.ListLaws.{IsBounded};
-ghost use Rattle.bb_elab.specs.NetBits.{net_order};
-ghost use Rattle.bb_elab.specs.Placements.{AreStored, AreReads};
-ghost use Rattle.bb_elab.specs.Places.{Lowering, IsLowering, IsListOf};
-ghost use Rattle.bb_elab.specs.Refusals.{AreDrivenOnce};
+ghost use Rattle.std.specs.Prelude.{◌≡◌, ◌⊎◌, ◌+◌, ◌<◌, ◌^◌, ◌++◌, ◌↔◌, true, false, ℕ, List, Bool, All, Contains, length, map, slice_index_or, IfOk, OnOk};
+ghost use Rattle.std.specs.List.{flat_map};
+ghost use Rattle.bb_net.specs.Loose.{IsLoose};
+ghost use Rattle.bb_elab.specs.ReadPlaces.{read_by, read_places, copy_steps, FollowsAt, IsReadPlace, AreClosed};
 
 use crate::stored::Stored;
 use bb_bits::NoMemory;
-use bb_net::Loose;
+use bb_net::{BoxPins, Loose, LooseCell};
 use std::alloc::Global;
 
-/// Stub.
-pub(crate) fn read_bits(
-    _alloc: Global,
-    _list: &Loose,
-    _stored: &[Stored],
-    _bits: usize,
-) -> Result<Vec<bool>, NoMemory>
-    requires design { (d : Design) × (lowering : Lowering) × IsBounded d × AreDrivenOnce d × IsLowering d lowering × IsListOf d lowering _list.now × AreStored d _stored.now × (_bits ≡ length (net_order d)) }
-    ensures reads { IfOk result (λ read. (d : Design) (lowering : Lowering) → IsBounded d → AreDrivenOnce d → IsLowering d lowering → IsListOf d lowering _list.now → AreStored d _stored.now → _bits ≡ length (net_order d) → AreReads d read.items) }
+// The place of which the cell at a place is a copy; one that is no copy counts as its own.
+fn copied(cells: &[LooseCell], place: usize) -> usize
+    requires there { place < length cells.now }
+    ensures copied { (result ≡ place) ⊎ Contains (copy_steps cells.now) (place, result) }
+    ensures only { (k : ℕ) → Contains (copy_steps cells.now) (place, k) → k ≡ result }
 {
-    Err(NoMemory)
+    match cells[place] {
+        LooseCell::Copy(of) => of as usize,
+        _ => place,
+    }
+}
+
+// Marks a place and, along copies, the places of which it is a copy.
+fn follow(cells: &[LooseCell], marks: &mut [bool], start: usize)
+    requires long { length marks.old ≡ length cells.now }
+    requires closed { AreClosed cells.now marks.old }
+    ensures long { length marks.new ≡ length cells.now }
+    ensures closed { AreClosed cells.now marks.new }
+    ensures kept { (k : ℕ) → slice_index_or marks.old k false ≡ true → slice_index_or marks.new k false ≡ true }
+    ensures start { start < length cells.now → slice_index_or marks.new start false ≡ true }
+    ensures only { (k : ℕ) → slice_index_or marks.new k false ≡ true → (slice_index_or marks.old k false ≡ true) ⊎ FollowsAt cells.now start k }
+{
+    let mut place = start;
+    while place < marks.len() && !marks[place] {
+        marks[place] = true;
+        place = copied(cells, place);
+    }
+}
+
+// The same for each of these places.
+fn follow_all(cells: &[LooseCell], marks: &mut [bool], starts: &[u32])
+    requires long { length marks.old ≡ length cells.now }
+    requires closed { AreClosed cells.now marks.old }
+    ensures long { length marks.new ≡ length cells.now }
+    ensures closed { AreClosed cells.now marks.new }
+    ensures started { (s : ℕ) → Contains starts.now s → s < length cells.now → slice_index_or marks.new s false ≡ true }
+    ensures kept { (k : ℕ) → slice_index_or marks.old k false ≡ true → slice_index_or marks.new k false ≡ true }
+    ensures only { (k : ℕ) → slice_index_or marks.new k false ≡ true → (slice_index_or marks.old k false ≡ true) ⊎ ((s : ℕ) × Contains starts.now s × FollowsAt cells.now s k) }
+{
+    for start in starts {
+        follow(cells, marks, *start as usize);
+    }
+}
+
+// Puts what a cell reads behind other places.
+fn add_read(cell: LooseCell, places: &mut Vec<u32>) -> Result<(), NoMemory>
+    ensures ok { OnOk result (places.new.items ≡ places.old.items ++ read_by cell) }
+{
+    match cell {
+        LooseCell::Not(a) => places.push(a)?,
+        LooseCell::And(a, b) | LooseCell::Or(a, b) | LooseCell::Xor(a, b) => {
+            places.push(a)?;
+            places.push(b)?;
+        }
+        LooseCell::Mux(c, t, e) => {
+            places.push(c)?;
+            places.push(t)?;
+            places.push(e)?;
+        }
+        LooseCell::Const(_) | LooseCell::Input(_) | LooseCell::BoxOut(_, _) | LooseCell::Copy(_) =>
+            {}
+    }
+    Ok(())
+}
+
+// Puts what these cells read behind other places.
+fn add_reads(cells: &[LooseCell], places: &mut Vec<u32>) -> Result<(), NoMemory>
+    ensures ok { OnOk result (places.new.items ≡ places.old.items ++ flat_map read_by cells.now) }
+{
+    for cell in cells {
+        add_read(*cell, places)?;
+    }
+    Ok(())
+}
+
+// Puts the input pins of boxes behind other places.
+fn add_pins(boxes: &[BoxPins], places: &mut Vec<u32>) -> Result<(), NoMemory>
+    ensures ok { OnOk result (places.new.items ≡ places.old.items ++ flat_map (λ b. b.ins) boxes.now) }
+{
+    for pins in boxes {
+        places.extend_from_slice(pins.ins())?;
+    }
+    Ok(())
+}
+
+// Puts the places of clocks behind other places, where the bits of nets stand from a place on.
+fn add_clocks(stored: &[Stored], first: u32, places: &mut Vec<u32>) -> Result<(), NoMemory>
+    requires fits { All (λ x. first + x.clock < 2 ^ 32) stored.now }
+    ensures ok { OnOk result (places.new.items ≡ places.old.items ++ map (λ x. first + x.clock) stored.now) }
+{
+    for register in stored {
+        places.push(first + register.clock)?;
+    }
+    Ok(())
+}
+
+// The places that are read as they stand.
+fn places_read(
+    alloc: Global,
+    list: &Loose,
+    stored: &[Stored],
+    first: u32,
+) -> Result<Vec<u32>, NoMemory>
+    requires fits { All (λ x. first + x.clock < 2 ^ 32) stored.now }
+    ensures places { IfOk result (λ places. places.items ≡ read_places list.now (map (λ x. first + x.clock) stored.now)) }
+{
+    let mut places = Vec::new(alloc);
+    add_reads(list.cells(), &mut places)?;
+    add_pins(list.boxes(), &mut places)?;
+    places.extend_from_slice(list.output_places())?;
+    add_clocks(stored, first, &mut places)?;
+    Ok(places)
+}
+
+// For each place of the list whether it is read.
+fn read_marks(
+    alloc: Global,
+    list: &Loose,
+    stored: &[Stored],
+    first: u32,
+) -> Result<Vec<bool>, NoMemory>
+    requires fits { All (λ x. first + x.clock < 2 ^ 32) stored.now }
+    ensures long { IfOk result (λ marks. length marks.items ≡ length list.now.cells) }
+    ensures read { IsLoose list.now → All (λ x. first + x.clock < length list.now.cells) stored.now
+        → IfOk result (λ marks. (k : ℕ) → IsReadPlace list.now (map (λ x. first + x.clock) stored.now) k → slice_index_or marks.items k false ≡ true) }
+    ensures only { IfOk result (λ marks. (k : ℕ) → slice_index_or marks.items k false ≡ true → IsReadPlace list.now (map (λ x. first + x.clock) stored.now) k) }
+{
+    let cells = list.cells();
+    let places = places_read(alloc, list, stored, first)?;
+    let mut marks = vec![in alloc; false; cells.len()]?;
+    follow_all(cells, &mut marks, &places);
+    Ok(marks)
 }
