@@ -2,7 +2,6 @@ pub mod AllowedDesigns
 pub mod ArrangedLists
 pub mod BitByBit
 pub mod BitNumbers
-pub mod BoxValues
 pub mod CalledInstances
 pub mod CalleeLaw
 pub mod CalleeLemmas
