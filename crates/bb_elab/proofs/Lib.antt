@@ -28,6 +28,7 @@ pub mod ListedPlaces
 pub mod ListedSources
 pub mod LooseLists
 pub mod ModuleCells
+pub mod ModuleItems
 pub mod ModulePlaces
 pub mod NamedTops
 pub mod NetNumbers

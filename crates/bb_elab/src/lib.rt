@@ -15,6 +15,7 @@ pub mod laws;
 mod left_bits;
 pub mod list_laws;
 pub mod loop_laws;
+mod module_parts;
 mod net_starts;
 mod outline;
 mod placed;
