@@ -27,6 +27,7 @@ pub mod ListedData
 pub mod ListedPlaces
 pub mod ListedSources
 pub mod LooseLists
+pub mod MakeableConstructs
 pub mod ModuleCells
 pub mod ModuleItems
 pub mod ModulePlaces
@@ -35,6 +36,7 @@ pub mod NetNumbers
 pub mod NextStates
 pub mod Operators
 pub mod PartBits
+pub mod PlainClocks
 pub mod PortNets
 pub mod ReadingLaw
 pub mod RecursionLemmas

@@ -18,6 +18,7 @@ pub mod loop_laws;
 mod module_parts;
 mod net_starts;
 mod outline;
+mod outlining;
 mod placed;
 mod recursion;
 mod stored;
