@@ -94,3 +94,23 @@ pub record IsCallAt (checked : List ModuleFacts) (k instance target : ℕ) (call
 pub record AreCallsAt (checked : List ModuleFacts) (k : ℕ) (targets : List ℕ) (first : ℕ) (all : List Instance) : Type 0 where
   pub room : first + length all ≤ length targets
   pub each : (j : ℕ) (called : Instance) → slice_get all j ≡ Some called → IsCallAt checked k (first + j) (slice_index_or targets (first + j) 0) called
+
+-- an instance whose scope has a number is one of the module of that scope
+abbrev pub IsTargetAt : List ModuleFacts → List Placed → ℕ → Instance → Type 0
+IsTargetAt checked all k i = IsSomeAnd (slice_get all k) (λ q. module_named (map syntax checked) i.target ≡ Some (module_in checked q.module))
+
+-- an outline can be made of the module of a scope
+pub record IsSited (checked : List ModuleFacts) (all : List Placed) (p : Placed) : Type 0 where
+  pub there : p.module < length checked
+  pub modest : IsModest (map syntax checked) (module_in checked p.module)
+  pub few : length p.children.items < 2 ^ 32
+  pub children : AllZip (IsTargetAt checked all) p.children.items (instances_of (module_in checked p.module))
+
+-- the place of the module of the scope with a number
+abbrev pub module_number : List Placed → ℕ → ℕ
+module_number all k = option_map_or (λ p. p.module) (slice_get all k) 0
+
+-- for each module the number of a scope that is a copy of it, where there is one
+pub record AreCopies (all : List Placed) (found : List (Option ℕ)) : Type 0 where
+  pub copies : (m k : ℕ) → slice_get found m ≡ Some (Some k) → IsSomeAnd (slice_get all k) (λ p. p.module ≡ m)
+  pub each : (j : ℕ) (p : Placed) → slice_get all j ≡ Some p → (k : ℕ) × (slice_get found p.module ≡ Some (Some k))
