@@ -35,6 +35,7 @@ pub mod NamedTops
 pub mod NetNumbers
 pub mod NextStates
 pub mod Operators
+pub mod OutlinedDesigns
 pub mod PartBits
 pub mod PlainClocks
 pub mod PortNets
@@ -44,6 +45,7 @@ pub mod RecursionLoops
 pub mod RecursiveNames
 pub mod RefusalLaws
 pub mod ScopeLaws
+pub mod SitedScopes
 pub mod SoundBits
 pub mod SoundConstructs
 pub mod SoundModules

@@ -3,7 +3,7 @@
 //! A module is turned into numbers once, however many scopes are copies of it. Of which modules the instances in it are, is told
 //! by one of these scopes, whose instances are scopes too.
 
-ghost use Rattle.std.specs.Prelude.{◌≡◌, ◌<◌, ◌≤◌, ◌^◌, ℕ, All, Some, length, map, slice_get, IfOk, IfSome, IsSomeAnd};
+ghost use Rattle.std.specs.Prelude.{◌≡◌, ◌<◌, ◌≤◌, ◌^◌, ℕ, All, None, Some, replicate, length, map, slice_get, IfOk, IfSome, IsSomeAnd};
 ghost use Rattle.bb_expr.specs.Checked.{syntax};
 ghost use Rattle.bb_expr.specs.Nets.{nets_of};
 ghost use Rattle.bb_elab.specs.declared.placed.Placed.{Placed};
@@ -71,6 +71,17 @@ fn targets_of(
     Ok(targets)
 }
 
+// So many modules without a copy.
+fn no_copies(alloc: Global, count: usize) -> Result<Vec<Option<usize>>, NoMemory>
+    ensures none { IfOk result (λ found. found.items ≡ replicate count None) }
+{
+    let mut found = Vec::with_capacity(alloc, count)?;
+    for _ in 0..count {
+        found.push(None)?;
+    }
+    Ok(found)
+}
+
 // For each module the number of a scope that is a copy of it, if there is one.
 fn copies_of(
     alloc: Global,
@@ -81,7 +92,7 @@ fn copies_of(
     ensures copies { IfOk result (λ found. AreCopies placed.now found.items) }
     ensures long { IfOk result (λ found. length found.items ≡ count) }
 {
-    let mut found = vec![in alloc; None; count]?;
+    let mut found = no_copies(alloc, count)?;
     for k in 0..placed.len() {
         found[placed[k].module] = Some(k);
     }
@@ -138,7 +149,8 @@ fn outline_at(
 {
     match copy {
         Some(k) => {
-            let targets = targets_of(alloc, placed, &placed[k].children)?;
+            let scope = &placed[k];
+            let targets = targets_of(alloc, placed, &scope.children)?;
             outline_of(alloc, checked, module as u32, starts, &targets)
         }
         None => Ok(Outline {

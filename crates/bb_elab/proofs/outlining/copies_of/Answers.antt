@@ -53,7 +53,7 @@ module _ (all : List Placed) (found : List (Option ℕ)) (k : ℕ) (x : Placed) 
       by (inr other) (inr (inr same)) = absurd (other (ap (λ (q : Placed). q.module) (same_Some p x (sym e ∙ ap (slice_get all) same ∙ there))))
 
 pub loop-k-init : goal.loop-k-init
-loop-k-init c = let items : c.in_ok-found.found.items ≡ replicate c.args.count None = c.in_ok-found.ensures.items_if_clones_equal (λ y. elim y [ | None ↦ λ h. refl | Some x ↦ λ h. absurd h ]) in record { long = ap length items ∙ length-replicate c.args.count None; copies = λ m k e. absurd (none_there c.args.count m k (ap (λ l. slice_get l m) (sym items) ∙ e)); each = λ j p lt e. absurd (omega (arith, lt)) }
+loop-k-init c = let items : c.in_ok-found.found.items ≡ replicate c.args.count None = c.in_ok-found.ensures.none in record { long = ap length items ∙ length-replicate c.args.count None; copies = λ m k e. absurd (none_there c.args.count m k (ap (λ l. slice_get l m) (sym items) ∙ e)); each = λ j p lt e. absurd (omega (arith, lt)) }
 
 pub loop-k-preserved : goal.loop-k-preserved
 loop-k-preserved c =
