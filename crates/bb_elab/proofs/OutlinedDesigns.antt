@@ -112,7 +112,7 @@ module _ (d : Design) (k : ℕ) (s : Scope) (at : IsScopeAt d k s) where
       by true box = absurd (empty_none d.text s.source (and_second (not (is_top s.path)) (is_empty s.source) box) c has)
       by false plain =
           let here : constructs_at d.text s ≡ module_constructs d.text s.source = ap (λ b. if b then BoxContents ∷ [] else module_constructs d.text s.source) plain in
-          let part = into_flat (λ s. map (λ c. (s, c)) (constructs_at d.text s)) (scopes d) s (s, c) (there_at (scopes d) k s at) (contains-map (λ c. (s, c)) (constructs_at d.text s) c (subst (λ l. Contains l c) (sym here) has)) in
+          let part : Contains (parts d) (s, c) = into_flat (λ s. map (λ c. (s, c)) (constructs_at d.text s)) (scopes d) s (s, c) (there_at (scopes d) k s at) (contains-map (λ c. (s, c)) (constructs_at d.text s) c (subst (λ l. Contains l c) (sym here) has)) in
           omega (arith, small, same_cells s c, le_sum cell_count_at (parts d) (s, c) part)
 
 -- a text has no more instances than bytes

@@ -52,7 +52,7 @@ module _ (checked : List ModuleFacts) (all : List Placed) (starts : List (List �
         let child = some_and (λ k. IsTargetAt checked all k called) (slice_get children j) (MatchOption-at_some _ (λ i. IsSomeAnd (slice_get children j) (λ k. IsTargetAt checked all k i)) called e (AllZip-right (IsTargetAt checked all) children (instances_of (module_in checked m)) zip j)) in
         let q = some_and (Meant called) (slice_get all child.0) child.2 in
         let target : slice_index_or (map (module_number all) children) (0 + j) 0 ≡ q.0.module = ap (λ i. slice_index_or (map (module_number all) children) i 0) (zero-plus j)
-            ∙ get_or_from_slice_get (map (module_number all) children) j (module_number all child.0) 0 (got-map (module_number all) children j child.0 child.1) ∙ number-is all child.0 q.0 q.1 in
+        ∙ get_or_from_slice_get (map (module_number all) children) j (module_number all child.0) 0 (got-map (module_number all) children j child.0 child.1) ∙ number-is all child.0 q.0 q.1 in
         record { there = ap (slice_get (instances_of (module_in checked m))) (zero-plus j) ∙ e; meant = q.2 ∙ ap (λ t. Some (module_in checked t)) (sym target) };
   }
     where

@@ -55,11 +55,7 @@ fn outline_of(
 }
 
 // The places of the modules of these scopes.
-fn targets_of(
-    alloc: Global,
-    placed: &[Placed],
-    children: &[u32],
-) -> Result<Vec<u32>, NoMemory>
+fn targets_of(alloc: Global, placed: &[Placed], children: &[u32]) -> Result<Vec<u32>, NoMemory>
     requires there { All (λ k. k < length placed.now) children.now }
     requires small { All (λ p. p.module < 2 ^ 32) placed.now }
     ensures targets { IfOk result (λ targets. targets.items ≡ map (module_number placed.now) children.now) }
@@ -83,11 +79,7 @@ fn no_copies(alloc: Global, count: usize) -> Result<Vec<Option<usize>>, NoMemory
 }
 
 // For each module the number of a scope that is a copy of it, if there is one.
-fn copies_of(
-    alloc: Global,
-    count: usize,
-    placed: &[Placed],
-) -> Result<Vec<Option<usize>>, NoMemory>
+fn copies_of(alloc: Global, count: usize, placed: &[Placed]) -> Result<Vec<Option<usize>>, NoMemory>
     requires there { All (λ p. p.module < count) placed.now }
     ensures copies { IfOk result (λ found. AreCopies placed.now found.items) }
     ensures long { IfOk result (λ found. length found.items ≡ count) }

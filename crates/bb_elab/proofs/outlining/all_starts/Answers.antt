@@ -29,7 +29,7 @@ here : (checked : List ModuleFacts) (modules : List CheckedModule) → map modul
 here checked modules same k x lt is = ap (λ l. slice_get l k) (sym same) ∙ got-map module_facts modules k x (slice_get_read modules (length modules) k x refl lt is)
 
 pub starts_where-requires : goal.starts_where-requires
-starts_where-requires c = 
+starts_where-requires c =
     let checked = c.args.checked.now in
     let k = c.loop-k.k in
     let there = here checked c.modules-modules.result.now c.modules-modules.ensures.modules k c.index-modules-k.result c.loop-k-test.true c.index-modules-k.is in
@@ -51,9 +51,12 @@ loop-k-preserved c =
       started = λ m j lt e. elim (less_or_same m k) [
         | inl h ↦ let r = c.loop-k.invariant.started m j h e in (r.0, ap (λ l. slice_get l m) c.in_ok-push.ensures.items ∙ got_left old (v ∷ []) m r.0 r.1, r.2)
         | inr (inl h) ↦ absurd (omega (arith, h, lt))
-        | inr (inr same) ↦ (v, ap (λ l. slice_get l m) c.in_ok-push.ensures.items ∙ ap (slice_get (old ++ v ∷ [])) (omega (arith, same, c.loop-k.invariant.long)) ∙ got_right old (v ∷ []) 0,
-            subst (λ i. AreStarts (nets_of (module_in checked i)) v.items) (sym same) (subst (λ l. AreStarts l v.items) (nets-at checked c.modules-modules.ensures.checked k (module_facts c.index-modules-k.result) there)
-                (from_some (AreStarts c.index-modules-k.result.nets.items v.items) (get_or c.args.found.now k None) j (get_or_from_slice_get c.args.found.now k (Some j) None (subst (λ i. slice_get c.args.found.now i ≡ Some (Some j)) same e)) c.in_ok-starts_where.ensures.starts)))
+        | inr (inr same) ↦ (
+          v,
+          ap (λ l. slice_get l m) c.in_ok-push.ensures.items ∙ ap (slice_get (old ++ v ∷ [])) (omega (arith, same, c.loop-k.invariant.long)) ∙ got_right old (v ∷ []) 0,
+          subst (λ i. AreStarts (nets_of (module_in checked i)) v.items) (sym same) (subst (λ l. AreStarts l v.items) (nets-at checked c.modules-modules.ensures.checked k (module_facts c.index-modules-k.result) there)
+              (from_some (AreStarts c.index-modules-k.result.nets.items v.items) (get_or c.args.found.now k None) j (get_or_from_slice_get c.args.found.now k (Some j) None (subst (λ i. slice_get c.args.found.now i ≡ Some (Some j)) same e)) c.in_ok-starts_where.ensures.starts)),
+        )
       ];
     }
 
