@@ -1,11 +1,10 @@
 -- Parts can be made for the constructs of a module of a checked text, where they make few cells.
-use Rattle.std.proofs.Common.{◌≡◌, ◌≢◌, ◌⊎◌, ℕ, ◌≤◌, Bool, true, false, if◌then◌else◌, List, [], ◌∷◌, ◌++◌, map, take, drop, get_or, length, Contains, Option, Some, None, refl, sym, ap, ◌∙◌, subst, inl, inr, arith}
+use Rattle.std.proofs.Common.{◌≡◌, ◌⊎◌, ℕ, ◌≤◌, Bool, true, false, if◌then◌else◌, List, [], ◌∷◌, ◌++◌, map, take, get_or, length, Contains, Option, Some, None, refl, sym, ◌∙◌, subst, inl, inr, arith}
 use Rattle.std.specs.Prelude.{All, IsSomeAnd, nat_lt, slice_get, option_to_list}
 use Rattle.std.specs.List.{enumerate_from, flat_map}
 use Rattle.std.specs.Option.{option_and_then}
 use Rattle.std.proofs.lemmas.Bool.Decides.{nat_tests}
 use Rattle.std.proofs.lemmas.List.Elements.{All-contains, All-take, All-drop, Contains-append_left, Contains-append_right}
-use Rattle.bb_ast.specs.declared.module.Gate.{Gate}
 use Rattle.bb_ast.specs.declared.module.Range.{Range}
 use Rattle.bb_ast.specs.Gates.{output_count}
 use Rattle.bb_ast.specs.Syntax.{Expression, Net, Bit, Part, Sized, Plain, Not, Chain, Cond, Concat, Repeat, PlainConns, Order, Named, PlainAlways, PlainBody, Ports, Nets, Regs, Supply, Assign, Gates, Calls, Always, PlainItem, PlainModule}
@@ -14,9 +13,8 @@ use Rattle.bb_expr.specs.declared.fault.NameFault.TheVariants as name_faults
 use Rattle.bb_expr.specs.Checked.{ModuleFacts, syntax, IsChecked}
 use Rattle.bb_expr.specs.Declarations.{Declaration, declarations, declared_by, declared_by_head, net_declaration, supply_kind, range_of}
 use Rattle.bb_expr.specs.Faults.{is_input, wrong_width, widest}
-use Rattle.bb_expr.specs.Fit.{AreFit, IsFit, ranges_in}
+use Rattle.bb_expr.specs.Fit.{AreFit, IsFit}
 use Rattle.bb_expr.specs.FitLaws.{StandingIsFit}
-use Rattle.bb_expr.specs.Nets.{net_names}
 use Rattle.bb_expr.specs.Ranges.{range_width}
 use Rattle.bb_expr.specs.Spots.{Pin, Spot, Declared, Clock, Read, Stored, declared_spots, item_spots, initial_spots, spots_in, module_named, pin_named, pin_at}
 use Rattle.bb_expr.specs.Standing.{item_expressions, conns_expressions, StandsAt}

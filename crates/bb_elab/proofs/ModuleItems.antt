@@ -1,15 +1,14 @@
 -- The items of a module one by one: the instances that stand in one, and the expressions.
-use Rattle.std.proofs.Common.{◌≡◌, ℕ, ◌+◌, ◌≤◌, List, length, take, Contains, Some, refl, sym, ap, ◌∙◌, subst, arith}
+use Rattle.std.proofs.Common.{◌≡◌, ℕ, ◌+◌, List, length, take, Contains, Some, sym, ap, subst, arith}
 use Rattle.std.specs.Prelude.{All, IsSomeAnd, slice_get}
 use Rattle.std.specs.List.{flat_map, slice_index_or}
 use Rattle.std.proofs.lemmas.List.Folds.{length-flat_map-take}
 use Rattle.std.proofs.lemmas.Option.{slice_get_within, get_or_from_slice_get}
-use Rattle.bb_ast.specs.Syntax.{Expression, PlainItem, PlainModule}
+use Rattle.bb_ast.specs.Syntax.{PlainItem, PlainModule}
 use Rattle.bb_expr.specs.Checked.{ModuleFacts, syntax}
 use Rattle.bb_expr.specs.Standing.{expressions_in, item_expressions, StandsIn, StandsAt}
-use Rattle.bb_elab.specs.Hierarchy.{Instance, instances_in}
+use Rattle.bb_elab.specs.Hierarchy.{instances_in}
 use Rattle.bb_elab.specs.Outlining.{IsCallAt, AreCallsAt, module_in}
-use Rattle.bb_elab.proofs.CalledInstances.{there_at}
 use Rattle.bb_elab.proofs.CauseDecisions.{all_from}
 use Rattle.bb_elab.proofs.ModulePlaces.{module-is}
 use Rattle.bb_elab.proofs.NetNumbers.{got_flat}

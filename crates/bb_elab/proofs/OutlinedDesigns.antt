@@ -1,8 +1,7 @@
 -- The scopes of a small design by numbers tell of modules of which outlines can be made.
-use Rattle.std.proofs.Common.{◌≡◌, ◌⊎◌, ℕ, ◌+◌, ◌<◌, ◌≤◌, Bool, true, false, not, ◌&&◌, if◌then◌else◌, List, [], ◌∷◌, ◌++◌, map, length, get_or, Contains, Option, Some, None, refl, sym, ap, ◌∙◌, subst, inl, inr, arith, true≢false, length-append}
+use Rattle.std.proofs.Common.{◌≡◌, ◌⊎◌, ℕ, ◌+◌, ◌<◌, ◌≤◌, Bool, true, false, not, ◌&&◌, if◌then◌else◌, List, [], ◌∷◌, map, length, Contains, Option, Some, None, refl, sym, ap, ◌∙◌, subst, inl, inr, arith, true≢false, length-append}
 use Rattle.std.specs.Prelude.{All, IsSomeAnd, is_none, slice_get, sum_by}
 use Rattle.std.specs.List.{AllZip, flat_map, list_all}
-use Rattle.std.specs.Option.{option_map_or}
 use Rattle.std.proofs.lemmas.List.{length-map}
 use Rattle.std.proofs.lemmas.List.Folds.{length-flat_map-take}
 use Rattle.std.proofs.lemmas.List.Sums.{get_or-le-sum_by, sum_by-cons}
@@ -14,16 +13,15 @@ use Rattle.bb_expr.specs.Declarations.{is_port}
 use Rattle.bb_expr.specs.Nets.{nets_of, is_of_empty, is_empty}
 use Rattle.bb_expr.specs.Spots.{module_named}
 use Rattle.bb_parse.specs.Laws.{TextsAreLong}
-use Rattle.bb_parse.specs.Sizes.{call_size, conns_size, item_size, module_size}
+use Rattle.bb_parse.specs.Sizes.{call_size, item_size, module_size}
 use Rattle.bb_elab.specs.declared.placed.Placed.{Placed}
 use Rattle.bb_elab.specs.Constructs.{Construct, Assignment, GateInstance, Register, SupplyNet, InputConnection, OutputConnection, BoxContents, initial_construct, body_constructs, constructs_at, parts}
-use Rattle.bb_elab.specs.Hierarchy.{Design, Scope, Instance, instance_of, instances_in, instances_of, scopes, instances, path_to, is_top, is_box}
-use Rattle.bb_elab.specs.NetBits.{scope_bits, net_order}
-use Rattle.bb_elab.specs.Outlining.{module_in, scope_of, module_constructs, bit_count, IsTargetAt, IsModest, IsSited}
+use Rattle.bb_elab.specs.Hierarchy.{Design, Scope, Instance, instance_of, instances_in, instances_of, scopes, path_to, is_top, is_box}
+use Rattle.bb_elab.specs.NetBits.{scope_bits}
+use Rattle.bb_elab.specs.Outlining.{module_in, scope_of, module_constructs, bit_count, IsTargetAt, IsSited}
 use Rattle.bb_elab.specs.Placements.{IsScopeAt, IsPlacedAt, IsChildAt, ArePlaced}
 use Rattle.bb_elab.specs.Reading.{cells_at}
 use Rattle.bb_elab.specs.Refusals.{IsSmall}
-use Rattle.bb_elab.specs.Registers.{cut_bits}
 use Rattle.bb_elab.specs.Sizes.{cell_count_at, cells_in, bits_and_instances}
 use Rattle.bb_elab.proofs.CalledInstances.{there_at}
 use Rattle.bb_elab.proofs.CalleeLaw.{got-map}

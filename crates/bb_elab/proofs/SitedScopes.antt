@@ -1,5 +1,5 @@
 -- A scope that is a copy of a module tells of which modules the instances in the module are.
-use Rattle.std.proofs.Common.{◌≡◌, ℕ, ◌+◌, ◌<◌, ◌≤◌, List, [], ◌∷◌, map, length, get_or, Option, Some, refl, sym, ap, ◌∙◌, subst, arith}
+use Rattle.std.proofs.Common.{◌≡◌, ℕ, ◌+◌, ◌<◌, List, [], ◌∷◌, map, length, Some, sym, ap, ◌∙◌, subst, arith}
 use Rattle.std.specs.Prelude.{All, IsSomeAnd, slice_get}
 use Rattle.std.specs.List.{AllByRecursion, AllZip, slice_index_or}
 use Rattle.std.specs.Option.{option_map_or}
@@ -11,7 +11,7 @@ use Rattle.bb_expr.specs.Checked.{ModuleFacts, syntax}
 use Rattle.bb_expr.specs.Spots.{module_named}
 use Rattle.bb_elab.specs.declared.placed.Placed.{Placed}
 use Rattle.bb_elab.specs.Hierarchy.{Instance, instances_of}
-use Rattle.bb_elab.specs.Outlining.{module_in, module_number, IsStarted, IsCallAt, AreCallsAt, IsTargetAt, IsSited}
+use Rattle.bb_elab.specs.Outlining.{module_in, module_number, IsStarted, AreCallsAt, IsTargetAt}
 use Rattle.bb_elab.proofs.CalleeLaw.{got-map}
 use Rattle.bb_elab.proofs.ModulePlaces.{some_and}
 

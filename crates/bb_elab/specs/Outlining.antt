@@ -1,6 +1,6 @@
 -- No clause of a public call rests on this file: it says what functions inside the crate find.
 -- What the outline of a module is made of, and what is asked of the module for it.
-use Rattle.std.specs.Prelude.{◌≡◌, ℕ, ◌+◌, ◌<◌, ◌≤◌, ◌^◌, Bool, true, false, not, List, [], ◌∷◌, map, length, sum_by, All, Contains, Option, Some, IsSomeAnd, option_to_list, slice_get}
+use Rattle.std.specs.Prelude.{◌≡◌, ℕ, ◌+◌, ◌<◌, ◌≤◌, ◌^◌, Bool, true, false, not, List, [], map, length, sum_by, All, Contains, Option, Some, IsSomeAnd, option_to_list, slice_get}
 use Rattle.std.specs.List.{AllZip, flat_map, list_any, slice_index_or}
 use Rattle.std.specs.Option.{option_map_or}
 use Rattle.bb_ast.specs.Syntax.{Expression, Net, PlainModule}
@@ -17,7 +17,7 @@ use Rattle.bb_elab.specs.declared.placed.Placed.{Placed}
 use Rattle.bb_elab.specs.Constructs.{Construct, Assignment, GateInstance, Register, SupplyNet, InputConnection, OutputConnection, BoxContents, body_constructs}
 use Rattle.bb_elab.specs.Hierarchy.{Scope, Instance, instances_of}
 use Rattle.bb_elab.specs.NetBits.{written_bits}
-use Rattle.bb_elab.specs.Outlines.{IsOutline, IsPartOf, net_start}
+use Rattle.bb_elab.specs.Outlines.{IsPartOf, net_start}
 use Rattle.bb_elab.specs.Reading.{cells_at}
 
 -- the module at a place of a checked text

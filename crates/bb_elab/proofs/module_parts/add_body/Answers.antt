@@ -1,13 +1,12 @@
-use Rattle.std.proofs.Common.{◌≡◌, ◌++◌, [], ◌∷◌, List, map, refl, sym, ap, ◌∙◌, subst}
+use Rattle.std.proofs.Common.{◌≡◌, ◌++◌, [], ◌∷◌, List, map, sym, ap, ◌∙◌, subst}
 use Rattle.std.specs.Prelude.{All}
 use Rattle.std.specs.List.{AllZip, flat_map}
 use Rattle.std.specs.Result.{OnOk}
-use Rattle.bb_ast.specs.declared.expr.Expr.{Expr}
-use Rattle.bb_ast.specs.Syntax.{Expression, PlainBody, Nets, Supply, Assign, Gates, Calls, Always}
+use Rattle.bb_ast.specs.Syntax.{Expression, PlainBody, Nets, Supply, Assign, Gates, Calls}
 use Rattle.bb_ast.specs.Views.{always_view, arm_view, body_view, call_view, gate_view, named_view}
 use Rattle.bb_expr.specs.Checked.{syntax}
 use Rattle.bb_expr.specs.Standing.{StandsAt, item_expressions}
-use Rattle.bb_elab.specs.Constructs.{Assignment, Register, SupplyNet, initial_construct, gate_construct, body_constructs}
+use Rattle.bb_elab.specs.Constructs.{Assignment, Register, initial_construct, gate_construct, body_constructs}
 use Rattle.bb_elab.specs.Hierarchy.{instances_in}
 use Rattle.bb_elab.specs.Outlining.{AreCallsAt, IsMakeable, IsPartAt}
 use Rattle.std.proofs.lemmas.List.Elements.{All-contains}

@@ -1,14 +1,13 @@
-use Rattle.std.proofs.Common.{◌≡◌, ◌+◌, ◌<◌, ◌++◌, ℕ, [], List, Contains, get_or, Some, map, take, length, refl, sym, ap, ◌∙◌, subst, arith, length-append}
-use Rattle.std.specs.Prelude.{All, slice_get}
+use Rattle.std.proofs.Common.{◌≡◌, ◌+◌, ◌<◌, ℕ, [], List, Contains, get_or, map, take, length, refl, sym, ap, ◌∙◌, subst, arith, length-append}
 use Rattle.std.specs.List.{AllZip, flat_map}
-use Rattle.std.proofs.lemmas.List.{take-map, take_all}
+use Rattle.std.proofs.lemmas.List.{take-map}
 use Rattle.std.proofs.lemmas.Option.{slice_get_read}
 use Rattle.bb_ast.specs.declared.module.Item.{Item}
 use Rattle.bb_ast.specs.Syntax.{PlainItem, PlainModule}
 use Rattle.bb_ast.specs.Views.{body_view, item_view}
 use Rattle.bb_expr.specs.Checked.{module_facts, syntax}
 use Rattle.bb_elab.specs.Constructs.{body_constructs}
-use Rattle.bb_elab.specs.Hierarchy.{instances_in, instances_of}
+use Rattle.bb_elab.specs.Hierarchy.{instances_in}
 use Rattle.bb_elab.specs.Outlining.{AreCallsAt, IsMakeable, IsPartAt, module_in}
 use Rattle.bb_elab.proofs.CalleeLaw.{got-map}
 use Rattle.bb_elab.proofs.ModuleItems.{calls_in_item, item_stands}

@@ -1,9 +1,8 @@
-use Rattle.std.proofs.Common.{◌≡◌, ◌+◌, ◌≤◌, length, refl, ap, sym, ◌∙◌, subst, arith, take}
+use Rattle.std.proofs.Common.{◌≡◌, length, refl, ap, sym, ◌∙◌, subst, arith, take}
 use Rattle.std.specs.Prelude.{filter}
 use Rattle.std.specs.List.{flat_map, slice_index_or}
 use Rattle.std.proofs.lemmas.Option.{slice_get_read, slice_get_within, get_or_from_slice_get}
 use Rattle.std.proofs.lemmas.List.{take_all}
-use Rattle.bb_expr.specs.declared.net.NetInfo.{NetInfo}
 use Rattle.bb_expr.specs.Ranges.{range_width}
 use Rattle.bb_elab.specs.NetBits.{bits_of_net}
 use Rattle.bb_elab.specs.Outlines.{AreAt, net_start}

@@ -1,12 +1,11 @@
-use Rattle.std.proofs.Common.{◌≡◌, ◌⊎◌, ◌<◌, ◌≤◌, ◌+◌, ◌++◌, ◌∷◌, ℕ, [], List, Option, Some, None, length, get_or, map, refl, sym, ap, ◌∙◌, subst, inl, inr, arith, length-append, Vec, Global}
+use Rattle.std.proofs.Common.{◌≡◌, ◌<◌, ◌≤◌, ◌++◌, ◌∷◌, ℕ, [], List, Option, Some, None, length, get_or, map, refl, sym, ap, ◌∙◌, subst, inl, inr, arith, length-append, Vec, Global}
 use Rattle.std.specs.Prelude.{IfSome, slice_get}
-use Rattle.std.specs.List.{slice_index_or}
 use Rattle.std.proofs.lemmas.List.{length-map}
-use Rattle.std.proofs.lemmas.Option.{slice_get_read, slice_get_within, slice_get-get_or, get_or_from_slice_get, same_Some}
+use Rattle.std.proofs.lemmas.Option.{slice_get_read, slice_get_within, slice_get-get_or, get_or_from_slice_get}
 use Rattle.bb_expr.specs.declared.checked.CheckedModule.{CheckedModule}
 use Rattle.bb_expr.specs.Checked.{ModuleFacts, module_facts, IsChecked}
 use Rattle.bb_expr.specs.Nets.{nets_of}
-use Rattle.bb_elab.specs.Outlining.{AreStarts, IsStarted, bit_count, module_in}
+use Rattle.bb_elab.specs.Outlining.{AreStarts, bit_count, module_in}
 use Rattle.bb_elab.proofs.CalleeLaw.{got-map}
 use Rattle.bb_elab.proofs.Firsts.{less_or_same}
 use Rattle.bb_elab.proofs.ModulePlaces.{has_nets, module-is}

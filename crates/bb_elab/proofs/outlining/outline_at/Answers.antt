@@ -3,7 +3,7 @@ use Rattle.std.specs.Prelude.{All, IfSome, IsSomeAnd, slice_get}
 use Rattle.std.specs.List.{slice_index_or}
 use Rattle.std.proofs.lemmas.List.{length-map}
 use Rattle.std.proofs.lemmas.Option.{get_or_from_slice_get}
-use Rattle.bb_expr.specs.Checked.{ModuleFacts, syntax}
+use Rattle.bb_expr.specs.Checked.{syntax}
 use Rattle.bb_elab.specs.declared.placed.Placed.{Placed}
 use Rattle.bb_elab.specs.Hierarchy.{instances_of}
 use Rattle.bb_elab.specs.Outlining.{module_in, module_number, IsStarted, AreCallsAt, IsModest, IsSited}

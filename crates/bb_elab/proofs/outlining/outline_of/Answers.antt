@@ -1,4 +1,4 @@
-use Rattle.std.proofs.Common.{◌≡◌, ◌<◌, ℕ, Bool, true, false, List, [], Some, length, map, refl, sym, ap, ◌∙◌, subst, arith, Vec, Global}
+use Rattle.std.proofs.Common.{◌≡◌, ◌<◌, ℕ, Bool, true, false, List, [], length, map, refl, sym, ap, ◌∙◌, subst, arith, Vec, Global}
 use Rattle.std.specs.Prelude.{filter, slice_get}
 use Rattle.std.specs.List.{flat_map, slice_index_or}
 use Rattle.std.proofs.lemmas.List.{length-map}
@@ -7,8 +7,8 @@ use Rattle.bb_expr.specs.declared.net.NetInfo.{NetInfo}
 use Rattle.bb_expr.specs.Checked.{module_facts}
 use Rattle.bb_expr.specs.Nets.{nets_of}
 use Rattle.bb_elab.specs.Hierarchy.{Path}
-use Rattle.bb_elab.specs.NetBits.{bits_of_net, input_bits, output_bits}
-use Rattle.bb_elab.specs.Outlines.{AreAt, AreBitsIn, net_start}
+use Rattle.bb_elab.specs.NetBits.{bits_of_net}
+use Rattle.bb_elab.specs.Outlines.{AreAt}
 use Rattle.bb_elab.specs.Outlining.{module_in, bit_count, is_port_of}
 use Rattle.bb_elab.proofs.CalleeLaw.{got-map}
 use Rattle.bb_elab.proofs.MakeableConstructs.{all_makeable}

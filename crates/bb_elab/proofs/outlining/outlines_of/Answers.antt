@@ -1,11 +1,9 @@
-use Rattle.std.proofs.Common.{◌≡◌, ◌⊎◌, ◌<◌, ◌≤◌, ◌+◌, ◌++◌, ◌∷◌, [], ℕ, List, Option, Some, None, map, length, get_or, refl, sym, ap, ◌∙◌, subst, inl, inr, arith, length-append, Vec, Global}
+use Rattle.std.proofs.Common.{◌≡◌, ◌≤◌, ◌++◌, ◌∷◌, [], ℕ, List, Option, Some, None, map, length, get_or, refl, sym, ap, ◌∙◌, subst, inl, inr, arith, length-append, Vec, Global}
 use Rattle.std.specs.Prelude.{All, IfSome, IsSomeAnd, slice_get}
 use Rattle.std.proofs.lemmas.List.{length-map}
 use Rattle.std.proofs.lemmas.Option.{slice_get-get_or, slice_get_within, slice_get_read, get_or_from_slice_get}
-use Rattle.std.proofs.lemmas.Result.{IfOk-weaker}
 use Rattle.bb_expr.specs.Checked.{ModuleFacts, module_facts, syntax}
 use Rattle.bb_expr.specs.Nets.{nets_of}
-use Rattle.bb_elab.specs.declared.outline.Outline.{Outline}
 use Rattle.bb_elab.specs.declared.placed.Placed.{Placed}
 use Rattle.bb_elab.specs.Outlines.{IsOutline}
 use Rattle.bb_elab.specs.Outlining.{module_in, bit_count, AreCopies, IsStarted, IsSited}
