@@ -1,5 +1,5 @@
 -- What is connected to a port of an instance, as a part of a module.
-use Rattle.std.proofs.Common.{◌≡◌, ℕ, List, [], ◌∷◌, map, Some, None, refl, sym, ap, ◌∙◌, subst, if◌then◌else◌, Vec, Global}
+use Rattle.std.proofs.Common.{◌≡◌, ℕ, List, [], ◌∷◌, map, Some, None, refl, sym, ap, subst, if◌then◌else◌, Vec, Global}
 use Rattle.std.specs.Prelude.{option_map, slice_get}
 use Rattle.std.specs.List.{AllZip}
 use Rattle.std.specs.Option.{option_and_then}
@@ -15,7 +15,7 @@ use Rattle.bb_expr.specs.declared.step.Lowered.{Lowered}
 use Rattle.bb_elab.specs.declared.outline.Part.{Part}
 use Rattle.bb_elab.specs.declared.outline.Part.TheVariants as part
 use Rattle.bb_elab.specs.Contexts.{width_of}
-use Rattle.bb_elab.specs.Constructs.{Construct, InputConnection, OutputConnection, connection}
+use Rattle.bb_elab.specs.Constructs.{InputConnection, OutputConnection, connection}
 use Rattle.bb_elab.specs.Hierarchy.{Instance}
 use Rattle.bb_elab.specs.NetBits.{bits_named, written_bits}
 use Rattle.bb_elab.specs.Outlines.{AreBitsIn, IsMadeIn, IsPinIn}

@@ -1,5 +1,5 @@
 -- The bits of left sides by their numbers.
-use Rattle.std.proofs.Common.{◌≡◌, ℕ, zero, suc, ◌+◌, ◌<◌, ◌≤◌, List, [], ◌∷◌, ◌++◌, map, length, Option, Some, refl, sym, ap, ◌∙◌, subst, arith, Vec, Global}
+use Rattle.std.proofs.Common.{◌≡◌, ℕ, ◌+◌, ◌<◌, ◌≤◌, List, [], ◌∷◌, ◌++◌, map, length, Some, refl, sym, ap, ◌∙◌, subst, arith, Vec, Global}
 use Rattle.std.specs.Prelude.{All, slice_get}
 use Rattle.std.specs.List.{AllByRecursion, flat_map, range_with_len, slice_index_or}
 use Rattle.std.specs.Map.{lookup}
@@ -20,10 +20,10 @@ use Rattle.bb_expr.specs.Fit.{HasNet, IsFit, AreFit, ranges_in}
 use Rattle.bb_expr.specs.Nets.{nets_of}
 use Rattle.bb_expr.specs.Ranges.{range_width}
 use Rattle.bb_expr.specs.Standing.{gathering, expressions_in}
-use Rattle.bb_elab.specs.Hierarchy.{Path, Scope}
+use Rattle.bb_elab.specs.Hierarchy.{Scope}
 use Rattle.bb_elab.specs.NetBits.{Bit as NetBit, bits_from, bits_of_net, assigned, written_bits}
 use Rattle.bb_elab.specs.Outlines.{AreAt, AreBitsIn, net_start}
-use Rattle.bb_elab.specs.Outlining.{AreStarts, bit_count}
+use Rattle.bb_elab.specs.Outlining.{AreStarts}
 use Rattle.bb_elab.proofs.NetNumbers.{at_both, run_at, net_fits}
 
 module _ (m : ModuleFacts) (starts : List ℕ) (nets : HasNets m) (are : AreStarts m.nets starts) (n : List ℕ) (has : HasNet m n) (k : ℕ) (kept : lookup (same_name n) m.index ≡ Some k) where

@@ -58,7 +58,9 @@ pub mod ListedSources
 pub mod ListedSteps
 pub mod LooseLists
 pub mod MarkLemmas
+pub mod MakeableConstructs
 pub mod ModuleCells
+pub mod ModuleItems
 pub mod ModulePlaces
 pub mod ModulesAt
 pub mod NamedTops
@@ -66,7 +68,9 @@ pub mod NarrowNets
 pub mod NextStates
 pub mod NoneTwice
 pub mod Operators
+pub mod OutlinedDesigns
 pub mod PartBits
+pub mod PlainClocks
 pub mod PortNets
 pub mod ReadingLaw
 pub mod RecursionLemmas
@@ -78,6 +82,7 @@ pub mod RegisterNumbers
 pub mod ScopeLaws
 pub mod ScopePlacing
 pub mod SizeTotals
+pub mod SitedScopes
 pub mod SoundBits
 pub mod SoundConstructs
 pub mod SoundModules

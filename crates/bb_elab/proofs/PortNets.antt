@@ -10,7 +10,7 @@ use Rattle.bb_expr.specs.declared.net.NetInfo.{NetInfo}
 use Rattle.bb_expr.specs.Checked.{ModuleFacts, syntax, HasNets}
 use Rattle.bb_expr.specs.Declarations.{direction_of, port_direction}
 use Rattle.bb_expr.specs.Fit.{HasNet}
-use Rattle.bb_expr.specs.Nets.{net_names, net_of, nets_of, placed}
+use Rattle.bb_expr.specs.Nets.{net_names, net_of, placed}
 use Rattle.bb_elab.proofs.CalleeLaw.{got-map, place-holds}
 use Rattle.bb_elab.proofs.KnownNets.{header_net}
 use Rattle.bb_elab.proofs.Levels.{contains-map}

@@ -105,7 +105,7 @@ terminal_right text s gate output e sound =
     let width = not_false (width_in s.source e == 1) (not_told (not (width_in s.source e == 1)) (gate_bytes gate) (sound (name_faults.Width, wrong_width) (3, omega arith, refl))) in
     (grind (arith, width), not_told (output && not (is_assignable e)) (gate_bytes gate) (sound (name_faults.Role, wrong_role) (4, omega arith, refl)))
 
-clock_right : (text : List PlainModule) (s : Scope) (e : Expression) → IsSoundSpot text s (Clock e) → names_in e ≢ [] → width_of s e ≡ 1
+pub clock_right : (text : List PlainModule) (s : Scope) (e : Expression) → IsSoundSpot text s (Clock e) → names_in e ≢ [] → width_of s e ≡ 1
 clock_right text s e sound named = let one = by (width_in s.source e == 1) (sound (name_faults.Width, wrong_width) (3, omega arith, refl)) in grind (arith, one)
   where
     by : (b : Bool) → (if b then [] else names_in e) ≡ [] → b ≡ true

@@ -4,11 +4,12 @@ use Rattle.std.specs.Prelude.{All}
 use Rattle.std.specs.List.{AllZip, enumerate_from, flat_map}
 use Rattle.std.proofs.lemmas.Grind.{flat_map-append}
 use Rattle.std.proofs.lemmas.List.{map-append, length-map, length-take, take_all}
-use Rattle.std.proofs.lemmas.List.Elements.{All-contains}
+use Rattle.std.proofs.lemmas.List.Elements.{All-contains, Contains-get_or}
 use Rattle.std.proofs.lemmas.Option.{slice_get_read, get_or_from_slice_get}
 use Rattle.bb_elab.proofs.CalledInstances.{there_at}
 use Rattle.bb_elab.proofs.CalleeLaw.{got-map}
 use Rattle.bb_elab.proofs.CauseDecisions.{all_from}
+use Rattle.bb_elab.proofs.Levels.{contains-map}
 use Rattle.bb_elab.proofs.ReadingLaw.{into_flat}
 
 -- the element itself
@@ -90,3 +91,9 @@ zip_added R old more now before zs p q is = subst (λ l. AllZip R l (before ++ z
 
 pub seen_there : {A B : Type 0} (v : A → B) (xs : List A) (i : ℕ) (x : A) → i < length xs → x ≡ get_or xs i x → Contains (map v xs) (v x)
 seen_there v xs i x lt is = there_at (map v xs) i (v x) (got-map v xs i x (slice_get_read xs (length xs) i x refl lt is))
+
+pub all_each : {A B : Type 0} (P : B → Type 0) (g : A → List B) (xs : List A) → All P (flat_map g xs) → All (λ x. All P (g x)) xs
+all_each P g xs all i d lt = all_flat P g xs (get_or xs i d) (Contains-get_or xs i d lt) all
+
+pub all_mapped : {A B : Type 0} (P : B → Type 0) (g : A → B) (xs : List A) → All P (map g xs) → All (λ x. P (g x)) xs
+all_mapped P g xs all = all_from (λ x. P (g x)) xs (λ x has. All-contains P (map g xs) (g x) all (contains-map g xs x has))

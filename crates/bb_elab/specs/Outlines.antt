@@ -1,6 +1,6 @@
 -- No clause of a public call rests on this file: it says what functions inside the crate find.
 -- A module by numbers. A bit is told by its number among the bits of a scope of the module, which are the same for each scope.
-use Rattle.std.specs.Prelude.{◌≡◌, ℕ, ◌<◌, List, [], ◌∷◌, length, map, take, sum_by, Some, slice_get, slice_index_or}
+use Rattle.std.specs.Prelude.{◌≡◌, ℕ, ◌<◌, List, [], ◌∷◌, length, map, take, sum_by, Some, slice_get}
 use Rattle.std.specs.List.{AllZip, flat_map}
 use Rattle.bb_ast.specs.Syntax.{Expression, PlainModule}
 use Rattle.bb_expr.specs.declared.net.NetInfo.{NetInfo}
@@ -16,7 +16,7 @@ use Rattle.bb_elab.specs.declared.outline.Outline.{Outline}
 use Rattle.bb_elab.specs.Hierarchy.{Path, Scope, Instance, instances_of}
 use Rattle.bb_elab.specs.NetBits.{Bit, scope_bits, bits_named, pin_bits, input_bits, output_bits, written_bits}
 use Rattle.bb_elab.specs.Contexts.{width_of, context_width}
-use Rattle.bb_elab.specs.Constructs.{Construct, Assignment, GateInstance, Register, SupplyNet, InputConnection, OutputConnection, BoxContents, body_constructs}
+use Rattle.bb_elab.specs.Constructs.{Construct, Assignment, GateInstance, Register, SupplyNet, InputConnection, OutputConnection, body_constructs}
 
 -- what stands at these places of a list, in order
 abbrev pub AreAt : {A : Type 0} → List A → List ℕ → List A → Type 0

@@ -1,6 +1,6 @@
 -- No clause of a public call rests on this file: it says what functions inside the crate find.
 -- What the outline of a module is made of, and what is asked of the module for it.
-use Rattle.std.specs.Prelude.{◌≡◌, ℕ, ◌+◌, ◌<◌, ◌≤◌, ◌^◌, Bool, true, false, not, List, [], ◌∷◌, map, length, sum_by, All, Contains, Option, Some, IsSomeAnd, option_to_list, slice_get}
+use Rattle.std.specs.Prelude.{◌≡◌, ℕ, ◌+◌, ◌<◌, ◌≤◌, ◌^◌, Bool, true, false, not, List, [], map, length, sum_by, All, Contains, Option, Some, IsSomeAnd, option_to_list, slice_get}
 use Rattle.std.specs.List.{AllZip, flat_map, list_any, slice_index_or}
 use Rattle.std.specs.Option.{option_map_or}
 use Rattle.bb_ast.specs.Syntax.{Expression, Net, PlainModule}
@@ -17,7 +17,7 @@ use Rattle.bb_elab.specs.declared.placed.Placed.{Placed}
 use Rattle.bb_elab.specs.Constructs.{Construct, Assignment, GateInstance, Register, SupplyNet, InputConnection, OutputConnection, BoxContents, body_constructs}
 use Rattle.bb_elab.specs.Hierarchy.{Scope, Instance, instances_of}
 use Rattle.bb_elab.specs.NetBits.{written_bits}
-use Rattle.bb_elab.specs.Outlines.{IsOutline, IsPartOf, net_start}
+use Rattle.bb_elab.specs.Outlines.{IsPartOf, net_start}
 use Rattle.bb_elab.specs.Reading.{cells_at}
 
 -- the module at a place of a checked text
@@ -94,3 +94,23 @@ pub record IsCallAt (checked : List ModuleFacts) (k instance target : ℕ) (call
 pub record AreCallsAt (checked : List ModuleFacts) (k : ℕ) (targets : List ℕ) (first : ℕ) (all : List Instance) : Type 0 where
   pub room : first + length all ≤ length targets
   pub each : (j : ℕ) (called : Instance) → slice_get all j ≡ Some called → IsCallAt checked k (first + j) (slice_index_or targets (first + j) 0) called
+
+-- an instance whose scope has a number is one of the module of that scope
+abbrev pub IsTargetAt : List ModuleFacts → List Placed → ℕ → Instance → Type 0
+IsTargetAt checked all k i = IsSomeAnd (slice_get all k) (λ q. module_named (map syntax checked) i.target ≡ Some (module_in checked q.module))
+
+-- an outline can be made of the module of a scope
+pub record IsSited (checked : List ModuleFacts) (all : List Placed) (p : Placed) : Type 0 where
+  pub there : p.module < length checked
+  pub modest : IsModest (map syntax checked) (module_in checked p.module)
+  pub few : length p.children.items < 2 ^ 32
+  pub children : AllZip (IsTargetAt checked all) p.children.items (instances_of (module_in checked p.module))
+
+-- the place of the module of the scope with a number
+abbrev pub module_number : List Placed → ℕ → ℕ
+module_number all k = option_map_or (λ p. p.module) (slice_get all k) 0
+
+-- for each module the number of a scope that is a copy of it, where there is one
+pub record AreCopies (all : List Placed) (found : List (Option ℕ)) : Type 0 where
+  pub copies : (m k : ℕ) → slice_get found m ≡ Some (Some k) → IsSomeAnd (slice_get all k) (λ p. p.module ≡ m)
+  pub each : (j : ℕ) (p : Placed) → slice_get all j ≡ Some p → (k : ℕ) × (slice_get found p.module ≡ Some (Some k))

@@ -25,6 +25,7 @@ mod left_bits;
 pub mod list_laws;
 mod listing;
 pub mod loop_laws;
+mod module_parts;
 mod net_starts;
 mod outline;
 mod outlining;

@@ -1,4 +1,4 @@
-use Rattle.std.proofs.Common.{◌≡◌, ◌≤◌, ◌<◌, ℕ, List, length, sym, ap, ◌∙◌, subst, arith, Vec, Global}
+use Rattle.std.proofs.Common.{◌≡◌, ◌≤◌, ℕ, List, length, sym, ap, subst, arith, Vec, Global}
 use Rattle.std.specs.Prelude.{max, slice_get, Some}
 use Rattle.std.specs.Vec.{vec_len}
 use Rattle.bb_ast.specs.Syntax.{Expression, Net}

@@ -1,4 +1,4 @@
-use Rattle.std.proofs.Common.{◌≡◌, ◌∷◌, [], ℕ, length, get_or, refl, sym, ap, ◌∙◌, subst, arith}
+use Rattle.std.proofs.Common.{◌≡◌, ◌∷◌, [], length, refl, sym, ap, ◌∙◌, subst}
 use Rattle.bb_ast.specs.Views.{expression}
 use Rattle.bb_expr.specs.Checked.{module_facts}
 use Rattle.bb_expr.specs.Widths.{Ranges, own_width}

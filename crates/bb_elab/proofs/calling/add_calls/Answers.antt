@@ -1,14 +1,14 @@
-use Rattle.std.proofs.Common.{◌≡◌, ◌++◌, ◌+◌, ℕ, List, Some, map, length, refl, sym, ap, ◌∙◌, subst}
-use Rattle.std.specs.Prelude.{All, Option, slice_get}
-use Rattle.std.specs.List.{AllZip, flat_map, slice_index_or}
+use Rattle.std.proofs.Common.{◌++◌, map, length, refl, sym, subst}
+use Rattle.std.specs.Prelude.{All, Option}
+use Rattle.std.specs.List.{AllZip, flat_map}
 use Rattle.std.proofs.lemmas.Option.{slice_get_read}
 use Rattle.bb_ast.specs.Syntax.{PlainModule}
 use Rattle.bb_ast.specs.Views.{call_view}
 use Rattle.bb_expr.specs.Checked.{syntax}
 use Rattle.bb_expr.specs.Spots.{module_named}
-use Rattle.bb_elab.specs.Constructs.{Construct, connections}
-use Rattle.bb_elab.specs.Hierarchy.{Instance, instance_of}
-use Rattle.bb_elab.specs.Outlining.{module_in, AreCallsAt, IsCallAt, IsMakeable, IsPartAt}
+use Rattle.bb_elab.specs.Constructs.{connections}
+use Rattle.bb_elab.specs.Hierarchy.{instance_of}
+use Rattle.bb_elab.specs.Outlining.{IsMakeable, IsPartAt}
 use Rattle.bb_elab.proofs.CalleeLaw.{got-map}
 use Rattle.bb_elab.proofs.Turns.{all_flat, seen_there, zip_flat, zip_begin, zip_end}
 use Rattle.bb_elab.proofs.calling.add_calls.Goals as goal

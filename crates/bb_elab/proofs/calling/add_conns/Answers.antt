@@ -1,4 +1,4 @@
-use Rattle.std.proofs.Common.{◌≡◌, ◌++◌, List, Some, map, sym, ap, ◌∙◌, subst}
+use Rattle.std.proofs.Common.{◌≡◌, ◌++◌, Some, map, sym, ap, ◌∙◌, subst}
 use Rattle.std.specs.List.{AllZip}
 use Rattle.std.specs.Result.{OnOk}
 use Rattle.bb_ast.specs.Syntax.{PlainConns, Order, Named}

@@ -1,11 +1,10 @@
-use Rattle.std.proofs.Common.{◌≡◌, ◌++◌, ℕ, List, Some, map, refl, sym, ap}
-use Rattle.std.specs.Prelude.{All, option_to_list}
+use Rattle.std.proofs.Common.{Some, map}
+use Rattle.std.specs.Prelude.{option_to_list}
 use Rattle.bb_ast.specs.Syntax.{Named}
 use Rattle.bb_ast.specs.Views.{named_view}
 use Rattle.bb_expr.specs.Spots.{pin_named}
 use Rattle.bb_elab.specs.Constructs.{connection, connections}
 use Rattle.bb_elab.specs.Outlining.{module_in, IsMakeable, IsPartAt}
-use Rattle.bb_elab.proofs.CalledInstances.{there_at}
 use Rattle.bb_elab.proofs.Turns.{all_flat, seen_there, zip_flat, zip_added, zip_begin, zip_end}
 use Rattle.bb_elab.proofs.calling.add_named.Goals as goal
 

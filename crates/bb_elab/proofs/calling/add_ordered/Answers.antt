@@ -1,8 +1,8 @@
-use Rattle.std.proofs.Common.{◌≡◌, ◌++◌, ◌+◌, Contains, ℕ, List, Some, map, take, length, refl, sym, ap, ◌∙◌, subst, arith}
-use Rattle.std.specs.Prelude.{All, Option, option_to_list}
-use Rattle.std.specs.List.{AllZip, enumerate_from}
+use Rattle.std.proofs.Common.{◌≡◌, ◌+◌, Contains, ℕ, Some, map, length, refl, subst, arith}
+use Rattle.std.specs.Prelude.{option_to_list}
+use Rattle.std.specs.List.{enumerate_from}
 use Rattle.std.proofs.lemmas.Option.{slice_get_read}
-use Rattle.bb_ast.specs.Syntax.{Expression, Order}
+use Rattle.bb_ast.specs.Syntax.{Order}
 use Rattle.bb_ast.specs.Views.{optional_view}
 use Rattle.bb_expr.specs.Spots.{pin_at}
 use Rattle.bb_elab.specs.Constructs.{connection, connections}

@@ -8,7 +8,6 @@ use Rattle.bb_ast.specs.Syntax.{PlainModule}
 use Rattle.bb_ast.specs.Views.{head_view, optional_view}
 use Rattle.bb_expr.specs.Checked.{module_facts, syntax}
 use Rattle.bb_expr.specs.Spots.{Pin, pin_named, pin_at}
-use Rattle.bb_elab.specs.declared.outline.Part.{Part}
 use Rattle.bb_elab.specs.Constructs.{connection}
 use Rattle.bb_elab.specs.Outlining.{module_in, IsMakeable, IsPartAt}
 use Rattle.bb_elab.proofs.CalleeLaw.{got-map}

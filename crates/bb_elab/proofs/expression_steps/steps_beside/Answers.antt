@@ -1,10 +1,9 @@
-use Rattle.std.proofs.Common.{◌≡◌, ap, ◌∙◌, arith}
+use Rattle.std.proofs.Common.{ap, ◌∙◌, arith}
 use Rattle.std.specs.Prelude.{max, slice_get}
 use Rattle.std.proofs.lemmas.Result.{IfOk-weaker}
 use Rattle.bb_ast.specs.Views.{expression}
 use Rattle.bb_expr.specs.Checked.{syntax}
-use Rattle.bb_expr.specs.Standing.{StandsIn, ranges_at}
-use Rattle.bb_expr.specs.Widths.{own_width}
+use Rattle.bb_expr.specs.Standing.{StandsIn}
 use Rattle.bb_elab.proofs.ModulePlaces.{some_and, standing_bounded, cells_few, steps_are}
 use Rattle.bb_elab.proofs.expression_steps.steps_beside.Goals as goal
 

@@ -1,4 +1,4 @@
-use Rattle.std.proofs.Common.{List, map, ap, sym, subst}
+use Rattle.std.proofs.Common.{List, map, sym, subst}
 use Rattle.bb_ast.specs.declared.expr.Expr.{Expr}
 use Rattle.bb_ast.specs.Views.{expression, gate_view}
 use Rattle.bb_elab.specs.Constructs.{gate_construct}

@@ -1,4 +1,4 @@
-use Rattle.std.proofs.Common.{◌≡◌, ◌≤◌, ◌+◌, ℕ, List, length, map, take, drop, get_or, refl, sym, ap, ◌∙◌, subst, arith, length-append, ◌++◌}
+use Rattle.std.proofs.Common.{◌≡◌, ◌≤◌, ℕ, List, length, map, take, drop, get_or, refl, sym, ap, ◌∙◌, subst, arith, length-append, ◌++◌}
 use Rattle.std.specs.Prelude.{All, min, slice_get}
 use Rattle.std.specs.List.{AllZip, flat_map}
 use Rattle.std.proofs.lemmas.List.{take-map, drop-map, take_min, drop_min, length-map}

@@ -1,18 +1,17 @@
-use Rattle.std.proofs.Common.{◌≡◌, ◌++◌, ◌+◌, List, [], map, take, sym, ap, ◌∙◌, subst, rules, arith, append_assoc, append-nil, Some}
+use Rattle.std.proofs.Common.{◌≡◌, ◌++◌, ◌+◌, [], map, take, sym, ap, ◌∙◌, subst, rules, arith, append_assoc, append-nil, Some}
 use Rattle.std.specs.Prelude.{All}
 use Rattle.std.specs.List.{flat_map}
 use Rattle.std.specs.Result.{OnOk}
 use Rattle.std.proofs.lemmas.List.{take_all}
 use Rattle.std.proofs.lemmas.Result.{on_ok_weaker}
 use Rattle.bb_ast.specs.declared.expr.Expr.{the_lemmas}
-use Rattle.bb_ast.specs.Syntax.{Expression, Net, Bit as BitOf, Part, Concat, parts}
+use Rattle.bb_ast.specs.Syntax.{Expression, Concat, parts}
 use Rattle.bb_ast.specs.Views.{expression}
 use Rattle.bb_expr.specs.Checked.{module_facts, syntax}
 use Rattle.bb_expr.specs.Declarations.{range_of}
 use Rattle.bb_expr.specs.Fit.{AreFit}
 use Rattle.bb_expr.specs.Ranges.{place_of, distance}
-use Rattle.bb_elab.specs.Hierarchy.{Scope}
-use Rattle.bb_elab.specs.NetBits.{Bit, bits_from, written_bits}
+use Rattle.bb_elab.specs.NetBits.{bits_from, written_bits}
 use Rattle.bb_elab.specs.Outlines.{AreBitsIn}
 use Rattle.bb_elab.proofs.LeftBits.{expression-net, expression-bit, expression-part, expression-concat, written-concat, fit_parts, bits_same}
 use Rattle.bb_elab.proofs.Turns.{all_here, flat-more}

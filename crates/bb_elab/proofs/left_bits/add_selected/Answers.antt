@@ -1,4 +1,4 @@
-use Rattle.std.proofs.Common.{◌≡◌, ◌++◌, ◌+◌, ℕ, ◌∙◌, sym, ap, subst}
+use Rattle.std.proofs.Common.{◌≡◌, ◌++◌, ◌+◌, ℕ, ◌∙◌, ap, subst}
 use Rattle.std.specs.Result.{OnOk}
 use Rattle.bb_expr.specs.Checked.{module_facts, syntax}
 use Rattle.bb_expr.specs.Fit.{ranges_in}

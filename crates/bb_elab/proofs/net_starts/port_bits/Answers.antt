@@ -1,9 +1,8 @@
-use Rattle.std.proofs.Common.{◌≡◌, ◌+◌, ◌≤◌, length, refl, ap, sym, ◌∙◌, subst, arith, take}
+use Rattle.std.proofs.Common.{◌≡◌, length, refl, ap, sym, ◌∙◌, subst, arith, take}
 use Rattle.std.specs.Prelude.{filter}
 use Rattle.std.specs.List.{flat_map, slice_index_or}
-use Rattle.std.proofs.lemmas.Option.{slice_get_read, get_or_from_slice_get}
+use Rattle.std.proofs.lemmas.Option.{slice_get_read, slice_get_within, get_or_from_slice_get}
 use Rattle.std.proofs.lemmas.List.{take_all}
-use Rattle.bb_expr.specs.declared.net.NetInfo.{NetInfo}
 use Rattle.bb_expr.specs.Ranges.{range_width}
 use Rattle.bb_elab.specs.NetBits.{bits_of_net}
 use Rattle.bb_elab.specs.Outlines.{AreAt, net_start}
@@ -11,6 +10,9 @@ use Rattle.bb_elab.specs.Outlining.{is_port_of}
 use Rattle.bb_elab.proofs.NetNumbers.{net_fits, chosen_more, passed_over}
 use Rattle.bb_elab.proofs.net_starts.port_bits.Goals as goal
 use Rattle.bb_elab.proofs.net_starts.port_bits.Goals.{then-is_port_of+in_ok-add_run, else-is_port_of}
+
+pub bounds-starts-k : goal.bounds-starts-k
+bounds-starts-k c = slice_get_within c.args.starts.now c.loop-k.k (net_start c.args.nets.now c.loop-k.k) (c.requires.starts.each c.loop-k.k c.loop-k-test.true)
 
 pub add_run-requires : goal.add_run-requires
 add_run-requires c =

@@ -1,4 +1,4 @@
-use Rattle.std.proofs.Common.{◌≡◌, ◌∙◌, ap, sym, length, ◌∷◌, [], length-append, arith}
+use Rattle.std.proofs.Common.{◌∙◌, ap, length, ◌∷◌, [], length-append, arith}
 use Rattle.std.proofs.lemmas.List.Sums.{sum_by_more}
 use Rattle.bb_expr.specs.declared.net.NetInfo.{NetInfo}
 use Rattle.bb_expr.specs.Ranges.{range_width}
