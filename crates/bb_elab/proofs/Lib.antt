@@ -28,6 +28,7 @@ pub mod ListedBlocks
 pub mod ListedBoxes
 pub mod ListedConstructs
 pub mod ListedData
+pub mod ListedDesigns
 pub mod ListedGates
 pub mod ListedParts
 pub mod ListedPlaces

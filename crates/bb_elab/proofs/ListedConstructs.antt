@@ -33,7 +33,7 @@ zipped_left R (u ∷ xs) [] all k x e = absurd all
 zipped_left R (u ∷ xs) (z ∷ ys) all zero x e = let same : u ≡ x = grind (arith, e) in (z, subst (λ v. R v z) same all.0)
 zipped_left R (u ∷ xs) (z ∷ ys) all (suc k) x e = zipped_left R xs ys all.1 k x e
 
-zipped_long : {A B : Type 0} (R : A → B → Type 0) (xs : List A) (ys : List B) → AllZip R xs ys → length xs ≡ length ys
+pub zipped_long : {A B : Type 0} (R : A → B → Type 0) (xs : List A) (ys : List B) → AllZip R xs ys → length xs ≡ length ys
 zipped_long R [] [] all = refl
 zipped_long R [] (z ∷ ys) all = absurd all
 zipped_long R (u ∷ xs) [] all = absurd all
