@@ -1,5 +1,5 @@
 -- The numbers of bits in net order, and what they are for the bits of a scope, of its nets and of its instances.
-use Rattle.std.proofs.Common.{◌≡◌, ◌≢◌, ◌⊎◌, ℕ, zero, suc, ◌+◌, ◌<◌, ◌==◌, Bool, true, false, if◌then◌else◌, List, [], ◌∷◌, ◌++◌, map, flat_map, length, take, get_or, Contains, Option, Some, None, refl, sym, ap, ◌∙◌, subst, inl, inr, arith, length-append, true≢false}
+use Rattle.std.proofs.Common.{◌≡◌, ℕ, zero, suc, ◌+◌, ◌<◌, ◌==◌, Bool, true, false, if◌then◌else◌, List, [], ◌∷◌, ◌++◌, map, flat_map, length, take, get_or, Contains, Some, refl, sym, ap, ◌∙◌, subst, arith, length-append, true≢false}
 use Rattle.std.specs.Prelude.{slice_get, sum_by, IfSome}
 use Rattle.std.specs.List.{AllZip, range_with_len}
 use Rattle.std.specs.Option.{option_map_or, option_and_then}
@@ -20,8 +20,8 @@ use Rattle.bb_elab.specs.Hierarchy.{Instance, Path, Design, Scope, instances_of,
 use Rattle.bb_elab.specs.NetBits.{Bit, same_bit, bits_of_net, scope_bits, net_order}
 use Rattle.bb_elab.specs.Listing.{Site, inner_first, site_of}
 use Rattle.bb_elab.specs.ListLaws.{IsBounded}
-use Rattle.bb_elab.specs.Outlines.{AreAt, IsOutline, net_start}
-use Rattle.bb_elab.specs.Placements.{ArePlaced, IsPlacedAt, IsScopeAt, IsChildAt}
+use Rattle.bb_elab.specs.Outlines.{IsOutline, net_start}
+use Rattle.bb_elab.specs.Placements.{ArePlaced, IsScopeAt, IsChildAt}
 use Rattle.bb_elab.proofs.NoneTwice.{NoneTwice, bits_none}
 use Rattle.bb_elab.proofs.TopLaws.{contains_here, contains_there}
 use Rattle.bb_elab.proofs.WorldLaws.{same_bit_is, same_bit_self}
@@ -155,8 +155,8 @@ module _ (names : NetNamesDiffer) (d : Design) (bounded : IsBounded d) (placed :
         let start : option_map_or (λ j. j) (slice_get o.starts.items n) 0 ≡ net_start all n = ap (λ q. option_map_or (λ (j : ℕ). j) q 0) (outline.starts n reads.0) in
         let bit : Bit = record { path = s.path; net = name_at all n; place = i } in
         let there : slice_get (scope_bits s) (length (flat_map (bits_of_net s.path) (take n all)) + i) ≡ Some bit =
-            got_flat (bits_of_net s.path) all n net i bit got (got_run (λ j. record { path = s.path; net = net.name; place = j }) 0 (range_width net.range) i fits
-            ∙ ap (λ (j : ℕ). Some (record { path = s.path; net = net.name; place = j })) (none i) ∙ ap (λ (m : List ℕ). Some (record { path = s.path; net = m; place = i })) (sym name)) in
+        got_flat (bits_of_net s.path) all n net i bit got (got_run (λ j. record { path = s.path; net = net.name; place = j }) 0 (range_width net.range) i fits
+        ∙ ap (λ (j : ℕ). Some (record { path = s.path; net = net.name; place = j })) (none i) ∙ ap (λ (m : List ℕ). Some (record { path = s.path; net = m; place = i })) (sym name)) in
         first_bits k s p at has _ bit there ∙ omega (arith, start, nets_long s.path (take n all));
     inner = λ j called target there found i b e.
         let child = zipped_right (IsChildAt d s) p.children.items (instances_of s.source) (are.each k s p at has).children j called there in

@@ -1,9 +1,9 @@
 -- The constructs of a design one after another: their places are in a row, and their cells are those that the parts of the
 -- modules put there, scope by scope.
-use Rattle.std.proofs.Common.{◌≡◌, ℕ, zero, suc, ◌+◌, ◌-◌, ◌<◌, ◌≤◌, Bool, true, false, if◌then◌else◌, List, [], ◌∷◌, ◌++◌, map, flat_map, take, length, All, Contains, Option, Some, None, refl, sym, ap, ap₂, ◌∙◌, subst, arith, length-append, append_assoc, append-nil}
+use Rattle.std.proofs.Common.{◌≡◌, ℕ, zero, suc, ◌+◌, ◌-◌, Bool, true, false, if◌then◌else◌, List, [], ◌∷◌, ◌++◌, map, flat_map, take, length, All, Option, Some, None, refl, sym, ap, ◌∙◌, subst, arith, length-append, append_assoc, append-nil}
 use Rattle.std.specs.Prelude.{slice_get}
-use Rattle.std.specs.List.{AllZip, fold, enumerate_from, range_with_len}
-use Rattle.std.specs.Option.{option_map_or, option_and_then}
+use Rattle.std.specs.List.{fold, enumerate_from}
+use Rattle.std.specs.Option.{option_map_or}
 use Rattle.std.proofs.lemmas.List.{length-map, map-append}
 use Rattle.std.proofs.lemmas.List.Elements.{All-nil, All-cons}
 use Rattle.std.proofs.lemmas.List.Sums.{fold-append}
@@ -12,15 +12,14 @@ use Rattle.bb_net.specs.declared.loose.LooseCell.{LooseCell}
 use Rattle.bb_elab.specs.declared.outline.Outline.{Outline}
 use Rattle.bb_elab.specs.declared.outline.Part.{Part}
 use Rattle.bb_elab.specs.declared.placed.Placed.{Placed}
-use Rattle.bb_elab.specs.Hierarchy.{Design, Scope, is_box, scopes}
+use Rattle.bb_elab.specs.Hierarchy.{Design, Scope}
 use Rattle.bb_elab.specs.NetBits.{Bit}
-use Rattle.bb_elab.specs.Constructs.{Construct, BoxContents, constructs_at, parts}
+use Rattle.bb_elab.specs.Constructs.{Construct, BoxContents}
 use Rattle.bb_elab.specs.Listing.{Sources, Site, Sheet, given_one, given_all, constant_place, site_of, with_part, with_parts, with_scope}
-use Rattle.bb_elab.specs.Outlines.{IsPartOf, IsOutline}
+use Rattle.bb_elab.specs.Outlines.{IsPartOf}
 use Rattle.bb_elab.specs.Places.{Place, Constant, Input, NetBit, Step, Joined, Inverted, BoxPin, Numbering, Lowering, Steps, IsLoweringOf, given_at, data_at, places_at}
 use Rattle.bb_elab.proofs.BitNumbers.{bit_number, IsSiteOf}
 use Rattle.bb_elab.proofs.ListedConstructs.{HasInputs, part_puts}
-use Rattle.bb_elab.proofs.ListedData.{zip_append}
 use Rattle.bb_elab.proofs.ListedParts.{lowereds, steps_before, Puts, pair}
 use Rattle.bb_elab.proofs.ListedSteps.{Entry, AreInRow, no_row, both_rows, cells_in}
 
@@ -134,7 +133,7 @@ module _ (d : Design) (lowering : Lowering) (number : Numbering) (nets start : �
           let first = places_at lowering number (k, x) in
           let others = flat_map (places_at lowering number) (enumerate_from (k + 1) xs) in
           let long : length (sheet_at (k + 1)).cells ≡ length (sheet_at k).cells + length first =
-              ap length here.cells ∙ length-append (sheet_at k).cells (cells_in first) ∙ ap (λ n. length (sheet_at k).cells + n) (length-map {B = LooseCell} first (λ (e : Entry). e.1)) in
+          ap length here.cells ∙ length-append (sheet_at k).cells (cells_in first) ∙ ap (λ n. length (sheet_at k).cells + n) (length-map {B = LooseCell} first (λ (e : Entry). e.1)) in
           subst (λ n. PutAll k (x ∷ xs) (sheet_at n)) (omega arith) (record {
             cells = rest.cells ∙ ap (λ c. c ++ cells_in others) here.cells ∙ append_assoc (sheet_at k).cells (cells_in first) (cells_in others) ∙ ap (λ c. (sheet_at k).cells ++ c) (sym (map-append (λ (e : Entry). e.1) first others));
             row = both_rows number (start + length (sheet_at k).cells) first others here.row (subst (λ n. AreInRow number n others) (omega (arith, long)) rest.row);

@@ -1,5 +1,5 @@
 -- The boxes of a design one after another: the places of their pins are in a row.
-use Rattle.std.proofs.Common.{◌≡◌, ℕ, zero, suc, ◌+◌, ◌<◌, Bool, true, false, if◌then◌else◌, List, [], ◌∷◌, ◌++◌, map, flat_map, filter, take, drop, length, get_or, Option, Some, None, refl, sym, ap, ap₂, ◌∙◌, subst, arith, length-append, append_assoc, append-nil}
+use Rattle.std.proofs.Common.{◌≡◌, ℕ, zero, suc, ◌+◌, Bool, true, false, if◌then◌else◌, List, [], ◌∷◌, ◌++◌, map, flat_map, filter, take, drop, length, get_or, Some, refl, sym, ap, ap₂, ◌∙◌, subst, arith, length-append, append_assoc, append-nil}
 use Rattle.std.specs.Prelude.{slice_get}
 use Rattle.std.specs.List.{fold, enumerate_from, range_with_len}
 use Rattle.std.proofs.lemmas.List.{length-map, map-append, take_at}
@@ -10,10 +10,10 @@ use Rattle.bb_net.specs.declared.loose.LooseCell.TheVariants as cell
 use Rattle.bb_net.specs.Netlists.{Pins}
 use Rattle.bb_elab.specs.declared.outline.Outline.{Outline}
 use Rattle.bb_elab.specs.declared.placed.Placed.{Placed}
-use Rattle.bb_elab.specs.Hierarchy.{Design, Scope, is_box, boxes}
+use Rattle.bb_elab.specs.Hierarchy.{Design, Scope, is_box}
 use Rattle.bb_elab.specs.NetBits.{Bit, scope_bits, input_bits, output_bits}
-use Rattle.bb_elab.specs.Listing.{Sources, Boxed, given_one, given_all, in_row, with_pins, with_box}
-use Rattle.bb_elab.specs.Outlines.{AreAt, AreBitsIn, IsOutline}
+use Rattle.bb_elab.specs.Listing.{Boxed, given_one, given_all, in_row, with_pins, with_box}
+use Rattle.bb_elab.specs.Outlines.{AreAt}
 use Rattle.bb_elab.specs.Places.{Place, NetBit, BoxPin, Numbering, Lowering, given_by_box, box_places, pins_of}
 use Rattle.bb_elab.proofs.BitNumbers.{bit_number}
 use Rattle.bb_elab.proofs.Enumerated.{length-enumerated}
@@ -74,7 +74,7 @@ module _ (d : Design) (lowering : Lowering) (number : Numbering) (nets start : �
     pins_given : in_row first o.outputs.items (start + length a.cells) ≡ map (pair d lowering number nets start) (given_by_box (n, s))
     pins_given =
         rows_same (λ i. first + i) (bit_number d) (λ x. start + length a.cells + x) (λ x. number (BoxPin n x)) 0 o.outputs.items (output_bits s)
-          (sym (numbers_are (bit_number d) (scope_bits s) first pins.own o.outputs.items (output_bits s) pins.outputs)) (λ x. sym (at x))
+        (sym (numbers_are (bit_number d) (scope_bits s) first pins.own o.outputs.items (output_bits s) pins.outputs)) (λ x. sym (at x))
         ∙ sym (map-twice {B = Bit × Place} (λ (x : ℕ × Bit). (x.1, BoxPin n x.0)) (pair d lowering number nets start) (enumerate_from 0 (output_bits s)))
 
     mk_pins : List ℕ → List ℕ → Pins
@@ -84,8 +84,8 @@ module _ (d : Design) (lowering : Lowering) (number : Numbering) (nets start : �
     unfolding mk_pins
     pins_are = ap₂ mk_pins
         (map-same (λ i. nets + first + i) (λ i. nets + (first + i)) (λ i. omega arith) o.inputs.items ∙ sym (map-twice (λ i. first + i) (λ m. nets + m) o.inputs.items)
-          ∙ ap (map (λ m. nets + m)) (sym (numbers_are (bit_number d) (scope_bits s) first pins.own o.inputs.items (input_bits s) pins.inputs))
-          ∙ map-twice (bit_number d) (λ m. nets + m) (input_bits s) ∙ map-same (λ b. nets + bit_number d b) (λ b. number (NetBit b)) (λ b. sym (net_places b)) (input_bits s))
+        ∙ ap (map (λ m. nets + m)) (sym (numbers_are (bit_number d) (scope_bits s) first pins.own o.inputs.items (input_bits s) pins.inputs))
+        ∙ map-twice (bit_number d) (λ m. nets + m) (input_bits s) ∙ map-same (λ b. nets + bit_number d b) (λ b. number (NetBit b)) (λ b. sym (net_places b)) (input_bits s))
         (sym pin_numbers)
 
   module _ (outlines : List Outline) (all : List Scope) (pins_stand : (n x : ℕ) → number (BoxPin n x) ≡ start + length (flat_map output_bits (take n all)) + x) where

@@ -1,5 +1,5 @@
 -- Each part of a module puts behind others what its construct has to have there.
-use Rattle.std.proofs.Common.{◌≡◌, ℕ, zero, suc, ◌+◌, ◌-◌, ◌<◌, ◌≤◌, Bool, List, [], ◌∷◌, ◌++◌, map, flat_map, take, length, All, Option, Some, refl, sym, ap, ap₂, ◌∙◌, subst, arith, length-append, append_assoc, append-nil}
+use Rattle.std.proofs.Common.{◌≡◌, ℕ, zero, suc, ◌+◌, ◌-◌, ◌≤◌, Bool, List, [], ◌∷◌, ◌++◌, map, flat_map, take, length, All, Some, refl, sym, ap, ap₂, ◌∙◌, subst, arith, length-append, append_assoc, append-nil}
 use Rattle.std.specs.Prelude.{slice_get}
 use Rattle.std.specs.List.{AllZip, enumerate_from, range_with_len}
 use Rattle.std.proofs.lemmas.List.{length-map, map-append}
@@ -17,14 +17,14 @@ use Rattle.bb_elab.specs.declared.outline.Part.TheVariants as part
 use Rattle.bb_elab.specs.Hierarchy.{Design, Scope, path_to}
 use Rattle.bb_elab.specs.NetBits.{Bit, scope_bits, bits_named, pin_bits, written_bits}
 use Rattle.bb_elab.specs.Contexts.{low_bits, width_of, context_width}
-use Rattle.bb_elab.specs.Constructs.{Construct, Assignment, GateInstance, Register, SupplyNet, InputConnection, OutputConnection, BoxContents}
-use Rattle.bb_elab.specs.Listing.{Site, Sheet, Terminals, given_all, constant_place, with_gate, with_terminals, with_part, joined, inverted}
+use Rattle.bb_elab.specs.Constructs.{Construct, Assignment, GateInstance, Register, SupplyNet, InputConnection, OutputConnection}
+use Rattle.bb_elab.specs.Listing.{Site, Sheet, Terminals, given_all, constant_place, with_gate, with_terminals, with_part}
 use Rattle.bb_elab.specs.Outlines.{IsMadeIn, IsPinIn, IsPartOf}
-use Rattle.bb_elab.specs.Places.{Place, Constant, NetBit, Step, Joined, Inverted, Numbering, Lowering, Steps, lowered_in, step_places, terminal_place, gate_place, joining_places, inverting_place, places_at}
+use Rattle.bb_elab.specs.Places.{Constant, NetBit, Step, Numbering, Lowering, Steps, step_places, terminal_place, gate_place, joining_places, inverting_place, places_at}
 use Rattle.bb_elab.proofs.BitNumbers.{bit_number, IsSiteOf}
 use Rattle.bb_elab.proofs.ListedGates.{GateFits, gate_fits}
-use Rattle.bb_elab.proofs.ListedParts.{lowereds, steps_before, map-twice, map-same, are_long, Puts, pair, beside_is, all_is, net_place_is, AreLoweredAt, own_bits, inner_bits, one_lowered, one_cells, one_row, one_places, low_places}
-use Rattle.bb_elab.proofs.ListedSteps.{Entry, AreInRow, no_row, both_rows, cells_in, IsLoweredAt, TerminalsFit, terminals_fit, steps_from}
+use Rattle.bb_elab.proofs.ListedParts.{lowereds, steps_before, map-twice, map-same, are_long, Puts, beside_is, all_is, net_place_is, AreLoweredAt, own_bits, inner_bits, one_lowered, one_cells, one_row, one_places, low_places}
+use Rattle.bb_elab.proofs.ListedSteps.{Entry, AreInRow, no_row, both_rows, cells_in, TerminalsFit, terminals_fit, steps_from}
 
 zipped_left : {A B : Type 0} (R : A → B → Type 0) (xs : List A) (ys : List B) → AllZip R xs ys → (k : ℕ) (x : A) → slice_get xs k ≡ Some x → (y : B) × R x y
 zipped_left R [] [] all k x e = absurd (grind (arith, e))

@@ -1,5 +1,5 @@
 -- The list of cells that is made by numbers is the list of cells of the design.
-use Rattle.std.proofs.Common.{◌≡◌, ℕ, zero, suc, ◌+◌, ◌<◌, ◌≤◌, ◌^◌, Bool, true, false, List, [], ◌∷◌, ◌++◌, map, flat_map, take, length, get_or, replicate, All, Contains, Option, Some, None, refl, sym, ap, ap₂, ◌∙◌, subst, arith, length-append, append_assoc, append-nil}
+use Rattle.std.proofs.Common.{◌≡◌, ℕ, suc, ◌+◌, ◌<◌, ◌^◌, Bool, true, false, List, [], ◌∷◌, ◌++◌, map, flat_map, take, length, get_or, replicate, All, Some, None, refl, sym, ap, ap₂, ◌∙◌, subst, arith, length-append}
 use Rattle.std.specs.Prelude.{slice_get}
 use Rattle.std.specs.List.{AllZip, fold, enumerate_from, range_with_len}
 use Rattle.std.proofs.lemmas.List.{length-map, map-append, get_or-map, length-replicate, take_all}
@@ -7,7 +7,7 @@ use Rattle.std.proofs.lemmas.List.FromFn.{get_or-range_with_len}
 use Rattle.std.specs.List.Sorted.{IsPermutation}
 use Rattle.std.proofs.lemmas.List.Sorted.{IsPermutation-refl}
 use Rattle.std.proofs.lemmas.List.Sums.{fold-append}
-use Rattle.std.proofs.lemmas.Option.{slice_get_within, slice_get-get_or}
+use Rattle.std.proofs.lemmas.Option.{slice_get_within}
 use Rattle.bb_expr.specs.FitLaws.{NetNamesDiffer}
 use Rattle.bb_net.specs.declared.loose.LooseCell.{LooseCell}
 use Rattle.bb_net.specs.declared.loose.LooseCell.TheVariants as cell
@@ -15,18 +15,17 @@ use Rattle.bb_net.specs.Loose.{LooseList, loose_at}
 use Rattle.bb_elab.specs.declared.outline.Outline.{Outline}
 use Rattle.bb_elab.specs.declared.placed.Placed.{Placed}
 use Rattle.bb_elab.specs.declared.stored.Stored.{Stored}
-use Rattle.bb_elab.specs.Hierarchy.{Design, Scope, root, boxes, scopes, is_box}
+use Rattle.bb_elab.specs.Hierarchy.{Design, root, boxes, scopes}
 use Rattle.bb_elab.specs.NetBits.{Bit, scope_bits, net_order, input_bits, output_bits, top_inputs, top_outputs}
-use Rattle.bb_elab.specs.Constructs.{Construct, parts}
-use Rattle.bb_elab.specs.Listing.{Sources, Sheet, Boxed, given_one, given_all, place_or_zero, in_row, constant_place, bit_count, input_numbers, boxed_in, sheet_on, cells_before, outs_of, finished, first_sources, listed_on, listed}
+use Rattle.bb_elab.specs.Constructs.{parts}
+use Rattle.bb_elab.specs.Listing.{Sources, Sheet, Boxed, given_one, given_all, place_or_zero, in_row, constant_place, bit_count, input_numbers, boxed_in, sheet_on, cells_before, outs_of, finished, first_sources, listed}
 use Rattle.bb_elab.specs.ListLaws.{IsBounded}
-use Rattle.bb_elab.specs.Outlines.{AreAt, IsOutline}
-use Rattle.bb_elab.specs.Placements.{ArePlaced, AreOutlined, AreStored, IsStoredAt, IsScopeAt}
-use Rattle.bb_elab.specs.Places.{Place, Constant, Input, NetBit, BoxPin, Numbering, Lowering, IsLowering, given_at, given_by_box, given, data_at, data_places, place_in, box_places, places_at, front_places, operator_places, places, pins_of, IsListOf}
+use Rattle.bb_elab.specs.Outlines.{IsOutline}
+use Rattle.bb_elab.specs.Placements.{ArePlaced, AreOutlined, AreStored, IsStoredAt}
+use Rattle.bb_elab.specs.Places.{Place, Constant, Input, NetBit, BoxPin, Numbering, Lowering, IsLowering, given_at, given_by_box, given, data_at, data_places, place_in, box_places, places_at, front_places, places, IsListOf}
 use Rattle.bb_elab.specs.Registers.{RegisterBit, registers, cut_bits}
 use Rattle.bb_elab.proofs.BitNumbers.{zipped_right, bit_number, numbered, first_bits}
 use Rattle.bb_elab.proofs.CalledInstances.{there_at}
-use Rattle.bb_elab.proofs.Enumerated.{length-enumerated}
 use Rattle.bb_elab.proofs.GivenPlaces.{given_long, noted}
 use Rattle.bb_elab.proofs.ListedBlocks.{Block, IsBlockOf, with_block, blocks_of, scopes_fold, lowering_of, sheet_at, number_of, block_puts, PutAll, put_all}
 use Rattle.bb_elab.proofs.ListedBoxes.{rows_same, moved_row, PutsBoxes, boxes_put}
@@ -34,7 +33,7 @@ use Rattle.bb_elab.proofs.ListedConstructs.{zipped_long}
 use Rattle.bb_elab.proofs.WrittenValue.{length-range}
 use Rattle.bb_elab.proofs.ListedParts.{map-twice, map-same, numbers_are, Puts, pair}
 use Rattle.bb_elab.proofs.ListedScopes.{has_inputs, blocks_are, boxes_are, counted}
-use Rattle.bb_elab.proofs.ListedSteps.{Entry, AreInRow, no_row, one_row, both_rows, cells_in}
+use Rattle.bb_elab.proofs.ListedSteps.{Entry, AreInRow, both_rows, cells_in}
 
 row_of : {A : Type 0} (f : A → ℕ) (xs : List A) (at : ℕ) → ((k : ℕ) (x : A) → slice_get xs k ≡ Some x → f x ≡ at + k) → map f xs ≡ range_with_len at (length xs)
 row_of f [] at each = refl
@@ -56,7 +55,7 @@ same_zipped R f g (x ∷ xs) (y ∷ ys) all each = ap₂ ◌∷◌ (each x y all
 cells_stand : (number : Numbering) (all : List Entry) (l : LooseList) → AreInRow number 0 all → l.cells ≡ cells_in all → All (λ (x : Entry). loose_at l (number x.0) ≡ x.1) all
 cells_stand number all l row cells k x fits =
     let at : number (get_or all k x).0 ≡ k =
-        sym (get_or-map (λ (e : Entry). number e.0) all k x 0 fits) ∙ ap (λ z. get_or z k 0) row.row ∙ get_or-range_with_len 0 (length all) k 0 fits ∙ omega arith in
+    sym (get_or-map (λ (e : Entry). number e.0) all k x 0 fits) ∙ ap (λ z. get_or z k 0) row.row ∙ get_or-range_with_len 0 (length all) k 0 fits ∙ omega arith in
     ap (loose_at l) at ∙ ap (λ c. get_or c k (cell.Const false)) cells ∙ get_or-map (λ (e : Entry). e.1) all k x (cell.Const false) fits
 
 module _ (names : NetNamesDiffer) (d : Design) (bounded : IsBounded d) (placed : List Placed) (are : ArePlaced d placed) (outlines : List Outline) (outlined : AreOutlined d placed outlines)
@@ -125,10 +124,10 @@ module _ (names : NetNamesDiffer) (d : Design) (bounded : IsBounded d) (placed :
   parts_fit =
       subst (PutAll d lowering number nets start (sheet_at d blocks nets start begun pins_before) 0 (parts d)) last
       (put_all d lowering number nets start (sheet_at d blocks nets start begun pins_before) 0 (parts d) (λ i x e.
-        let b = zipped_right (IsBlockOf d) blocks (parts d) (blocks_are names d bounded placed are outlines outlined) i x e in
-        let none : i ≡ 0 + i = omega arith in
-        subst (λ n. Puts d lowering number nets start (n, x) (sheet_at d blocks nets start begun pins_before n) (sheet_at d blocks nets start begun pins_before (suc n))) none
-        (block_puts d blocks nets start begun pins_before i b.0 x.0 x.1 b.1 b.2 (has_inputs d bounded x.0 x.1 (there_at (parts d) i x e)))))
+      let b = zipped_right (IsBlockOf d) blocks (parts d) (blocks_are names d bounded placed are outlines outlined) i x e in
+      let none : i ≡ 0 + i = omega arith in
+      subst (λ n. Puts d lowering number nets start (n, x) (sheet_at d blocks nets start begun pins_before n) (sheet_at d blocks nets start begun pins_before (suc n))) none
+      (block_puts d blocks nets start begun pins_before i b.0 x.0 x.1 b.1 b.2 (has_inputs d bounded x.0 x.1 (there_at (parts d) i x e)))))
     where
       last : sheet_at d blocks nets start begun pins_before (0 + length (parts d)) ≡ sheet
       last =
@@ -147,7 +146,7 @@ module _ (names : NetNamesDiffer) (d : Design) (bounded : IsBounded d) (placed :
   cut_numbers =
       ap (map (λ i. 0 + i)) ins_are ∙ map-append (λ i. 0 + i) top.inputs.items (map (λ (x : Stored). x.bit) stored)
       ∙ ap₂ ◌++◌ (sym (numbers_are (bit_number d) (scope_bits (root d)) 0 top_first top.inputs.items (input_bits (root d)) (top_outline.inputs [])))
-        (map-twice (λ (x : Stored). x.bit) (λ i. 0 + i) stored ∙ register_numbers ∙ sym (map-twice (λ (r : RegisterBit). r.bit) (bit_number d) (registers d)))
+      (map-twice (λ (x : Stored). x.bit) (λ i. 0 + i) stored ∙ register_numbers ∙ sym (map-twice (λ (r : RegisterBit). r.bit) (bit_number d) (registers d)))
       ∙ sym (map-append (bit_number d) (top_inputs d) (map (λ (r : RegisterBit). r.bit) (registers d)))
 
   cut_long : length ins ≡ length (cut_bits d)
@@ -203,8 +202,8 @@ module _ (names : NetNamesDiffer) (d : Design) (bounded : IsBounded d) (placed :
   front_cells : cells_before (length ins) sheet.sources ≡ cells_in (front_places d lowering number)
   front_cells =
       ap (λ l. cell.Const false ∷ cell.Const true ∷ l) (ap₂ ◌++◌
-        (ap (λ n. map cell.Input (range_with_len 0 n)) cut_long ∙ sym (map-twice {B = Entry} (λ i. (Input i, cell.Input i)) (λ (e : Entry). e.1) (range_with_len 0 (length (cut_bits d)))))
-        (copies_are ∙ sym (map-twice {B = Entry} (λ b. (NetBit b, cell.Copy (number (place_in (given d lowering) b)))) (λ (e : Entry). e.1) (net_order d)))
+      (ap (λ n. map cell.Input (range_with_len 0 n)) cut_long ∙ sym (map-twice {B = Entry} (λ i. (Input i, cell.Input i)) (λ (e : Entry). e.1) (range_with_len 0 (length (cut_bits d)))))
+      (copies_are ∙ sym (map-twice {B = Entry} (λ b. (NetBit b, cell.Copy (number (place_in (given d lowering) b)))) (λ (e : Entry). e.1) (net_order d)))
       ∙ sym (map-append (λ (e : Entry). e.1) input_entries net_entries))
 
   inputs_long : length input_entries ≡ length ins
@@ -252,7 +251,7 @@ module _ (names : NetNamesDiffer) (d : Design) (bounded : IsBounded d) (placed :
   all_row : AreInRow number 0 (places d lowering number)
   all_row = both_rows number 0 (front_places d lowering number) (box_entries ++ part_entries) front_row
       (both_rows number (0 + length (front_places d lowering number)) box_entries part_entries
-        (subst (λ n. AreInRow number n box_entries) (omega (arith, front_long)) boxes_fit.row) (subst (λ n. AreInRow number n part_entries) (omega (arith, front_long, box_long)) parts_fit.row))
+      (subst (λ n. AreInRow number n box_entries) (omega (arith, front_long)) boxes_fit.row) (subst (λ n. AreInRow number n part_entries) (omega (arith, front_long, box_long)) parts_fit.row))
 
   cells_are : cells_before (length ins) sheet.sources ++ sheet.cells ≡ cells_in (places d lowering number)
   cells_are =
@@ -262,12 +261,12 @@ module _ (names : NetNamesDiffer) (d : Design) (bounded : IsBounded d) (placed :
   outs_are : outs_of nets top stored sheet.next ≡ map (λ b. number (NetBit b)) (top_outputs d) ++ map number (data_places d lowering)
   outs_are = ap₂ ◌++◌
       (map-same (λ i. nets + i) (λ i. nets + (0 + i)) (λ i. omega arith) top.outputs.items ∙ sym (map-twice (λ i. 0 + i) (λ n. nets + n) top.outputs.items)
-        ∙ ap (map (λ n. nets + n)) (sym (numbers_are (bit_number d) (scope_bits (root d)) 0 top_first top.outputs.items (output_bits (root d)) (top_outline.outputs [])))
-        ∙ map-twice (bit_number d) (λ n. nets + n) (top_outputs d) ∙ map-same (λ b. nets + bit_number d b) (λ b. number (NetBit b)) (λ b. sym (net_places b)) (top_outputs d))
+      ∙ ap (map (λ n. nets + n)) (sym (numbers_are (bit_number d) (scope_bits (root d)) 0 top_first top.outputs.items (output_bits (root d)) (top_outline.outputs [])))
+      ∙ map-twice (bit_number d) (λ n. nets + n) (top_outputs d) ∙ map-same (λ b. nets + bit_number d b) (λ b. number (NetBit b)) (λ b. sym (net_places b)) (top_outputs d))
       (same_zipped (IsStoredAt d) (λ (x : Stored). place_or_zero (slice_get sheet.next x.bit)) (λ (r : RegisterBit). number (place_in data_given r.bit)) stored (registers d) store (λ x r is.
-          ap (λ z. place_or_zero (slice_get z x.bit)) next_is
-          ∙ noted names d bounded lowering number nets start zero_is bits x.bit r.bit (omega (arith, slice_get_within (net_order d) x.bit r.bit is.bit, bits_whole)) is.bit data_given)
-        ∙ sym (map-twice (λ (r : RegisterBit). place_in data_given r.bit) number (registers d)))
+      ap (λ z. place_or_zero (slice_get z x.bit)) next_is
+      ∙ noted names d bounded lowering number nets start zero_is bits x.bit r.bit (omega (arith, slice_get_within (net_order d) x.bit r.bit is.bit, bits_whole)) is.bit data_given)
+      ∙ sym (map-twice (λ (r : RegisterBit). place_in data_given r.bit) number (registers d)))
 
   pub is_lowering : IsLowering d lowering
   is_lowering = parts_fit.lowered
@@ -294,5 +293,5 @@ listed_is_list names d placed outlines stored p top l is fits first_at top_at ar
       lowering names d bounded placed are outlines outlined stored store p top first_at top_at ins refl bits refl nets refl (nets + bits) refl,
       is_lowering names d bounded placed are outlines outlined stored store p top first_at top_at ins refl bits refl nets refl (nets + bits) refl,
       subst (IsListOf d (lowering names d bounded placed are outlines outlined stored store p top first_at top_at ins refl bits refl nets refl (nets + bits) refl)) (sym is)
-        (is_list names d bounded placed are outlines outlined stored store p top first_at top_at ins refl bits refl nets refl (nets + bits) refl (subst (λ (z : LooseList). length z.cells < 2 ^ 32) is fits)),
+          (is_list names d bounded placed are outlines outlined stored store p top first_at top_at ins refl bits refl nets refl (nets + bits) refl (subst (λ (z : LooseList). length z.cells < 2 ^ 32) is fits)),
     )

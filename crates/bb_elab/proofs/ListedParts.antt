@@ -1,11 +1,9 @@
 -- What a construct puts behind others: its places, with their cells in a row, and what it drives.
-use Rattle.std.proofs.Common.{◌≡◌, ℕ, zero, suc, ◌+◌, ◌-◌, ◌<◌, ◌≤◌, Bool, List, [], ◌∷◌, ◌++◌, map, flat_map, zip, take, drop, length, get_or, All, Option, Some, None, refl, sym, ap, ap₂, ◌∙◌, subst, arith, length-append, append_assoc, append-nil}
+use Rattle.std.proofs.Common.{◌≡◌, ℕ, suc, ◌+◌, ◌-◌, Bool, List, [], ◌∷◌, ◌++◌, map, flat_map, zip, take, drop, length, get_or, All, Some, None, refl, sym, ap, ap₂, ◌∙◌, subst, arith, append-nil}
 use Rattle.std.specs.Prelude.{slice_get}
-use Rattle.std.specs.List.{AllZip, fold, enumerate_from, range_with_len}
-use Rattle.std.proofs.lemmas.List.{length-map, map-append}
+use Rattle.std.proofs.lemmas.List.{length-map}
 use Rattle.std.proofs.lemmas.List.Elements.{All-nil, All-cons}
-use Rattle.bb_ast.specs.declared.module.Gate.{Gate}
-use Rattle.bb_ast.specs.Syntax.{Expression, PlainModule}
+use Rattle.bb_ast.specs.Syntax.{Expression}
 use Rattle.bb_expr.specs.declared.step.BitStep.TheVariants as steps
 use Rattle.bb_expr.specs.declared.step.Lowered.{Lowered}
 use Rattle.bb_expr.specs.Declarations.{range_of}
@@ -15,16 +13,15 @@ use Rattle.bb_expr.specs.Spots.{Pin}
 use Rattle.bb_elab.specs.declared.outline.Part.{Part}
 use Rattle.bb_elab.specs.declared.outline.Part.TheVariants as part
 use Rattle.bb_elab.specs.Hierarchy.{Design, Scope, path_to}
-use Rattle.bb_elab.specs.NetBits.{Bit, scope_bits, bits_named, pin_bits, written_bits}
-use Rattle.bb_elab.specs.Contexts.{low_bits, width_of, context_width}
-use Rattle.bb_elab.specs.Constructs.{Construct, Assignment, GateInstance, Register, SupplyNet, InputConnection, OutputConnection, BoxContents}
-use Rattle.bb_elab.specs.Listing.{Site, Sheet, given_all, beside, all_given_by, constant_place, cells_of_steps, net_bit_place, with_gate, with_terminals, with_part}
-use Rattle.bb_elab.specs.Outlines.{AreAt, AreBitsIn, IsMadeIn, IsPinIn, IsPartOf}
-use Rattle.bb_elab.specs.Places.{Place, Constant, NetBit, Step, Joined, Inverted, Numbering, Lowering, Steps, IsLoweringOf, lowered_in, step_places, step_cells, net_place, gate_place, given_at, data_at, places_at}
+use Rattle.bb_elab.specs.NetBits.{Bit, scope_bits, pin_bits}
+use Rattle.bb_elab.specs.Contexts.{low_bits}
+use Rattle.bb_elab.specs.Constructs.{Construct}
+use Rattle.bb_elab.specs.Listing.{Site, Sheet, given_all, beside, all_given_by, constant_place, cells_of_steps, net_bit_place}
+use Rattle.bb_elab.specs.Outlines.{AreAt, AreBitsIn, IsPinIn}
+use Rattle.bb_elab.specs.Places.{Place, Constant, NetBit, Step, Joined, Inverted, Numbering, Lowering, Steps, IsLoweringOf, step_places, step_cells, net_place, given_at, data_at, places_at}
 use Rattle.bb_elab.proofs.BitByBit.{low-map}
 use Rattle.bb_elab.proofs.BitNumbers.{bit_number, IsSiteOf}
-use Rattle.bb_elab.proofs.ListedGates.{GateFits, gate_fits}
-use Rattle.bb_elab.proofs.ListedSteps.{Entry, AreInRow, no_row, both_rows, cells_in, IsLoweredAt, steps_cells, steps_row, TerminalsFit, terminals_fit}
+use Rattle.bb_elab.proofs.ListedSteps.{AreInRow, cells_in, IsLoweredAt, steps_cells, steps_row}
 
 -- the expressions of a part
 abbrev pub lowereds : Part → List Lowered
@@ -111,7 +108,7 @@ module _ (d : Design) (lowering : Lowering) (number : Numbering) (nets start : �
     inner_bits instance numbers i pin is =
         ap (λ (n : List ℕ). map (bit_number d) (pin_bits (path_to s.path n) pin)) (sym is.named)
         ∙ numbers_are (bit_number d) (scope_bits (record { path = path_to s.path is.called.name; source = is.target })) (site.inner instance) (is_site.inner instance is.called is.target is.there is.meant) numbers
-          (pin_bits (path_to s.path is.called.name) pin) (is.bits (path_to s.path is.called.name))
+        (pin_bits (path_to s.path is.called.name) pin) (is.bits (path_to s.path is.called.name))
 
     -- a construct with one expression
     module _ (l : Lowered) (at : AreLoweredAt (l ∷ [])) (e : Expression) (w : ℕ) (made : IsLowered (nets_of s.source) (range_of s.source) e w l.steps.items l.bits.items) where

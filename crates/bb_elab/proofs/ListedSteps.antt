@@ -1,10 +1,9 @@
 -- Cells put behind others, with the places of a list that stand for them: the steps of expressions.
-use Rattle.std.proofs.Common.{◌≡◌, ℕ, zero, suc, ◌+◌, ◌-◌, ◌<◌, Bool, List, [], ◌∷◌, ◌++◌, map, flat_map, length, get_or, All, Contains, refl, sym, ap, ap₂, ◌∙◌, subst, arith, length-append, append_assoc, append-nil}
+use Rattle.std.proofs.Common.{◌≡◌, ℕ, zero, suc, ◌+◌, Bool, List, [], ◌∷◌, ◌++◌, map, flat_map, length, All, Contains, refl, sym, ap, ap₂, ◌∙◌, subst, arith, length-append, append_assoc, append-nil}
 use Rattle.std.specs.List.{fold, enumerate_from, range_with_len}
 use Rattle.std.specs.Prelude.{slice_get, slice_index, Some}
 use Rattle.std.proofs.lemmas.List.{length-map, map-append}
 use Rattle.std.proofs.lemmas.List.Elements.{All-contains}
-use Rattle.bb_expr.specs.declared.net.NetInfo.{NetInfo}
 use Rattle.bb_expr.specs.declared.step.BitStep.{BitStep}
 use Rattle.bb_expr.specs.declared.step.BitStep.TheVariants as steps
 use Rattle.bb_expr.specs.declared.step.Lowered.{Lowered}
@@ -107,8 +106,8 @@ module _ (lowering : Lowering) (number : Numbering) (k : ℕ) (s : Scope) (bits 
   terminals_fit start [] x t at low first next = record { cells = sym (append-nil t.cells); places = sym (append-nil t.places); row = no_row number (start + length t.cells); long = sym first }
   terminals_fit start (l ∷ ls) x t at low first next =
       build (terminals_fit start ls (x + 1) (with_terminal start bits starts t l) (λ i. at (suc i))
-        (λ i m e. subst (λ y. IsLoweredAt y (at (suc i)) m) (omega arith) (low (suc i) m e))
-        (next 0 l refl ∙ omega (arith, first, grown)) (λ i m e. next (suc i) m e))
+      (λ i m e. subst (λ y. IsLoweredAt y (at (suc i)) m) (omega arith) (low (suc i) m e))
+      (next 0 l refl ∙ omega (arith, first, grown)) (λ i m e. next (suc i) m e))
     where
       lowest : IsLoweredAt x (at 0) l
       lowest = subst (λ y. IsLoweredAt y (at 0) l) (omega arith) (low 0 l refl)

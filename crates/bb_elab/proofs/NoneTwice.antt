@@ -1,8 +1,8 @@
 -- Lists in which nothing stands twice; the bits of a design are one.
-use Rattle.std.proofs.Common.{◌≡◌, ◌≢◌, ◌⊎◌, ℕ, zero, suc, ◌+◌, ◌<◌, List, [], ◌∷◌, ◌++◌, map, flat_map, length, get_or, All, AllPairs, Contains, Option, Some, None, refl, sym, ap, ◌∙◌, subst, inl, inr, arith, append_assoc, append-nil, length-append}
+use Rattle.std.proofs.Common.{◌≡◌, ◌≢◌, ◌⊎◌, ℕ, zero, suc, ◌+◌, List, [], ◌∷◌, ◌++◌, map, flat_map, length, get_or, All, AllPairs, Contains, Option, Some, None, refl, sym, ap, ◌∙◌, subst, inl, inr, arith, append_assoc, append-nil, length-append}
 use Rattle.std.specs.Prelude.{slice_get, option_map}
 use Rattle.std.specs.List.{filter_map, cons_option, range_with_len}
-use Rattle.std.proofs.lemmas.List.{length-map, get_or-map, map-append}
+use Rattle.std.proofs.lemmas.List.{map-append}
 use Rattle.std.proofs.lemmas.List.Elements.{All-contains, Contains-append_cases}
 use Rattle.bb_bits.specs.Names.{same_name}
 use Rattle.bb_ast.specs.Syntax.{PlainModule}
@@ -70,9 +70,9 @@ module _ {A B K : Type 0} (f : A → List B) (key : B → K) (of : A → K) wher
   none_in_flat (x ∷ xs) apart each told =
       both_none (f x) (flat_map f xs) (each x (contains_here x xs)) (none_in_flat xs apart.1 (λ y has. each y (contains_there x xs y has)) (λ y z has. told y z (contains_there x xs y has)))
       (λ z here there.
-        let y = from_flat f xs z there in
-        let same : of y.0 ≡ of x = sym (told y.0 z (contains_there x xs y.0 y.1) y.2) ∙ told x z (contains_here x xs) here in
-        apart.0 (subst (Contains (map of xs)) same (contains-map of xs y.0 y.1)))
+      let y = from_flat f xs z there in
+      let same : of y.0 ≡ of x = sym (told y.0 z (contains_there x xs y.0 y.1) y.2) ∙ told x z (contains_here x xs) here in
+      apart.0 (subst (Contains (map of xs)) same (contains-map of xs y.0 y.1)))
 
 -- what is made of different things by a map that keeps them apart
 pub none_in_map : {A B : Type 0} (f : A → B) (back : B → A) → ((x : A) → back (f x) ≡ x) → (xs : List A) → NoneTwice xs → NoneTwice (map f xs)
@@ -206,8 +206,9 @@ module _ (text : List PlainModule) (names : All HasNamesApart text) where
 pub bits_none : NetNamesDiffer → (d : Design) → IsBounded d → NoneTwice (net_order d)
 unfolding NoneTwice
 bits_none names d bounded =
-    none_in_flat scope_bits (λ (b : Bit). b.path) (λ (s : Scope). s.path) (scopes d)
-    (λ at. let z = from_map (λ (z : Scope). z.path) (instances d) [] at in let b = begins too_low d.text (root d) z.0 z.1 in absurd (grind (arith, b.2, z.2)),
-      below_none d.text (sound_texts_have_names_apart d.text bounded.faultless) too_low (root d) bounded.top)
+    none_in_flat scope_bits (λ (b : Bit). b.path) (λ (s : Scope). s.path) (scopes d) (
+      λ at. let z = from_map (λ (z : Scope). z.path) (instances d) [] at in let b = begins too_low d.text (root d) z.0 z.1 in absurd (grind (arith, b.2, z.2)),
+      below_none d.text (sound_texts_have_names_apart d.text bounded.faultless) too_low (root d) bounded.top,
+    )
     (λ s has. scope_none names s)
     (λ s z has at. let net = from_flat (bits_of_net s.path) (nets_of s.source) z at in let k = from_map (λ k. record { path = s.path; net = net.0.name; place = k }) (range_with_len 0 (range_width net.0.range)) z net.2 in sym (ap (λ (b : Bit). b.path) k.2))

@@ -169,6 +169,14 @@ fn listed(
     Ok(list)
 }
 
+// The outline at a place.
+fn outline_at(outlines: &[Outline], place: usize) -> &Outline
+    requires there { place < length outlines.now }
+    ensures outline { slice_get outlines.now place ≡ Some result.now }
+{
+    &outlines[place]
+}
+
 /// The list of cells of a design.
 pub(crate) fn list_cells(
     alloc: Global,
@@ -181,7 +189,7 @@ pub(crate) fn list_cells(
         → (lowering : Lowering) × IsLowering d lowering × IsListOf d lowering l) }
 {
     net_names_differ();
-    let top = &outlines[placed[0].module];
+    let top = outline_at(outlines, placed[0].module);
     let list = listed(alloc, placed, outlines, stored, top)?;
     Ok(list)
 }
