@@ -271,14 +271,14 @@ module _ (names : NetNamesDiffer) (d : Design) (bounded : IsBounded d) (placed :
   pub is_lowering : IsLowering d lowering
   is_lowering = parts_fit.lowered
 
-  pub is_list : length (cells_before (length ins) sheet.sources ++ sheet.cells) < 2 ^ 32 → IsListOf d lowering (finished (length ins) nets top stored boxed sheet)
+  pub is_list : length (cells_before (length ins) sheet.sources ++ sheet.cells) < 2 ^ 32 → IsListOf d lowering (finished (length ins) nets top stored boxed.boxes sheet)
   is_list fits = record {
     number = number;
     inputs = cut_long;
     front = front_row.row;
     numbers = subst (IsPermutation (map (λ (x : Entry). number x.0) (places d lowering number))) (all_row.row ∙ ap (range_with_len 0) (sym (length-map {B = LooseCell} (places d lowering number) (λ (e : Entry). e.1)) ∙ ap length (sym cells_are)))
         (IsPermutation-refl (map (λ (x : Entry). number x.0) (places d lowering number)));
-    cells = cells_stand number (places d lowering number) (finished (length ins) nets top stored boxed sheet) all_row cells_are;
+    cells = cells_stand number (places d lowering number) (finished (length ins) nets top stored boxed.boxes sheet) all_row cells_are;
     boxes = boxes_fit.boxes;
     outs = outs_are;
     fits = fits;

@@ -204,11 +204,11 @@ cells_before inputs sources = cell.Const false ∷ cell.Const true ∷ map cell.
 abbrev pub outs_of : ℕ → Outline → List Stored → Sources → List ℕ
 outs_of nets top stored next = map (λ i. nets + i) top.outputs.items ++ map (λ x. place_or_zero (slice_get next x.bit)) stored
 
-abbrev pub finished : ℕ → ℕ → Outline → List Stored → Boxed → Sheet → LooseList
-finished inputs nets top stored b sheet = record {
+abbrev pub finished : ℕ → ℕ → Outline → List Stored → List Pins → Sheet → LooseList
+finished inputs nets top stored boxes sheet = record {
   inputs = inputs;
   cells = cells_before inputs sheet.sources ++ sheet.cells;
-  boxes = b.boxes;
+  boxes = boxes;
   outs = outs_of nets top stored sheet.next;
 }
 
@@ -219,7 +219,7 @@ first_sources bits inputs = given_all (replicate bits None) (in_row 0 inputs 2)
 abbrev pub listed_on : ℕ → List ℕ → ℕ → ℕ → List Placed → List Outline → List Stored → Outline → LooseList
 listed_on bits inputs nets start placed outlines stored top =
     let b = boxed_in nets start placed outlines (first_sources bits inputs) in
-    finished (length inputs) nets top stored b (sheet_on nets start placed outlines b (replicate bits None))
+    finished (length inputs) nets top stored b.boxes (sheet_on nets start placed outlines b (replicate bits None))
 
 abbrev pub listed : List Placed → List Outline → List Stored → Outline → LooseList
 listed placed outlines stored top =

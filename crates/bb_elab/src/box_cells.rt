@@ -7,7 +7,7 @@ ghost use Rattle.bb_elab.specs.Listing.{in_row, given_all, boxed_view, with_pins
 
 use crate::outline::Outline;
 use crate::placed::Placed;
-use crate::sources::{behind, give_in_row, next_place};
+use crate::sources::{Layout, behind, give_in_row, next_place};
 use bb_bits::NoMemory;
 use bb_net::{BoxPins, LooseCell};
 use std::alloc::Global;
@@ -81,17 +81,16 @@ fn pins_of(alloc: Global, bits: u32, base: u32, outline: &Outline) -> Result<Box
 // Puts a box behind others.
 fn add_pins(
     alloc: Global,
-    nets: u32,
-    start: u32,
+    layout: Layout,
     first: u32,
     outline: &Outline,
     boxed: &mut BoxedLists,
 ) -> Result<(), NoMemory>
-    ensures added { OnOk result (boxed_view boxed.new ≡ with_pins nets start first (boxed_view boxed.old) (Some outline.now)) }
+    ensures added { OnOk result (boxed_view boxed.new ≡ with_pins layout.nets layout.others first (boxed_view boxed.old) (Some outline.now)) }
 {
-    let base = next_place(start, &boxed.cells)?;
+    let base = next_place(layout.others, &boxed.cells)?;
     let b = number_of(&boxed.boxes)?;
-    let pins = pins_of(alloc, behind(nets, first)?, base, outline)?;
+    let pins = pins_of(alloc, behind(layout.nets, first)?, base, outline)?;
     add_outputs(b, outline.outputs.len(), &mut boxed.cells)?;
     give_in_row(&mut boxed.sources, first, &outline.outputs, base)?;
     boxed.boxes.push(pins)?;
@@ -101,19 +100,18 @@ fn add_pins(
 // Puts a scope behind the boxes if it is one.
 fn add_box(
     alloc: Global,
-    nets: u32,
-    start: u32,
+    layout: Layout,
     outlines: &[Outline],
     scope: &Placed,
     boxed: &mut BoxedLists,
 ) -> Result<(), NoMemory>
-    ensures added { OnOk result (boxed_view boxed.new ≡ with_box nets start outlines.now (boxed_view boxed.old) scope.now) }
+    ensures added { OnOk result (boxed_view boxed.new ≡ with_box layout.nets layout.others outlines.now (boxed_view boxed.old) scope.now) }
 {
     if !scope.boxed {
         return Ok(());
     }
     match outlines.get(scope.module) {
-        Some(outline) => add_pins(alloc, nets, start, scope.first, outline, boxed),
+        Some(outline) => add_pins(alloc, layout, scope.first, outline, boxed),
         None => Ok(()),
     }
 }
@@ -121,16 +119,15 @@ fn add_box(
 /// The same for all scopes.
 pub(crate) fn add_boxes(
     alloc: Global,
-    nets: u32,
-    start: u32,
+    layout: Layout,
     placed: &[Placed],
     outlines: &[Outline],
     boxed: &mut BoxedLists,
 ) -> Result<(), NoMemory>
-    ensures added { OnOk result (boxed_view boxed.new ≡ fold (with_box nets start outlines.now) (boxed_view boxed.old) placed.now) }
+    ensures added { OnOk result (boxed_view boxed.new ≡ fold (with_box layout.nets layout.others outlines.now) (boxed_view boxed.old) placed.now) }
 {
     for scope in placed {
-        add_box(alloc, nets, start, outlines, scope, boxed)?;
+        add_box(alloc, layout, outlines, scope, boxed)?;
     }
     Ok(())
 }

@@ -2,7 +2,7 @@
 //!
 //! An input is joined to those before it by an operator each, and a gate that inverts ends with a complement.
 
-ghost use Rattle.std.specs.Prelude.{◌≡◌, slice_index, IfOk};
+ghost use Rattle.std.specs.Prelude.{◌≡◌, slice_index, IfOk, OnOk};
 ghost use Rattle.bb_elab.specs.GateFunctions.{inverts};
 ghost use Rattle.bb_elab.specs.Places.{join_cell};
 ghost use Rattle.bb_elab.specs.Listing.{with_terminals, joined, inverted, with_gate};
@@ -13,7 +13,6 @@ use bb_ast::Gate;
 use bb_bits::NoMemory;
 use bb_expr::Lowered;
 use bb_net::LooseCell;
-use std::alloc::Global;
 
 // The operator that joins the inputs of a gate; buf and not have none to join.
 fn join_cell(gate: &Gate, a: u32, b: u32) -> LooseCell
@@ -44,24 +43,24 @@ fn first_bit(lowered: &Lowered) -> u32
     }
 }
 
-// Puts the cells of the inputs of a gate behind others, and gives the places of the inputs.
+// Puts the cells of the inputs of a gate behind others, and notes the places of the inputs.
 fn add_terminals(
-    alloc: Global,
     start: u32,
     bits: u32,
     starts: &[u32],
     ins: &[Lowered],
+    places: &mut Vec<u32>,
     cells: &mut Vec<LooseCell>,
-) -> Result<Vec<u32>, NoMemory>
-    ensures places { IfOk result (λ places. places.items ≡ (with_terminals start bits starts.now cells.old.items ins.now).places) }
-    ensures added { IfOk result (λ places. cells.new.items ≡ (with_terminals start bits starts.now cells.old.items ins.now).cells) }
+) -> Result<(), NoMemory>
+    ensures places { OnOk result (places.new.items ≡ (with_terminals start bits starts.now cells.old.items ins.now).places) }
+    ensures added { OnOk result (cells.new.items ≡ (with_terminals start bits starts.now cells.old.items ins.now).cells) }
 {
-    let mut places = Vec::with_capacity(alloc, ins.len())?;
+    places.clear();
     for lowered in ins {
         let base = add_steps(start, bits, starts, lowered, cells)?;
         places.push(behind(base, first_bit(lowered))?)?;
     }
-    Ok(places)
+    Ok(())
 }
 
 // Joins the inputs at these places, and gives the place of all of them together.
@@ -104,20 +103,21 @@ fn add_inverter(
     Ok(next)
 }
 
-/// Puts the cells of a gate behind others, the first of which stands at the place `start`, and gives its place.
+/// Puts the cells of a gate behind others, the first of which stands at the place `start`, and gives its place. The places of
+/// its inputs are noted in a list that is there to be used again.
 pub(crate) fn add_gate(
-    alloc: Global,
     start: u32,
     bits: u32,
     starts: &[u32],
     gate: &Gate,
     ins: &[Lowered],
+    places: &mut Vec<u32>,
     cells: &mut Vec<LooseCell>,
 ) -> Result<u32, NoMemory>
     ensures place { IfOk result (λ place. place ≡ (with_gate start bits starts.now gate.now cells.old.items ins.now).place) }
     ensures added { IfOk result (λ place. cells.new.items ≡ (with_gate start bits starts.now gate.now cells.old.items ins.now).cells) }
 {
-    let places = add_terminals(alloc, start, bits, starts, ins, cells)?;
-    let place = add_joins(start, gate, &places, cells)?;
+    add_terminals(start, bits, starts, ins, places, cells)?;
+    let place = add_joins(start, gate, places, cells)?;
     add_inverter(start, gate, place, cells)
 }

@@ -10,11 +10,10 @@ ghost use Rattle.bb_elab.specs.Listing.{Site, Sheet, sheet_view, with_part, inne
 use crate::gate_cells::add_gate;
 use crate::outline::{Outline, Part};
 use crate::placed::Placed;
-use crate::sources::{behind, give_all, give_beside};
+use crate::sources::{Layout, behind, give_all, give_beside};
 use crate::step_cells::{add_steps, constant_place};
 use bb_bits::NoMemory;
 use bb_net::LooseCell;
-use std::alloc::Global;
 
 /// The cells so far behind the bits of nets, the place that gives each bit, and the one that gives each register bit its next
 /// state.
@@ -23,6 +22,8 @@ pub(crate) struct SheetLists {
     pub cells: Vec<LooseCell>,
     pub sources: Vec<Option<u32>>,
     pub next: Vec<Option<u32>>,
+    /// The places of the inputs of a gate, kept so that their memory is used again.
+    pub places: Vec<u32>,
 }
 
 // The number of the first bit of an instance that stands in a scope.
@@ -47,30 +48,36 @@ fn low_bits(count: usize, steps: &[u32]) -> &[u32]
 
 // Puts what a construct makes behind what others made.
 fn add_part(
-    alloc: Global,
-    nets: u32,
-    start: u32,
+    layout: Layout,
     placed: &[Placed],
     scope: &Placed,
     starts: &[u32],
     part: &Part,
     sheet: &mut SheetLists,
 ) -> Result<(), NoMemory>
-    ensures added { OnOk result (sheet_view sheet.new ≡ with_part nets start (record { first = scope.now.first; starts = starts.now; inner = inner_first placed.now scope.now }) (sheet_view sheet.old) part.now) }
+    ensures added { OnOk result (sheet_view sheet.new ≡ with_part layout.nets layout.others (record { first = scope.now.first; starts = starts.now; inner = inner_first placed.now scope.now }) (sheet_view sheet.old) part.now) }
 {
-    let bits = behind(nets, scope.first)?;
+    let bits = behind(layout.nets, scope.first)?;
     match part {
         Part::Assignment { left, right } => {
-            let base = add_steps(start, bits, starts, right, &mut sheet.cells)?;
+            let base = add_steps(layout.others, bits, starts, right, &mut sheet.cells)?;
             let steps = low_bits(left.len(), &right.bits);
             give_beside(&mut sheet.sources, scope.first, left, base, steps)
         }
         Part::Gate { gate, outs, ins } => {
-            let place = add_gate(alloc, start, bits, starts, gate, ins, &mut sheet.cells)?;
+            let place = add_gate(
+                layout.others,
+                bits,
+                starts,
+                gate,
+                ins,
+                &mut sheet.places,
+                &mut sheet.cells,
+            )?;
             give_all(&mut sheet.sources, scope.first, outs, place)
         }
         Part::Register { left, right, .. } => {
-            let base = add_steps(start, bits, starts, right, &mut sheet.cells)?;
+            let base = add_steps(layout.others, bits, starts, right, &mut sheet.cells)?;
             let steps = low_bits(left.len(), &right.bits);
             give_beside(&mut sheet.next, scope.first, left, base, steps)
         }
@@ -85,7 +92,7 @@ fn add_part(
             pin,
             value,
         } => {
-            let base = add_steps(start, bits, starts, value, &mut sheet.cells)?;
+            let base = add_steps(layout.others, bits, starts, value, &mut sheet.cells)?;
             let first = inner_first(placed, scope, *instance);
             give_beside(&mut sheet.sources, first, pin, base, &value.bits)
         }
@@ -94,7 +101,7 @@ fn add_part(
             pin,
             left,
         } => {
-            let base = behind(nets, inner_first(placed, scope, *instance))?;
+            let base = behind(layout.nets, inner_first(placed, scope, *instance))?;
             give_beside(&mut sheet.sources, scope.first, left, base, pin)
         }
     }
@@ -102,65 +109,50 @@ fn add_part(
 
 // The same for the constructs of a scope.
 fn add_parts(
-    alloc: Global,
-    nets: u32,
-    start: u32,
+    layout: Layout,
     placed: &[Placed],
     scope: &Placed,
     outline: &Outline,
     sheet: &mut SheetLists,
 ) -> Result<(), NoMemory>
-    ensures added { OnOk result (sheet_view sheet.new ≡ with_parts nets start placed.now scope.now (sheet_view sheet.old) (Some outline.now)) }
+    ensures added { OnOk result (sheet_view sheet.new ≡ with_parts layout.nets layout.others placed.now scope.now (sheet_view sheet.old) (Some outline.now)) }
 {
     for part in &outline.parts {
-        add_part(
-            alloc,
-            nets,
-            start,
-            placed,
-            scope,
-            &outline.starts,
-            part,
-            sheet,
-        )?;
+        add_part(layout, placed, scope, &outline.starts, part, sheet)?;
     }
     Ok(())
 }
 
 // The same for a scope, unless it is a box.
 fn add_scope(
-    alloc: Global,
-    nets: u32,
-    start: u32,
+    layout: Layout,
     placed: &[Placed],
     outlines: &[Outline],
     scope: &Placed,
     sheet: &mut SheetLists,
 ) -> Result<(), NoMemory>
-    ensures added { OnOk result (sheet_view sheet.new ≡ with_scope nets start placed.now outlines.now (sheet_view sheet.old) scope.now) }
+    ensures added { OnOk result (sheet_view sheet.new ≡ with_scope layout.nets layout.others placed.now outlines.now (sheet_view sheet.old) scope.now) }
 {
     if scope.boxed {
         return Ok(());
     }
     match outlines.get(scope.module) {
-        Some(outline) => add_parts(alloc, nets, start, placed, scope, outline, sheet),
+        Some(outline) => add_parts(layout, placed, scope, outline, sheet),
         None => Ok(()),
     }
 }
 
 /// The same for all scopes.
 pub(crate) fn add_scopes(
-    alloc: Global,
-    nets: u32,
-    start: u32,
+    layout: Layout,
     placed: &[Placed],
     outlines: &[Outline],
     sheet: &mut SheetLists,
 ) -> Result<(), NoMemory>
-    ensures added { OnOk result (sheet_view sheet.new ≡ fold (with_scope nets start placed.now outlines.now) (sheet_view sheet.old) placed.now) }
+    ensures added { OnOk result (sheet_view sheet.new ≡ fold (with_scope layout.nets layout.others placed.now outlines.now) (sheet_view sheet.old) placed.now) }
 {
     for scope in placed {
-        add_scope(alloc, nets, start, placed, outlines, scope, sheet)?;
+        add_scope(layout, placed, outlines, scope, sheet)?;
     }
     Ok(())
 }

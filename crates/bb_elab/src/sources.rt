@@ -9,6 +9,13 @@ ghost use Rattle.bb_elab.specs.Listing.{given_one, given_all, place_or_zero, bes
 use bb_bits::NoMemory;
 use bb_net::LooseCell;
 
+/// Where the parts of the list begin: the place of the first bit of a net, and that of the first cell behind the bits of nets.
+#[derive(Clone, Copy, Debug)]
+pub(crate) struct Layout {
+    pub nets: u32,
+    pub others: u32,
+}
+
 /// The place that stands so far behind another.
 pub(crate) fn behind(place: u32, offset: u32) -> Result<u32, NoMemory>
     ensures place { IfOk result (λ n. n ≡ place + offset) }
