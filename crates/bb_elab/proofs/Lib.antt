@@ -48,6 +48,7 @@ pub mod RecursionLoops
 pub mod RecursiveNames
 pub mod RefusalLaws
 pub mod ScopeLaws
+pub mod ScopesAmong
 pub mod SoundBits
 pub mod SoundConstructs
 pub mod SoundModules

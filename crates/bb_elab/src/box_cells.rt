@@ -1,11 +1,12 @@
 //! The cells and the pins of boxes, scope by scope.
 
-ghost use Rattle.std.specs.Prelude.{◌≡◌, ◌+◌, ◌++◌, ◌∷◌, [], length, map, Some, IfOk, OnOk};
+ghost use Rattle.std.specs.Prelude.{◌<◌, All, ◌≡◌, ◌+◌, ◌++◌, ◌∷◌, [], length, map, Some, IfOk, OnOk};
 ghost use Rattle.std.specs.List.{fold, range_with_len};
 ghost use Rattle.bb_net.specs.declared.loose.LooseCell.TheVariants as cell;
 ghost use Rattle.bb_elab.specs.Listing.{in_row, given_all, boxed_view, with_pins, with_box};
 
 use crate::outline::Outline;
+use crate::part_cells::outline_of;
 use crate::placed::Placed;
 use crate::sources::{Layout, behind, give_in_row, next_place};
 use bb_bits::NoMemory;
@@ -105,15 +106,14 @@ fn add_box(
     scope: &Placed,
     boxed: &mut BoxedLists,
 ) -> Result<(), NoMemory>
+    requires there { scope.now.module < length outlines.now }
     ensures added { OnOk result (boxed_view boxed.new ≡ with_box layout.nets layout.others outlines.now (boxed_view boxed.old) scope.now) }
 {
     if !scope.boxed {
         return Ok(());
     }
-    match outlines.get(scope.module) {
-        Some(outline) => add_pins(alloc, layout, scope.first, outline, boxed),
-        None => Ok(()),
-    }
+    let outline = outline_of(outlines, scope);
+    add_pins(alloc, layout, scope.first, outline, boxed)
 }
 
 /// The same for all scopes.
@@ -124,6 +124,7 @@ pub(crate) fn add_boxes(
     outlines: &[Outline],
     boxed: &mut BoxedLists,
 ) -> Result<(), NoMemory>
+    requires there { All (λ p. p.module < length outlines.now) placed.now }
     ensures added { OnOk result (boxed_view boxed.new ≡ fold (with_box layout.nets layout.others outlines.now) (boxed_view boxed.old) placed.now) }
 {
     for scope in placed {

@@ -2,10 +2,10 @@
 //!
 //! An input is joined to those before it by an operator each, and a gate that inverts ends with a complement.
 
-ghost use Rattle.std.specs.Prelude.{◌≡◌, slice_index, IfOk, OnOk};
+ghost use Rattle.std.specs.Prelude.{◌≡◌, ◌<◌, All, length, slice_index, IfOk, OnOk};
 ghost use Rattle.bb_elab.specs.GateFunctions.{inverts};
 ghost use Rattle.bb_elab.specs.Places.{join_cell};
-ghost use Rattle.bb_elab.specs.Listing.{with_terminals, joined, inverted, with_gate};
+ghost use Rattle.bb_elab.specs.Listing.{IsInputAmong, with_terminals, joined, inverted, with_gate};
 
 use crate::sources::{behind, next_place};
 use crate::step_cells::add_steps;
@@ -35,12 +35,10 @@ fn inverts(gate: &Gate) -> bool
 
 // The first bit of an input, by the number of its step.
 fn first_bit(lowered: &Lowered) -> u32
+    requires some { 0 < length lowered.now.bits.items }
     ensures step { result ≡ slice_index lowered.now.bits.items 0 }
 {
-    match lowered.bits.first() {
-        Some(step) => *step,
-        None => 0,
-    }
+    lowered.bits[0]
 }
 
 // Puts the cells of the inputs of a gate behind others, and notes the places of the inputs.
@@ -52,6 +50,7 @@ fn add_terminals(
     places: &mut Vec<u32>,
     cells: &mut Vec<LooseCell>,
 ) -> Result<(), NoMemory>
+    requires ins { All (IsInputAmong (length starts.now)) ins.now }
     ensures places { OnOk result (places.new.items ≡ (with_terminals start bits starts.now cells.old.items ins.now).places) }
     ensures added { OnOk result (cells.new.items ≡ (with_terminals start bits starts.now cells.old.items ins.now).cells) }
 {
@@ -114,6 +113,7 @@ pub(crate) fn add_gate(
     places: &mut Vec<u32>,
     cells: &mut Vec<LooseCell>,
 ) -> Result<u32, NoMemory>
+    requires ins { All (IsInputAmong (length starts.now)) ins.now }
     ensures place { IfOk result (λ place. place ≡ (with_gate start bits starts.now gate.now cells.old.items ins.now).place) }
     ensures added { IfOk result (λ place. cells.new.items ≡ (with_gate start bits starts.now gate.now cells.old.items ins.now).cells) }
 {

@@ -4,11 +4,11 @@
 //! make, scope by scope. Since the places of the first two are known beforehand, what gives each bit is noted while the others
 //! are made, and the copies are made last.
 
-ghost use Rattle.std.specs.Prelude.{◌≡◌, ◌+◌, ◌^◌, ◌<◌, ◌++◌, ◌∷◌, ℕ, None, Some, length, map, replicate, slice_get, IfOk, OnOk};
+ghost use Rattle.std.specs.Prelude.{All, ◌≡◌, ◌+◌, ◌^◌, ◌<◌, ◌++◌, ◌∷◌, ℕ, None, Some, length, map, replicate, slice_get, IfOk, OnOk};
 ghost use Rattle.std.specs.List.{fold};
 ghost use Rattle.std.specs.Option.{option_map_or};
 ghost use Rattle.bb_net.specs.declared.loose.LooseCell.TheVariants as cell;
-ghost use Rattle.bb_elab.specs.Listing.{Sheet, Boxed, sheet_view, boxed_view, place_or_zero, first_sources, input_numbers, bit_count, boxed_in, sheet_on, cells_before, outs_of, finished, with_scope, listed};
+ghost use Rattle.bb_elab.specs.Listing.{IsScopeAmong, Sheet, Boxed, sheet_view, boxed_view, place_or_zero, first_sources, input_numbers, bit_count, boxed_in, sheet_on, cells_before, outs_of, finished, with_scope, listed};
 ghost use Rattle.bb_elab.specs.Hierarchy.{Design};
 ghost use Rattle.bb_elab.specs.ListLaws.{IsBounded};
 ghost use Rattle.bb_elab.specs.Placements.{ArePlaced, AreOutlined, AreStored};
@@ -17,7 +17,7 @@ ghost use Rattle.bb_elab.specs.Refusals.{AreDrivenOnce};
 
 use crate::box_cells::{BoxedLists, add_boxes, moved};
 use crate::outline::Outline;
-use crate::part_cells::{SheetLists, add_scopes};
+use crate::part_cells::{SheetLists, add_scopes, outline_of};
 use crate::placed::Placed;
 use crate::sources::{Layout, behind, count_of, give_in_row, place_or_zero};
 use crate::stored::Stored;
@@ -26,23 +26,14 @@ use bb_expr::laws::net_names_differ;
 use bb_net::{BoxPins, Loose, LooseCell};
 use std::alloc::Global;
 
-// How many bits the nets of a scope have.
-fn bits_of(scope: &Placed, outlines: &[Outline]) -> u32
-    ensures bits { result ≡ option_map_or (λ o. o.bits) (slice_get outlines.now scope.now.module) 0 }
-{
-    match outlines.get(scope.module) {
-        Some(outline) => outline.bits,
-        None => 0,
-    }
-}
-
 // How many bits the nets of all scopes have.
 fn bit_count(placed: &[Placed], outlines: &[Outline]) -> Result<u32, NoMemory>
+    requires there { All (λ p. p.module < length outlines.now) placed.now }
     ensures count { IfOk result (λ n. n ≡ bit_count placed.now outlines.now) }
 {
     let mut count = 0;
     for scope in placed {
-        count = behind(count, bits_of(scope, outlines))?;
+        count = behind(count, outline_of(outlines, scope).bits)?;
     }
     Ok(count)
 }
@@ -114,6 +105,7 @@ fn boxed_in(
     placed: &[Placed],
     outlines: &[Outline],
 ) -> Result<BoxedLists, NoMemory>
+    requires there { All (λ p. p.module < length outlines.now) placed.now }
     ensures boxed { IfOk result (λ boxed. boxed_view boxed ≡ boxed_in layout.nets layout.others placed.now outlines.now sources.items) }
 {
     let mut boxed = BoxedLists {
@@ -136,6 +128,7 @@ fn sheet_on(
     placed: &[Placed],
     outlines: &[Outline],
 ) -> Result<SheetLists, NoMemory>
+    requires scopes { All (IsScopeAmong placed.now outlines.now) placed.now }
     ensures sheet { IfOk result (λ sheet. sheet_view sheet ≡ fold (with_scope layout.nets layout.others placed.now outlines.now)
         (record { cells = cells.items; sources = sources.items; next = replicate bits None }) placed.now) }
 {
@@ -180,6 +173,8 @@ fn listed(
     stored: &[Stored],
     top: &Outline,
 ) -> Result<Loose, NoMemory>
+    requires there { All (λ p. p.module < length outlines.now) placed.now }
+    requires scopes { All (IsScopeAmong placed.now outlines.now) placed.now }
     ensures list { IfOk result (λ l. l ≡ listed placed.now outlines.now stored.now top.now) }
     ensures fits { IfOk result (λ l. length l.cells < 2 ^ 32) }
 {
@@ -201,14 +196,6 @@ fn listed(
     finished(alloc, count, nets, top, stored, boxes, &sheet)
 }
 
-// The outline at a place.
-fn outline_at(outlines: &[Outline], place: usize) -> &Outline
-    requires there { place < length outlines.now }
-    ensures outline { slice_get outlines.now place ≡ Some result.now }
-{
-    &outlines[place]
-}
-
 /// The list of cells of a design.
 pub(crate) fn list_cells(
     alloc: Global,
@@ -221,7 +208,7 @@ pub(crate) fn list_cells(
         → (lowering : Lowering) × IsLowering d lowering × IsListOf d lowering l) }
 {
     net_names_differ();
-    let top = outline_at(outlines, placed[0].module);
+    let top = outline_of(outlines, &placed[0]);
     let list = listed(alloc, placed, outlines, stored, top)?;
     Ok(list)
 }

@@ -2,10 +2,10 @@
 //!
 //! The cells of a construct stand behind those of the constructs before it, and what it drives is given by their places.
 
-ghost use Rattle.std.specs.Prelude.{◌≡◌, Some, OnOk};
+ghost use Rattle.std.specs.Prelude.{◌≡◌, ◌<◌, All, length, Some, slice_get, OnOk};
 ghost use Rattle.std.specs.List.{fold};
 ghost use Rattle.bb_elab.specs.Contexts.{low_bits};
-ghost use Rattle.bb_elab.specs.Listing.{Site, Sheet, sheet_view, with_part, inner_first, site_of, with_parts, with_scope};
+ghost use Rattle.bb_elab.specs.Listing.{IsPartAmong, IsScopeAmong, Site, Sheet, sheet_view, with_part, inner_first, site_of, with_parts, with_scope};
 
 use crate::gate_cells::add_gate;
 use crate::outline::{Outline, Part};
@@ -28,15 +28,19 @@ pub(crate) struct SheetLists {
 
 // The number of the first bit of an instance that stands in a scope.
 fn inner_first(placed: &[Placed], scope: &Placed, instance: u32) -> u32
+    requires instance { instance < length scope.now.children.items }
+    requires children { All (λ c. c < length placed.now) scope.now.children.items }
     ensures first { result ≡ inner_first placed.now scope.now instance }
 {
-    let Some(child) = scope.children.get(instance as usize) else {
-        return 0;
-    };
-    match placed.get(*child as usize) {
-        Some(inner) => inner.first,
-        None => 0,
-    }
+    placed[scope.children[instance as usize] as usize].first
+}
+
+/// The outline of the module of a scope.
+pub(crate) fn outline_of<'a>(outlines: &'a [Outline], scope: &Placed) -> &'a Outline
+    requires there { scope.now.module < length outlines.now }
+    ensures outline { slice_get outlines.now scope.now.module ≡ Some result.now }
+{
+    &outlines[scope.module]
 }
 
 // So many of the last of these.
@@ -55,6 +59,8 @@ fn add_part(
     part: &Part,
     sheet: &mut SheetLists,
 ) -> Result<(), NoMemory>
+    requires part { IsPartAmong (length starts.now) (length scope.now.children.items) part.now }
+    requires children { All (λ c. c < length placed.now) scope.now.children.items }
     ensures added { OnOk result (sheet_view sheet.new ≡ with_part layout.nets layout.others (record { first = scope.now.first; starts = starts.now; inner = inner_first placed.now scope.now }) (sheet_view sheet.old) part.now) }
 {
     let bits = behind(layout.nets, scope.first)?;
@@ -115,6 +121,8 @@ fn add_parts(
     outline: &Outline,
     sheet: &mut SheetLists,
 ) -> Result<(), NoMemory>
+    requires parts { All (IsPartAmong (length outline.now.starts.items) (length scope.now.children.items)) outline.now.parts.items }
+    requires children { All (λ c. c < length placed.now) scope.now.children.items }
     ensures added { OnOk result (sheet_view sheet.new ≡ with_parts layout.nets layout.others placed.now scope.now (sheet_view sheet.old) (Some outline.now)) }
 {
     for part in &outline.parts {
@@ -131,15 +139,14 @@ fn add_scope(
     scope: &Placed,
     sheet: &mut SheetLists,
 ) -> Result<(), NoMemory>
+    requires scope { IsScopeAmong placed.now outlines.now scope.now }
     ensures added { OnOk result (sheet_view sheet.new ≡ with_scope layout.nets layout.others placed.now outlines.now (sheet_view sheet.old) scope.now) }
 {
     if scope.boxed {
         return Ok(());
     }
-    match outlines.get(scope.module) {
-        Some(outline) => add_parts(layout, placed, scope, outline, sheet),
-        None => Ok(()),
-    }
+    let outline = outline_of(outlines, scope);
+    add_parts(layout, placed, scope, outline, sheet)
 }
 
 /// The same for all scopes.
@@ -149,6 +156,7 @@ pub(crate) fn add_scopes(
     outlines: &[Outline],
     sheet: &mut SheetLists,
 ) -> Result<(), NoMemory>
+    requires scopes { All (IsScopeAmong placed.now outlines.now) placed.now }
     ensures added { OnOk result (sheet_view sheet.new ≡ fold (with_scope layout.nets layout.others placed.now outlines.now) (sheet_view sheet.old) placed.now) }
 {
     for scope in placed {
