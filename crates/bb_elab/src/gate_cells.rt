@@ -8,7 +8,7 @@ ghost use Rattle.bb_elab.specs.Places.{join_cell};
 ghost use Rattle.bb_elab.specs.Listing.{IsInputAmong, with_terminals, joined, inverted, with_gate};
 
 use crate::sources::{behind, next_place};
-use crate::step_cells::add_steps;
+use crate::step_cells::{Spot, add_steps};
 use bb_ast::Gate;
 use bb_bits::NoMemory;
 use bb_expr::Lowered;
@@ -43,20 +43,18 @@ fn first_bit(lowered: &Lowered) -> u32
 
 // Puts the cells of the inputs of a gate behind others, and notes the places of the inputs.
 fn add_terminals(
-    start: u32,
-    bits: u32,
-    starts: &[u32],
+    spot: Spot<'_>,
     ins: &[Lowered],
     places: &mut Vec<u32>,
     cells: &mut Vec<LooseCell>,
 ) -> Result<(), NoMemory>
-    requires ins { All (IsInputAmong (length starts.now)) ins.now }
-    ensures places { OnOk result (places.new.items ≡ (with_terminals start bits starts.now cells.old.items ins.now).places) }
-    ensures added { OnOk result (cells.new.items ≡ (with_terminals start bits starts.now cells.old.items ins.now).cells) }
+    requires ins { All (IsInputAmong (length spot.starts.now)) ins.now }
+    ensures places { OnOk result (places.new.items ≡ (with_terminals spot.entry.others spot.entry.bits spot.entry.starts.now cells.old.items ins.now).places) }
+    ensures added { OnOk result (cells.new.items ≡ (with_terminals spot.entry.others spot.entry.bits spot.entry.starts.now cells.old.items ins.now).cells) }
 {
     places.clear();
     for lowered in ins {
-        let base = add_steps(start, bits, starts, lowered, cells)?;
+        let base = add_steps(spot, lowered, cells)?;
         places.push(behind(base, first_bit(lowered))?)?;
     }
     Ok(())
@@ -102,22 +100,20 @@ fn add_inverter(
     Ok(next)
 }
 
-/// Puts the cells of a gate behind others, the first of which stands at the place `start`, and gives its place. The places of
+/// Puts the cells of a gate behind others, and gives its place. The places of
 /// its inputs are noted in a list that is there to be used again.
 pub(crate) fn add_gate(
-    start: u32,
-    bits: u32,
-    starts: &[u32],
+    spot: Spot<'_>,
     gate: &Gate,
     ins: &[Lowered],
     places: &mut Vec<u32>,
     cells: &mut Vec<LooseCell>,
 ) -> Result<u32, NoMemory>
-    requires ins { All (IsInputAmong (length starts.now)) ins.now }
-    ensures place { IfOk result (λ place. place ≡ (with_gate start bits starts.now gate.now cells.old.items ins.now).place) }
-    ensures added { IfOk result (λ place. cells.new.items ≡ (with_gate start bits starts.now gate.now cells.old.items ins.now).cells) }
+    requires ins { All (IsInputAmong (length spot.starts.now)) ins.now }
+    ensures place { IfOk result (λ place. place ≡ (with_gate spot.entry.others spot.entry.bits spot.entry.starts.now gate.now cells.old.items ins.now).place) }
+    ensures added { IfOk result (λ place. cells.new.items ≡ (with_gate spot.entry.others spot.entry.bits spot.entry.starts.now gate.now cells.old.items ins.now).cells) }
 {
-    add_terminals(start, bits, starts, ins, places, cells)?;
-    let place = add_joins(start, gate, places, cells)?;
-    add_inverter(start, gate, place, cells)
+    add_terminals(spot, ins, places, cells)?;
+    let place = add_joins(spot.others, gate, places, cells)?;
+    add_inverter(spot.others, gate, place, cells)
 }

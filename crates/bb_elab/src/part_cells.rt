@@ -11,7 +11,7 @@ use crate::gate_cells::add_gate;
 use crate::outline::{Outline, Part};
 use crate::placed::Placed;
 use crate::sources::{Layout, behind, give_all, give_beside};
-use crate::step_cells::{add_steps, constant_place};
+use crate::step_cells::{Spot, add_steps, constant_place};
 use bb_bits::NoMemory;
 use bb_net::LooseCell;
 
@@ -63,44 +63,38 @@ fn add_part(
     requires children { All (λ c. c < length placed.now) scope.now.children.items }
     ensures added { OnOk result (sheet_view sheet.new ≡ with_part layout.nets layout.others (record { first = scope.now.first; starts = starts.now; inner = inner_first placed.now scope.now }) (sheet_view sheet.old) part.now) }
 {
-    let bits = behind(layout.nets, scope.first)?;
+    let spot = Spot {
+        others: layout.others,
+        bits: behind(layout.nets, scope.first)?,
+        starts,
+    };
+    let first = scope.first;
     match part {
         Part::Assignment { left, right } => {
-            let base = add_steps(layout.others, bits, starts, right, &mut sheet.cells)?;
+            let base = add_steps(spot, right, &mut sheet.cells)?;
             let steps = low_bits(left.len(), &right.bits);
-            give_beside(&mut sheet.sources, scope.first, left, base, steps)
+            give_beside(&mut sheet.sources, first, left, base, steps)
         }
         Part::Gate { gate, outs, ins } => {
-            let place = add_gate(
-                layout.others,
-                bits,
-                starts,
-                gate,
-                ins,
-                &mut sheet.places,
-                &mut sheet.cells,
-            )?;
-            give_all(&mut sheet.sources, scope.first, outs, place)
+            let place = add_gate(spot, gate, ins, &mut sheet.places, &mut sheet.cells)?;
+            give_all(&mut sheet.sources, first, outs, place)
         }
         Part::Register { left, right, .. } => {
-            let base = add_steps(layout.others, bits, starts, right, &mut sheet.cells)?;
+            let base = add_steps(spot, right, &mut sheet.cells)?;
             let steps = low_bits(left.len(), &right.bits);
-            give_beside(&mut sheet.next, scope.first, left, base, steps)
+            give_beside(&mut sheet.next, first, left, base, steps)
         }
-        Part::Supply { high, bits } => give_all(
-            &mut sheet.sources,
-            scope.first,
-            bits,
-            constant_place(*high),
-        ),
+        Part::Supply { high, bits } => {
+            give_all(&mut sheet.sources, first, bits, constant_place(*high))
+        }
         Part::Input {
             instance,
             pin,
             value,
         } => {
-            let base = add_steps(layout.others, bits, starts, value, &mut sheet.cells)?;
-            let first = inner_first(placed, scope, *instance);
-            give_beside(&mut sheet.sources, first, pin, base, &value.bits)
+            let base = add_steps(spot, value, &mut sheet.cells)?;
+            let inner = inner_first(placed, scope, *instance);
+            give_beside(&mut sheet.sources, inner, pin, base, &value.bits)
         }
         Part::Output {
             instance,
@@ -108,7 +102,7 @@ fn add_part(
             left,
         } => {
             let base = behind(layout.nets, inner_first(placed, scope, *instance))?;
-            give_beside(&mut sheet.sources, scope.first, left, base, pin)
+            give_beside(&mut sheet.sources, first, left, base, pin)
         }
     }
 }

@@ -9,6 +9,17 @@ use bb_bits::NoMemory;
 use bb_expr::{BitStep, Lowered};
 use bb_net::LooseCell;
 
+/// Where the cells of a scope are put and what they read.
+#[derive(Clone, Copy, Debug)]
+pub(crate) struct Spot<'a> {
+    /// The place of the first cell behind the bits of nets.
+    pub others: u32,
+    /// The place of the first bit of the scope.
+    pub bits: u32,
+    /// The numbers of the first bits of its nets.
+    pub starts: &'a [u32],
+}
+
 /// The place of a constant.
 pub(crate) fn constant_place(high: bool) -> u32
     ensures place { result ≡ constant_place high }
@@ -61,20 +72,17 @@ fn add_cells(
     Ok(())
 }
 
-/// Puts the cells of an expression behind others, the first of which stands at the place `start`, and gives the place of its
-/// first step.
+/// Puts the cells of an expression behind others, and gives the place of its first step.
 pub(crate) fn add_steps(
-    start: u32,
-    bits: u32,
-    starts: &[u32],
+    spot: Spot<'_>,
     lowered: &Lowered,
     cells: &mut Vec<LooseCell>,
 ) -> Result<u32, NoMemory>
-    requires nets { HasNetsBelow (length starts.now) lowered.now }
-    ensures base { IfOk result (λ base. base ≡ start + length cells.old.items) }
-    ensures added { OnOk result (cells.new.items ≡ with_steps start bits starts.now cells.old.items lowered.now) }
+    requires nets { HasNetsBelow (length spot.starts.now) lowered.now }
+    ensures base { IfOk result (λ base. base ≡ spot.entry.others + length cells.old.items) }
+    ensures added { OnOk result (cells.new.items ≡ with_steps spot.entry.others spot.entry.bits spot.entry.starts.now cells.old.items lowered.now) }
 {
-    let base = next_place(start, cells)?;
-    add_cells(base, bits, starts, &lowered.steps, cells)?;
+    let base = next_place(spot.others, cells)?;
+    add_cells(base, spot.bits, spot.starts, &lowered.steps, cells)?;
     Ok(base)
 }
