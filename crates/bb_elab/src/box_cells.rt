@@ -1,9 +1,9 @@
 //! The cells and the pins of boxes, scope by scope.
 
-ghost use Rattle.std.specs.Prelude.{◌<◌, All, ◌≡◌, ◌+◌, ◌++◌, ◌∷◌, [], length, map, Some, IfOk, OnOk};
+ghost use Rattle.std.specs.Prelude.{◌<◌, All, ◌≡◌, ◌+◌, ◌++◌, length, map, Some, IfOk, OnOk};
 ghost use Rattle.std.specs.List.{fold, range_with_len};
 ghost use Rattle.bb_net.specs.declared.loose.LooseCell.TheVariants as cell;
-ghost use Rattle.bb_elab.specs.Listing.{in_row, given_all, boxed_view, with_pins, with_box};
+ghost use Rattle.bb_elab.specs.Listing.{boxed_view, with_pins, with_box};
 
 use crate::outline::Outline;
 use crate::part_cells::outline_of;

@@ -100,8 +100,8 @@ fn add_inverter(
     Ok(next)
 }
 
-/// Puts the cells of a gate behind others, and gives its place. The places of
-/// its inputs are noted in a list that is there to be used again.
+/// Puts the cells of a gate behind others, and gives its place. The places of its inputs are noted in a list that is there to be
+/// used again.
 pub(crate) fn add_gate(
     spot: Spot<'_>,
     gate: &Gate,

@@ -4,11 +4,9 @@
 //! make, scope by scope. Since the places of the first two are known beforehand, what gives each bit is noted while the others
 //! are made, and the copies are made last.
 
-ghost use Rattle.std.specs.Prelude.{All, ◌≡◌, ◌+◌, ◌^◌, ◌<◌, ◌++◌, ◌∷◌, ℕ, None, Some, length, map, replicate, slice_get, IfOk, OnOk};
+ghost use Rattle.std.specs.Prelude.{All, ◌≡◌, ◌^◌, ◌<◌, None, length, replicate, IfOk};
 ghost use Rattle.std.specs.List.{fold};
-ghost use Rattle.std.specs.Option.{option_map_or};
-ghost use Rattle.bb_net.specs.declared.loose.LooseCell.TheVariants as cell;
-ghost use Rattle.bb_elab.specs.Listing.{IsScopeAmong, Sheet, Boxed, sheet_view, boxed_view, place_or_zero, first_sources, input_numbers, bit_count, boxed_in, sheet_on, cells_before, outs_of, finished, with_scope, listed};
+ghost use Rattle.bb_elab.specs.Listing.{IsScopeAmong, sheet_view, boxed_view, first_sources, input_numbers, bit_count, boxed_in, cells_before, outs_of, finished, with_scope, listed};
 ghost use Rattle.bb_elab.specs.Hierarchy.{Design};
 ghost use Rattle.bb_elab.specs.ListLaws.{IsBounded};
 ghost use Rattle.bb_elab.specs.Placements.{ArePlaced, AreOutlined, AreStored};

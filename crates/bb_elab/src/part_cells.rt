@@ -5,7 +5,7 @@
 ghost use Rattle.std.specs.Prelude.{◌≡◌, ◌<◌, All, length, Some, slice_get, OnOk};
 ghost use Rattle.std.specs.List.{fold};
 ghost use Rattle.bb_elab.specs.Contexts.{low_bits};
-ghost use Rattle.bb_elab.specs.Listing.{IsPartAmong, IsScopeAmong, Site, Sheet, sheet_view, with_part, inner_first, site_of, with_parts, with_scope};
+ghost use Rattle.bb_elab.specs.Listing.{IsPartAmong, IsScopeAmong, sheet_view, with_part, inner_first, with_parts, with_scope};
 
 use crate::gate_cells::add_gate;
 use crate::outline::{Outline, Part};

@@ -2,8 +2,7 @@
 //!
 //! A bit is given once, by its first driver; places and bits are counted in 32 bits, and a list that is longer is want of memory.
 
-ghost use Rattle.std.specs.Prelude.{◌≡◌, ◌+◌, length, map, slice_get, IfOk, OnOk};
-ghost use Rattle.std.specs.List.{range_with_len};
+ghost use Rattle.std.specs.Prelude.{◌≡◌, ◌+◌, length, slice_get, IfOk, OnOk};
 ghost use Rattle.bb_elab.specs.Listing.{given_one, given_all, place_or_zero, beside, in_row, all_given_by};
 
 use bb_bits::NoMemory;

@@ -1,6 +1,6 @@
 //! The cells of the steps of an expression.
 
-ghost use Rattle.std.specs.Prelude.{◌≡◌, ◌<◌, All, ◌+◌, ◌++◌, length, map, IfOk, OnOk};
+ghost use Rattle.std.specs.Prelude.{◌≡◌, ◌<◌, All, ◌+◌, ◌++◌, length, IfOk, OnOk};
 ghost use Rattle.bb_elab.specs.Places.{step_cell};
 ghost use Rattle.bb_elab.specs.Listing.{IsNetBelow, HasNetsBelow, constant_place, net_bit_place, cells_of_steps, with_steps};
 
