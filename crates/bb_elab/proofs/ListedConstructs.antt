@@ -4,6 +4,7 @@ use Rattle.std.specs.Prelude.{slice_get}
 use Rattle.std.specs.List.{AllZip, enumerate_from, range_with_len}
 use Rattle.std.proofs.lemmas.List.{length-map, map-append}
 use Rattle.std.proofs.lemmas.List.Elements.{All-nil, All-cons}
+use Rattle.std.proofs.lemmas.Slice.Zip.{AllZip-long}
 use Rattle.bb_ast.specs.declared.module.Gate.{Gate}
 use Rattle.bb_ast.specs.Syntax.{Expression}
 use Rattle.bb_expr.specs.declared.step.Lowered.{Lowered}
@@ -32,12 +33,6 @@ zipped_left R [] (z ∷ ys) all k x e = absurd all
 zipped_left R (u ∷ xs) [] all k x e = absurd all
 zipped_left R (u ∷ xs) (z ∷ ys) all zero x e = let same : u ≡ x = grind (arith, e) in (z, subst (λ v. R v z) same all.0)
 zipped_left R (u ∷ xs) (z ∷ ys) all (suc k) x e = zipped_left R xs ys all.1 k x e
-
-pub zipped_long : {A B : Type 0} (R : A → B → Type 0) (xs : List A) (ys : List B) → AllZip R xs ys → length xs ≡ length ys
-zipped_long R [] [] all = refl
-zipped_long R [] (z ∷ ys) all = absurd all
-zipped_long R (u ∷ xs) [] all = absurd all
-zipped_long R (u ∷ xs) (z ∷ ys) all = ap suc (zipped_long R xs ys all.1)
 
 steps_next : (ls : List Lowered) (i : ℕ) (l : Lowered) → slice_get ls i ≡ Some l → steps_before ls (suc i) ≡ steps_before ls i + length l.steps.items
 steps_next [] i l e = absurd (grind (arith, e))
@@ -75,7 +70,7 @@ module _ (d : Design) (lowering : Lowering) (number : Numbering) (nets start : �
     count = length ins - 1
 
     counted : length ins ≡ suc (length ins - 1)
-    counted = omega (arith, some, zipped_long (λ l e. IsMadeIn s.source l e (λ s. width_of s e)) ins es made)
+    counted = omega (arith, some, AllZip-long (λ l e. IsMadeIn s.source l e (λ s. width_of s e)) ins es made)
 
     abbrev terminals : Terminals
     terminals = with_terminals start (nets + site.first) site.starts a.cells ins
@@ -106,12 +101,12 @@ module _ (d : Design) (lowering : Lowering) (number : Numbering) (nets start : �
 
     gate_places_are : (outs : List Expression) → gate_steps ++ gate_entries ≡ places_at lowering number (k, (s, GateInstance gate outs es))
     gate_places_are outs =
-        let same : length ins ≡ length es = zipped_long (λ l e. IsMadeIn s.source l e (λ s. width_of s e)) ins es made in
+        let same : length ins ≡ length es = sym (AllZip-long (λ l e. IsMadeIn s.source l e (λ s. width_of s e)) ins es made) in
         ap₂ (λ (n m : ℕ). steps_from lowering number k s (nets + site.first) site.starts constants (net_place_is d lowering number nets start constants net_places k s site is_site a) 0 n ++ (joining_places lowering number k gate m ++ inverting_place lowering number k gate m))
         (same ∙ sym (length-map {B = Expression × ℕ} es (λ e. (e, width_of s e)))) (sym counted ∙ same)
 
     gate_place_is : (with_gate start (nets + site.first) site.starts gate a.cells ins).place ≡ number (gate_place lowering gate k (length es))
-    gate_place_is = gate_is.place ∙ ap (λ n. number (gate_place lowering gate k n)) (sym counted ∙ zipped_long (λ l e. IsMadeIn s.source l e (λ s. width_of s e)) ins es made)
+    gate_place_is = gate_is.place ∙ ap (λ n. number (gate_place lowering gate k n)) (sym counted ∙ sym (AllZip-long (λ l e. IsMadeIn s.source l e (λ s. width_of s e)) ins es made))
 
   abbrev Here : Part → Construct → Type 0
   Here q c = Puts d lowering number nets start (k, (s, c)) a (with_part nets start site a q)

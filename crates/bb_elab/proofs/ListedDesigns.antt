@@ -7,6 +7,7 @@ use Rattle.std.proofs.lemmas.List.FromFn.{get_or-range_with_len}
 use Rattle.std.specs.List.Sorted.{IsPermutation}
 use Rattle.std.proofs.lemmas.List.Sorted.{IsPermutation-refl}
 use Rattle.std.proofs.lemmas.List.Sums.{fold-append}
+use Rattle.std.proofs.lemmas.Slice.Zip.{AllZip-long}
 use Rattle.std.proofs.lemmas.Option.{slice_get_within}
 use Rattle.bb_expr.specs.FitLaws.{NetNamesDiffer}
 use Rattle.bb_net.specs.declared.loose.LooseCell.{LooseCell}
@@ -29,7 +30,6 @@ use Rattle.bb_elab.proofs.CalledInstances.{there_at}
 use Rattle.bb_elab.proofs.GivenPlaces.{given_long, noted}
 use Rattle.bb_elab.proofs.ListedBlocks.{Block, IsBlockOf, with_block, blocks_of, scopes_fold, lowering_of, sheet_at, number_of, block_puts, PutAll, put_all}
 use Rattle.bb_elab.proofs.ListedBoxes.{rows_same, moved_row, PutsBoxes, boxes_put}
-use Rattle.bb_elab.proofs.ListedConstructs.{zipped_long}
 use Rattle.bb_elab.proofs.WrittenValue.{length-range}
 use Rattle.bb_elab.proofs.ListedParts.{map-twice, map-same, numbers_are, Puts, pair}
 use Rattle.bb_elab.proofs.ListedScopes.{has_inputs, blocks_are, boxes_are, counted}
@@ -131,7 +131,7 @@ module _ (names : NetNamesDiffer) (d : Design) (bounded : IsBounded d) (placed :
     where
       last : sheet_at d blocks nets start begun pins_before (0 + length (parts d)) ≡ sheet
       last =
-          ap (fold (with_block nets start) begun) (take_all (0 + length (parts d)) blocks (omega (arith, zipped_long (IsBlockOf d) blocks (parts d) (blocks_are names d bounded placed are outlines outlined))))
+          ap (fold (with_block nets start) begun) (take_all (0 + length (parts d)) blocks (omega (arith, AllZip-long (IsBlockOf d) blocks (parts d) (blocks_are names d bounded placed are outlines outlined))))
           ∙ sym (scopes_fold nets start placed outlines begun placed)
 
   abbrev noting : Bit × Place → ℕ × ℕ

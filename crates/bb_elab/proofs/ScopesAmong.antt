@@ -3,6 +3,7 @@ use Rattle.std.proofs.Common.{◌≡◌, ℕ, ◌+◌, ◌<◌, false, if◌then
 use Rattle.std.specs.Prelude.{slice_get}
 use Rattle.std.specs.List.{AllZip, enumerate_from}
 use Rattle.std.proofs.lemmas.List.Elements.{All-nil, All-cons, All-head, All-tail}
+use Rattle.std.proofs.lemmas.Slice.Zip.{AllZip-long}
 use Rattle.std.proofs.lemmas.Option.{slice_get_within, slice_get-get_or}
 use Rattle.bb_ast.specs.Syntax.{Expression}
 use Rattle.bb_expr.specs.declared.net.NetInfo.{NetInfo}
@@ -25,7 +26,6 @@ use Rattle.bb_elab.specs.Placements.{ArePlaced, AreOutlined, IsScopeAt, IsChildA
 use Rattle.bb_elab.proofs.AllowedDesigns.{wired}
 use Rattle.bb_elab.proofs.CalledInstances.{there_at}
 use Rattle.bb_elab.proofs.Levels.{contains-map}
-use Rattle.bb_elab.proofs.ListedConstructs.{zipped_long}
 use Rattle.bb_elab.proofs.ReadingLaw.{into_flat}
 use Rattle.bb_elab.proofs.TopLaws.{contains_here, contains_there}
 
@@ -55,7 +55,7 @@ module _ (d : Design) (bounded : IsBounded d) (placed : List Placed) (are : AreP
   made_below l e width made = nets_below (nets_of s.source) (length o.starts.items) starts_there 0 l.steps.items made.earlier
 
   instances_long : length p.children.items ≡ length (instances_of s.source)
-  instances_long = zipped_long (IsChildAt d s) p.children.items (instances_of s.source) (are.each k s p at has).children
+  instances_long = sym (AllZip-long (IsChildAt d s) p.children.items (instances_of s.source) (are.each k s p at has).children)
 
   -- gates have inputs of one bit
   AreNarrow : Construct → Type 0
