@@ -137,6 +137,10 @@ nets_long path (net ∷ nets) =
     length-append (bits_of_net path net) (flat_map (bits_of_net path) nets)
     ∙ omega (arith, length-map-range_with_len {X = Bit} (λ k. record { path = path; net = net.name; place = k }) 0 (range_width net.range), nets_long path nets, sum_by-cons (λ (x : NetInfo). range_width x.range) net nets)
 
+inner_first_is : (placed : List Placed) (p : Placed) (j c : ℕ) (q : Placed) → slice_get p.children.items j ≡ Some c → slice_get placed c ≡ Some q → inner_first placed p j ≡ q.first
+inner_first_is placed p j c q child there =
+    ap (λ o. option_map_or (λ (z : Placed). z.first) (option_and_then (slice_get placed) o) 0) child ∙ ap (λ o. option_map_or (λ (z : Placed). z.first) o 0) there
+
 module _ (names : NetNamesDiffer) (d : Design) (bounded : IsBounded d) (placed : List Placed) (are : ArePlaced d placed) where
   -- a scope begins with its first bit
   pub first_bits : (k : ℕ) (s : Scope) (p : Placed) → IsScopeAt d k s → slice_get placed k ≡ Some p → (i : ℕ) (b : Bit) → slice_get (scope_bits s) i ≡ Some b → bit_number d b ≡ p.first + i
@@ -164,7 +168,7 @@ module _ (names : NetNamesDiffer) (d : Design) (bounded : IsBounded d) (placed :
         let same : child.2.0 ≡ target = grind (arith, child.2.1, found) in
         let stands : IsScopeAt d c (record { path = path_to s.path called.name; source = target }) = subst (λ m. IsScopeAt d c (record { path = path_to s.path called.name; source = m })) same child.2.2 in
         let q = placed_there c (record { path = path_to s.path called.name; source = target }) stands in
-        let inner : inner_first placed p j ≡ q.0.first = ap (λ o. option_map_or (λ (z : Placed). z.first) (option_and_then (slice_get placed) o) 0) child.1 ∙ ap (λ o. option_map_or (λ (z : Placed). z.first) o 0) q.1 in
+        let inner : inner_first placed p j ≡ q.0.first = inner_first_is placed p j c q.0 child.1 q.1 in
         first_bits c (record { path = path_to s.path called.name; source = target }) q.0 stands q.1 i b e ∙ ap (λ n. n + i) (sym inner);
   }
     where

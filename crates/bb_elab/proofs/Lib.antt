@@ -42,6 +42,7 @@ pub mod NextStates
 pub mod NoneTwice
 pub mod Operators
 pub mod PartBits
+pub mod PlacesInRow
 pub mod ReadingLaw
 pub mod RecursionLemmas
 pub mod RecursionLoops

@@ -21,7 +21,7 @@ use Rattle.bb_elab.specs.Places.{Place, Constant, Input, NetBit, Step, Joined, I
 use Rattle.bb_elab.proofs.BitNumbers.{bit_number, IsSiteOf}
 use Rattle.bb_elab.proofs.ListedConstructs.{HasInputs, part_puts}
 use Rattle.bb_elab.proofs.ListedParts.{lowereds, steps_before, Puts, pair}
-use Rattle.bb_elab.proofs.ListedSteps.{Entry, AreInRow, no_row, both_rows, cells_in}
+use Rattle.bb_elab.proofs.PlacesInRow.{Entry, AreInRow, both_rows, no_row, cells_in}
 
 -- a part where it stands; a box has none
 pub record Block : Type 0 where

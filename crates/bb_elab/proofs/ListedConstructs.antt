@@ -24,8 +24,9 @@ use Rattle.bb_elab.specs.Outlines.{IsMadeIn, IsPinIn, IsPartOf}
 use Rattle.bb_elab.specs.Places.{Constant, NetBit, Step, Numbering, Lowering, Steps, step_places, terminal_place, gate_place, joining_places, inverting_place, places_at}
 use Rattle.bb_elab.proofs.BitNumbers.{bit_number, IsSiteOf}
 use Rattle.bb_elab.proofs.ListedGates.{GateFits, gate_fits}
-use Rattle.bb_elab.proofs.ListedParts.{lowereds, steps_before, map-twice, map-same, are_long, Puts, beside_is, all_is, net_place_is, AreLoweredAt, own_bits, inner_bits, one_lowered, one_cells, one_row, one_places, low_places}
-use Rattle.bb_elab.proofs.ListedSteps.{Entry, AreInRow, no_row, both_rows, cells_in, TerminalsFit, terminals_fit, steps_from}
+use Rattle.bb_elab.proofs.ListedParts.{lowereds, steps_before, are_long, Puts, beside_is, all_is, net_place_is, AreLoweredAt, own_bits, inner_bits, one_lowered, one_cells, one_places, low_places, expression_row}
+use Rattle.bb_elab.proofs.ListedSteps.{TerminalsFit, terminals_fit, steps_from}
+use Rattle.bb_elab.proofs.PlacesInRow.{Entry, AreInRow, both_rows, no_row, cells_in, map-twice, map-same}
 
 zipped_left : {A B : Type 0} (R : A → B → Type 0) (xs : List A) (ys : List B) → AllZip R xs ys → (k : ℕ) (x : A) → slice_get xs k ≡ Some x → (y : B) × R x y
 zipped_left R [] [] all k x e = absurd (grind (arith, e))
@@ -123,7 +124,7 @@ module _ (d : Design) (lowering : Lowering) (number : Numbering) (nets start : �
   pub part_puts : (q : Part) (c : Construct) → IsPartOf d.text s.source q c → AreAtHere (lowereds q) → HasInputs c → Here q c
   part_puts (part.Assignment left right) (Assignment l r) is at some = record {
     cells = ap (λ c. a.cells ++ c) (sym (one_cells d lowering number nets start constants net_places k s site is_site a right at r (context_width s l r) is.1));
-    row = one_row d lowering number nets start constants net_places k s site is_site a right at r (context_width s l r) is.1;
+    row = expression_row d lowering number nets start constants net_places k s site is_site a right at r (context_width s l r) is.1;
     sources = ap (given_all a.sources) (sym (beside_is d lowering number nets start (written_bits s l) (low_bits (length (written_bits s l)) (step_places lowering k 0)) site.first left.items (start + length a.cells) (low_bits (length left.items) right.bits.items)
         (own_bits d lowering number nets start constants net_places k s site is_site a left.items (λ s. written_bits s l) is.0)
         (low_places d lowering number nets start constants net_places k s site is_site a right at r (context_width s l r) is.1 (length (written_bits s l)) (length left.items) (sym (are_long (scope_bits s) left.items (written_bits s l) (is.0 s.path))))));
@@ -141,7 +142,7 @@ module _ (d : Design) (lowering : Lowering) (number : Numbering) (nets start : �
       })
   part_puts (part.Register left right clock falling) (Register r) is at some = record {
     cells = ap (λ c. a.cells ++ c) (sym (one_cells d lowering number nets start constants net_places k s site is_site a right at r.right (context_width s r.left r.right) is.1));
-    row = one_row d lowering number nets start constants net_places k s site is_site a right at r.right (context_width s r.left r.right) is.1;
+    row = expression_row d lowering number nets start constants net_places k s site is_site a right at r.right (context_width s r.left r.right) is.1;
     sources = refl;
     next = ap (given_all a.next) (sym (beside_is d lowering number nets start (written_bits s r.left) (low_bits (length (written_bits s r.left)) (step_places lowering k 0)) site.first left.items (start + length a.cells) (low_bits (length left.items) right.bits.items)
         (own_bits d lowering number nets start constants net_places k s site is_site a left.items (λ s. written_bits s r.left) is.0)
@@ -158,7 +159,7 @@ module _ (d : Design) (lowering : Lowering) (number : Numbering) (nets start : �
   }
   part_puts (part.Input instance pin value) (InputConnection i port e) is at some = record {
     cells = ap (λ c. a.cells ++ c) (sym (one_cells d lowering number nets start constants net_places k s site is_site a value at e (width_of s e) is.1));
-    row = one_row d lowering number nets start constants net_places k s site is_site a value at e (width_of s e) is.1;
+    row = expression_row d lowering number nets start constants net_places k s site is_site a value at e (width_of s e) is.1;
     sources = ap (given_all a.sources) (sym (beside_is d lowering number nets start (pin_bits (path_to s.path i) port) (step_places lowering k 0) (site.inner instance) pin.items (start + length a.cells) value.bits.items
         (inner_bits d lowering number nets start constants net_places k s site is_site a instance pin.items i port is.0) (one_places d lowering number nets start constants net_places k s site is_site a value at e (width_of s e) is.1)));
     next = refl;

@@ -1,9 +1,8 @@
 -- The list of cells that is made by numbers is the list of cells of the design.
-use Rattle.std.proofs.Common.{◌≡◌, ℕ, suc, ◌+◌, ◌<◌, ◌^◌, Bool, true, false, List, [], ◌∷◌, ◌++◌, map, flat_map, take, length, get_or, replicate, All, Some, None, refl, sym, ap, ap₂, ◌∙◌, subst, arith, length-append}
+use Rattle.std.proofs.Common.{◌≡◌, ℕ, suc, ◌+◌, ◌<◌, ◌^◌, Bool, true, false, List, [], ◌∷◌, ◌++◌, map, flat_map, take, length, replicate, Some, None, refl, sym, ap, ap₂, ◌∙◌, subst, arith, length-append}
 use Rattle.std.specs.Prelude.{slice_get}
-use Rattle.std.specs.List.{AllZip, fold, enumerate_from, range_with_len}
-use Rattle.std.proofs.lemmas.List.{length-map, map-append, get_or-map, length-replicate, take_all}
-use Rattle.std.proofs.lemmas.List.FromFn.{get_or-range_with_len}
+use Rattle.std.specs.List.{fold, enumerate_from, range_with_len}
+use Rattle.std.proofs.lemmas.List.{length-map, map-append, length-replicate, take_all}
 use Rattle.std.specs.List.Sorted.{IsPermutation}
 use Rattle.std.proofs.lemmas.List.Sorted.{IsPermutation-refl}
 use Rattle.std.proofs.lemmas.List.Sums.{fold-append}
@@ -12,7 +11,7 @@ use Rattle.std.proofs.lemmas.Option.{slice_get_within}
 use Rattle.bb_expr.specs.FitLaws.{NetNamesDiffer}
 use Rattle.bb_net.specs.declared.loose.LooseCell.{LooseCell}
 use Rattle.bb_net.specs.declared.loose.LooseCell.TheVariants as cell
-use Rattle.bb_net.specs.Loose.{LooseList, loose_at}
+use Rattle.bb_net.specs.Loose.{LooseList}
 use Rattle.bb_elab.specs.declared.outline.Outline.{Outline}
 use Rattle.bb_elab.specs.declared.placed.Placed.{Placed}
 use Rattle.bb_elab.specs.declared.stored.Stored.{Stored}
@@ -29,34 +28,11 @@ use Rattle.bb_elab.proofs.BitNumbers.{zipped_right, bit_number, numbered, first_
 use Rattle.bb_elab.proofs.CalledInstances.{there_at}
 use Rattle.bb_elab.proofs.GivenPlaces.{given_long, noted}
 use Rattle.bb_elab.proofs.ListedBlocks.{Block, IsBlockOf, with_block, blocks_of, scopes_fold, lowering_of, sheet_at, number_of, block_puts, PutAll, put_all}
-use Rattle.bb_elab.proofs.ListedBoxes.{rows_same, moved_row, PutsBoxes, boxes_put}
+use Rattle.bb_elab.proofs.ListedBoxes.{PutsBoxes, boxes_put}
 use Rattle.bb_elab.proofs.WrittenValue.{length-range}
-use Rattle.bb_elab.proofs.ListedParts.{map-twice, map-same, numbers_are, Puts, pair}
+use Rattle.bb_elab.proofs.ListedParts.{numbers_are, Puts, pair}
 use Rattle.bb_elab.proofs.ListedScopes.{has_inputs, blocks_are, boxes_are, counted}
-use Rattle.bb_elab.proofs.ListedSteps.{Entry, AreInRow, both_rows, cells_in}
-
-row_of : {A : Type 0} (f : A → ℕ) (xs : List A) (at : ℕ) → ((k : ℕ) (x : A) → slice_get xs k ≡ Some x → f x ≡ at + k) → map f xs ≡ range_with_len at (length xs)
-row_of f [] at each = refl
-row_of f (x ∷ xs) at each = ap₂ ◌∷◌ (each 0 x refl ∙ omega arith) (row_of f xs (at + 1) (λ k y e. each (suc k) y e ∙ omega arith))
-
-same_by_places : {A B C : Type 0} (f : A → C) (g : B → C) (xs : List A) (ys : List B) → length xs ≡ length ys → ((k : ℕ) (x : A) (y : B) → slice_get xs k ≡ Some x → slice_get ys k ≡ Some y → f x ≡ g y) → map f xs ≡ map g ys
-same_by_places f g [] [] long each = refl
-same_by_places f g [] (y ∷ ys) long each = absurd (omega (arith, long))
-same_by_places f g (x ∷ xs) [] long each = absurd (omega (arith, long))
-same_by_places f g (x ∷ xs) (y ∷ ys) long each = ap₂ ◌∷◌ (each 0 x y refl refl) (same_by_places f g xs ys (omega (arith, long)) (λ k u v p q. each (suc k) u v p q))
-
-same_zipped : {A B C : Type 0} (R : A → B → Type 0) (f : A → C) (g : B → C) (xs : List A) (ys : List B) → AllZip R xs ys → ((x : A) (y : B) → R x y → f x ≡ g y) → map f xs ≡ map g ys
-same_zipped R f g [] [] all each = refl
-same_zipped R f g [] (y ∷ ys) all each = absurd all
-same_zipped R f g (x ∷ xs) [] all each = absurd all
-same_zipped R f g (x ∷ xs) (y ∷ ys) all each = ap₂ ◌∷◌ (each x y all.0) (same_zipped R f g xs ys all.1 each)
-
--- where places stand in a row from 0 on, each cell stands at its place
-cells_stand : (number : Numbering) (all : List Entry) (l : LooseList) → AreInRow number 0 all → l.cells ≡ cells_in all → All (λ (x : Entry). loose_at l (number x.0) ≡ x.1) all
-cells_stand number all l row cells k x fits =
-    let at : number (get_or all k x).0 ≡ k =
-    sym (get_or-map (λ (e : Entry). number e.0) all k x 0 fits) ∙ ap (λ z. get_or z k 0) row.row ∙ get_or-range_with_len 0 (length all) k 0 fits ∙ omega arith in
-    ap (loose_at l) at ∙ ap (λ c. get_or c k (cell.Const false)) cells ∙ get_or-map (λ (e : Entry). e.1) all k x (cell.Const false) fits
+use Rattle.bb_elab.proofs.PlacesInRow.{Entry, AreInRow, both_rows, cells_in, rows_same, moved_row, row_of, same_by_places, same_zipped, cells_stand, map-twice, map-same}
 
 module _ (names : NetNamesDiffer) (d : Design) (bounded : IsBounded d) (placed : List Placed) (are : ArePlaced d placed) (outlines : List Outline) (outlined : AreOutlined d placed outlines)
     (stored : List Stored) (store : AreStored d stored) (p : Placed) (top : Outline) (first_at : slice_get placed 0 ≡ Some p) (top_at : slice_get outlines p.module ≡ Some top) (ins : List ℕ) (ins_are : ins ≡ input_numbers top stored)

@@ -9,7 +9,7 @@ use Rattle.bb_elab.specs.GateFunctions.{inverts}
 use Rattle.bb_elab.specs.Listing.{Joining, joined_to, joined, inverted}
 use Rattle.bb_elab.specs.Places.{Place, Joined, Inverted, Numbering, Lowering, joined_place, terminal_place, gate_place, join_cell, joining_places, inverting_place}
 use Rattle.bb_elab.proofs.WrittenValue.{length-range}
-use Rattle.bb_elab.proofs.ListedSteps.{Entry, AreInRow, both_rows, no_row, one_row, cells_in}
+use Rattle.bb_elab.proofs.PlacesInRow.{Entry, AreInRow, both_rows, no_row, one_row, cells_in}
 
 module _ (lowering : Lowering) (number : Numbering) (k : ℕ) (gate : Gate) (start : ℕ) where
   abbrev terminal : ℕ → ℕ
