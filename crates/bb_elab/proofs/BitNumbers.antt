@@ -1,11 +1,11 @@
 -- The numbers of bits in net order, and what they are for the bits of a scope, of its nets and of its instances.
-use Rattle.std.proofs.Common.{◌≡◌, ◌≢◌, ◌⊎◌, ℕ, zero, suc, ◌+◌, ◌<◌, ◌==◌, Bool, true, false, if◌then◌else◌, List, [], ◌∷◌, ◌++◌, map, flat_map, length, take, get_or, Contains, Option, Some, None, refl, sym, ap, ◌∙◌, subst, inl, inr, arith, length-append, true≢false}
-use Rattle.std.specs.Prelude.{slice_get, sum_by, IfSome}
+use Rattle.std.proofs.Common.{◌≡◌, ℕ, zero, suc, ◌+◌, ◌<◌, ◌==◌, Bool, true, false, if◌then◌else◌, List, [], ◌∷◌, ◌++◌, map, flat_map, length, take, get_or, Contains, Some, refl, sym, ap, ◌∙◌, subst, arith, length-append, true≢false}
+use Rattle.std.specs.Prelude.{slice_get, slice_index, sum_by, IfSome}
 use Rattle.std.specs.List.{AllZip, range_with_len}
 use Rattle.std.specs.Option.{option_map_or, option_and_then}
 use Rattle.std.proofs.lemmas.List.FromFn.{length-map-range_with_len}
 use Rattle.std.proofs.lemmas.List.Sums.{sum_by-cons}
-use Rattle.std.proofs.lemmas.Option.{slice_get_within, slice_get-get_or}
+use Rattle.std.proofs.lemmas.Option.{slice_get_within, slice_get-get_or, get_or_from_slice_get}
 use Rattle.bb_ast.specs.Syntax.{PlainModule}
 use Rattle.bb_expr.specs.declared.net.NetInfo.{NetInfo}
 use Rattle.bb_expr.specs.declared.step.BitStep.TheVariants as steps
@@ -20,8 +20,8 @@ use Rattle.bb_elab.specs.Hierarchy.{Instance, Path, Design, Scope, instances_of,
 use Rattle.bb_elab.specs.NetBits.{Bit, same_bit, bits_of_net, scope_bits, net_order}
 use Rattle.bb_elab.specs.Listing.{Site, inner_first, site_of}
 use Rattle.bb_elab.specs.ListLaws.{IsBounded}
-use Rattle.bb_elab.specs.Outlines.{AreAt, IsOutline, net_start}
-use Rattle.bb_elab.specs.Placements.{ArePlaced, IsPlacedAt, IsScopeAt, IsChildAt}
+use Rattle.bb_elab.specs.Outlines.{IsOutline, net_start}
+use Rattle.bb_elab.specs.Placements.{ArePlaced, IsScopeAt, IsChildAt}
 use Rattle.bb_elab.proofs.NoneTwice.{NoneTwice, bits_none}
 use Rattle.bb_elab.proofs.TopLaws.{contains_here, contains_there}
 use Rattle.bb_elab.proofs.WorldLaws.{same_bit_is, same_bit_self}
@@ -127,7 +127,7 @@ module _ (names : NetNamesDiffer) (d : Design) (bounded : IsBounded d) where
 pub record IsSiteOf (d : Design) (s : Scope) (site : Site) : Type 0 where
   pub own : (i : ℕ) (b : Bit) → slice_get (scope_bits s) i ≡ Some b → bit_number d b ≡ site.first + i
   pub nets : (n i : ℕ) → Reads (nets_of s.source) 0 (steps.Net n i)
-      → bit_number d (record { path = s.path; net = name_at (nets_of s.source) n; place = i }) ≡ site.first + option_map_or (λ k. k) (slice_get site.starts n) 0 + i
+      → bit_number d (record { path = s.path; net = name_at (nets_of s.source) n; place = i }) ≡ site.first + slice_index site.starts n + i
   pub inner : (j : ℕ) (called : Instance) (target : PlainModule) → slice_get (instances_of s.source) j ≡ Some called → module_named d.text called.target ≡ Some target
       → (i : ℕ) (b : Bit) → slice_get (scope_bits (record { path = path_to s.path called.name; source = target })) i ≡ Some b → bit_number d b ≡ site.inner j + i
 
@@ -136,6 +136,10 @@ nets_long path [] = refl
 nets_long path (net ∷ nets) =
     length-append (bits_of_net path net) (flat_map (bits_of_net path) nets)
     ∙ omega (arith, length-map-range_with_len {X = Bit} (λ k. record { path = path; net = net.name; place = k }) 0 (range_width net.range), nets_long path nets, sum_by-cons (λ (x : NetInfo). range_width x.range) net nets)
+
+inner_first_is : (placed : List Placed) (p : Placed) (j c : ℕ) (q : Placed) → slice_get p.children.items j ≡ Some c → slice_get placed c ≡ Some q → inner_first placed p j ≡ q.first
+inner_first_is placed p j c q child there =
+    ap (λ o. option_map_or (λ (z : Placed). z.first) (option_and_then (slice_get placed) o) 0) child ∙ ap (λ o. option_map_or (λ (z : Placed). z.first) o 0) there
 
 module _ (names : NetNamesDiffer) (d : Design) (bounded : IsBounded d) (placed : List Placed) (are : ArePlaced d placed) where
   -- a scope begins with its first bit
@@ -152,7 +156,7 @@ module _ (names : NetNamesDiffer) (d : Design) (bounded : IsBounded d) (placed :
         let got : slice_get all n ≡ Some net = slice_get-get_or all n (net_of s.source []) reads.0 in
         let fits : i < range_width net.range = subst (λ q. IfSome q (λ (x : NetInfo). i < range_width x.range)) got reads.1 in
         let name : name_at all n ≡ net.name = ap (λ q. option_map_or (λ (x : NetInfo). x.name) q []) got in
-        let start : option_map_or (λ j. j) (slice_get o.starts.items n) 0 ≡ net_start all n = ap (λ q. option_map_or (λ (j : ℕ). j) q 0) (outline.starts n reads.0) in
+        let start : slice_index o.starts.items n ≡ net_start all n = get_or_from_slice_get o.starts.items n (net_start all n) 0 (outline.starts n reads.0) in
         let bit : Bit = record { path = s.path; net = name_at all n; place = i } in
         let there : slice_get (scope_bits s) (length (flat_map (bits_of_net s.path) (take n all)) + i) ≡ Some bit =
         got_flat (bits_of_net s.path) all n net i bit got (got_run (λ j. record { path = s.path; net = net.name; place = j }) 0 (range_width net.range) i fits
@@ -164,7 +168,7 @@ module _ (names : NetNamesDiffer) (d : Design) (bounded : IsBounded d) (placed :
         let same : child.2.0 ≡ target = grind (arith, child.2.1, found) in
         let stands : IsScopeAt d c (record { path = path_to s.path called.name; source = target }) = subst (λ m. IsScopeAt d c (record { path = path_to s.path called.name; source = m })) same child.2.2 in
         let q = placed_there c (record { path = path_to s.path called.name; source = target }) stands in
-        let inner : inner_first placed p j ≡ q.0.first = ap (λ o. option_map_or (λ (z : Placed). z.first) (option_and_then (slice_get placed) o) 0) child.1 ∙ ap (λ o. option_map_or (λ (z : Placed). z.first) o 0) q.1 in
+        let inner : inner_first placed p j ≡ q.0.first = inner_first_is placed p j c q.0 child.1 q.1 in
         first_bits c (record { path = path_to s.path called.name; source = target }) q.0 stands q.1 i b e ∙ ap (λ n. n + i) (sym inner);
   }
     where

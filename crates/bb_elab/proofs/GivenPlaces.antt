@@ -1,8 +1,8 @@
 -- The place that gives each bit, noted as bits are given, is that of the first that gives it.
-use Rattle.std.proofs.Common.{◌≡◌, ◌≢◌, ◌⊎◌, ℕ, zero, suc, ◌+◌, ◌<◌, ◌≤◌, ◌==◌, Bool, true, false, if◌then◌else◌, List, [], ◌∷◌, ◌++◌, map, find, length, get_or, replicate, Option, Some, None, refl, sym, ap, ap₂, ◌∙◌, subst, inl, inr, arith}
+use Rattle.std.proofs.Common.{◌≡◌, ℕ, zero, suc, ◌<◌, ◌==◌, Bool, true, false, if◌then◌else◌, List, [], ◌∷◌, map, find, length, replicate, Some, None, refl, sym, ap, ◌∙◌, arith}
 use Rattle.std.specs.Prelude.{slice_get, slice_set}
-use Rattle.std.specs.List.{fold, range_with_len}
 use Rattle.std.specs.Option.{option_map_or}
+use Rattle.std.proofs.lemmas.List.{length-set}
 use Rattle.bb_expr.specs.FitLaws.{NetNamesDiffer}
 use Rattle.bb_elab.specs.Hierarchy.{Design}
 use Rattle.bb_elab.specs.NetBits.{Bit, same_bit, net_order}
@@ -23,11 +23,6 @@ got-set_other (y ∷ ys) zero zero v ne = absurd (ne refl)
 got-set_other (y ∷ ys) zero (suc k) v ne = refl
 got-set_other (y ∷ ys) (suc i) zero v ne = refl
 got-set_other (y ∷ ys) (suc i) (suc k) v ne = got-set_other ys i k v (λ e. ne (ap suc e))
-
-long-set : {A : Type 0} (xs : List A) (i : ℕ) (v : A) → length (slice_set xs i v) ≡ length xs
-long-set [] i v = refl
-long-set (y ∷ ys) zero v = refl
-long-set (y ∷ ys) (suc i) v = ap suc (long-set ys i v)
 
 -- one bit
 one_kept : (s : Sources) (w : ℕ × ℕ) (k p : ℕ) → slice_get s k ≡ Some (Some p) → slice_get (given_one s w) k ≡ Some (Some p)
@@ -58,7 +53,7 @@ given_long [] s = refl
 given_long (w ∷ ws) s = given_long ws (given_one s w) ∙ by (is_open (slice_get s w.0))
   where
     by : (b : Bool) → length (if b then slice_set s w.0 (Some w.1) else s) ≡ length s
-    by true = long-set s w.0 (Some w.1)
+    by true = length-set s w.0 (Some w.1)
     by false = refl
 
 -- the first that gives a bit counts

@@ -50,6 +50,7 @@ pub mod ListedBlocks
 pub mod ListedBoxes
 pub mod ListedConstructs
 pub mod ListedData
+pub mod ListedDesigns
 pub mod ListedGates
 pub mod ListedParts
 pub mod ListedPlaces
@@ -72,6 +73,7 @@ pub mod OutlinedDesigns
 pub mod PartBits
 pub mod PlainClocks
 pub mod PortNets
+pub mod PlacesInRow
 pub mod ReadingLaw
 pub mod RecursionLemmas
 pub mod RecursionLoops
@@ -83,6 +85,7 @@ pub mod ScopeLaws
 pub mod ScopePlacing
 pub mod SizeTotals
 pub mod SitedScopes
+pub mod ScopesAmong
 pub mod SoundBits
 pub mod SoundConstructs
 pub mod SoundModules

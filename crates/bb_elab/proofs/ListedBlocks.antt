@@ -1,9 +1,9 @@
 -- The constructs of a design one after another: their places are in a row, and their cells are those that the parts of the
 -- modules put there, scope by scope.
-use Rattle.std.proofs.Common.{◌≡◌, ℕ, zero, suc, ◌+◌, ◌-◌, ◌<◌, ◌≤◌, Bool, true, false, if◌then◌else◌, List, [], ◌∷◌, ◌++◌, map, flat_map, take, length, All, Contains, Option, Some, None, refl, sym, ap, ap₂, ◌∙◌, subst, arith, length-append, append_assoc, append-nil}
+use Rattle.std.proofs.Common.{◌≡◌, ℕ, zero, suc, ◌+◌, ◌-◌, Bool, true, false, if◌then◌else◌, List, [], ◌∷◌, ◌++◌, map, flat_map, take, length, All, Option, Some, None, refl, sym, ap, ◌∙◌, subst, arith, length-append, append_assoc, append-nil}
 use Rattle.std.specs.Prelude.{slice_get}
-use Rattle.std.specs.List.{AllZip, fold, enumerate_from, range_with_len}
-use Rattle.std.specs.Option.{option_map_or, option_and_then}
+use Rattle.std.specs.List.{fold, enumerate_from}
+use Rattle.std.specs.Option.{option_map_or}
 use Rattle.std.proofs.lemmas.List.{length-map, map-append}
 use Rattle.std.proofs.lemmas.List.Elements.{All-nil, All-cons}
 use Rattle.std.proofs.lemmas.List.Sums.{fold-append}
@@ -12,17 +12,16 @@ use Rattle.bb_net.specs.declared.loose.LooseCell.{LooseCell}
 use Rattle.bb_elab.specs.declared.outline.Outline.{Outline}
 use Rattle.bb_elab.specs.declared.outline.Part.{Part}
 use Rattle.bb_elab.specs.declared.placed.Placed.{Placed}
-use Rattle.bb_elab.specs.Hierarchy.{Design, Scope, is_box, scopes}
+use Rattle.bb_elab.specs.Hierarchy.{Design, Scope}
 use Rattle.bb_elab.specs.NetBits.{Bit}
-use Rattle.bb_elab.specs.Constructs.{Construct, BoxContents, constructs_at, parts}
+use Rattle.bb_elab.specs.Constructs.{Construct, BoxContents}
 use Rattle.bb_elab.specs.Listing.{Sources, Site, Sheet, given_one, given_all, constant_place, site_of, with_part, with_parts, with_scope}
-use Rattle.bb_elab.specs.Outlines.{IsPartOf, IsOutline}
+use Rattle.bb_elab.specs.Outlines.{IsPartOf}
 use Rattle.bb_elab.specs.Places.{Place, Constant, Input, NetBit, Step, Joined, Inverted, BoxPin, Numbering, Lowering, Steps, IsLoweringOf, given_at, data_at, places_at}
 use Rattle.bb_elab.proofs.BitNumbers.{bit_number, IsSiteOf}
 use Rattle.bb_elab.proofs.ListedConstructs.{HasInputs, part_puts}
-use Rattle.bb_elab.proofs.ListedData.{zip_append}
 use Rattle.bb_elab.proofs.ListedParts.{lowereds, steps_before, Puts, pair}
-use Rattle.bb_elab.proofs.ListedSteps.{Entry, AreInRow, no_row, both_rows, cells_in}
+use Rattle.bb_elab.proofs.PlacesInRow.{Entry, AreInRow, both_rows, no_row, cells_in}
 
 -- a part where it stands; a box has none
 pub record Block : Type 0 where

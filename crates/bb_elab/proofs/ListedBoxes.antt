@@ -1,5 +1,5 @@
 -- The boxes of a design one after another: the places of their pins are in a row.
-use Rattle.std.proofs.Common.{◌≡◌, ℕ, zero, suc, ◌+◌, ◌<◌, Bool, true, false, if◌then◌else◌, List, [], ◌∷◌, ◌++◌, map, flat_map, filter, take, drop, length, get_or, Option, Some, None, refl, sym, ap, ap₂, ◌∙◌, subst, arith, length-append, append_assoc, append-nil}
+use Rattle.std.proofs.Common.{◌≡◌, ℕ, suc, ◌+◌, Bool, true, false, if◌then◌else◌, List, [], ◌∷◌, ◌++◌, map, flat_map, filter, take, length, Some, refl, sym, ap, ap₂, ◌∙◌, subst, arith, length-append, append_assoc, append-nil}
 use Rattle.std.specs.Prelude.{slice_get}
 use Rattle.std.specs.List.{fold, enumerate_from, range_with_len}
 use Rattle.std.proofs.lemmas.List.{length-map, map-append, take_at}
@@ -10,32 +10,15 @@ use Rattle.bb_net.specs.declared.loose.LooseCell.TheVariants as cell
 use Rattle.bb_net.specs.Netlists.{Pins}
 use Rattle.bb_elab.specs.declared.outline.Outline.{Outline}
 use Rattle.bb_elab.specs.declared.placed.Placed.{Placed}
-use Rattle.bb_elab.specs.Hierarchy.{Design, Scope, is_box, boxes}
+use Rattle.bb_elab.specs.Hierarchy.{Design, Scope, is_box}
 use Rattle.bb_elab.specs.NetBits.{Bit, scope_bits, input_bits, output_bits}
-use Rattle.bb_elab.specs.Listing.{Sources, Boxed, given_one, given_all, in_row, with_pins, with_box}
-use Rattle.bb_elab.specs.Outlines.{AreAt, AreBitsIn, IsOutline}
+use Rattle.bb_elab.specs.Listing.{Boxed, given_one, given_all, in_row, with_pins, with_box}
+use Rattle.bb_elab.specs.Outlines.{AreAt}
 use Rattle.bb_elab.specs.Places.{Place, NetBit, BoxPin, Numbering, Lowering, given_by_box, box_places, pins_of}
 use Rattle.bb_elab.proofs.BitNumbers.{bit_number}
 use Rattle.bb_elab.proofs.Enumerated.{length-enumerated}
-use Rattle.bb_elab.proofs.ListedParts.{map-twice, map-same, are_long, numbers_are, pair}
-use Rattle.bb_elab.proofs.ListedSteps.{Entry, AreInRow, no_row, both_rows, cells_in}
-
--- what is made of numbered elements, place by place
-pub rows_same : {A B C : Type 0} (f : A → C) (g : B → C) (h k : ℕ → ℕ) (a : ℕ) (xs : List A) (ys : List B) → map f xs ≡ map g ys → ((i : ℕ) → h i ≡ k i)
-    → map {B = C × ℕ} (λ x. (f x.1, h x.0)) (enumerate_from a xs) ≡ map {B = C × ℕ} (λ x. (g x.1, k x.0)) (enumerate_from a ys)
-rows_same f g h k a [] [] e same = refl
-rows_same f g h k a [] (y ∷ ys) e same = absurd (grind (arith, e))
-rows_same f g h k a (x ∷ xs) [] e same = absurd (grind (arith, e))
-rows_same {C = C} f g h k a (x ∷ xs) (y ∷ ys) e same =
-    ap₂ ◌∷◌ (ap₂ (λ (u : C) (v : ℕ). (u, v)) (ap (λ l. get_or l 0 (f x)) e) (same a)) (rows_same f g h k (a + 1) xs ys (ap (drop 1) e) same)
-
-pub numbers_from : {A B : Type 0} (f : ℕ → B) (a : ℕ) (xs : List A) → map (λ (x : ℕ × A). f x.0) (enumerate_from a xs) ≡ map f (range_with_len a (length xs))
-numbers_from f a [] = refl
-numbers_from f a (x ∷ xs) = ap (λ l. f a ∷ l) (numbers_from f (a + 1) xs)
-
-pub moved_row : (at a n : ℕ) → map (λ i. at + i) (range_with_len a n) ≡ range_with_len (at + a) n
-moved_row at a zero = refl
-moved_row at a (suc n) = ap (λ l. (at + a) ∷ l) (moved_row at (a + 1) n ∙ ap (λ m. range_with_len m n) (omega arith))
+use Rattle.bb_elab.proofs.ListedParts.{are_long, numbers_are, pair}
+use Rattle.bb_elab.proofs.PlacesInRow.{Entry, AreInRow, both_rows, no_row, cells_in, rows_same, numbers_from, moved_row, map-twice, map-same}
 
 module _ (d : Design) (lowering : Lowering) (number : Numbering) (nets start : ℕ) (net_places : (b : Bit) → number (NetBit b) ≡ nets + bit_number d b) where
   -- a box leads from one state to the next

@@ -1,9 +1,10 @@
 -- Each part of a module puts behind others what its construct has to have there.
-use Rattle.std.proofs.Common.{◌≡◌, ℕ, zero, suc, ◌+◌, ◌-◌, ◌<◌, ◌≤◌, Bool, List, [], ◌∷◌, ◌++◌, map, flat_map, take, length, All, Option, Some, refl, sym, ap, ap₂, ◌∙◌, subst, arith, length-append, append_assoc, append-nil}
+use Rattle.std.proofs.Common.{◌≡◌, ℕ, zero, suc, ◌+◌, ◌-◌, ◌≤◌, Bool, List, [], ◌∷◌, ◌++◌, map, flat_map, take, length, All, Some, refl, sym, ap, ap₂, ◌∙◌, subst, arith, length-append, append_assoc, append-nil}
 use Rattle.std.specs.Prelude.{slice_get}
 use Rattle.std.specs.List.{AllZip, enumerate_from, range_with_len}
 use Rattle.std.proofs.lemmas.List.{length-map, map-append}
 use Rattle.std.proofs.lemmas.List.Elements.{All-nil, All-cons}
+use Rattle.std.proofs.lemmas.Slice.Zip.{AllZip-long}
 use Rattle.bb_ast.specs.declared.module.Gate.{Gate}
 use Rattle.bb_ast.specs.Syntax.{Expression}
 use Rattle.bb_expr.specs.declared.step.Lowered.{Lowered}
@@ -17,14 +18,15 @@ use Rattle.bb_elab.specs.declared.outline.Part.TheVariants as part
 use Rattle.bb_elab.specs.Hierarchy.{Design, Scope, path_to}
 use Rattle.bb_elab.specs.NetBits.{Bit, scope_bits, bits_named, pin_bits, written_bits}
 use Rattle.bb_elab.specs.Contexts.{low_bits, width_of, context_width}
-use Rattle.bb_elab.specs.Constructs.{Construct, Assignment, GateInstance, Register, SupplyNet, InputConnection, OutputConnection, BoxContents}
-use Rattle.bb_elab.specs.Listing.{Site, Sheet, Terminals, given_all, constant_place, with_gate, with_terminals, with_part, joined, inverted}
+use Rattle.bb_elab.specs.Constructs.{Construct, Assignment, GateInstance, Register, SupplyNet, InputConnection, OutputConnection}
+use Rattle.bb_elab.specs.Listing.{Site, Sheet, Terminals, given_all, constant_place, with_gate, with_terminals, with_part}
 use Rattle.bb_elab.specs.Outlines.{IsMadeIn, IsPinIn, IsPartOf}
-use Rattle.bb_elab.specs.Places.{Place, Constant, NetBit, Step, Joined, Inverted, Numbering, Lowering, Steps, lowered_in, step_places, terminal_place, gate_place, joining_places, inverting_place, places_at}
+use Rattle.bb_elab.specs.Places.{Constant, NetBit, Step, Numbering, Lowering, Steps, step_places, terminal_place, gate_place, joining_places, inverting_place, places_at}
 use Rattle.bb_elab.proofs.BitNumbers.{bit_number, IsSiteOf}
 use Rattle.bb_elab.proofs.ListedGates.{GateFits, gate_fits}
-use Rattle.bb_elab.proofs.ListedParts.{lowereds, steps_before, map-twice, map-same, are_long, Puts, pair, beside_is, all_is, net_place_is, AreLoweredAt, own_bits, inner_bits, one_lowered, one_cells, one_row, one_places, low_places}
-use Rattle.bb_elab.proofs.ListedSteps.{Entry, AreInRow, no_row, both_rows, cells_in, IsLoweredAt, TerminalsFit, terminals_fit, steps_from}
+use Rattle.bb_elab.proofs.ListedParts.{lowereds, steps_before, are_long, Puts, beside_is, all_is, net_place_is, AreLoweredAt, own_bits, inner_bits, one_lowered, one_cells, one_places, low_places, expression_row}
+use Rattle.bb_elab.proofs.ListedSteps.{TerminalsFit, terminals_fit, steps_from}
+use Rattle.bb_elab.proofs.PlacesInRow.{Entry, AreInRow, both_rows, no_row, cells_in, map-twice, map-same}
 
 zipped_left : {A B : Type 0} (R : A → B → Type 0) (xs : List A) (ys : List B) → AllZip R xs ys → (k : ℕ) (x : A) → slice_get xs k ≡ Some x → (y : B) × R x y
 zipped_left R [] [] all k x e = absurd (grind (arith, e))
@@ -32,12 +34,6 @@ zipped_left R [] (z ∷ ys) all k x e = absurd all
 zipped_left R (u ∷ xs) [] all k x e = absurd all
 zipped_left R (u ∷ xs) (z ∷ ys) all zero x e = let same : u ≡ x = grind (arith, e) in (z, subst (λ v. R v z) same all.0)
 zipped_left R (u ∷ xs) (z ∷ ys) all (suc k) x e = zipped_left R xs ys all.1 k x e
-
-zipped_long : {A B : Type 0} (R : A → B → Type 0) (xs : List A) (ys : List B) → AllZip R xs ys → length xs ≡ length ys
-zipped_long R [] [] all = refl
-zipped_long R [] (z ∷ ys) all = absurd all
-zipped_long R (u ∷ xs) [] all = absurd all
-zipped_long R (u ∷ xs) (z ∷ ys) all = ap suc (zipped_long R xs ys all.1)
 
 steps_next : (ls : List Lowered) (i : ℕ) (l : Lowered) → slice_get ls i ≡ Some l → steps_before ls (suc i) ≡ steps_before ls i + length l.steps.items
 steps_next [] i l e = absurd (grind (arith, e))
@@ -75,7 +71,7 @@ module _ (d : Design) (lowering : Lowering) (number : Numbering) (nets start : �
     count = length ins - 1
 
     counted : length ins ≡ suc (length ins - 1)
-    counted = omega (arith, some, zipped_long (λ l e. IsMadeIn s.source l e (λ s. width_of s e)) ins es made)
+    counted = omega (arith, some, AllZip-long (λ l e. IsMadeIn s.source l e (λ s. width_of s e)) ins es made)
 
     abbrev terminals : Terminals
     terminals = with_terminals start (nets + site.first) site.starts a.cells ins
@@ -106,12 +102,12 @@ module _ (d : Design) (lowering : Lowering) (number : Numbering) (nets start : �
 
     gate_places_are : (outs : List Expression) → gate_steps ++ gate_entries ≡ places_at lowering number (k, (s, GateInstance gate outs es))
     gate_places_are outs =
-        let same : length ins ≡ length es = zipped_long (λ l e. IsMadeIn s.source l e (λ s. width_of s e)) ins es made in
+        let same : length ins ≡ length es = sym (AllZip-long (λ l e. IsMadeIn s.source l e (λ s. width_of s e)) ins es made) in
         ap₂ (λ (n m : ℕ). steps_from lowering number k s (nets + site.first) site.starts constants (net_place_is d lowering number nets start constants net_places k s site is_site a) 0 n ++ (joining_places lowering number k gate m ++ inverting_place lowering number k gate m))
         (same ∙ sym (length-map {B = Expression × ℕ} es (λ e. (e, width_of s e)))) (sym counted ∙ same)
 
     gate_place_is : (with_gate start (nets + site.first) site.starts gate a.cells ins).place ≡ number (gate_place lowering gate k (length es))
-    gate_place_is = gate_is.place ∙ ap (λ n. number (gate_place lowering gate k n)) (sym counted ∙ zipped_long (λ l e. IsMadeIn s.source l e (λ s. width_of s e)) ins es made)
+    gate_place_is = gate_is.place ∙ ap (λ n. number (gate_place lowering gate k n)) (sym counted ∙ sym (AllZip-long (λ l e. IsMadeIn s.source l e (λ s. width_of s e)) ins es made))
 
   abbrev Here : Part → Construct → Type 0
   Here q c = Puts d lowering number nets start (k, (s, c)) a (with_part nets start site a q)
@@ -128,7 +124,7 @@ module _ (d : Design) (lowering : Lowering) (number : Numbering) (nets start : �
   pub part_puts : (q : Part) (c : Construct) → IsPartOf d.text s.source q c → AreAtHere (lowereds q) → HasInputs c → Here q c
   part_puts (part.Assignment left right) (Assignment l r) is at some = record {
     cells = ap (λ c. a.cells ++ c) (sym (one_cells d lowering number nets start constants net_places k s site is_site a right at r (context_width s l r) is.1));
-    row = one_row d lowering number nets start constants net_places k s site is_site a right at r (context_width s l r) is.1;
+    row = expression_row d lowering number nets start constants net_places k s site is_site a right at r (context_width s l r) is.1;
     sources = ap (given_all a.sources) (sym (beside_is d lowering number nets start (written_bits s l) (low_bits (length (written_bits s l)) (step_places lowering k 0)) site.first left.items (start + length a.cells) (low_bits (length left.items) right.bits.items)
         (own_bits d lowering number nets start constants net_places k s site is_site a left.items (λ s. written_bits s l) is.0)
         (low_places d lowering number nets start constants net_places k s site is_site a right at r (context_width s l r) is.1 (length (written_bits s l)) (length left.items) (sym (are_long (scope_bits s) left.items (written_bits s l) (is.0 s.path))))));
@@ -146,7 +142,7 @@ module _ (d : Design) (lowering : Lowering) (number : Numbering) (nets start : �
       })
   part_puts (part.Register left right clock falling) (Register r) is at some = record {
     cells = ap (λ c. a.cells ++ c) (sym (one_cells d lowering number nets start constants net_places k s site is_site a right at r.right (context_width s r.left r.right) is.1));
-    row = one_row d lowering number nets start constants net_places k s site is_site a right at r.right (context_width s r.left r.right) is.1;
+    row = expression_row d lowering number nets start constants net_places k s site is_site a right at r.right (context_width s r.left r.right) is.1;
     sources = refl;
     next = ap (given_all a.next) (sym (beside_is d lowering number nets start (written_bits s r.left) (low_bits (length (written_bits s r.left)) (step_places lowering k 0)) site.first left.items (start + length a.cells) (low_bits (length left.items) right.bits.items)
         (own_bits d lowering number nets start constants net_places k s site is_site a left.items (λ s. written_bits s r.left) is.0)
@@ -163,7 +159,7 @@ module _ (d : Design) (lowering : Lowering) (number : Numbering) (nets start : �
   }
   part_puts (part.Input instance pin value) (InputConnection i port e) is at some = record {
     cells = ap (λ c. a.cells ++ c) (sym (one_cells d lowering number nets start constants net_places k s site is_site a value at e (width_of s e) is.1));
-    row = one_row d lowering number nets start constants net_places k s site is_site a value at e (width_of s e) is.1;
+    row = expression_row d lowering number nets start constants net_places k s site is_site a value at e (width_of s e) is.1;
     sources = ap (given_all a.sources) (sym (beside_is d lowering number nets start (pin_bits (path_to s.path i) port) (step_places lowering k 0) (site.inner instance) pin.items (start + length a.cells) value.bits.items
         (inner_bits d lowering number nets start constants net_places k s site is_site a instance pin.items i port is.0) (one_places d lowering number nets start constants net_places k s site is_site a value at e (width_of s e) is.1)));
     next = refl;

@@ -1,21 +1,15 @@
 -- Cells put behind others, with the places of a list that stand for them: gates.
-use Rattle.std.proofs.Common.{◌≡◌, ℕ, zero, suc, ◌+◌, ◌-◌, ◌<◌, Bool, true, false, if◌then◌else◌, List, [], ◌∷◌, ◌++◌, map, length, refl, sym, ap, ap₂, ◌∙◌, subst, arith, length-append, append_assoc, append-nil}
+use Rattle.std.proofs.Common.{◌≡◌, ℕ, zero, suc, ◌+◌, ◌-◌, Bool, true, false, if◌then◌else◌, List, [], ◌∷◌, ◌++◌, map, length, refl, sym, ap, ◌∙◌, subst, arith, length-append, append_assoc, append-nil}
 use Rattle.std.specs.List.{fold, range_with_len}
-use Rattle.std.specs.Prelude.{slice_get, Some}
 use Rattle.std.proofs.lemmas.List.{length-map, map-append}
 use Rattle.bb_ast.specs.declared.module.Gate.{Gate}
-use Rattle.bb_expr.specs.declared.step.BitStep.TheVariants as steps
-use Rattle.bb_expr.specs.declared.step.Lowered.{Lowered}
-use Rattle.bb_expr.specs.Lowered.{Reads}
-use Rattle.bb_expr.specs.Nets.{nets_of}
 use Rattle.bb_net.specs.declared.loose.LooseCell.{LooseCell}
 use Rattle.bb_net.specs.declared.loose.LooseCell.TheVariants as cell
 use Rattle.bb_elab.specs.GateFunctions.{inverts}
-use Rattle.bb_elab.specs.Hierarchy.{Scope}
-use Rattle.bb_elab.specs.Listing.{constant_place, net_bit_place, Terminals, with_terminal, with_terminals, Joining, joined_to, joined, inverted, with_gate}
-use Rattle.bb_elab.specs.Places.{Place, Constant, Joined, Inverted, Numbering, Lowering, net_place, joined_place, terminal_place, gate_place, join_cell, joining_places, inverting_place}
+use Rattle.bb_elab.specs.Listing.{Joining, joined_to, joined, inverted}
+use Rattle.bb_elab.specs.Places.{Place, Joined, Inverted, Numbering, Lowering, joined_place, terminal_place, gate_place, join_cell, joining_places, inverting_place}
 use Rattle.bb_elab.proofs.WrittenValue.{length-range}
-use Rattle.bb_elab.proofs.ListedSteps.{Entry, AreInRow, both_rows, no_row, one_row, cells_in, IsLoweredAt, TerminalsFit, terminals_fit, terminal_at, steps_from}
+use Rattle.bb_elab.proofs.PlacesInRow.{Entry, AreInRow, both_rows, no_row, one_row, cells_in}
 
 module _ (lowering : Lowering) (number : Numbering) (k : ℕ) (gate : Gate) (start : ℕ) where
   abbrev terminal : ℕ → ℕ

@@ -1,11 +1,9 @@
 -- What a construct puts behind others: its places, with their cells in a row, and what it drives.
-use Rattle.std.proofs.Common.{◌≡◌, ℕ, zero, suc, ◌+◌, ◌-◌, ◌<◌, ◌≤◌, Bool, List, [], ◌∷◌, ◌++◌, map, flat_map, zip, take, drop, length, get_or, All, Option, Some, None, refl, sym, ap, ap₂, ◌∙◌, subst, arith, length-append, append_assoc, append-nil}
+use Rattle.std.proofs.Common.{◌≡◌, ℕ, suc, ◌+◌, ◌-◌, Bool, List, [], ◌∷◌, ◌++◌, map, flat_map, zip, take, drop, length, get_or, All, Some, None, refl, sym, ap, ap₂, ◌∙◌, subst, arith, append-nil}
 use Rattle.std.specs.Prelude.{slice_get}
-use Rattle.std.specs.List.{AllZip, fold, enumerate_from, range_with_len}
-use Rattle.std.proofs.lemmas.List.{length-map, map-append}
+use Rattle.std.proofs.lemmas.List.{length-map}
 use Rattle.std.proofs.lemmas.List.Elements.{All-nil, All-cons}
-use Rattle.bb_ast.specs.declared.module.Gate.{Gate}
-use Rattle.bb_ast.specs.Syntax.{Expression, PlainModule}
+use Rattle.bb_ast.specs.Syntax.{Expression}
 use Rattle.bb_expr.specs.declared.step.BitStep.TheVariants as steps
 use Rattle.bb_expr.specs.declared.step.Lowered.{Lowered}
 use Rattle.bb_expr.specs.Declarations.{range_of}
@@ -15,16 +13,16 @@ use Rattle.bb_expr.specs.Spots.{Pin}
 use Rattle.bb_elab.specs.declared.outline.Part.{Part}
 use Rattle.bb_elab.specs.declared.outline.Part.TheVariants as part
 use Rattle.bb_elab.specs.Hierarchy.{Design, Scope, path_to}
-use Rattle.bb_elab.specs.NetBits.{Bit, scope_bits, bits_named, pin_bits, written_bits}
-use Rattle.bb_elab.specs.Contexts.{low_bits, width_of, context_width}
-use Rattle.bb_elab.specs.Constructs.{Construct, Assignment, GateInstance, Register, SupplyNet, InputConnection, OutputConnection, BoxContents}
-use Rattle.bb_elab.specs.Listing.{Site, Sheet, given_all, beside, all_given_by, constant_place, cells_of_steps, net_bit_place, with_gate, with_terminals, with_part}
-use Rattle.bb_elab.specs.Outlines.{AreAt, AreBitsIn, IsMadeIn, IsPinIn, IsPartOf}
-use Rattle.bb_elab.specs.Places.{Place, Constant, NetBit, Step, Joined, Inverted, Numbering, Lowering, Steps, IsLoweringOf, lowered_in, step_places, step_cells, net_place, gate_place, given_at, data_at, places_at}
+use Rattle.bb_elab.specs.NetBits.{Bit, scope_bits, pin_bits}
+use Rattle.bb_elab.specs.Contexts.{low_bits}
+use Rattle.bb_elab.specs.Constructs.{Construct}
+use Rattle.bb_elab.specs.Listing.{Site, Sheet, given_all, beside, all_given_by, constant_place, cells_of_steps, net_bit_place}
+use Rattle.bb_elab.specs.Outlines.{AreAt, AreBitsIn, IsPinIn}
+use Rattle.bb_elab.specs.Places.{Place, Constant, NetBit, Step, Joined, Inverted, Numbering, Lowering, Steps, IsLoweringOf, step_places, step_cells, net_place, given_at, data_at, places_at}
 use Rattle.bb_elab.proofs.BitByBit.{low-map}
 use Rattle.bb_elab.proofs.BitNumbers.{bit_number, IsSiteOf}
-use Rattle.bb_elab.proofs.ListedGates.{GateFits, gate_fits}
-use Rattle.bb_elab.proofs.ListedSteps.{Entry, AreInRow, no_row, both_rows, cells_in, IsLoweredAt, steps_cells, steps_row, TerminalsFit, terminals_fit}
+use Rattle.bb_elab.proofs.ListedSteps.{IsLoweredAt, steps_cells, steps_row}
+use Rattle.bb_elab.proofs.PlacesInRow.{AreInRow, cells_in, map-twice, map-same}
 
 -- the expressions of a part
 abbrev pub lowereds : Part → List Lowered
@@ -43,14 +41,6 @@ map-zip : {A B C D : Type 0} (f : A → C) (g : B → D) (xs : List A) (ys : Lis
 map-zip f g [] ys = refl
 map-zip f g (x ∷ xs) [] = refl
 map-zip {A} {B} {C} {D} f g (x ∷ xs) (y ∷ ys) = ap (λ (l : List (C × D)). (f x, g y) ∷ l) (map-zip f g xs ys)
-
-pub map-twice : {A B C : Type 0} (f : A → B) (g : B → C) (xs : List A) → map g (map f xs) ≡ map (λ x. g (f x)) xs
-map-twice f g [] = refl
-map-twice f g (x ∷ xs) = ap (λ l. g (f x) ∷ l) (map-twice f g xs)
-
-pub map-same : {A B : Type 0} (f g : A → B) → ((x : A) → f x ≡ g x) → (xs : List A) → map f xs ≡ map g xs
-map-same f g same [] = refl
-map-same f g same (x ∷ xs) = ap₂ ◌∷◌ (same x) (map-same f g same xs)
 
 pub are_long : (all : List Bit) (numbers : List ℕ) (bits : List Bit) → AreAt all numbers bits → length numbers ≡ length bits
 are_long all numbers bits are = sym (length-map numbers (slice_get all)) ∙ ap length are ∙ length-map bits Some
@@ -125,8 +115,8 @@ module _ (d : Design) (lowering : Lowering) (number : Numbering) (nets start : �
       one_cells = ap cells_in (append-nil (step_cells lowering number k s 0 ++ []) ∙ append-nil (step_cells lowering number k s 0))
           ∙ steps_cells lowering number k s (nets + site.first) site.starts constants net_place_is 0 (start + length a.cells) l one_at
 
-      pub one_row : AreInRow number (start + length a.cells) ((step_cells lowering number k s 0 ++ []) ++ [])
-      one_row = subst (AreInRow number (start + length a.cells)) (sym (append-nil (step_cells lowering number k s 0 ++ []) ∙ append-nil (step_cells lowering number k s 0)))
+      pub expression_row : AreInRow number (start + length a.cells) ((step_cells lowering number k s 0 ++ []) ++ [])
+      expression_row = subst (AreInRow number (start + length a.cells)) (sym (append-nil (step_cells lowering number k s 0 ++ []) ∙ append-nil (step_cells lowering number k s 0)))
           (steps_row lowering number k s (nets + site.first) site.starts constants net_place_is 0 (start + length a.cells) l one_at)
 
       pub one_places : map number (step_places lowering k 0) ≡ map (λ j. start + length a.cells + j) l.bits.items

@@ -1,15 +1,13 @@
 -- The scopes of a design by their numbers, one after another: the blocks are its constructs, and its boxes have their pins.
-use Rattle.std.proofs.Common.{◌≡◌, ℕ, zero, suc, ◌+◌, ◌<◌, ◌≤◌, Bool, true, false, if◌then◌else◌, List, [], ◌∷◌, ◌++◌, map, flat_map, take, length, get_or, Contains, Option, Some, None, refl, sym, ap, ◌∙◌, subst, arith, length-append}
+use Rattle.std.proofs.Common.{◌≡◌, ℕ, suc, ◌+◌, Bool, true, false, if◌then◌else◌, List, [], ◌∷◌, map, flat_map, length, Contains, Some, None, refl, sym, ap, ◌∙◌, subst, arith, length-append}
 use Rattle.std.specs.Prelude.{slice_get}
 use Rattle.std.specs.List.{AllZip, fold}
 use Rattle.std.specs.Option.{option_map_or}
-use Rattle.std.proofs.lemmas.Option.{slice_get_within, slice_get-get_or}
 use Rattle.bb_expr.specs.FitLaws.{NetNamesDiffer}
 use Rattle.bb_expr.specs.Nets.{nets_of}
 use Rattle.bb_elab.specs.declared.outline.Outline.{Outline}
-use Rattle.bb_elab.specs.declared.outline.Part.{Part}
 use Rattle.bb_elab.specs.declared.placed.Placed.{Placed}
-use Rattle.bb_elab.specs.Hierarchy.{Design, Scope, is_box, boxes, scopes}
+use Rattle.bb_elab.specs.Hierarchy.{Design, Scope, scopes}
 use Rattle.bb_elab.specs.NetBits.{Bit, scope_bits, net_order}
 use Rattle.bb_elab.specs.Constructs.{Construct, GateInstance, BoxContents, body_constructs, constructs_at, parts}
 use Rattle.bb_elab.specs.Listing.{bit_count, site_of}
@@ -18,9 +16,9 @@ use Rattle.bb_elab.specs.Outlines.{IsOutline, IsPartOf}
 use Rattle.bb_elab.specs.Placements.{ArePlaced, AreOutlined, IsScopeAt}
 use Rattle.bb_elab.specs.Places.{NetBit, Numbering, Lowering}
 use Rattle.bb_elab.proofs.AllowedDesigns.{wired}
-use Rattle.bb_elab.proofs.BitNumbers.{bit_number, nets_long, first_bits, site_is, IsSiteOf}
-use Rattle.bb_elab.proofs.ListedBlocks.{Block, nowhere, blocks_in, blocks_of, IsBlockOf}
-use Rattle.bb_elab.proofs.ListedBoxes.{HasPins, IsBoxedSo}
+use Rattle.bb_elab.proofs.BitNumbers.{bit_number, nets_long, first_bits, site_is}
+use Rattle.bb_elab.proofs.ListedBlocks.{nowhere, blocks_in, blocks_of, IsBlockOf}
+use Rattle.bb_elab.proofs.ListedBoxes.{IsBoxedSo}
 use Rattle.bb_elab.proofs.ListedConstructs.{HasInputs}
 use Rattle.bb_elab.proofs.ListedData.{zip_append}
 

@@ -1,10 +1,9 @@
 -- Cells put behind others, with the places of a list that stand for them: the steps of expressions.
-use Rattle.std.proofs.Common.{◌≡◌, ℕ, zero, suc, ◌+◌, ◌-◌, ◌<◌, Bool, List, [], ◌∷◌, ◌++◌, map, flat_map, length, get_or, All, Contains, refl, sym, ap, ap₂, ◌∙◌, subst, arith, length-append, append_assoc, append-nil}
+use Rattle.std.proofs.Common.{◌≡◌, ℕ, suc, ◌+◌, Bool, List, [], ◌∷◌, ◌++◌, map, flat_map, length, All, Contains, refl, sym, ap, ap₂, ◌∙◌, subst, arith, length-append, append_assoc, append-nil}
 use Rattle.std.specs.List.{fold, enumerate_from, range_with_len}
 use Rattle.std.specs.Prelude.{slice_get, slice_index, Some}
 use Rattle.std.proofs.lemmas.List.{length-map, map-append}
 use Rattle.std.proofs.lemmas.List.Elements.{All-contains}
-use Rattle.bb_expr.specs.declared.net.NetInfo.{NetInfo}
 use Rattle.bb_expr.specs.declared.step.BitStep.{BitStep}
 use Rattle.bb_expr.specs.declared.step.BitStep.TheVariants as steps
 use Rattle.bb_expr.specs.declared.step.Lowered.{Lowered}
@@ -14,37 +13,9 @@ use Rattle.bb_net.specs.declared.loose.LooseCell.{LooseCell}
 use Rattle.bb_net.specs.declared.loose.LooseCell.TheVariants as cell
 use Rattle.bb_elab.specs.Hierarchy.{Scope}
 use Rattle.bb_elab.specs.Listing.{constant_place, net_bit_place, cells_of_steps, with_steps, Terminals, with_terminal}
-use Rattle.bb_elab.specs.Places.{Place, Constant, Step, Numbering, Lowering, Steps, step_cell, net_place, step_cells, terminal_place}
+use Rattle.bb_elab.specs.Places.{Constant, Step, Numbering, Lowering, Steps, step_cell, net_place, step_cells, terminal_place}
 use Rattle.bb_elab.proofs.TopLaws.{contains_here, contains_there}
-
-abbrev pub Entry : Type 0
-Entry = Place × LooseCell
-
--- places that stand in a row from a number on
-pub record AreInRow (number : Numbering) (at : ℕ) (all : List Entry) : Type 0 where
-  pub row : map (λ (x : Entry). number x.0) all ≡ range_with_len at (length all)
-
-pub range_both : (a n m : ℕ) → range_with_len a (n + m) ≡ range_with_len a n ++ range_with_len (a + n) m
-range_both a zero m = ap₂ range_with_len (omega arith) (omega arith)
-range_both a (suc n) m =
-    let one : suc n + m ≡ suc (n + m) = omega arith in
-    ap (range_with_len a) one ∙ ap (λ l. a ∷ l) (range_both (a + 1) n m ∙ ap (λ b. range_with_len (a + 1) n ++ range_with_len b m) (omega arith))
-
-module _ (number : Numbering) where
-  pub both_rows : (at : ℕ) (xs ys : List Entry) → AreInRow number at xs → AreInRow number (at + length xs) ys → AreInRow number at (xs ++ ys)
-  both_rows at xs ys p q = record {
-    row = map-append (λ (x : Entry). number x.0) xs ys ∙ ap₂ ◌++◌ p.row q.row ∙ sym (range_both at (length xs) (length ys)) ∙ ap (range_with_len at) (sym (length-append xs ys));
-  }
-
-  pub no_row : (at : ℕ) → AreInRow number at []
-  no_row at = record { row = refl }
-
-  pub one_row : (at : ℕ) (x : Entry) → number x.0 ≡ at → AreInRow number at (x ∷ [])
-  one_row at x e = record { row = ap (λ (n : ℕ). n ∷ []) e }
-
--- the cells of entries
-abbrev pub cells_in : List Entry → List LooseCell
-cells_in all = map (λ (x : Entry). x.1) all
+use Rattle.bb_elab.proofs.PlacesInRow.{Entry, AreInRow, both_rows, no_row, cells_in}
 
 module _ (lowering : Lowering) (number : Numbering) (k : ℕ) (s : Scope) (bits : ℕ) (starts : List ℕ) (constants : (b : Bool) → number (Constant b) ≡ constant_place b)
     (nets : (n i : ℕ) → Reads (nets_of s.source) 0 (steps.Net n i) → number (net_place s n i) ≡ net_bit_place bits starts n i) where

@@ -1,11 +1,12 @@
 -- No clause of a public call rests on this file: it says what functions inside the crate find.
 -- The list of cells of a design by numbers. A bit of a net is told by its number in net order, a cell by its place. Constants and
 -- inputs stand first, then a copy for each bit of a net, then the other cells: pins of boxes, and what constructs make.
-use Rattle.std.specs.Prelude.{ℕ, ◌+◌, Bool, true, false, if◌then◌else◌, List, [], ◌∷◌, ◌++◌, map, length, replicate, Option, Some, None, slice_get, slice_index, slice_set}
+use Rattle.std.specs.Prelude.{ℕ, ◌<◌, ◌≡◌, All, ◌+◌, Bool, true, false, if◌then◌else◌, List, [], ◌∷◌, ◌++◌, map, length, replicate, Option, Some, None, slice_get, slice_index, slice_set}
 use Rattle.std.specs.List.{fold, zip, enumerate_from, range_with_len}
 use Rattle.std.specs.Option.{option_map_or, option_and_then}
 use Rattle.bb_ast.specs.declared.module.Gate.{Gate}
 use Rattle.bb_expr.specs.declared.step.BitStep.{BitStep}
+use Rattle.bb_expr.specs.declared.step.BitStep.TheVariants as steps
 use Rattle.bb_expr.specs.declared.step.Lowered.{Lowered}
 use Rattle.bb_net.specs.declared.loose.LooseCell.{LooseCell}
 use Rattle.bb_net.specs.declared.loose.LooseCell.TheVariants as cell
@@ -61,7 +62,7 @@ constant_place b = if b then 1 else 0
 
 -- the place of a bit of a net, where those of the scope stand from a place on and those of each net from a number on
 abbrev pub net_bit_place : ℕ → List ℕ → ℕ → ℕ → ℕ
-net_bit_place bits starts n i = bits + option_map_or (λ k. k) (slice_get starts n) 0 + i
+net_bit_place bits starts n i = bits + slice_index starts n + i
 
 -- a scope: the number of its first bit, those of the first bits of its nets, and those of the first bits of its instances
 pub record Site : Type 0 where
@@ -76,6 +77,18 @@ cells_of_steps bits starts base steps = map (step_cell constant_place (λ a. bas
 -- cells with those of an expression behind them, where the first cell stands at the place start
 abbrev pub with_steps : ℕ → ℕ → List ℕ → List LooseCell → Lowered → List LooseCell
 with_steps start bits starts cells l = cells ++ cells_of_steps bits starts (start + length cells) l.steps.items
+
+-- a step reads one of so many nets
+abbrev pub IsNetBelow : ℕ → BitStep → Type 0
+IsNetBelow n (steps.Net k i) = k < n
+IsNetBelow n step = Unit {0}
+
+abbrev pub HasNetsBelow : ℕ → Lowered → Type 0
+HasNetsBelow n l = All (IsNetBelow n) l.steps.items
+
+-- and it has a bit
+abbrev pub IsInputAmong : ℕ → Lowered → Type 0
+IsInputAmong n l = HasNetsBelow n l × (0 < length l.bits.items)
 
 -- cells, and the place of each input of a gate
 pub record Terminals : Type 0 where
@@ -115,6 +128,15 @@ pub record Sheet : Type 0 where
 
 abbrev pub sheet_view : SheetLists → Sheet
 sheet_view s = record { cells = s.cells.items; sources = s.sources.items; next = s.next.items }
+
+-- a part of a module with so many nets and instances
+abbrev pub IsPartAmong : ℕ → ℕ → Part → Type 0
+IsPartAmong n m (part.Assignment left right) = HasNetsBelow n right
+IsPartAmong n m (part.Gate gate outs ins) = All (IsInputAmong n) ins.items
+IsPartAmong n m (part.Register left right clock falling) = HasNetsBelow n right
+IsPartAmong n m (part.Supply high bits) = Unit {0}
+IsPartAmong n m (part.Input instance pin value) = (instance < m) × HasNetsBelow n value
+IsPartAmong n m (part.Output instance pin left) = instance < m
 
 abbrev pub with_part : ℕ → ℕ → Site → Sheet → Part → Sheet
 with_part nets start s sheet (part.Assignment left right) = record {
@@ -160,6 +182,12 @@ abbrev pub with_parts : ℕ → ℕ → List Placed → Placed → Sheet → Opt
 with_parts nets start placed p sheet None = sheet
 with_parts nets start placed p sheet (Some o) = fold (with_part nets start (site_of placed p o)) sheet o.parts.items
 
+-- what a scope names is there
+pub record IsScopeAmong (placed : List Placed) (outlines : List Outline) (p : Placed) : Type 0 where
+  pub outline : p.module < length outlines
+  pub children : All (λ c. c < length placed) p.children.items
+  pub parts : (o : Outline) → p.boxed ≡ false → slice_get outlines p.module ≡ Some o → All (IsPartAmong (length o.starts.items) (length p.children.items)) o.parts.items
+
 abbrev pub with_scope : ℕ → ℕ → List Placed → List Outline → Sheet → Placed → Sheet
 with_scope nets start placed outlines sheet p = if p.boxed then sheet else with_parts nets start placed p sheet (slice_get outlines p.module)
 
@@ -204,11 +232,11 @@ cells_before inputs sources = cell.Const false ∷ cell.Const true ∷ map cell.
 abbrev pub outs_of : ℕ → Outline → List Stored → Sources → List ℕ
 outs_of nets top stored next = map (λ i. nets + i) top.outputs.items ++ map (λ x. place_or_zero (slice_get next x.bit)) stored
 
-abbrev pub finished : ℕ → ℕ → Outline → List Stored → Boxed → Sheet → LooseList
-finished inputs nets top stored b sheet = record {
+abbrev pub finished : ℕ → ℕ → Outline → List Stored → List Pins → Sheet → LooseList
+finished inputs nets top stored boxes sheet = record {
   inputs = inputs;
   cells = cells_before inputs sheet.sources ++ sheet.cells;
-  boxes = b.boxes;
+  boxes = boxes;
   outs = outs_of nets top stored sheet.next;
 }
 
@@ -219,7 +247,7 @@ first_sources bits inputs = given_all (replicate bits None) (in_row 0 inputs 2)
 abbrev pub listed_on : ℕ → List ℕ → ℕ → ℕ → List Placed → List Outline → List Stored → Outline → LooseList
 listed_on bits inputs nets start placed outlines stored top =
     let b = boxed_in nets start placed outlines (first_sources bits inputs) in
-    finished (length inputs) nets top stored b (sheet_on nets start placed outlines b (replicate bits None))
+    finished (length inputs) nets top stored b.boxes (sheet_on nets start placed outlines b (replicate bits None))
 
 abbrev pub listed : List Placed → List Outline → List Stored → Outline → LooseList
 listed placed outlines stored top =

@@ -1,13 +1,14 @@
 //! The cells and the pins of boxes, scope by scope.
 
-ghost use Rattle.std.specs.Prelude.{◌≡◌, ◌+◌, ◌++◌, ◌∷◌, [], length, map, Some, IfOk, OnOk};
+ghost use Rattle.std.specs.Prelude.{◌<◌, All, ◌≡◌, ◌+◌, ◌++◌, length, map, Some, IfOk, OnOk};
 ghost use Rattle.std.specs.List.{fold, range_with_len};
 ghost use Rattle.bb_net.specs.declared.loose.LooseCell.TheVariants as cell;
-ghost use Rattle.bb_elab.specs.Listing.{in_row, given_all, boxed_view, with_pins, with_box};
+ghost use Rattle.bb_elab.specs.Listing.{boxed_view, with_pins, with_box};
 
 use crate::outline::Outline;
+use crate::part_cells::outline_of;
 use crate::placed::Placed;
-use crate::sources::{behind, give_in_row, next_place};
+use crate::sources::{Layout, behind, give_in_row, next_place};
 use bb_bits::NoMemory;
 use bb_net::{BoxPins, LooseCell};
 use std::alloc::Global;
@@ -81,17 +82,16 @@ fn pins_of(alloc: Global, bits: u32, base: u32, outline: &Outline) -> Result<Box
 // Puts a box behind others.
 fn add_pins(
     alloc: Global,
-    nets: u32,
-    start: u32,
+    layout: Layout,
     first: u32,
     outline: &Outline,
     boxed: &mut BoxedLists,
 ) -> Result<(), NoMemory>
-    ensures added { OnOk result (boxed_view boxed.new ≡ with_pins nets start first (boxed_view boxed.old) (Some outline.now)) }
+    ensures added { OnOk result (boxed_view boxed.new ≡ with_pins layout.nets layout.others first (boxed_view boxed.old) (Some outline.now)) }
 {
-    let base = next_place(start, &boxed.cells)?;
+    let base = next_place(layout.others, &boxed.cells)?;
     let b = number_of(&boxed.boxes)?;
-    let pins = pins_of(alloc, behind(nets, first)?, base, outline)?;
+    let pins = pins_of(alloc, behind(layout.nets, first)?, base, outline)?;
     add_outputs(b, outline.outputs.len(), &mut boxed.cells)?;
     give_in_row(&mut boxed.sources, first, &outline.outputs, base)?;
     boxed.boxes.push(pins)?;
@@ -101,36 +101,34 @@ fn add_pins(
 // Puts a scope behind the boxes if it is one.
 fn add_box(
     alloc: Global,
-    nets: u32,
-    start: u32,
+    layout: Layout,
     outlines: &[Outline],
     scope: &Placed,
     boxed: &mut BoxedLists,
 ) -> Result<(), NoMemory>
-    ensures added { OnOk result (boxed_view boxed.new ≡ with_box nets start outlines.now (boxed_view boxed.old) scope.now) }
+    requires there { scope.now.module < length outlines.now }
+    ensures added { OnOk result (boxed_view boxed.new ≡ with_box layout.nets layout.others outlines.now (boxed_view boxed.old) scope.now) }
 {
     if !scope.boxed {
         return Ok(());
     }
-    match outlines.get(scope.module) {
-        Some(outline) => add_pins(alloc, nets, start, scope.first, outline, boxed),
-        None => Ok(()),
-    }
+    let outline = outline_of(outlines, scope);
+    add_pins(alloc, layout, scope.first, outline, boxed)
 }
 
 /// The same for all scopes.
 pub(crate) fn add_boxes(
     alloc: Global,
-    nets: u32,
-    start: u32,
+    layout: Layout,
     placed: &[Placed],
     outlines: &[Outline],
     boxed: &mut BoxedLists,
 ) -> Result<(), NoMemory>
-    ensures added { OnOk result (boxed_view boxed.new ≡ fold (with_box nets start outlines.now) (boxed_view boxed.old) placed.now) }
+    requires there { All (λ p. p.module < length outlines.now) placed.now }
+    ensures added { OnOk result (boxed_view boxed.new ≡ fold (with_box layout.nets layout.others outlines.now) (boxed_view boxed.old) placed.now) }
 {
     for scope in placed {
-        add_box(alloc, nets, start, outlines, scope, boxed)?;
+        add_box(alloc, layout, outlines, scope, boxed)?;
     }
     Ok(())
 }

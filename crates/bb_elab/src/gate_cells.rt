@@ -2,18 +2,17 @@
 //!
 //! An input is joined to those before it by an operator each, and a gate that inverts ends with a complement.
 
-ghost use Rattle.std.specs.Prelude.{◌≡◌, slice_index, IfOk};
+ghost use Rattle.std.specs.Prelude.{◌≡◌, ◌<◌, All, length, slice_index, IfOk, OnOk};
 ghost use Rattle.bb_elab.specs.GateFunctions.{inverts};
 ghost use Rattle.bb_elab.specs.Places.{join_cell};
-ghost use Rattle.bb_elab.specs.Listing.{with_terminals, joined, inverted, with_gate};
+ghost use Rattle.bb_elab.specs.Listing.{IsInputAmong, with_terminals, joined, inverted, with_gate};
 
 use crate::sources::{behind, next_place};
-use crate::step_cells::add_steps;
+use crate::step_cells::{Spot, add_steps};
 use bb_ast::Gate;
 use bb_bits::NoMemory;
 use bb_expr::Lowered;
 use bb_net::LooseCell;
-use std::alloc::Global;
 
 // The operator that joins the inputs of a gate; buf and not have none to join.
 fn join_cell(gate: &Gate, a: u32, b: u32) -> LooseCell
@@ -36,32 +35,29 @@ fn inverts(gate: &Gate) -> bool
 
 // The first bit of an input, by the number of its step.
 fn first_bit(lowered: &Lowered) -> u32
+    requires some { 0 < length lowered.now.bits.items }
     ensures step { result ≡ slice_index lowered.now.bits.items 0 }
 {
-    match lowered.bits.first() {
-        Some(step) => *step,
-        None => 0,
-    }
+    lowered.bits[0]
 }
 
-// Puts the cells of the inputs of a gate behind others, and gives the places of the inputs.
+// Puts the cells of the inputs of a gate behind others, and notes the places of the inputs.
 fn add_terminals(
-    alloc: Global,
-    start: u32,
-    bits: u32,
-    starts: &[u32],
+    spot: Spot<'_>,
     ins: &[Lowered],
+    places: &mut Vec<u32>,
     cells: &mut Vec<LooseCell>,
-) -> Result<Vec<u32>, NoMemory>
-    ensures places { IfOk result (λ places. places.items ≡ (with_terminals start bits starts.now cells.old.items ins.now).places) }
-    ensures added { IfOk result (λ places. cells.new.items ≡ (with_terminals start bits starts.now cells.old.items ins.now).cells) }
+) -> Result<(), NoMemory>
+    requires ins { All (IsInputAmong (length spot.starts.now)) ins.now }
+    ensures places { OnOk result (places.new.items ≡ (with_terminals spot.entry.others spot.entry.bits spot.entry.starts.now cells.old.items ins.now).places) }
+    ensures added { OnOk result (cells.new.items ≡ (with_terminals spot.entry.others spot.entry.bits spot.entry.starts.now cells.old.items ins.now).cells) }
 {
-    let mut places = Vec::with_capacity(alloc, ins.len())?;
+    places.clear();
     for lowered in ins {
-        let base = add_steps(start, bits, starts, lowered, cells)?;
+        let base = add_steps(spot, lowered, cells)?;
         places.push(behind(base, first_bit(lowered))?)?;
     }
-    Ok(places)
+    Ok(())
 }
 
 // Joins the inputs at these places, and gives the place of all of them together.
@@ -104,20 +100,20 @@ fn add_inverter(
     Ok(next)
 }
 
-/// Puts the cells of a gate behind others, the first of which stands at the place `start`, and gives its place.
+/// Puts the cells of a gate behind others, and gives its place. The places of its inputs are noted in a list that is there to be
+/// used again.
 pub(crate) fn add_gate(
-    alloc: Global,
-    start: u32,
-    bits: u32,
-    starts: &[u32],
+    spot: Spot<'_>,
     gate: &Gate,
     ins: &[Lowered],
+    places: &mut Vec<u32>,
     cells: &mut Vec<LooseCell>,
 ) -> Result<u32, NoMemory>
-    ensures place { IfOk result (λ place. place ≡ (with_gate start bits starts.now gate.now cells.old.items ins.now).place) }
-    ensures added { IfOk result (λ place. cells.new.items ≡ (with_gate start bits starts.now gate.now cells.old.items ins.now).cells) }
+    requires ins { All (IsInputAmong (length spot.starts.now)) ins.now }
+    ensures place { IfOk result (λ place. place ≡ (with_gate spot.entry.others spot.entry.bits spot.entry.starts.now gate.now cells.old.items ins.now).place) }
+    ensures added { IfOk result (λ place. cells.new.items ≡ (with_gate spot.entry.others spot.entry.bits spot.entry.starts.now gate.now cells.old.items ins.now).cells) }
 {
-    let places = add_terminals(alloc, start, bits, starts, ins, cells)?;
-    let place = add_joins(start, gate, &places, cells)?;
-    add_inverter(start, gate, place, cells)
+    add_terminals(spot, ins, places, cells)?;
+    let place = add_joins(spot.others, gate, places, cells)?;
+    add_inverter(spot.others, gate, place, cells)
 }

@@ -4,11 +4,9 @@
 //! make, scope by scope. Since the places of the first two are known beforehand, what gives each bit is noted while the others
 //! are made, and the copies are made last.
 
-ghost use Rattle.std.specs.Prelude.{◌≡◌, ◌+◌, ◌^◌, ◌<◌, ◌++◌, ◌∷◌, ℕ, None, Some, length, map, replicate, slice_get, IfOk, OnOk};
+ghost use Rattle.std.specs.Prelude.{All, ◌≡◌, ◌^◌, ◌<◌, None, length, replicate, IfOk};
 ghost use Rattle.std.specs.List.{fold};
-ghost use Rattle.std.specs.Option.{option_map_or};
-ghost use Rattle.bb_net.specs.declared.loose.LooseCell.TheVariants as cell;
-ghost use Rattle.bb_elab.specs.Listing.{Sheet, Boxed, sheet_view, boxed_view, place_or_zero, first_sources, input_numbers, bit_count, boxed_in, sheet_on, cells_before, outs_of, finished, listed_on, listed};
+ghost use Rattle.bb_elab.specs.Listing.{IsScopeAmong, sheet_view, boxed_view, first_sources, input_numbers, bit_count, boxed_in, cells_before, outs_of, finished, with_scope, listed};
 ghost use Rattle.bb_elab.specs.Hierarchy.{Design};
 ghost use Rattle.bb_elab.specs.ListLaws.{IsBounded};
 ghost use Rattle.bb_elab.specs.Placements.{ArePlaced, AreOutlined, AreStored};
@@ -17,32 +15,23 @@ ghost use Rattle.bb_elab.specs.Refusals.{AreDrivenOnce};
 
 use crate::box_cells::{BoxedLists, add_boxes, moved};
 use crate::outline::Outline;
-use crate::part_cells::{SheetLists, add_scopes};
+use crate::part_cells::{SheetLists, add_scopes, outline_of};
 use crate::placed::Placed;
-use crate::sources::{behind, count_of, give_in_row, place_or_zero};
+use crate::sources::{Layout, behind, count_of, give_in_row, place_or_zero};
 use crate::stored::Stored;
 use bb_bits::NoMemory;
 use bb_expr::laws::net_names_differ;
-use bb_net::{Loose, LooseCell};
+use bb_net::{BoxPins, Loose, LooseCell};
 use std::alloc::Global;
-
-// How many bits the nets of a scope have.
-fn bits_of(scope: &Placed, outlines: &[Outline]) -> u32
-    ensures bits { result ≡ option_map_or (λ o. o.bits) (slice_get outlines.now scope.now.module) 0 }
-{
-    match outlines.get(scope.module) {
-        Some(outline) => outline.bits,
-        None => 0,
-    }
-}
 
 // How many bits the nets of all scopes have.
 fn bit_count(placed: &[Placed], outlines: &[Outline]) -> Result<u32, NoMemory>
+    requires there { All (λ p. p.module < length outlines.now) placed.now }
     ensures count { IfOk result (λ n. n ≡ bit_count placed.now outlines.now) }
 {
     let mut count = 0;
     for scope in placed {
-        count = behind(count, bits_of(scope, outlines))?;
+        count = behind(count, outline_of(outlines, scope).bits)?;
     }
     Ok(count)
 }
@@ -106,43 +95,72 @@ fn outs_of(
     Ok(outs)
 }
 
-// The list of cells, for so many bits and these inputs, where the bits of nets stand from the place `nets` on and the other
-// cells from the place `start` on.
-fn listed_on(
+// The cells of the pins of boxes, the boxes, and the place that gives each bit that is an input or a pin.
+fn boxed_in(
     alloc: Global,
-    bits: u32,
-    inputs: &[u32],
-    nets: u32,
-    start: u32,
+    layout: Layout,
+    sources: Vec<Option<u32>>,
     placed: &[Placed],
     outlines: &[Outline],
-    stored: &[Stored],
-    top: &Outline,
-) -> Result<Loose, NoMemory>
-    ensures list { IfOk result (λ l. l ≡ listed_on bits inputs.now nets start placed.now outlines.now stored.now top.now) }
+) -> Result<BoxedLists, NoMemory>
+    requires there { All (λ p. p.module < length outlines.now) placed.now }
+    ensures boxed { IfOk result (λ boxed. boxed_view boxed ≡ boxed_in layout.nets layout.others placed.now outlines.now sources.items) }
 {
     let mut boxed = BoxedLists {
         cells: Vec::new(alloc),
-        sources: first_sources(alloc, bits, inputs)?,
+        sources,
         boxes: Vec::new(alloc),
     };
-    add_boxes(alloc, nets, start, placed, outlines, &mut boxed)?;
-    let BoxedLists {
-        cells,
-        sources,
-        boxes,
-    } = boxed;
+    add_boxes(alloc, layout, placed, outlines, &mut boxed)?;
+    Ok(boxed)
+}
+
+// These cells with those of all constructs behind them, the place that gives each bit, and the one that gives each register bit
+// its next state.
+fn sheet_on(
+    alloc: Global,
+    layout: Layout,
+    bits: u32,
+    cells: Vec<LooseCell>,
+    sources: Vec<Option<u32>>,
+    placed: &[Placed],
+    outlines: &[Outline],
+) -> Result<SheetLists, NoMemory>
+    requires scopes { All (IsScopeAmong placed.now outlines.now) placed.now }
+    ensures sheet { IfOk result (λ sheet. sheet_view sheet ≡ fold (with_scope layout.nets layout.others placed.now outlines.now)
+        (record { cells = cells.items; sources = sources.items; next = replicate bits None }) placed.now) }
+{
+    let next = vec![in alloc; None; bits as usize]?;
     let mut sheet = SheetLists {
         cells,
         sources,
-        next: vec![in alloc; None; bits as usize]?,
+        next,
+        places: Vec::new(alloc),
     };
-    add_scopes(alloc, nets, start, placed, outlines, &mut sheet)?;
-    let count = count_of(inputs)?;
-    let mut cells = cells_before(alloc, count, &sheet.sources)?;
+    add_scopes(layout, placed, outlines, &mut sheet)?;
+    Ok(sheet)
+}
+
+// The whole list.
+fn finished(
+    alloc: Global,
+    inputs: u32,
+    nets: u32,
+    top: &Outline,
+    stored: &[Stored],
+    boxes: Vec<BoxPins>,
+    sheet: &SheetLists,
+) -> Result<Loose, NoMemory>
+    ensures list { IfOk result (λ l. l ≡ finished inputs nets top.now stored.now boxes.items (sheet_view sheet.now)) }
+    ensures fits { IfOk result (λ l. length l.cells < 2 ^ 32) }
+{
+    let mut cells = cells_before(alloc, inputs, &sheet.sources)?;
     cells.extend_from_slice(&sheet.cells)?;
+    if cells.len() > u32::MAX as usize {
+        return Err(NoMemory);
+    }
     let outs = outs_of(alloc, nets, top, stored, &sheet.next)?;
-    Ok(Loose::of(count, cells, boxes, outs))
+    Ok(Loose::of(inputs, cells, boxes, outs))
 }
 
 // The list of cells of a design whose top has that outline.
@@ -153,20 +171,27 @@ fn listed(
     stored: &[Stored],
     top: &Outline,
 ) -> Result<Loose, NoMemory>
+    requires there { All (λ p. p.module < length outlines.now) placed.now }
+    requires scopes { All (IsScopeAmong placed.now outlines.now) placed.now }
     ensures list { IfOk result (λ l. l ≡ listed placed.now outlines.now stored.now top.now) }
     ensures fits { IfOk result (λ l. length l.cells < 2 ^ 32) }
 {
     let inputs = input_numbers(alloc, top, stored)?;
+    let count = count_of(&inputs)?;
     let bits = bit_count(placed, outlines)?;
-    let nets = behind(2, count_of(&inputs)?)?;
-    let start = behind(nets, bits)?;
-    let list = listed_on(
-        alloc, bits, &inputs, nets, start, placed, outlines, stored, top,
-    )?;
-    if list.cells().len() > u32::MAX as usize {
-        return Err(NoMemory);
-    }
-    Ok(list)
+    let nets = behind(2, count)?;
+    let layout = Layout {
+        nets,
+        others: behind(nets, bits)?,
+    };
+    let sources = first_sources(alloc, bits, &inputs)?;
+    let BoxedLists {
+        cells,
+        sources,
+        boxes,
+    } = boxed_in(alloc, layout, sources, placed, outlines)?;
+    let sheet = sheet_on(alloc, layout, bits, cells, sources, placed, outlines)?;
+    finished(alloc, count, nets, top, stored, boxes, &sheet)
 }
 
 /// The list of cells of a design.
@@ -181,7 +206,7 @@ pub(crate) fn list_cells(
         → (lowering : Lowering) × IsLowering d lowering × IsListOf d lowering l) }
 {
     net_names_differ();
-    let top = &outlines[placed[0].module];
+    let top = outline_of(outlines, &placed[0]);
     let list = listed(alloc, placed, outlines, stored, top)?;
     Ok(list)
 }

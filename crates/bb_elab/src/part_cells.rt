@@ -2,19 +2,18 @@
 //!
 //! The cells of a construct stand behind those of the constructs before it, and what it drives is given by their places.
 
-ghost use Rattle.std.specs.Prelude.{◌≡◌, Some, OnOk};
+ghost use Rattle.std.specs.Prelude.{◌≡◌, ◌<◌, All, length, Some, slice_get, OnOk};
 ghost use Rattle.std.specs.List.{fold};
 ghost use Rattle.bb_elab.specs.Contexts.{low_bits};
-ghost use Rattle.bb_elab.specs.Listing.{Site, Sheet, sheet_view, with_part, inner_first, site_of, with_parts, with_scope};
+ghost use Rattle.bb_elab.specs.Listing.{IsPartAmong, IsScopeAmong, sheet_view, with_part, inner_first, with_parts, with_scope};
 
 use crate::gate_cells::add_gate;
 use crate::outline::{Outline, Part};
 use crate::placed::Placed;
-use crate::sources::{behind, give_all, give_beside};
-use crate::step_cells::{add_steps, constant_place};
+use crate::sources::{Layout, behind, give_all, give_beside};
+use crate::step_cells::{Spot, add_steps, constant_place};
 use bb_bits::NoMemory;
 use bb_net::LooseCell;
-use std::alloc::Global;
 
 /// The cells so far behind the bits of nets, the place that gives each bit, and the one that gives each register bit its next
 /// state.
@@ -23,19 +22,25 @@ pub(crate) struct SheetLists {
     pub cells: Vec<LooseCell>,
     pub sources: Vec<Option<u32>>,
     pub next: Vec<Option<u32>>,
+    /// The places of the inputs of a gate, kept so that their memory is used again.
+    pub places: Vec<u32>,
 }
 
 // The number of the first bit of an instance that stands in a scope.
 fn inner_first(placed: &[Placed], scope: &Placed, instance: u32) -> u32
+    requires instance { instance < length scope.now.children.items }
+    requires children { All (λ c. c < length placed.now) scope.now.children.items }
     ensures first { result ≡ inner_first placed.now scope.now instance }
 {
-    let Some(child) = scope.children.get(instance as usize) else {
-        return 0;
-    };
-    match placed.get(*child as usize) {
-        Some(inner) => inner.first,
-        None => 0,
-    }
+    placed[scope.children[instance as usize] as usize].first
+}
+
+/// The outline of the module of a scope.
+pub(crate) fn outline_of<'a>(outlines: &'a [Outline], scope: &Placed) -> &'a Outline
+    requires there { scope.now.module < length outlines.now }
+    ensures outline { slice_get outlines.now scope.now.module ≡ Some result.now }
+{
+    &outlines[scope.module]
 }
 
 // So many of the last of these.
@@ -47,120 +52,109 @@ fn low_bits(count: usize, steps: &[u32]) -> &[u32]
 
 // Puts what a construct makes behind what others made.
 fn add_part(
-    alloc: Global,
-    nets: u32,
-    start: u32,
+    layout: Layout,
     placed: &[Placed],
     scope: &Placed,
     starts: &[u32],
     part: &Part,
     sheet: &mut SheetLists,
 ) -> Result<(), NoMemory>
-    ensures added { OnOk result (sheet_view sheet.new ≡ with_part nets start (record { first = scope.now.first; starts = starts.now; inner = inner_first placed.now scope.now }) (sheet_view sheet.old) part.now) }
+    requires part { IsPartAmong (length starts.now) (length scope.now.children.items) part.now }
+    requires children { All (λ c. c < length placed.now) scope.now.children.items }
+    ensures added { OnOk result (sheet_view sheet.new ≡ with_part layout.nets layout.others (record { first = scope.now.first; starts = starts.now; inner = inner_first placed.now scope.now }) (sheet_view sheet.old) part.now) }
 {
-    let bits = behind(nets, scope.first)?;
+    let spot = Spot {
+        others: layout.others,
+        bits: behind(layout.nets, scope.first)?,
+        starts,
+    };
+    let first = scope.first;
     match part {
         Part::Assignment { left, right } => {
-            let base = add_steps(start, bits, starts, right, &mut sheet.cells)?;
+            let base = add_steps(spot, right, &mut sheet.cells)?;
             let steps = low_bits(left.len(), &right.bits);
-            give_beside(&mut sheet.sources, scope.first, left, base, steps)
+            give_beside(&mut sheet.sources, first, left, base, steps)
         }
         Part::Gate { gate, outs, ins } => {
-            let place = add_gate(alloc, start, bits, starts, gate, ins, &mut sheet.cells)?;
-            give_all(&mut sheet.sources, scope.first, outs, place)
+            let place = add_gate(spot, gate, ins, &mut sheet.places, &mut sheet.cells)?;
+            give_all(&mut sheet.sources, first, outs, place)
         }
         Part::Register { left, right, .. } => {
-            let base = add_steps(start, bits, starts, right, &mut sheet.cells)?;
+            let base = add_steps(spot, right, &mut sheet.cells)?;
             let steps = low_bits(left.len(), &right.bits);
-            give_beside(&mut sheet.next, scope.first, left, base, steps)
+            give_beside(&mut sheet.next, first, left, base, steps)
         }
-        Part::Supply { high, bits } => give_all(
-            &mut sheet.sources,
-            scope.first,
-            bits,
-            constant_place(*high),
-        ),
+        Part::Supply { high, bits } => {
+            give_all(&mut sheet.sources, first, bits, constant_place(*high))
+        }
         Part::Input {
             instance,
             pin,
             value,
         } => {
-            let base = add_steps(start, bits, starts, value, &mut sheet.cells)?;
-            let first = inner_first(placed, scope, *instance);
-            give_beside(&mut sheet.sources, first, pin, base, &value.bits)
+            let base = add_steps(spot, value, &mut sheet.cells)?;
+            let inner = inner_first(placed, scope, *instance);
+            give_beside(&mut sheet.sources, inner, pin, base, &value.bits)
         }
         Part::Output {
             instance,
             pin,
             left,
         } => {
-            let base = behind(nets, inner_first(placed, scope, *instance))?;
-            give_beside(&mut sheet.sources, scope.first, left, base, pin)
+            let base = behind(layout.nets, inner_first(placed, scope, *instance))?;
+            give_beside(&mut sheet.sources, first, left, base, pin)
         }
     }
 }
 
 // The same for the constructs of a scope.
 fn add_parts(
-    alloc: Global,
-    nets: u32,
-    start: u32,
+    layout: Layout,
     placed: &[Placed],
     scope: &Placed,
     outline: &Outline,
     sheet: &mut SheetLists,
 ) -> Result<(), NoMemory>
-    ensures added { OnOk result (sheet_view sheet.new ≡ with_parts nets start placed.now scope.now (sheet_view sheet.old) (Some outline.now)) }
+    requires parts { All (IsPartAmong (length outline.now.starts.items) (length scope.now.children.items)) outline.now.parts.items }
+    requires children { All (λ c. c < length placed.now) scope.now.children.items }
+    ensures added { OnOk result (sheet_view sheet.new ≡ with_parts layout.nets layout.others placed.now scope.now (sheet_view sheet.old) (Some outline.now)) }
 {
     for part in &outline.parts {
-        add_part(
-            alloc,
-            nets,
-            start,
-            placed,
-            scope,
-            &outline.starts,
-            part,
-            sheet,
-        )?;
+        add_part(layout, placed, scope, &outline.starts, part, sheet)?;
     }
     Ok(())
 }
 
 // The same for a scope, unless it is a box.
 fn add_scope(
-    alloc: Global,
-    nets: u32,
-    start: u32,
+    layout: Layout,
     placed: &[Placed],
     outlines: &[Outline],
     scope: &Placed,
     sheet: &mut SheetLists,
 ) -> Result<(), NoMemory>
-    ensures added { OnOk result (sheet_view sheet.new ≡ with_scope nets start placed.now outlines.now (sheet_view sheet.old) scope.now) }
+    requires scope { IsScopeAmong placed.now outlines.now scope.now }
+    ensures added { OnOk result (sheet_view sheet.new ≡ with_scope layout.nets layout.others placed.now outlines.now (sheet_view sheet.old) scope.now) }
 {
     if scope.boxed {
         return Ok(());
     }
-    match outlines.get(scope.module) {
-        Some(outline) => add_parts(alloc, nets, start, placed, scope, outline, sheet),
-        None => Ok(()),
-    }
+    let outline = outline_of(outlines, scope);
+    add_parts(layout, placed, scope, outline, sheet)
 }
 
 /// The same for all scopes.
 pub(crate) fn add_scopes(
-    alloc: Global,
-    nets: u32,
-    start: u32,
+    layout: Layout,
     placed: &[Placed],
     outlines: &[Outline],
     sheet: &mut SheetLists,
 ) -> Result<(), NoMemory>
-    ensures added { OnOk result (sheet_view sheet.new ≡ fold (with_scope nets start placed.now outlines.now) (sheet_view sheet.old) placed.now) }
+    requires scopes { All (IsScopeAmong placed.now outlines.now) placed.now }
+    ensures added { OnOk result (sheet_view sheet.new ≡ fold (with_scope layout.nets layout.others placed.now outlines.now) (sheet_view sheet.old) placed.now) }
 {
     for scope in placed {
-        add_scope(alloc, nets, start, placed, outlines, scope, sheet)?;
+        add_scope(layout, placed, outlines, scope, sheet)?;
     }
     Ok(())
 }

@@ -2,12 +2,18 @@
 //!
 //! A bit is given once, by its first driver; places and bits are counted in 32 bits, and a list that is longer is want of memory.
 
-ghost use Rattle.std.specs.Prelude.{◌≡◌, ◌+◌, length, map, slice_get, IfOk, OnOk};
-ghost use Rattle.std.specs.List.{range_with_len};
+ghost use Rattle.std.specs.Prelude.{◌≡◌, ◌+◌, length, slice_get, IfOk, OnOk};
 ghost use Rattle.bb_elab.specs.Listing.{given_one, given_all, place_or_zero, beside, in_row, all_given_by};
 
 use bb_bits::NoMemory;
 use bb_net::LooseCell;
+
+/// Where the parts of the list begin: the place of the first bit of a net, and that of the first cell behind the bits of nets.
+#[derive(Clone, Copy, Debug)]
+pub(crate) struct Layout {
+    pub nets: u32,
+    pub others: u32,
+}
 
 /// The place that stands so far behind another.
 pub(crate) fn behind(place: u32, offset: u32) -> Result<u32, NoMemory>
