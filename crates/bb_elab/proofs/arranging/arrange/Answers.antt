@@ -25,7 +25,7 @@ returns-in_err-drive_all-clause-fault c =
     let g = c.args.grown.now in
     let at = listed_at text g c.deref.result.now c.deref-2.result.now c.deref-3.result.now c.deref.ensures.value c.deref-2.ensures.value c.deref-3.ensures.value c.in_ok-list.list c.in_ok-list.ensures.list in
     let here : (c.in_err-drive_all.field-0.0 ≡ NoMemory) ⊎ ((d : Design) → HasGrown text d g → IsRefusalOf d c.in_err-drive_all.field-0.0) =
-      told_on c.in_err-drive_all.ensures.fault (λ tells d has. first_undriven_cause d c.in_err-drive_all.field-0.0 has.finite has.grown.once (tells d has (at d has))) in
+    told_on c.in_err-drive_all.ensures.fault (λ tells d has. first_undriven_cause d c.in_err-drive_all.field-0.0 has.finite has.grown.once (tells d has (at d has))) in
     if_err c.from_residual-in_err-drive_all.result (λ fault. (fault ≡ NoMemory) ⊎ ((d : Design) → HasGrown text d g → IsRefusalOf d fault)) c.in_err-drive_all.field-0.0 c.from_residual-in_err-drive_all.ensures.1 here
 
 pub put_in_order-requires : goal.put_in_order-requires
@@ -41,7 +41,7 @@ returns-in_err-ordered-clause-fault c =
     let g = c.args.grown.now in
     let at = listed_at text g c.deref.result.now c.deref-2.result.now c.deref-3.result.now c.deref.ensures.value c.deref-2.ensures.value c.deref-3.ensures.value c.in_ok-list.list c.in_ok-list.ensures.list in
     let here : (c.in_err-ordered.field-0.0 ≡ NoMemory) ⊎ ((d : Design) → HasGrown text d g → IsRefusalOf d c.in_err-ordered.field-0.0) =
-      told_on c.in_err-ordered.ensures.fault (λ tells d has. first_loop_cause d c.in_err-ordered.field-0.0 has.finite has.grown.once (c.in_ok-drive_all.ensures.driven d has (at d has)) (tells d has (at d has))) in
+    told_on c.in_err-ordered.ensures.fault (λ tells d has. first_loop_cause d c.in_err-ordered.field-0.0 has.finite has.grown.once (c.in_ok-drive_all.ensures.driven d has (at d has)) (tells d has (at d has))) in
     if_err c.from_residual-in_err-ordered.result (λ fault. (fault ≡ NoMemory) ⊎ ((d : Design) → HasGrown text d g → IsRefusalOf d fault)) c.in_err-ordered.field-0.0 c.from_residual-in_err-ordered.ensures.1 here
 
 pub returns-clause-arranged : goal.returns-clause-arranged
@@ -50,13 +50,13 @@ returns-clause-arranged c =
     let g = c.args.grown.now in
     let at = listed_at text g c.deref.result.now c.deref-2.result.now c.deref-3.result.now c.deref.ensures.value c.deref-2.ensures.value c.deref-3.ensures.value c.in_ok-list.list c.in_ok-list.ensures.list in
     λ d has.
-      let listed = at d has in
-      record {
-        lowering = listed.0;
-        lowered = listed.1;
-        listed = listed.2;
-        netlist = c.in_ok-ordered.ensures.netlist;
-        ordered = c.in_ok-ordered.ensures.ordered;
-        driven = c.in_ok-drive_all.ensures.driven d has listed;
-        acyclic = c.in_ok-ordered.ensures.acyclic d has listed;
-      }
+    let listed = at d has in
+    record {
+      lowering = listed.0;
+      lowered = listed.1;
+      listed = listed.2;
+      netlist = c.in_ok-ordered.ensures.netlist;
+      ordered = c.in_ok-ordered.ensures.ordered;
+      driven = c.in_ok-drive_all.ensures.driven d has listed;
+      acyclic = c.in_ok-ordered.ensures.acyclic d has listed;
+    }

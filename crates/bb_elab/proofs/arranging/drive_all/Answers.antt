@@ -19,16 +19,16 @@ pub first_undriven-requires : goal.first_undriven-requires
 first_undriven-requires c =
     let counts = c.as_slice-counts.ensures.value in
     let reads = subst (λ all. (d : Design) (lowering : Lowering) → IsBounded d → AreDrivenOnce d → IsLowering d lowering → IsListOf d lowering c.args.list.now → AreStored d all → length c.args.grown.now.counts.items ≡ length (net_order d) → AreReads d c.in_ok-read.read.items) c.deref.ensures.value
-      (subst (λ all. (d : Design) (lowering : Lowering) → IsBounded d → AreDrivenOnce d → IsLowering d lowering → IsListOf d lowering c.args.list.now → AreStored d c.deref.result.now → length all ≡ length (net_order d) → AreReads d c.in_ok-read.read.items) counts c.in_ok-read.ensures.reads) in
+    (subst (λ all. (d : Design) (lowering : Lowering) → IsBounded d → AreDrivenOnce d → IsLowering d lowering → IsListOf d lowering c.args.list.now → AreStored d c.deref.result.now → length all ≡ length (net_order d) → AreReads d c.in_ok-read.read.items) counts c.in_ok-read.ensures.reads) in
     record { same = ap length c.deref-2.ensures.value ∙ as_many (map syntax c.args.checked.now) c.args.grown.now c.args.list.now c.in_ok-read.read.items reads c.requires.design ∙ sym (ap length counts) }
 
 pub overflow_cast-number : goal.overflow_cast-number
 overflow_cast-number c =
     let counts = c.as_slice-counts.ensures.value in
     let reads = subst (λ all. (d : Design) (lowering : Lowering) → IsBounded d → AreDrivenOnce d → IsLowering d lowering → IsListOf d lowering c.args.list.now → AreStored d all → length c.args.grown.now.counts.items ≡ length (net_order d) → AreReads d c.in_ok-read.read.items) c.deref.ensures.value
-      (subst (λ all. (d : Design) (lowering : Lowering) → IsBounded d → AreDrivenOnce d → IsLowering d lowering → IsListOf d lowering c.args.list.now → AreStored d c.deref.result.now → length all ≡ length (net_order d) → AreReads d c.in_ok-read.read.items) counts c.in_ok-read.ensures.reads) in
+    (subst (λ all. (d : Design) (lowering : Lowering) → IsBounded d → AreDrivenOnce d → IsLowering d lowering → IsListOf d lowering c.args.list.now → AreStored d c.deref.result.now → length all ≡ length (net_order d) → AreReads d c.in_ok-read.read.items) counts c.in_ok-read.ensures.reads) in
     let found = subst (λ all. (d : Design) → IsBounded d → AreCounts d c.args.grown.now.counts.items → AreReads d all → IsFirstAt d (IsUndriven d) c.in-Some.number) c.deref-2.ensures.value
-      (subst (λ all. (d : Design) → IsBounded d → AreCounts d all → AreReads d c.deref-2.result.now → IsFirstAt d (IsUndriven d) c.in-Some.number) counts c.in-Some.ensures.some) in
+    (subst (λ all. (d : Design) → IsBounded d → AreCounts d all → AreReads d c.deref-2.result.now → IsFirstAt d (IsUndriven d) c.in-Some.number) counts c.in-Some.ensures.some) in
     let low = few (map syntax c.args.checked.now) c.args.grown.now c.args.list.now c.in_ok-read.read.items reads c.in-Some.number found c.requires.design in
     omega (arith, low)
 
@@ -36,17 +36,17 @@ pub returns-in-Some-clause-fault : goal.returns-in-Some-clause-fault
 returns-in-Some-clause-fault c =
     let counts = c.as_slice-counts.ensures.value in
     let reads = subst (λ all. (d : Design) (lowering : Lowering) → IsBounded d → AreDrivenOnce d → IsLowering d lowering → IsListOf d lowering c.args.list.now → AreStored d all → length c.args.grown.now.counts.items ≡ length (net_order d) → AreReads d c.in_ok-read.read.items) c.deref.ensures.value
-      (subst (λ all. (d : Design) (lowering : Lowering) → IsBounded d → AreDrivenOnce d → IsLowering d lowering → IsListOf d lowering c.args.list.now → AreStored d c.deref.result.now → length all ≡ length (net_order d) → AreReads d c.in_ok-read.read.items) counts c.in_ok-read.ensures.reads) in
+    (subst (λ all. (d : Design) (lowering : Lowering) → IsBounded d → AreDrivenOnce d → IsLowering d lowering → IsListOf d lowering c.args.list.now → AreStored d c.deref.result.now → length all ≡ length (net_order d) → AreReads d c.in_ok-read.read.items) counts c.in_ok-read.ensures.reads) in
     let found = subst (λ all. (d : Design) → IsBounded d → AreCounts d c.args.grown.now.counts.items → AreReads d all → IsFirstAt d (IsUndriven d) c.in-Some.number) c.deref-2.ensures.value
-      (subst (λ all. (d : Design) → IsBounded d → AreCounts d all → AreReads d c.deref-2.result.now → IsFirstAt d (IsUndriven d) c.in-Some.number) counts c.in-Some.ensures.some) in
+    (subst (λ all. (d : Design) → IsBounded d → AreCounts d all → AreReads d c.deref-2.result.now → IsFirstAt d (IsUndriven d) c.in-Some.number) counts c.in-Some.ensures.some) in
     inr (undriven (map syntax c.args.checked.now) c.args.grown.now c.args.list.now c.in_ok-read.read.items reads c.in-Some.number found c.in_ok-bit_name-in-Some.field-0
-      (subst (λ p. (d : Design) → d.text ≡ map syntax c.args.checked.now → ArePlaced d p → (b : Bit) → slice_get (net_order d) c.in-Some.number ≡ Some b → c.in_ok-bit_name-in-Some.field-0 ≡ bit_text d b) c.deref-in-Some.ensures.value c.in_ok-bit_name-in-Some.ensures.name))
+    (subst (λ p. (d : Design) → d.text ≡ map syntax c.args.checked.now → ArePlaced d p → (b : Bit) → slice_get (net_order d) c.in-Some.number ≡ Some b → c.in_ok-bit_name-in-Some.field-0 ≡ bit_text d b) c.deref-in-Some.ensures.value c.in_ok-bit_name-in-Some.ensures.name))
 
 pub returns-clause-driven : goal.returns-clause-driven
 returns-clause-driven c =
     let counts = c.as_slice-counts.ensures.value in
     let reads = subst (λ all. (d : Design) (lowering : Lowering) → IsBounded d → AreDrivenOnce d → IsLowering d lowering → IsListOf d lowering c.args.list.now → AreStored d all → length c.args.grown.now.counts.items ≡ length (net_order d) → AreReads d c.in_ok-read.read.items) c.deref.ensures.value
-      (subst (λ all. (d : Design) (lowering : Lowering) → IsBounded d → AreDrivenOnce d → IsLowering d lowering → IsListOf d lowering c.args.list.now → AreStored d c.deref.result.now → length all ≡ length (net_order d) → AreReads d c.in_ok-read.read.items) counts c.in_ok-read.ensures.reads) in
+    (subst (λ all. (d : Design) (lowering : Lowering) → IsBounded d → AreDrivenOnce d → IsLowering d lowering → IsListOf d lowering c.args.list.now → AreStored d c.deref.result.now → length all ≡ length (net_order d) → AreReads d c.in_ok-read.read.items) counts c.in_ok-read.ensures.reads) in
     let none = subst (λ all. (d : Design) → IsBounded d → AreCounts d c.args.grown.now.counts.items → AreReads d all → AreDriven d) c.deref-2.ensures.value
-      (subst (λ all. (d : Design) → IsBounded d → AreCounts d all → AreReads d c.deref-2.result.now → AreDriven d) counts c.in-None.ensures.none) in
+    (subst (λ all. (d : Design) → IsBounded d → AreCounts d all → AreReads d c.deref-2.result.now → AreDriven d) counts c.in-None.ensures.none) in
     all_are (map syntax c.args.checked.now) c.args.grown.now c.args.list.now c.in_ok-read.read.items reads none
