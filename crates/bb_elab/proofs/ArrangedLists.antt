@@ -1,7 +1,7 @@
 -- The order of the list of cells of a design, or the first bit on a loop.
 use Rattle.std.proofs.Common.{◌≡◌, ◌^◌, ℕ, ◌+◌, ◌-◌, ◌<◌, ◌≤◌, Bool, List, length, refl, subst, sym, ap, ◌∙◌, ◌⊎◌, inl, inr, arith}
 use Rattle.std.proofs.lemmas.Option.{slice_get_within}
-use Rattle.std.specs.Prelude.{slice_get, Some, Result, Ok, Err, IfErr, IsErrAnd}
+use Rattle.std.specs.Prelude.{slice_get, Some, Result, Ok, Err, IfErr, IsErrAnd, MatchResult}
 use Rattle.bb_ast.specs.Syntax.{PlainModule}
 use Rattle.bb_net.specs.Loose.{LooseList, IsLoose, IsOnClosedWalk, IsLeastOnClosedWalk}
 use Rattle.bb_elab.specs.declared.fault.ElabFault.{ElabFault}
@@ -98,3 +98,7 @@ told_on (inr tells) next = inr (next tells)
 pub if_err : {A E : Type 0} (r : Result A E) (P : E → Type 0) (e : E) → IsErrAnd r (λ x. x ≡ e) → P e → IfErr r P
 if_err (Ok x) P e same holds = tt
 if_err (Err y) P e same holds = subst P (sym same) holds
+
+pub match_err : {A E : Type 0} (r : Result A E) (P : E → Type 0) (e : E) → IsErrAnd r (λ x. x ≡ e) → P e → MatchResult r (λ x. ⊥) P
+match_err (Ok x) P e same holds = same
+match_err (Err y) P e same holds = subst P (sym same) holds

@@ -24,6 +24,7 @@ pub mod DepthHeights
 pub mod DepthWalks
 pub mod DistinctBits
 pub mod DriverNumbers
+pub mod ElaboratedTexts
 pub mod Enumerated
 pub mod Firsts
 pub mod FirstLoops

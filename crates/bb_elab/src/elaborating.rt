@@ -1,21 +1,33 @@
 //! The flat netlist of a checked source, or the first cause for which it is refused.
 
-ghost use Rattle.std.specs.Prelude.{◌≡◌, ◌⊎◌, map, IfOk, IfErr, MatchResult, option_copied};
+ghost use Rattle.std.specs.Prelude.{◌≡◌, ◌⊎◌, ◌<◌, length, map, IfOk, IfErr, MatchResult, option_copied};
 ghost use Rattle.bb_expr.specs.Checked.{syntax};
 ghost use Rattle.bb_elab.specs.declared.fault.ElabFault.{ElabFault};
 ghost use Rattle.bb_elab.specs.declared.fault.ElabFault.TheVariants.{NoMemory};
-ghost use Rattle.bb_elab.specs.Refusals.{IsFirstRefusal, IsSoundText};
-ghost use Rattle.bb_elab.specs.Stands.{StandsForText};
+ghost use Rattle.bb_elab.specs.Refusals.{IsFirstRefusal, IsRefusalOf, IsSoundDesign, IsSoundText};
+ghost use Rattle.bb_elab.specs.Stages.{AtTop};
+ghost use Rattle.bb_elab.specs.Stands.{StandsFor, StandsForText};
 
-use crate::callees::callees_of;
-use crate::depth::low_instance;
+use crate::arranging::arrange;
 use crate::fault::ElabFault;
 use crate::flat::Flat;
-use crate::recursion::recursive_module;
-use crate::size::is_too_large;
+use crate::growing::grow;
+use crate::hierarchy::hierarchy;
 use crate::top::place_of_top;
 use bb_expr::Checked;
 use std::alloc::Global;
+
+// The flat netlist of the design with the module at a place on top.
+fn flatten(alloc: Global, checked: &Checked, top: usize) -> Result<Flat, ElabFault>
+    requires top { top < length checked.now }
+    ensures ok { IfOk result (λ flat. AtTop (map syntax checked.now) top (λ d. StandsFor d flat × IsSoundDesign d)) }
+    ensures fault { IfErr result (λ fault. (fault ≡ NoMemory) ⊎ AtTop (map syntax checked.now) top (λ d. IsRefusalOf d fault)) }
+{
+    let called = hierarchy(alloc, checked, top)?;
+    let grown = grow(alloc, checked, &called, top)?;
+    let _arranged = arrange(alloc, checked, &grown)?;
+    Err(ElabFault::NoMemory)
+}
 
 /// The flat netlist of a source, or the first cause for which it is refused.
 ///
@@ -34,18 +46,6 @@ pub fn elaborate(alloc: Global, checked: &Checked, top: Option<&[u8]>) -> Result
     let Some(top) = place_of_top(alloc, checked, top)? else {
         return Err(ElabFault::NoTop);
     };
-    let mut callees = callees_of(alloc, checked)?;
-    // Both are found first, since the search for a recursion empties the lists.
-    let low = low_instance(alloc, checked, &callees, top)?;
-    let large = is_too_large(alloc, checked, &callees, top)?;
-    if let Some(name) = recursive_module(alloc, checked, &mut callees, top)? {
-        return Err(ElabFault::Recursive { name });
-    }
-    if let Some(name) = low {
-        return Err(ElabFault::TooDeep { name });
-    }
-    if large {
-        return Err(ElabFault::TooLarge);
-    }
-    Err(ElabFault::NoMemory)
+    let flat = flatten(alloc, checked, top)?;
+    Ok(flat)
 }
