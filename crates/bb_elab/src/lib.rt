@@ -43,7 +43,6 @@ mod sources;
 mod step_cells;
 mod stored;
 pub mod table_laws;
-mod texts;
 mod top;
 mod undriven;
 
