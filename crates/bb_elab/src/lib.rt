@@ -21,6 +21,7 @@ mod outline;
 mod outlining;
 mod placed;
 mod recursion;
+mod repeats;
 mod stored;
 pub mod table_laws;
 mod top;
