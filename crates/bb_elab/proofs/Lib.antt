@@ -37,6 +37,7 @@ pub mod NextStates
 pub mod Operators
 pub mod OutlinedDesigns
 pub mod PartBits
+pub mod PlacedPaths
 pub mod PlainClocks
 pub mod PortNets
 pub mod ReadingLaw

@@ -2,6 +2,7 @@
 #![tactic(auto)]
 
 mod assigning;
+mod bit_places;
 mod callees;
 mod calling;
 mod connecting;
@@ -24,6 +25,7 @@ mod recursion;
 mod repeats;
 mod stored;
 pub mod table_laws;
+mod texts;
 mod top;
 
 pub use elaborating::elaborate;

@@ -1,0 +1,55 @@
+//! The texts by which scopes and bits are called.
+//!
+//! A path is told from its end upwards, since a scope knows the scope in which it stands.
+
+ghost use Rattle.std.specs.Prelude.{◌≡◌, ◌<◌, ◌++◌, length, IfOk, OnOk};
+ghost use Rattle.bb_elab.specs.declared.placed.Placed.{Placed};
+ghost use Rattle.bb_elab.specs.Hierarchy.{Path, Design, Scope};
+ghost use Rattle.bb_elab.specs.PlacedPaths.{IsPathAt, AreRooted};
+ghost use Rattle.bb_elab.specs.Placements.{IsScopeAt, ArePlaced};
+ghost use Rattle.bb_elab.specs.Texts.{path_prefix, path_text};
+
+use crate::placed::Placed;
+use bb_bits::{Name, NoMemory};
+use std::alloc::Global;
+
+// Puts what stands before the names of the nets of a scope behind a text. Recursion goes as deep as the scope stands.
+#[cycle(prefix)]
+fn add_prefix(placed: &[Placed], scope: u32, text: &mut Vec<u8>) -> Result<(), NoMemory>
+    requires rooted { AreRooted placed.now }
+    requires there { scope < length placed.now }
+    ensures { (path : Path) → IsPathAt placed.now scope path → OnOk result (text.new.items ≡ text.old.items ++ path_prefix path) }
+{
+    let at = &placed[scope as usize];
+    if let Some(instance) = &at.instance {
+        add_prefix(placed, instance.scope, text)?;
+        text.extend_from_slice(instance.name.bytes())?;
+        text.push(b'.')?;
+    }
+    Ok(())
+}
+
+// Puts the path of a scope behind a text.
+fn add_path(placed: &[Placed], scope: u32, text: &mut Vec<u8>) -> Result<(), NoMemory>
+    requires rooted { AreRooted placed.now }
+    requires there { scope < length placed.now }
+    ensures path { (path : Path) → IsPathAt placed.now scope path → OnOk result (text.new.items ≡ text.old.items ++ path_text path) }
+{
+    let at = &placed[scope as usize];
+    if let Some(instance) = &at.instance {
+        add_prefix(placed, instance.scope, text)?;
+        text.extend_from_slice(instance.name.bytes())?;
+    }
+    Ok(())
+}
+
+/// The text of the path of a scope.
+pub(crate) fn path_name(alloc: Global, placed: &[Placed], scope: u32) -> Result<Name, NoMemory>
+    requires design { (d : Design) × ArePlaced d placed.now }
+    requires there { scope < length placed.now }
+    ensures name { IfOk result (λ n. (d : Design) → ArePlaced d placed.now → (s : Scope) → IsScopeAt d scope s → n ≡ path_text s.path) }
+{
+    let mut text = Vec::new(alloc);
+    add_path(placed, scope, &mut text)?;
+    Name::of(alloc, &text)
+}
