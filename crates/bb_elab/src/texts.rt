@@ -2,7 +2,7 @@
 //!
 //! A path is told from its end upwards, since a scope knows the scope in which it stands.
 
-ghost use Rattle.std.specs.Prelude.{◌≡◌, ◌<◌, ◌++◌, length, IfOk, OnOk};
+ghost use Rattle.std.specs.Prelude.{◌≡◌, ◌<◌, ◌++◌, decimal, length, IfOk, OnOk};
 ghost use Rattle.bb_elab.specs.declared.placed.Placed.{Placed};
 ghost use Rattle.bb_elab.specs.Hierarchy.{Path, Design, Scope};
 ghost use Rattle.bb_elab.specs.PlacedPaths.{IsPathAt, AreRooted};
@@ -52,4 +52,13 @@ pub(crate) fn path_name(alloc: Global, placed: &[Placed], scope: u32) -> Result<
     let mut text = Vec::new(alloc);
     add_path(placed, scope, &mut text)?;
     Name::of(alloc, &text)
+}
+
+// Puts a number as decimal digits behind a text.
+fn add_number(alloc: Global, number: u32, text: &mut Vec<u8>) -> Result<(), NoMemory>
+    ensures digits { OnOk result (text.new.items ≡ text.old.items ++ decimal number) }
+{
+    let digits = format!(in alloc; "{number}")?;
+    text.extend_from_slice(digits.as_bytes())?;
+    Ok(())
 }
