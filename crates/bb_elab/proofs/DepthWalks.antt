@@ -128,7 +128,7 @@ way_starts text top lt tall name empty = let t = some_at text top lt in record {
 }
 
 -- the text of a path with a name more
-dotted_more : (a : List ℕ) (p : Path) (n : List ℕ) → (path_text (a ∷ p) ++ codes ".") ++ n ≡ path_text (a ∷ path_to p n)
+pub dotted_more : (a : List ℕ) (p : Path) (n : List ℕ) → (path_text (a ∷ p) ++ codes ".") ++ n ≡ path_text (a ∷ path_to p n)
 dotted_more a [] n = append_assoc a (codes ".") n
 dotted_more a (b ∷ p) n = append_assoc (a ++ (codes "." ++ path_text (b ∷ p))) (codes ".") n ∙ append_assoc a (codes "." ++ path_text (b ∷ p)) (codes "." ++ n)
     ∙ ap (λ l. a ++ (codes "." ++ l)) (sym (append_assoc (path_text (b ∷ p)) (codes ".") n) ∙ dotted_more b p n)

@@ -2,6 +2,8 @@ pub mod AllowedDesigns
 pub mod ArrangedLists
 pub mod BitByBit
 pub mod BitNumbers
+pub mod BitPlaces
+pub mod BoxValues
 pub mod CalledInstances
 pub mod CalleeLaw
 pub mod CalleeLemmas
@@ -72,6 +74,7 @@ pub mod NoneTwice
 pub mod Operators
 pub mod OutlinedDesigns
 pub mod PartBits
+pub mod PlacedPaths
 pub mod PlainClocks
 pub mod PortNets
 pub mod PlacesInRow

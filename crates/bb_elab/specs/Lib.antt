@@ -3,6 +3,7 @@ pub mod Depths
 pub mod Recursions
 pub mod Outlines
 pub mod Outlining
+pub mod PlacedPaths
 pub mod Placements
 pub mod DrivenNumbers
 pub mod StoredNumbers

@@ -4,6 +4,7 @@
 mod arranging;
 mod assigning;
 mod box_cells;
+mod bit_places;
 mod callees;
 mod calling;
 mod cells;
@@ -41,8 +42,10 @@ mod size;
 mod sketch;
 mod sources;
 mod step_cells;
+mod repeats;
 mod stored;
 pub mod table_laws;
+mod texts;
 mod top;
 mod undriven;
 

@@ -1,0 +1,59 @@
+use Rattle.std.proofs.Common.{◌≡◌, ◌≢◌, ◌<◌, ◌+◌, ◌++◌, ◌||◌, ◌∷◌, [], ℕ, zero, suc, Bool, true, false, List, Contains, take, drop, length, get_or, refl, sym, ap, ◌∙◌, subst, arith, true≢false, Some}
+use Rattle.std.specs.Prelude.{slice_get}
+use Rattle.std.specs.List.{AllPairs, list_any}
+use Rattle.std.proofs.lemmas.List.{take_all}
+use Rattle.std.proofs.lemmas.List.Folds.{list_any-append}
+use Rattle.std.proofs.lemmas.Option.{slice_get_read}
+use Rattle.bb_bits.specs.Names.{same_name}
+use Rattle.bb_elab.specs.Closures.{IsFirstRepeat}
+use Rattle.bb_elab.proofs.KnownNets.{any_there}
+use Rattle.bb_elab.proofs.RecursiveNames.{split}
+use Rattle.bb_elab.proofs.SoundNames.{none_of, push_name}
+use Rattle.bb_elab.proofs.TopLemmas.{same_equal, same_self, any-inserted}
+use Rattle.bb_elab.proofs.repeats.first_repeat.Goals as goal
+
+next-taken : (xs : List (List ℕ)) (i : ℕ) (x : List ℕ) → i < length xs → x ≡ get_or xs i x → take (i + 1) xs ≡ take i xs ++ x ∷ []
+next-taken [] i x lt is = absurd (omega (arith, lt))
+next-taken (y ∷ ys) zero x lt is = ap (λ z. z ∷ []) (sym is)
+next-taken (y ∷ ys) (suc i) x lt is = ap (λ n. take n (y ∷ ys)) (later i) ∙ ap (λ l. y ∷ l) (next-taken ys i x (omega (arith, lt)) is)
+  where
+    later : (j : ℕ) → suc j + 1 ≡ suc (j + 1)
+    later j = omega arith
+
+-- the name stands there already
+repeat_here : (names : List (List ℕ)) (k : ℕ) (x : List ℕ) → slice_get names k ≡ Some x → AllPairs ◌≢◌ (take k names) → list_any (same_name x) (take k names) ≡ true → IsFirstRepeat names x
+repeat_here names k x there apart again =
+    let y = any_there (same_name x) (take k names) again in
+    record { before = take k names; after = drop (suc k) names; stands = split names k x there; again = subst (Contains (take k names)) (sym (same_equal x y.0 y.2)) y.1; earlier = apart }
+
+-- it does not
+still_apart : (names : List (List ℕ)) (k : ℕ) (x : List ℕ) → k < length names → x ≡ get_or names k x → AllPairs ◌≢◌ (take k names) → list_any (same_name x) (take k names) ≡ false → AllPairs ◌≢◌ (take (k + 1) names)
+still_apart names k x lt is apart none =
+    subst (AllPairs ◌≢◌) (sym (next-taken names k x lt is)) (push_name (take k names) x apart
+    (λ y has same. true≢false (sym (subst (λ z. same_name x z ≡ true) (sym same) (same_self x)) ∙ none_of (same_name x) (take k names) none y has)))
+
+or-false : (b : Bool) → (b || false) ≡ b
+or-false true = refl
+or-false false = refl
+
+pub returns-then-contains : goal.returns-then-contains
+returns-then-contains c =
+    let x = c.index-names-k.result in
+    let there = slice_get_read c.args.names.now (length c.args.names.now) c.loop-k.k x refl c.loop-k-test.true c.index-names-k.is in
+    record { some = (x, there, repeat_here c.args.names.now c.loop-k.k x there c.loop-k.invariant.apart (sym (c.loop-k.invariant.seen x) ∙ sym c.contains.ensures ∙ c.if-contains.true)); none = tt }
+
+pub loop-k-preserved : goal.loop-k-preserved
+loop-k-preserved c =
+    let names = c.args.names.now in
+    let k = c.loop-k.k in
+    let x = c.index-names-k.result in
+    record {
+      apart = still_apart names k x c.loop-k-test.true c.index-names-k.is c.loop-k.invariant.apart (sym (c.loop-k.invariant.seen x) ∙ sym c.contains.ensures ∙ c.if-contains.false);
+      seen = λ n. ap (list_any (same_name n)) c.in_ok-insert.ensures.keys ∙ any-inserted n c.loop-k.seen.keys c.in_ok-clone.field-0
+          ∙ ap (λ b. b || same_name n c.in_ok-clone.field-0) (c.loop-k.invariant.seen n) ∙ ap (λ y. list_any (same_name n) (take k names) || same_name n y) c.in_ok-clone.ensures.cases
+          ∙ ap (λ b. list_any (same_name n) (take k names) || b) (sym (or-false (same_name n x))) ∙ sym (list_any-append (same_name n) (take k names) (x ∷ []))
+          ∙ ap (list_any (same_name n)) (sym (next-taken names k x c.loop-k-test.true c.index-names-k.is));
+    }
+
+pub returns : goal.returns
+returns c = record { some = tt; none = subst (AllPairs ◌≢◌) (take_all c.loop-k.k c.args.names.now c.loop-k-test.false) c.loop-k.invariant.apart }
