@@ -116,11 +116,11 @@ module _ (d : Design) (lowering : Lowering) (l : LooseList) (list : IsListOf d l
   Part k s c = Contains (enumerate_from 0 (parts d)) (k, (s, c))
 
   abbrev pub Steps : ℕ → Type 0
-  Steps n = (k : ℕ) (s : Scope) (c : Construct) → Part k s c → (x : ℕ) → x < length (lowered_in (s, c)) → (j : ℕ) → j < length (lowering k x).all → Walk n (list.number (Step k x j))
-      → Below (bit_itself s.path (term_within (nets_of s.source) (lowering k x).all (j + 1) j))
+  Steps n = (k : ℕ) (s : Scope) (c : Construct) → Part k s c → (x : ℕ) → x < length (lowered_in (s, c)) → (j : ℕ) → j < length (lowering k x).all → (m : ℕ) → j < m → Walk n (list.number (Step k x j))
+      → Below (bit_itself s.path (term_within (nets_of s.source) (lowering k x).all m j))
 
   steps_zero : Steps 0
-  steps_zero k s c has x fits j at walk = absurd (not_last (Step k x j) _ (step_listed d lowering l list k s c has x fits j at) refl walk)
+  steps_zero k s c has x fits j at m less walk = absurd (not_last (Step k x j) _ (step_listed d lowering l list k s c has x fits j at) refl walk)
 
   module _ (n : ℕ) (nets : Nets n) (k : ℕ) (s : Scope) (c : Construct) (has : Part k s c) (x : ℕ) where
     step_below : (term : ℕ → Term) (j : ℕ) (step : BitStep) → Reads (nets_of s.source) j step → (q : ℕ) → step_cell (λ b. list.number (Constant b)) (λ a. list.number (Step k x a)) (λ m i. list.number (net_place s m i)) step ≡ cell.Copy q → Walk n q
@@ -138,36 +138,36 @@ module _ (d : Design) (lowering : Lowering) (l : LooseList) (list : IsListOf d l
 
   pub steps_more : (n : ℕ) → Nets n → Steps (suc n)
   unfolding term_within
-  steps_more n nets k s c has x fits j at walk =
+  steps_more n nets k s c has x fits j at zero less walk = absurd (omega (arith, less))
+  steps_more n nets k s c has x fits j at (suc m) less walk =
       let y = get_or (lowered_in (s, c)) x (Plain 0, 0) in
       let lower = lowered_at d lowering lowered k s c has x y.0 y.1 (numbered_at (lowered_in (s, c)) x (Plain 0, 0) fits) in
       let all = (lowering k x).all in
       let step = get_or all j (steps.Const false) in
       let reads = All-contains (λ (z : ℕ × BitStep). Reads (nets_of s.source) z.0 z.1) (enumerate_from 0 all) (j, step) lower.earlier (numbered_at all j (steps.Const false) at) in
       let f = first_step n (Step k x j) _ (step_listed d lowering l list k s c has x fits j at) walk in
-      let one : suc j ≡ j + 1 = omega arith in
-      subst (λ m. Below (bit_itself s.path (term_within (nets_of s.source) all m j))) one (step_below n nets k s c has x (term_within (nets_of s.source) all j) j step reads f.0 f.1 f.2)
+      step_below n nets k s c has x (term_within (nets_of s.source) all m) j step reads f.0 f.1 f.2
 
   module _ (k : ℕ) (s : Scope) (gate : Gate) (outs ins : List Expression) (has : Part k s (GateInstance gate outs ins)) where
-    abbrev term_in : ℕ → Term
+    abbrev pub term_in : ℕ → Term
     term_in x = input d lowering l list lowered wired k s gate outs ins has x
 
     -- the inputs up to one of them, joined
-    abbrev prefix : ℕ → Term
+    abbrev pub prefix : ℕ → Term
     prefix zero = term_in 0
     prefix (suc x) = joins on_terms gate (prefix x) (term_in (suc x))
 
-    abbrev Joins : ℕ → Type 0
+    abbrev pub Joins : ℕ → Type 0
     Joins n = (x : ℕ) → x < length ins → Walk n (list.number (joined_place lowering k x)) → Below (bit_itself s.path (prefix x))
 
-    input_below : (n : ℕ) → Steps n → (x : ℕ) → x < length ins → Walk n (list.number (terminal_place lowering k x)) → Below (bit_itself s.path (term_in x))
+    pub input_below : (n : ℕ) → Steps n → (x : ℕ) → x < length ins → Walk n (list.number (terminal_place lowering k x)) → Below (bit_itself s.path (term_in x))
     input_below n steps_n x fits walk =
         let y = terminal_there s ins x fits (wired.gates s gate outs ins (from_numbered 0 (parts d) (k, (s, GateInstance gate outs ins)) has)).1 in
         let lower = lowered_at d lowering lowered k s (GateInstance gate outs ins) has x y.0 1 y.1 in
         let i = enumerated_from 0 (lowered_in (s, GateInstance gate outs ins)) x (y.0, 1) y.1 in
         let j = get_or (lowering k x).bits 0 0 in
         let at = All-contains (λ j. j < length (lowering k x).all) (lowering k x).bits j lower.places (Contains-get_or (lowering k x).bits 0 0 (omega (arith, lower.width))) in
-        steps_n k s (GateInstance gate outs ins) has x (omega (arith, i.1, i.2)) j at walk
+        steps_n k s (GateInstance gate outs ins) has x (omega (arith, i.1, i.2)) j at (j + 1) (omega arith) walk
 
     join_below : (n : ℕ) (g : Gate) (p r : ℕ) (t u : Term) → (Walk n p → Below (bit_itself s.path t)) → (q : ℕ) → join_cell g p r ≡ cell.Copy q → Walk n q → Below (bit_itself s.path (joins on_terms g t u))
     join_below n gates.And p r t u f q at walk = cc
@@ -197,7 +197,7 @@ module _ (d : Design) (lowering : Lowering) (l : LooseList) (list : IsListOf d l
         let next : joins on_terms gate (prefix a) (term_in (a + 1)) ≡ prefix (a + 1) = ap (λ z. joins on_terms gate (prefix a) (term_in z)) one ∙ ap prefix (sym one) in
         ap (λ t. fold (joins on_terms gate) t (map term_in (range_with_len (a + 1 + 1) m))) next ∙ prefix_is m (a + 1) ∙ ap prefix further
 
-    whole_is : (n : ℕ) → n ≡ length ins → 1 ≤ n → prefix (n - 1) ≡ joined on_terms gate (map term_in (range_with_len 0 n))
+    pub whole_is : (n : ℕ) → n ≡ length ins → 1 ≤ n → prefix (n - 1) ≡ joined on_terms gate (map term_in (range_with_len 0 n))
     whole_is zero same one = absurd (omega (arith, one))
     whole_is (suc m) same one = let place : suc m - 1 ≡ 0 + m = omega arith in ap prefix place ∙ sym (prefix_is m 0)
 
@@ -235,7 +235,7 @@ module _ (d : Design) (lowering : Lowering) (l : LooseList) (list : IsListOf d l
         let i = enumerated_from 0 (lowered_in (s, c)) x (f, w) at in
         let j = from_map (Step k x) (lowering k x).bits y.1 (sub y.1 (zip_parts all places y here).1) in
         let fits = All-contains (λ j. j < length (lowering k x).all) (lowering k x).bits j.0 lower.places j.1 in
-        let low = claims.steps k s c has x (omega (arith, i.1, i.2)) j.0 fits (subst (λ p. Walk n (list.number p)) (sym j.2) walk) in
+        let low = claims.steps k s c has x (omega (arith, i.1, i.2)) j.0 fits (j.0 + 1) (omega arith) (subst (λ p. Walk n (list.number p)) (sym j.2) walk) in
         (driven (Made s.path (term_of lowering s y.1)) y.0, sides_meet d lowering lowered s s.path all places terms same y here, (refl, subst (λ p. Below (bit_itself s.path (term_of lowering s p))) j.2 low))
 
     pins_pass : (s : Scope) (path : List (List ℕ)) (pin : Pin) → ((b : Bit) → Contains (pin_bits path pin) b → Contains (net_order d) b) → (p : Place) → Contains (map NetBit (pin_bits path pin)) p → Walk n (list.number p) → Below (bit_itself path (term_of lowering s p))
