@@ -71,7 +71,7 @@ from_filter h (x ∷ xs) z has = by (h x) refl has (from_filter h xs z)
       | inr more ↦ let r = rest more in (r.0, contains_there x xs r.0 r.1, r.2)
     ]
 
-into_filter : {A B : Type 0} (h : A → Option B) (xs : List A) (x : A) (z : B) → Contains xs x → h x ≡ Some z → Contains (filter_map h xs) z
+pub into_filter : {A B : Type 0} (h : A → Option B) (xs : List A) (x : A) (z : B) → Contains xs x → h x ≡ Some z → Contains (filter_map h xs) z
 into_filter h [] x z has e = absurd (none_in_nil x has)
 into_filter h (y ∷ ys) x z has e = by (h y) refl (contains_cases y ys x has) (λ more. into_filter h ys x z more e)
   where

@@ -78,6 +78,7 @@ pub mod PlacedPaths
 pub mod PlainClocks
 pub mod PortNets
 pub mod PlacesInRow
+pub mod ReadBits
 pub mod ReadingLaw
 pub mod RecursionLemmas
 pub mod RecursionLoops

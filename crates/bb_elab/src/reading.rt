@@ -4,10 +4,17 @@
 //! and where a copy is read, so is the place of which it is a copy. From each such place copies are followed up to a place that is
 //! marked already, so each copy is followed once.
 
-ghost use Rattle.std.specs.Prelude.{◌≡◌, ◌⊎◌, ◌+◌, ◌<◌, ◌^◌, ◌++◌, ◌↔◌, true, false, ℕ, List, Bool, All, Contains, length, map, slice_index_or, IfOk, OnOk};
+ghost use Rattle.std.specs.Prelude.{◌≡◌, ◌⊎◌, ◌+◌, ◌<◌, ◌≤◌, ◌^◌, ◌++◌, Some, slice_get, true, false, ℕ, List, Bool, All, Contains, length, map, take, drop, slice_index_or, IfOk, OnOk};
 ghost use Rattle.std.specs.List.{flat_map};
 ghost use Rattle.bb_net.specs.Loose.{IsLoose};
+ghost use Rattle.bb_elab.specs.Hierarchy.{Design};
+ghost use Rattle.bb_elab.specs.ListLaws.{IsBounded};
+ghost use Rattle.bb_elab.specs.NetBits.{Bit, net_order};
+ghost use Rattle.bb_elab.specs.Placements.{AreStored};
+ghost use Rattle.bb_elab.specs.Places.{Lowering, IsLowering, IsListOf};
+ghost use Rattle.bb_elab.specs.Reading.{IsRead};
 ghost use Rattle.bb_elab.specs.ReadPlaces.{read_by, read_places, copy_steps, FollowsAt, IsReadPlace, AreClosed};
+ghost use Rattle.bb_elab.specs.Registers.{cut_bits};
 
 use crate::stored::Stored;
 use bb_bits::NoMemory;
@@ -146,4 +153,38 @@ fn read_marks(
     let mut marks = vec![in alloc; false; cells.len()]?;
     follow_all(cells, &mut marks, &places);
     Ok(marks)
+}
+
+// So many of these, from one on.
+fn part_of(alloc: Global, marks: &[bool], first: usize, count: usize) -> Result<Vec<bool>, NoMemory>
+    requires there { first + count ≤ length marks.now }
+    ensures part { IfOk result (λ part. part.items ≡ take count (drop first marks.now)) }
+    ensures long { IfOk result (λ part. length part.items ≡ count) }
+{
+    let mut part = Vec::with_capacity(alloc, count)?;
+    part.extend_from_slice(&marks[first..first + count])?;
+    Ok(part)
+}
+
+/// For each bit of a net, in net order, whether it is read. The bits stand in the list from a place on and are so many.
+pub(crate) fn read_bits(
+    alloc: Global,
+    list: &Loose,
+    stored: &[Stored],
+    first: u32,
+    count: u32,
+) -> Result<Vec<bool>, NoMemory>
+    requires fits { All (λ x. first + x.clock < 2 ^ 32) stored.now }
+    requires there { first + count ≤ length list.now.cells }
+    ensures long { IfOk result (λ reads. length reads.items ≡ count) }
+    // What is found to be read is read.
+    ensures only { IfOk result (λ reads. (d : Design) (lowering : Lowering) → IsBounded d → IsLowering d lowering → IsListOf d lowering list.now → AreStored d stored.now → first ≡ 2 + length (cut_bits d)
+        → (k : ℕ) (b : Bit) → slice_get (net_order d) k ≡ Some b → slice_index_or reads.items k false ≡ true → IsRead d b) }
+    // Whose place is read is found to be read.
+    ensures read { IsLoose list.now → All (λ x. first + x.clock < length list.now.cells) stored.now
+        → IfOk result (λ reads. (k : ℕ) → k < count → IsReadPlace list.now (map (λ x. first + x.clock) stored.now) (first + k) → slice_index_or reads.items k false ≡ true) }
+{
+    let marks = read_marks(alloc, list, stored, first)?;
+    let reads = part_of(alloc, &marks, first as usize, count as usize)?;
+    Ok(reads)
 }

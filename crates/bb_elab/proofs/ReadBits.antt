@@ -1,0 +1,75 @@
+-- The bits of nets that are read, from the places that are read.
+use Rattle.std.proofs.Common.{◌≡◌, ◌⊎◌, ℕ, zero, suc, ◌+◌, ◌-◌, ◌<◌, ◌≤◌, Bool, true, false, List, [], ◌∷◌, ◌++◌, map, take, drop, length, get_or, Contains, Option, Some, None, refl, sym, ap, ◌∙◌, subst, inl, inr, arith}
+use Rattle.std.specs.Prelude.{slice_get}
+use Rattle.std.specs.List.{AllZip, flat_map, slice_index_or}
+use Rattle.std.proofs.lemmas.List.{get_or-take, get_or_past}
+use Rattle.std.proofs.Common.{true≢false}
+use Rattle.std.proofs.lemmas.List.Elements.{Contains-append_left, Contains-append_right}
+use Rattle.bb_net.specs.Loose.{LooseList}
+use Rattle.bb_elab.specs.declared.stored.Stored.{Stored}
+use Rattle.bb_elab.specs.Constructs.{Register, parts}
+use Rattle.bb_elab.specs.Hierarchy.{Design}
+use Rattle.bb_elab.specs.ListLaws.{IsBounded}
+use Rattle.bb_elab.specs.NetBits.{Bit, net_order, top_outputs, written_bits}
+use Rattle.bb_elab.specs.Placements.{IsStoredAt, AreStored}
+use Rattle.bb_elab.specs.Places.{NetBit, Lowering, IsLowering, IsListOf}
+use Rattle.bb_elab.specs.Reading.{IsRead, bit_itself, operand_terms, cells_at, read_at, read_beside, read_directly}
+use Rattle.bb_elab.specs.ReadPlaces.{IsReadPlace}
+use Rattle.bb_elab.specs.Registers.{RegisterBit, registers, cut_bits, data_terms}
+use Rattle.bb_elab.proofs.AllowedDesigns.{wired, bits_there}
+use Rattle.bb_elab.proofs.CalleeLaw.{got}
+use Rattle.bb_elab.proofs.CauseDecisions.{from_map}
+use Rattle.bb_elab.proofs.ClockInputs.{net_number}
+use Rattle.bb_elab.proofs.CopyLoops.{reads_followed}
+use Rattle.bb_elab.proofs.ModuleCells.{less_or_past}
+use Rattle.bb_elab.proofs.NextStates.{register_part}
+use Rattle.bb_elab.proofs.ReadingLaw.{into_flat}
+use Rattle.bb_elab.proofs.TopLaws.{contains_here, contains_there, contains_cases, none_in_nil}
+
+zip_there : {A B : Type 0} (R : A → B → Type 0) (xs : List A) (ys : List B) (x : A) → AllZip R xs ys → Contains xs x → (y : B) × Contains ys y × R x y
+zip_there R [] ys x all has = absurd (none_in_nil x has)
+zip_there R (z ∷ xs) [] x all has = absurd all
+zip_there R (z ∷ xs) (y ∷ ys) x all has = by (contains_cases z xs x has) (zip_there R xs ys x all.1)
+  where
+    by : (z ≡ x) ⊎ Contains xs x → (Contains xs x → (w : _) × Contains ys w × R x w) → (w : _) × Contains (y ∷ ys) w × R x w
+    by (inl same) rest = (y, contains_here y ys, subst (λ v. R v y) same all.0)
+    by (inr more) rest = let r = rest more in (r.0, contains_there y ys r.0 r.1, r.2)
+
+pub part_at : (marks : List Bool) (first count k : ℕ) → k < count → get_or (take count (drop first marks)) k false ≡ get_or marks (first + k) false
+part_at marks first count k lt = get_or-take count (drop first marks) k false lt ∙ dropped marks first k
+  where
+    dropped : (marks : List Bool) (first k : ℕ) → get_or (drop first marks) k false ≡ get_or marks (first + k) false
+    dropped marks zero k = let same : k ≡ 0 + k = omega arith in ap (λ i. get_or marks i false) same
+    dropped [] (suc first) k = refl
+    dropped (m ∷ marks) (suc first) k = let same : suc (first + k) ≡ suc first + k = omega arith in dropped marks first k ∙ ap (λ i. get_or (m ∷ marks) i false) same
+
+pub place_read : (d : Design) (lowering : Lowering) (l : LooseList) → IsBounded d → IsLowering d lowering → (list : IsListOf d lowering l) → (stored : List Stored) → AreStored d stored → (first : ℕ) → first ≡ 2 + length (cut_bits d)
+    → (k : ℕ) (b : Bit) → slice_get (net_order d) k ≡ Some b → IsReadPlace l (map (λ x. first + x.clock) stored) (first + k) → IsRead d b
+place_read d lowering l bounded lowered list stored are first is k b at read =
+    let g = got (net_order d) k b b at in
+    let number : first + k ≡ list.number (NetBit b) = ap (λ n. n + k) is ∙ sym (net_number d lowering l list k b at) in
+    reads_followed d lowering l list lowered (wired d bounded) (bits_there d bounded) (map (λ x. first + x.clock) stored) timed b (k, g.0, g.1) (subst (IsReadPlace l (map (λ x. first + x.clock) stored)) number read)
+  where
+    direct : (r : RegisterBit) → Contains (registers d) r → (c : Bit) → written_bits r.scope r.item.clock ≡ c ∷ [] → Contains (read_directly d) c
+    direct r has c clock =
+        Contains-append_right (top_outputs d) (flat_map read_at (parts d)) c (into_flat read_at (parts d) (r.scope, Register r.item) c (register_part d r has)
+        (Contains-append_right (flat_map (λ cell. flat_map (bit_itself r.scope.path) (operand_terms cell)) (cells_at (r.scope, Register r.item))) (read_beside (r.scope, Register r.item)) c
+        (Contains-append_left (written_bits r.scope r.item.clock) (flat_map (bit_itself r.scope.path) (data_terms r.scope r.item)) c (subst (λ l. Contains l c) (sym clock) (contains_here c [])))))
+
+    timed : (q : ℕ) → Contains (map (λ (x : Stored). first + x.clock) stored) q → (c : Bit) × (list.number (NetBit c) ≡ q) × Contains (read_directly d) c
+    timed q has =
+        let x = from_map (λ (x : Stored). first + x.clock) stored q has in
+        let r = zip_there (IsStoredAt d) stored (registers d) x.0 are x.1 in
+        let clock = r.2.clock in
+        (clock.0, net_number d lowering l list x.0.clock clock.0 clock.2 ∙ ap (λ n. n + x.0.clock) (sym is) ∙ x.2, direct r.0 r.1 clock.0 clock.1)
+
+pub read_part : (old marks now : List Bool) (n first count k : ℕ) → old ≡ [] → n ≡ count → now ≡ old ++ take n (drop first marks) → k < count → get_or now k false ≡ get_or marks (first + k) false
+read_part old marks now n first count k none same is lt =
+    ap (λ l. get_or l k false) (is ∙ ap (λ o. o ++ take n (drop first marks)) none ∙ ap (λ i. take i (drop first marks)) same) ∙ part_at marks first count k lt
+
+pub read_within : (reads : List Bool) (count k : ℕ) → length reads ≡ count → get_or reads k false ≡ true → k < count
+read_within reads count k long on = by (less_or_past k count)
+  where
+    by : (k < count) ⊎ (count ≤ k) → k < count
+    by (inl h) = h
+    by (inr past) = absurd (true≢false (sym on ∙ get_or_past reads k false (omega (arith, long, past))))
