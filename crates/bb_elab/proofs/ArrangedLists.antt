@@ -33,12 +33,18 @@ module _ (text : List PlainModule) (g : Grown) (l : LooseList) where
     pub behind : (x : (d : Design) × HasGrown text d g × IsListed d l) → l.inputs + 2 ≤ place
     behind (d, has, (lowering, lowered, listed)) = let f = law d lowering l has.finite.bounded has.grown.once lowered listed place least in omega (arith, f.2)
 
-    pub on_loop : (n : List ℕ) (inputs : ℕ) → inputs ≡ l.inputs → ((d : Design) → d.text ≡ text → ArePlaced d g.placed.items → (b : Bit) → slice_get (net_order d) (place - 2 - inputs) ≡ Some b → n ≡ bit_text d b)
+    pub loop_there : (inputs : ℕ) → inputs ≡ l.inputs → (x : (d : Design) × HasGrown text d g × IsListed d l) → place - 2 - inputs < length (net_order x.0)
+    loop_there inputs same (d, has, (lowering, lowered, listed)) =
+        let f = law d lowering l has.finite.bounded has.grown.once lowered listed place least in
+        let within = slice_get_within (net_order d) f.0 f.1 f.3 in
+        omega (arith, f.2, same, within)
+
+    pub on_loop : (n : List ℕ) (inputs : ℕ) → inputs ≡ l.inputs → ((d : Design) → d.text ≡ text → ArePlaced d g.placed.items → AreOutlined d g.placed.items g.outlines.items → (b : Bit) → slice_get (net_order d) (place - 2 - inputs) ≡ Some b → n ≡ bit_text d b)
         → (d : Design) → HasGrown text d g → IsListed d l → TellsOf d Cycle (Loop n)
     on_loop n inputs same named d has (lowering, lowered, listed) =
         let f = law d lowering l has.finite.bounded has.grown.once lowered listed place least in
         let number : f.0 ≡ place - 2 - inputs = omega (arith, f.2, same) in
-        record { name = n; is = refl; told = (f.1, f.4, named d has.of_text has.grown.scopes f.1 (subst (λ m. slice_get (net_order d) m ≡ Some f.1) number f.3)) }
+        record { name = n; is = refl; told = (f.1, f.4, named d has.of_text has.grown.scopes has.grown.outlined f.1 (subst (λ m. slice_get (net_order d) m ≡ Some f.1) number f.3)) }
 
   -- which bits are read
   module _ (read : List Bool) (reads : (d : Design) (lowering : Lowering) → IsBounded d → AreDrivenOnce d → IsLowering d lowering → IsListOf d lowering l → AreStored d g.stored.items → length g.counts.items ≡ length (net_order d) → AreReads d read) where
@@ -55,11 +61,14 @@ module _ (text : List PlainModule) (g : Grown) (l : LooseList) where
           let small = has.finite.bounded.small.0 in
           let fits = slice_get_within (net_order d) k b.0 b.1 in omega (arith, small, fits)
 
-      pub undriven : (n : List ℕ) → ((d : Design) → d.text ≡ text → ArePlaced d g.placed.items → (b : Bit) → slice_get (net_order d) k ≡ Some b → n ≡ bit_text d b)
+      pub number_there : (x : (d : Design) × HasGrown text d g × IsListed d l) → k < length (net_order x.0)
+      number_there (d, has, listed) = let b = found d has.finite.bounded has.grown.counted (reads_at d has listed) in slice_get_within (net_order d) k b.0 b.1
+
+      pub undriven : (n : List ℕ) → ((d : Design) → d.text ≡ text → ArePlaced d g.placed.items → AreOutlined d g.placed.items g.outlines.items → (b : Bit) → slice_get (net_order d) k ≡ Some b → n ≡ bit_text d b)
           → (d : Design) → HasGrown text d g → IsListed d l → TellsOf d NoDriver (Undriven n)
       undriven n named d has listed =
           let b = found d has.finite.bounded has.grown.counted (reads_at d has listed) in
-          record { name = n; is = refl; told = (b.0, b.2, named d has.of_text has.grown.scopes b.0 b.1) }
+          record { name = n; is = refl; told = (b.0, b.2, named d has.of_text has.grown.scopes has.grown.outlined b.0 b.1) }
 
     pub all_are : ((d : Design) → IsBounded d → AreCounts d g.counts.items → AreReads d read → AreDriven d) → (d : Design) → HasGrown text d g → IsListed d l → AreDriven d
     all_are none d has listed = none d has.finite.bounded has.grown.counted (reads_at d has listed)
@@ -102,3 +111,8 @@ if_err (Err y) P e same holds = subst P (sym same) holds
 pub match_err : {A E : Type 0} (r : Result A E) (P : E → Type 0) (e : E) → IsErrAnd r (λ x. x ≡ e) → P e → MatchResult r (λ x. ⊥) P
 match_err (Ok x) P e same holds = same
 match_err (Err y) P e same holds = subst P (sym same) holds
+
+pub for_name : (text : List PlainModule) (g : Grown) (placed : List Placed) (outlines : List Outline) → placed ≡ g.placed.items → outlines ≡ g.outlines.items → (d : Design) → HasGrown text d g → (k : ℕ) → k < length (net_order d)
+    → (d : Design) × (d.text ≡ text) × ArePlaced d placed × AreOutlined d placed outlines × (k < length (net_order d))
+for_name text g placed outlines scopes made d has k there =
+    (d, has.of_text, subst (ArePlaced d) (sym scopes) has.grown.scopes, subst (λ p. AreOutlined d p outlines) (sym scopes) (subst (AreOutlined d g.placed.items) (sym made) has.grown.outlined), there)

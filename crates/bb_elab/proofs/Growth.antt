@@ -61,11 +61,18 @@ module _ (text : List PlainModule) (top : ℕ) (lt : top < length text) (finite 
         pub few : k < 2 ^ 32
         few = let b = found design (counted_at head.0 head.1) in let small = bounded.small.0 in let fits = slice_get_within (net_order design) k b.0 b.1 in omega (arith, small, fits)
 
-        pub twice : (n : List ℕ) → ((d : Design) → d.text ≡ text → ArePlaced d placed → (b : Bit) → slice_get (net_order d) k ≡ Some b → n ≡ bit_text d b) → AtTop text top (λ d. IsRefusalOf d (DrivenTwice n))
+        pub for_name : (seen : List Placed) (looked : List Outline) → seen ≡ placed → looked ≡ outlines → (d : Design) × (d.text ≡ text) × ArePlaced d seen × AreOutlined d seen looked × (k < length (net_order d))
+        unfolding for_counts
+        for_name seen looked same alike =
+            let all = for_counts seen looked same alike in
+            let b = found design (counted_at head.0 head.1) in
+            (all.0, refl, all.1, all.2, slice_get_within (net_order design) k b.0 b.1)
+
+        pub twice : (n : List ℕ) → ((d : Design) → d.text ≡ text → ArePlaced d placed → AreOutlined d placed outlines → (b : Bit) → slice_get (net_order d) k ≡ Some b → n ≡ bit_text d b) → AtTop text top (λ d. IsRefusalOf d (DrivenTwice n))
         twice n named t at =
             let d = design_on text t in
             let b = found d (counted_at t at) in
-            refused d TwoDrivers (DrivenTwice n) (record { name = n; is = refl; told = (b.0, b.2, named d refl (scopes t at) b.0 b.1) }) (finite_clear d (finite t at))
+            refused d TwoDrivers (DrivenTwice n) (record { name = n; is = refl; told = (b.0, b.2, named d refl (scopes t at) (outlined_at t at) b.0 b.1) }) (finite_clear d (finite t at))
 
       pub grown : (stored : List Stored) → ((d : Design) → IsBounded d → AreCounts d counts → AreDrivenOnce d)
           → (bits : ℕ) → ((d : Design) → ArePlaced d placed → AreOutlined d placed outlines → bits ≡ length (net_order d))

@@ -3,7 +3,6 @@ pub mod ArrangedLists
 pub mod BitByBit
 pub mod BitNumbers
 pub mod BitPlaces
-pub mod BoxValues
 pub mod CalledInstances
 pub mod CalleeLaw
 pub mod CalleeLemmas

@@ -14,8 +14,8 @@ use crate::growing::Grown;
 use crate::list_laws::lists_are_loose;
 use crate::listing::list_cells;
 use crate::loop_laws::{least_walks_are_first_loops, lists_without_walks};
+use crate::name_stub::bit_name;
 use crate::read_stub::read_bits;
-use crate::texts::bit_name;
 use crate::undriven::first_undriven;
 use bb_expr::Checked;
 use bb_net::{Loose, NetFault, Ordered, order, order_has_no_walk};
@@ -38,7 +38,13 @@ fn drive_all(alloc: Global, checked: &Checked, grown: &Grown, list: &Loose) -> R
     let read = read_bits(alloc, list, &grown.stored, counts.len())?;
     match first_undriven(counts, &read) {
         Some(number) => Err(ElabFault::Undriven {
-            name: bit_name(alloc, checked, &grown.placed, number as u32)?,
+            name: bit_name(
+                alloc,
+                checked,
+                &grown.placed,
+                &grown.outlines,
+                number as u32,
+            )?,
         }),
         None => Ok(()),
     }
@@ -73,6 +79,7 @@ fn put_in_order(
                     alloc,
                     checked,
                     &grown.placed,
+                    &grown.outlines,
                     place - 2 - list.input_count(),
                 )?,
             })

@@ -9,13 +9,13 @@ ghost use Rattle.bb_elab.specs.Stages.{AtTop, IsFinite, AreGrown};
 
 use crate::drivers::{bit_count, driver_counts, first_driven_twice};
 use crate::fault::ElabFault;
+use crate::name_stub::bit_name;
 use crate::outline::Outline;
 use crate::outlining::outlines_of;
 use crate::placed::Placed;
 use crate::registers::stored_bits;
 use crate::scopes::place_scopes;
 use crate::stored::Stored;
-use crate::texts::bit_name;
 use bb_expr::Checked;
 use std::alloc::Global;
 
@@ -50,7 +50,7 @@ pub(crate) fn grow(
     let counts = driver_counts(alloc, &placed, &outlines)?;
     if let Some(number) = first_driven_twice(&counts) {
         return Err(ElabFault::DrivenTwice {
-            name: bit_name(alloc, checked, &placed, number as u32)?,
+            name: bit_name(alloc, checked, &placed, &outlines, number as u32)?,
         });
     }
     let stored = stored_bits(alloc, &placed, &outlines, bit_count(&placed, &outlines))?;

@@ -5,11 +5,11 @@ use Rattle.bb_elab.specs.DrivenNumbers.{IsFirstAt}
 use Rattle.bb_elab.specs.Hierarchy.{Design}
 use Rattle.bb_elab.specs.ListLaws.{IsBounded}
 use Rattle.bb_elab.specs.NetBits.{Bit, net_order}
-use Rattle.bb_elab.specs.Placements.{ArePlaced, AreCounts, AreStored, AreReads}
+use Rattle.bb_elab.specs.Placements.{ArePlaced, AreOutlined, AreCounts, AreStored, AreReads}
 use Rattle.bb_elab.specs.Places.{Lowering, IsLowering, IsListOf}
 use Rattle.bb_elab.specs.Refusals.{AreDrivenOnce, IsUndriven, AreDriven}
 use Rattle.bb_elab.specs.Texts.{bit_text}
-use Rattle.bb_elab.proofs.ArrangedLists.{for_reads, as_many, few, undriven, all_are}
+use Rattle.bb_elab.proofs.ArrangedLists.{for_reads, as_many, few, number_there, for_name, undriven, all_are}
 use Rattle.bb_elab.proofs.arranging.drive_all.Goals as goal
 
 pub read_bits-requires : goal.read_bits-requires
@@ -32,6 +32,16 @@ overflow_cast-number c =
     let low = few (map syntax c.args.checked.now) c.args.grown.now c.args.list.now c.in_ok-read.read.items reads c.in-Some.number found c.requires.design in
     omega (arith, low)
 
+pub bit_name-requires : goal.bit_name-requires
+bit_name-requires c =
+    let counts = c.as_slice-counts.ensures.value in
+    let reads = subst (λ all. (d : Design) (lowering : Lowering) → IsBounded d → AreDrivenOnce d → IsLowering d lowering → IsListOf d lowering c.args.list.now → AreStored d all → length c.args.grown.now.counts.items ≡ length (net_order d) → AreReads d c.in_ok-read.read.items) c.deref.ensures.value
+    (subst (λ all. (d : Design) (lowering : Lowering) → IsBounded d → AreDrivenOnce d → IsLowering d lowering → IsListOf d lowering c.args.list.now → AreStored d c.deref.result.now → length all ≡ length (net_order d) → AreReads d c.in_ok-read.read.items) counts c.in_ok-read.ensures.reads) in
+    let found = subst (λ all. (d : Design) → IsBounded d → AreCounts d c.args.grown.now.counts.items → AreReads d all → IsFirstAt d (IsUndriven d) c.in-Some.number) c.deref-2.ensures.value
+    (subst (λ all. (d : Design) → IsBounded d → AreCounts d all → AreReads d c.deref-2.result.now → IsFirstAt d (IsUndriven d) c.in-Some.number) counts c.in-Some.ensures.some) in
+    let there = number_there (map syntax c.args.checked.now) c.args.grown.now c.args.list.now c.in_ok-read.read.items reads c.in-Some.number found c.requires.design in
+    record { design = for_name (map syntax c.args.checked.now) c.args.grown.now c.deref-in-Some.result.now c.deref-in-Some-2.result.now c.deref-in-Some.ensures.value c.deref-in-Some-2.ensures.value c.requires.design.0 c.requires.design.1 c.in-Some.number there }
+
 pub returns-in-Some-clause-fault : goal.returns-in-Some-clause-fault
 returns-in-Some-clause-fault c =
     let counts = c.as_slice-counts.ensures.value in
@@ -39,8 +49,9 @@ returns-in-Some-clause-fault c =
     (subst (λ all. (d : Design) (lowering : Lowering) → IsBounded d → AreDrivenOnce d → IsLowering d lowering → IsListOf d lowering c.args.list.now → AreStored d c.deref.result.now → length all ≡ length (net_order d) → AreReads d c.in_ok-read.read.items) counts c.in_ok-read.ensures.reads) in
     let found = subst (λ all. (d : Design) → IsBounded d → AreCounts d c.args.grown.now.counts.items → AreReads d all → IsFirstAt d (IsUndriven d) c.in-Some.number) c.deref-2.ensures.value
     (subst (λ all. (d : Design) → IsBounded d → AreCounts d all → AreReads d c.deref-2.result.now → IsFirstAt d (IsUndriven d) c.in-Some.number) counts c.in-Some.ensures.some) in
-    inr (undriven (map syntax c.args.checked.now) c.args.grown.now c.args.list.now c.in_ok-read.read.items reads c.in-Some.number found c.in_ok-bit_name-in-Some.field-0
-    (subst (λ p. (d : Design) → d.text ≡ map syntax c.args.checked.now → ArePlaced d p → (b : Bit) → slice_get (net_order d) c.in-Some.number ≡ Some b → c.in_ok-bit_name-in-Some.field-0 ≡ bit_text d b) c.deref-in-Some.ensures.value c.in_ok-bit_name-in-Some.ensures.name))
+    let named = subst (λ o. (d : Design) → d.text ≡ map syntax c.args.checked.now → ArePlaced d c.args.grown.now.placed.items → AreOutlined d c.args.grown.now.placed.items o → (b : Bit) → slice_get (net_order d) c.in-Some.number ≡ Some b → c.in_ok-bit_name-in-Some.field-0 ≡ bit_text d b) c.deref-in-Some-2.ensures.value
+    (subst (λ p. (d : Design) → d.text ≡ map syntax c.args.checked.now → ArePlaced d p → AreOutlined d p c.deref-in-Some-2.result.now → (b : Bit) → slice_get (net_order d) c.in-Some.number ≡ Some b → c.in_ok-bit_name-in-Some.field-0 ≡ bit_text d b) c.deref-in-Some.ensures.value c.in_ok-bit_name-in-Some.ensures.name) in
+    inr (undriven (map syntax c.args.checked.now) c.args.grown.now c.args.list.now c.in_ok-read.read.items reads c.in-Some.number found c.in_ok-bit_name-in-Some.field-0 named)
 
 pub returns-clause-driven : goal.returns-clause-driven
 returns-clause-driven c =

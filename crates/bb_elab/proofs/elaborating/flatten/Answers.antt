@@ -18,5 +18,5 @@ pub returns-in_err-_arranged-clause-fault : goal.returns-in_err-_arranged-clause
 returns-in_err-_arranged-clause-fault c =
     let text = map syntax c.args.checked.now in
     let here : (c.in_err-_arranged.field-0.0 ≡ NoMemory) ⊎ AtTop text c.args.top (λ d. IsRefusalOf d c.in_err-_arranged.field-0.0) =
-      told_on c.in_err-_arranged.ensures.fault (λ tells t at. tells (design_on text t) (record { of_text = refl; finite = c.in_ok-called.ensures.finite t at; grown = c.in_ok-grown.ensures.grown t at })) in
+    told_on c.in_err-_arranged.ensures.fault (λ tells t at. tells (design_on text t) (record { of_text = refl; finite = c.in_ok-called.ensures.finite t at; grown = c.in_ok-grown.ensures.grown t at })) in
     if_err c.from_residual-in_err-_arranged.result (λ fault. (fault ≡ NoMemory) ⊎ AtTop text c.args.top (λ d. IsRefusalOf d fault)) c.in_err-_arranged.field-0.0 c.from_residual-in_err-_arranged.ensures.1 here

@@ -9,7 +9,7 @@ use Rattle.bb_elab.specs.Texts.{bit_text}
 use Rattle.bb_elab.specs.Placements.{ArePlaced, AreOutlined, AreCounts, AreStored}
 use Rattle.bb_elab.specs.ListLaws.{IsBounded}
 use Rattle.bb_elab.specs.Refusals.{IsSmall, IsDrivenTwice, AreDrivenOnce}
-use Rattle.bb_elab.proofs.Growth.{for_outlines, for_counts, for_bits, for_registers, few, twice, grown}
+use Rattle.bb_elab.proofs.Growth.{for_outlines, for_counts, for_bits, for_registers, few, for_name, twice, grown}
 use Rattle.bb_elab.proofs.growing.grow.Goals as goal
 
 pub outlines_of-requires : goal.outlines_of-requires
@@ -39,6 +39,19 @@ overflow_cast-number c =
     let low = few text c.args.top lt c.requires.finite placed c.in_ok-placed.ensures.placed outlines made counts counted c.in-Some.number found in
     omega (arith, low)
 
+pub bit_name-requires : goal.bit_name-requires
+bit_name-requires c =
+    let text = map syntax c.args.checked.now in
+    let lt : c.args.top < length text = omega (arith, c.requires.top, length-map c.args.checked.now syntax) in
+    let placed = c.in_ok-placed.placed.items in
+    let outlines = c.in_ok-outlines.outlines.items in
+    let made = subst (λ p. (d : Design) → d.text ≡ text → ArePlaced d p → IsSmall d → AreOutlined d p outlines) c.deref.ensures.value c.in_ok-outlines.ensures.outlined in
+    let counts = c.in_ok-counts.counts.items in
+    let counted = subst (λ o. (d : Design) → ArePlaced d placed → AreOutlined d placed o → IsBounded d → AreCounts d counts) c.deref-3.ensures.value
+    (subst (λ p. (d : Design) → ArePlaced d p → AreOutlined d p c.deref-3.result.now → IsBounded d → AreCounts d counts) c.deref-2.ensures.value c.in_ok-counts.ensures.counts) in
+    let found = subst (λ all. (d : Design) → AreCounts d all → IsFirstAt d (IsDrivenTwice d) c.in-Some.number) c.deref-4.ensures.value c.in-Some.ensures.some in
+    record { design = for_name text c.args.top lt c.requires.finite placed c.in_ok-placed.ensures.placed outlines made counts counted c.in-Some.number found c.deref-in-Some.result.now c.deref-in-Some-2.result.now c.deref-in-Some.ensures.value c.deref-in-Some-2.ensures.value }
+
 pub returns-in-Some-clause-fault : goal.returns-in-Some-clause-fault
 returns-in-Some-clause-fault c =
     let text = map syntax c.args.checked.now in
@@ -50,8 +63,9 @@ returns-in-Some-clause-fault c =
     let counted = subst (λ o. (d : Design) → ArePlaced d placed → AreOutlined d placed o → IsBounded d → AreCounts d counts) c.deref-3.ensures.value
     (subst (λ p. (d : Design) → ArePlaced d p → AreOutlined d p c.deref-3.result.now → IsBounded d → AreCounts d counts) c.deref-2.ensures.value c.in_ok-counts.ensures.counts) in
     let found = subst (λ all. (d : Design) → AreCounts d all → IsFirstAt d (IsDrivenTwice d) c.in-Some.number) c.deref-4.ensures.value c.in-Some.ensures.some in
-    inr (twice text c.args.top lt c.requires.finite placed c.in_ok-placed.ensures.placed outlines made counts counted c.in-Some.number found c.in_ok-bit_name.field-0
-    (subst (λ p. (d : Design) → d.text ≡ text → ArePlaced d p → (b : Bit) → slice_get (net_order d) c.in-Some.number ≡ Some b → c.in_ok-bit_name.field-0 ≡ bit_text d b) c.deref-in-Some.ensures.value c.in_ok-bit_name.ensures.name))
+    let named = subst (λ o. (d : Design) → d.text ≡ text → ArePlaced d placed → AreOutlined d placed o → (b : Bit) → slice_get (net_order d) c.in-Some.number ≡ Some b → c.in_ok-bit_name.field-0 ≡ bit_text d b) c.deref-in-Some-2.ensures.value
+    (subst (λ p. (d : Design) → d.text ≡ text → ArePlaced d p → AreOutlined d p c.deref-in-Some-2.result.now → (b : Bit) → slice_get (net_order d) c.in-Some.number ≡ Some b → c.in_ok-bit_name.field-0 ≡ bit_text d b) c.deref-in-Some.ensures.value c.in_ok-bit_name.ensures.name) in
+    inr (twice text c.args.top lt c.requires.finite placed c.in_ok-placed.ensures.placed outlines made counts counted c.in-Some.number found c.in_ok-bit_name.field-0 named)
 
 pub bit_count-requires : goal.bit_count-requires
 bit_count-requires c =
