@@ -22,57 +22,20 @@ use Rattle.bb_elab.specs.Listing.{Site, inner_first, site_of}
 use Rattle.bb_elab.specs.ListLaws.{IsBounded}
 use Rattle.bb_elab.specs.Outlines.{IsOutline, net_start}
 use Rattle.bb_elab.specs.Placements.{ArePlaced, IsScopeAt, IsChildAt}
-use Rattle.bb_elab.proofs.NoneTwice.{NoneTwice, bits_none}
+use Rattle.bb_elab.proofs.DistinctBits.{IsDistinct, distinct_bits}
+use Rattle.bb_elab.proofs.NetNumbers.{got_flat, got_run}
+use Rattle.bb_elab.proofs.NumberedLists.{zip_other}
+use Rattle.bb_elab.proofs.ScopeBits.{bits_long}
 use Rattle.bb_elab.proofs.TopLaws.{contains_here, contains_there}
 use Rattle.bb_elab.proofs.WorldLaws.{same_bit_is, same_bit_self}
-
-pub got_left : {A : Type 0} (xs ys : List A) (k : ℕ) (x : A) → slice_get xs k ≡ Some x → slice_get (xs ++ ys) k ≡ Some x
-got_left [] ys k x e = absurd (grind (arith, e))
-got_left (z ∷ xs) ys zero x e = e
-got_left (z ∷ xs) ys (suc k) x e = got_left xs ys k x e
-
-pub got_right : {A : Type 0} (xs ys : List A) (k : ℕ) → slice_get (xs ++ ys) (length xs + k) ≡ slice_get ys k
-got_right [] ys k = ap (slice_get ys) (omega arith)
-got_right (z ∷ xs) ys k = ap (slice_get (z ∷ (xs ++ ys))) (next (length xs)) ∙ got_right xs ys k
-  where
-    next : (n : ℕ) → suc n + k ≡ suc (n + k)
-    next n = omega arith
-
--- what stands in the list of one element stands behind the lists of those before it
-pub got_flat : {A B : Type 0} (f : A → List B) (xs : List A) (k : ℕ) (x : A) (j : ℕ) (y : B) → slice_get xs k ≡ Some x → slice_get (f x) j ≡ Some y
-    → slice_get (flat_map f xs) (length (flat_map f (take k xs)) + j) ≡ Some y
-got_flat f [] k x j y e at = absurd (grind (arith, e))
-got_flat f (z ∷ xs) zero x j y e at = ap (slice_get (f z ++ flat_map f xs)) (none j) ∙ got_left (f z) (flat_map f xs) j y (subst (λ w. slice_get (f w) j ≡ Some y) (sym (same e)) at)
-  where
-    none : (i : ℕ) → 0 + i ≡ i
-    none i = omega arith
-
-    same : Some z ≡ Some x → z ≡ x
-    same h = grind (arith, h)
-got_flat f (z ∷ xs) (suc k) x j y e at =
-    ap (slice_get (f z ++ flat_map f xs)) (ap (λ n. n + j) (length-append (f z) (flat_map f (take k xs))) ∙ omega arith)
-    ∙ got_right (f z) (flat_map f xs) (length (flat_map f (take k xs)) + j) ∙ got_flat f xs k x j y e at
-
-pub got_run : {A : Type 0} (f : ℕ → A) (a n k : ℕ) → k < n → slice_get (map f (range_with_len a n)) k ≡ Some (f (a + k))
-got_run f a zero k lt = absurd (omega (arith, lt))
-got_run f a (suc n) zero lt = ap (λ j. Some (f j)) (omega arith)
-got_run f a (suc n) (suc k) lt = got_run f (a + 1) n k (omega (arith, lt)) ∙ ap (λ j. Some (f j)) (omega arith)
-
--- elements of lists that lie side by side
-pub zipped_right : {A B : Type 0} (R : A → B → Type 0) (xs : List A) (ys : List B) → AllZip R xs ys → (k : ℕ) (y : B) → slice_get ys k ≡ Some y → (x : A) × (slice_get xs k ≡ Some x) × R x y
-zipped_right R [] [] all k y e = absurd (grind (arith, e))
-zipped_right R [] (z ∷ ys) all k y e = absurd all
-zipped_right R (x ∷ xs) [] all k y e = absurd all
-zipped_right R (x ∷ xs) (z ∷ ys) all zero y e = let same : z ≡ y = grind (arith, e) in (x, refl, subst (R x) same all.0)
-zipped_right R (x ∷ xs) (z ∷ ys) all (suc k) y e = zipped_right R xs ys all.1 k y e
 
 -- where a bit stands in a list
 unfoldable pub place_among : List Bit → Bit → ℕ
 place_among [] b = 0
 place_among (x ∷ xs) b = if same_bit b x then 0 else suc (place_among xs b)
 
-standing : (xs : List Bit) → NoneTwice xs → (k : ℕ) (b : Bit) → slice_get xs k ≡ Some b → place_among xs b ≡ k
-unfolding place_among NoneTwice
+standing : (xs : List Bit) → IsDistinct xs → (k : ℕ) (b : Bit) → slice_get xs k ≡ Some b → place_among xs b ≡ k
+unfolding place_among
 standing [] none k b e = absurd (grind (arith, e))
 standing (x ∷ xs) none zero b e =
     let same : x ≡ b = grind (arith, e) in
@@ -109,7 +72,7 @@ bit_number d b = place_among (net_order d) b
 module _ (names : NetNamesDiffer) (d : Design) (bounded : IsBounded d) where
   pub numbered : (k : ℕ) (b : Bit) → slice_get (net_order d) k ≡ Some b → bit_number d b ≡ k
   unfolding bit_number
-  numbered k b e = standing (net_order d) (bits_none names d bounded) k b e
+  numbered k b e = standing (net_order d) (distinct_bits names d bounded.faultless bounded.top) k b e
 
   pub told_apart : (k : ℕ) (b c : Bit) → slice_get (net_order d) k ≡ Some b → same_bit b c ≡ (k == bit_number d c)
   unfolding bit_number
@@ -130,12 +93,6 @@ pub record IsSiteOf (d : Design) (s : Scope) (site : Site) : Type 0 where
       → bit_number d (record { path = s.path; net = name_at (nets_of s.source) n; place = i }) ≡ site.first + slice_index site.starts n + i
   pub inner : (j : ℕ) (called : Instance) (target : PlainModule) → slice_get (instances_of s.source) j ≡ Some called → module_named d.text called.target ≡ Some target
       → (i : ℕ) (b : Bit) → slice_get (scope_bits (record { path = path_to s.path called.name; source = target })) i ≡ Some b → bit_number d b ≡ site.inner j + i
-
-pub nets_long : (path : Path) (nets : List NetInfo) → length (flat_map (bits_of_net path) nets) ≡ sum_by (λ net. range_width net.range) nets
-nets_long path [] = refl
-nets_long path (net ∷ nets) =
-    length-append (bits_of_net path net) (flat_map (bits_of_net path) nets)
-    ∙ omega (arith, length-map-range_with_len {X = Bit} (λ k. record { path = path; net = net.name; place = k }) 0 (range_width net.range), nets_long path nets, sum_by-cons (λ (x : NetInfo). range_width x.range) net nets)
 
 inner_first_is : (placed : List Placed) (p : Placed) (j c : ℕ) (q : Placed) → slice_get p.children.items j ≡ Some c → slice_get placed c ≡ Some q → inner_first placed p j ≡ q.first
 inner_first_is placed p j c q child there =
@@ -161,9 +118,9 @@ module _ (names : NetNamesDiffer) (d : Design) (bounded : IsBounded d) (placed :
         let there : slice_get (scope_bits s) (length (flat_map (bits_of_net s.path) (take n all)) + i) ≡ Some bit =
         got_flat (bits_of_net s.path) all n net i bit got (got_run (λ j. record { path = s.path; net = net.name; place = j }) 0 (range_width net.range) i fits
         ∙ ap (λ (j : ℕ). Some (record { path = s.path; net = net.name; place = j })) (none i) ∙ ap (λ (m : List ℕ). Some (record { path = s.path; net = m; place = i })) (sym name)) in
-        first_bits k s p at has _ bit there ∙ omega (arith, start, nets_long s.path (take n all));
+        first_bits k s p at has _ bit there ∙ omega (arith, start, bits_long s.path (take n all));
     inner = λ j called target there found i b e.
-        let child = zipped_right (IsChildAt d s) p.children.items (instances_of s.source) (are.each k s p at has).children j called there in
+        let child = zip_other (IsChildAt d s) p.children.items (instances_of s.source) j called (are.each k s p at has).children there in
         let c = child.0 in
         let same : child.2.0 ≡ target = grind (arith, child.2.1, found) in
         let stands : IsScopeAt d c (record { path = path_to s.path called.name; source = target }) = subst (λ m. IsScopeAt d c (record { path = path_to s.path called.name; source = m })) same child.2.2 in

@@ -70,6 +70,7 @@ pub mod NamedTops
 pub mod NarrowNets
 pub mod NextStates
 pub mod NoneTwice
+pub mod NumberedLists
 pub mod Operators
 pub mod OutlinedDesigns
 pub mod PartBits

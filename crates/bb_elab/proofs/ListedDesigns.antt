@@ -24,9 +24,10 @@ use Rattle.bb_elab.specs.Outlines.{IsOutline}
 use Rattle.bb_elab.specs.Placements.{ArePlaced, AreOutlined, AreStored, IsStoredAt}
 use Rattle.bb_elab.specs.Places.{Place, Constant, Input, NetBit, BoxPin, Numbering, Lowering, IsLowering, given_at, given_by_box, given, data_at, data_places, place_in, box_places, places_at, front_places, places, IsListOf}
 use Rattle.bb_elab.specs.Registers.{RegisterBit, registers, cut_bits}
-use Rattle.bb_elab.proofs.BitNumbers.{zipped_right, bit_number, numbered, first_bits}
+use Rattle.bb_elab.proofs.BitNumbers.{bit_number, numbered, first_bits}
 use Rattle.bb_elab.proofs.CalledInstances.{there_at}
 use Rattle.bb_elab.proofs.GivenPlaces.{given_long, noted}
+use Rattle.bb_elab.proofs.NumberedLists.{zip_other}
 use Rattle.bb_elab.proofs.ListedBlocks.{Block, IsBlockOf, with_block, blocks_of, scopes_fold, lowering_of, sheet_at, number_of, block_puts, PutAll, put_all}
 use Rattle.bb_elab.proofs.ListedBoxes.{PutsBoxes, boxes_put}
 use Rattle.bb_elab.proofs.WrittenValue.{length-range}
@@ -100,7 +101,7 @@ module _ (names : NetNamesDiffer) (d : Design) (bounded : IsBounded d) (placed :
   parts_fit =
       subst (PutAll d lowering number nets start (sheet_at d blocks nets start begun pins_before) 0 (parts d)) last
       (put_all d lowering number nets start (sheet_at d blocks nets start begun pins_before) 0 (parts d) (λ i x e.
-      let b = zipped_right (IsBlockOf d) blocks (parts d) (blocks_are names d bounded placed are outlines outlined) i x e in
+      let b = zip_other (IsBlockOf d) blocks (parts d) i x (blocks_are names d bounded placed are outlines outlined) e in
       let none : i ≡ 0 + i = omega arith in
       subst (λ n. Puts d lowering number nets start (n, x) (sheet_at d blocks nets start begun pins_before n) (sheet_at d blocks nets start begun pins_before (suc n))) none
       (block_puts d blocks nets start begun pins_before i b.0 x.0 x.1 b.1 b.2 (has_inputs d bounded x.0 x.1 (there_at (parts d) i x e)))))

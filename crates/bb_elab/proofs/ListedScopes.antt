@@ -16,7 +16,8 @@ use Rattle.bb_elab.specs.Outlines.{IsOutline, IsPartOf}
 use Rattle.bb_elab.specs.Placements.{ArePlaced, AreOutlined, IsScopeAt}
 use Rattle.bb_elab.specs.Places.{NetBit, Numbering, Lowering}
 use Rattle.bb_elab.proofs.AllowedDesigns.{wired}
-use Rattle.bb_elab.proofs.BitNumbers.{bit_number, nets_long, first_bits, site_is}
+use Rattle.bb_elab.proofs.BitNumbers.{bit_number, first_bits, site_is}
+use Rattle.bb_elab.proofs.ScopeBits.{bits_long}
 use Rattle.bb_elab.proofs.ListedBlocks.{nowhere, blocks_in, blocks_of, IsBlockOf}
 use Rattle.bb_elab.proofs.ListedBoxes.{IsBoxedSo}
 use Rattle.bb_elab.proofs.ListedConstructs.{HasInputs}
@@ -84,5 +85,5 @@ module _ (names : NetNamesDiffer) (d : Design) (bounded : IsBounded d) (placed :
   pub counted : bit_count placed outlines ≡ length (net_order d)
   counted =
       counts_from (scopes d) placed 0 are.count (λ k s p at has. let o = outlined k s p at has in
-      ap (λ z. option_map_or (λ (o : Outline). o.bits) z 0) o.1 ∙ o.2.bits ∙ sym (nets_long s.path (nets_of s.source)))
+      ap (λ z. option_map_or (λ (o : Outline). o.bits) z 0) o.1 ∙ o.2.bits ∙ sym (bits_long s.path (nets_of s.source)))
       ∙ omega arith

@@ -4,6 +4,7 @@
 mod arranging;
 mod assigning;
 mod bit_places;
+mod assigning;
 mod box_cells;
 mod callees;
 mod calling;
