@@ -69,8 +69,6 @@ pub mod ModulesAt
 pub mod NamedTops
 pub mod NarrowNets
 pub mod NextStates
-pub mod NoneTwice
-pub mod NumberedLists
 pub mod Operators
 pub mod OutlinedDesigns
 pub mod PartBits

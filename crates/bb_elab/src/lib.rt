@@ -4,7 +4,6 @@
 mod arranging;
 mod assigning;
 mod bit_places;
-mod assigning;
 mod box_cells;
 mod callees;
 mod calling;
