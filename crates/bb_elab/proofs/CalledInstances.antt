@@ -86,6 +86,9 @@ module _ (text : List PlainModule) (sound : IsSound text) (m : PlainModule) (her
       zero_plus : (k : ℕ) → 0 + k ≡ k
       zero_plus k = omega arith
 
+  pub meant : (i : Instance) → Contains (instances_of m) i → module_named text i.target ≡ Some (source_of text m i)
+  meant i has = let t = target_there i has in t.4 ∙ ap (λ o. Some (some_or o m)) (sym t.4)
+
   pub callees_are : callees text m ≡ map (place_of text) (instances_of m)
   callees_are = all_some (λ (i : Instance). place_named text i.target) (place_of text) (instances_of m) (λ i has. let t = target_there i has in t.2 ∙ ap (λ o. Some (some_or o 0)) (sym t.2))
 

@@ -18,6 +18,7 @@ pub mod KnownNets
 pub mod Levels
 pub mod ListFronts
 pub mod ListNumbers
+pub mod ListSteps
 pub mod ListValues
 pub mod ListWalks
 pub mod ListWorlds
@@ -28,6 +29,7 @@ pub mod LooseLists
 pub mod ModuleCells
 pub mod NamedTops
 pub mod NextStates
+pub mod NumberedLists
 pub mod Operators
 pub mod PartBits
 pub mod ReadingLaw
@@ -35,7 +37,9 @@ pub mod RecursionLemmas
 pub mod RecursionLoops
 pub mod RecursiveNames
 pub mod RefusalLaws
+pub mod ScopeBits
 pub mod ScopeLaws
+pub mod ScopePlacing
 pub mod SoundBits
 pub mod SoundConstructs
 pub mod SoundModules

@@ -25,7 +25,7 @@ use Rattle.bb_elab.proofs.WorldExists.{from_find, from_filter_map}
 use Rattle.bb_elab.proofs.WorldLaws.{same_bit_is}
 use Rattle.bb_elab.proofs.WrittenValue.{written_short}
 
-zip_append : {A B : Type 0} (R : A → B → Type 0) (xs : List A) (ys : List B) (us : List A) (vs : List B) → AllZip R xs ys → AllZip R us vs → AllZip R (xs ++ us) (ys ++ vs)
+pub zip_append : {A B : Type 0} (R : A → B → Type 0) (xs : List A) (ys : List B) (us : List A) (vs : List B) → AllZip R xs ys → AllZip R us vs → AllZip R (xs ++ us) (ys ++ vs)
 zip_append R [] [] us vs first second = second
 zip_append R [] (y ∷ ys) us vs first second = absurd first
 zip_append R (x ∷ xs) [] us vs first second = absurd first

@@ -3,6 +3,9 @@ pub mod Depths
 pub mod Recursions
 pub mod Outlines
 pub mod Placements
+pub mod DrivenNumbers
+pub mod Sketches
+pub mod Placings
 pub mod Closures
 pub mod Hierarchy
 pub mod HierarchyLaws

@@ -73,8 +73,8 @@ fn first_tall(called: &[usize], heights: &[u8], least: u8) -> usize
     k
 }
 
-// The instances that stand in an item.
-fn calls_in(item: &Item) -> &[Call]
+/// The instances that stand in an item.
+pub(crate) fn calls_in(item: &Item) -> &[Call]
     ensures names { map (λ i. i.name) (instances_in (body_view item.now.body)) ≡ map (λ call. call.name) result.now }
 {
     match &item.body {

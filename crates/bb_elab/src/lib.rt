@@ -12,6 +12,8 @@ pub mod loop_laws;
 mod outline;
 mod placed;
 mod recursion;
+mod scopes;
+mod sketch;
 mod stored;
 pub mod table_laws;
 mod top;
