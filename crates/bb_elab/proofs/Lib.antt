@@ -6,10 +6,14 @@ pub mod CalleeLaw
 pub mod CalleeLemmas
 pub mod CauseDecisions
 pub mod ContentTables
+pub mod CountedDrivers
 pub mod Deciding
 pub mod DependenceWalks
 pub mod DepthHeights
 pub mod DepthWalks
+pub mod DistinctBits
+pub mod DrivenBits
+pub mod DriverNumbers
 pub mod Enumerated
 pub mod Firsts
 pub mod GivenDrives
@@ -47,6 +51,7 @@ pub mod SoundNames
 pub mod SoundRefusals
 pub mod SoundSpots
 pub mod StandingNets
+pub mod Tallies
 pub mod TermNets
 pub mod TextLaws
 pub mod TopLaws

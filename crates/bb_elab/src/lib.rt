@@ -3,6 +3,7 @@
 
 mod callees;
 mod depth;
+mod drivers;
 mod elaborating;
 mod fault;
 mod flat;
