@@ -41,6 +41,7 @@ pub mod RecursionLemmas
 pub mod RecursionLoops
 pub mod RecursiveNames
 pub mod RefusalLaws
+pub mod RegisterNumbers
 pub mod ScopeBits
 pub mod ScopeLaws
 pub mod ScopePlacing
@@ -51,6 +52,7 @@ pub mod SoundNames
 pub mod SoundRefusals
 pub mod SoundSpots
 pub mod StandingNets
+pub mod StoredNotes
 pub mod Tallies
 pub mod TermNets
 pub mod TextLaws

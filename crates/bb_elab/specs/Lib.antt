@@ -4,6 +4,7 @@ pub mod Recursions
 pub mod Outlines
 pub mod Placements
 pub mod DrivenNumbers
+pub mod StoredNumbers
 pub mod Sketches
 pub mod Placings
 pub mod Closures

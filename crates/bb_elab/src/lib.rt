@@ -13,6 +13,7 @@ pub mod loop_laws;
 mod outline;
 mod placed;
 mod recursion;
+mod registers;
 mod scopes;
 mod sketch;
 mod stored;

@@ -1,0 +1,8 @@
+use Rattle.std.proofs.Common.{List, ◌++◌, take}
+use Rattle.std.specs.List.{flat_map}
+use Rattle.bb_elab.specs.declared.stored.Stored.{Stored}
+use Rattle.bb_elab.specs.StoredNumbers.{scope_stored, AreNotes}
+use Rattle.bb_elab.proofs.registers.note_scopes.Given as goal
+
+abbrev pub invariant-loop-scope : goal.invariant-loop-scope
+invariant-loop-scope l = (all : List Stored) → AreNotes all l.initial.notes → AreNotes (all ++ flat_map (scope_stored l.outlines) (take l.scope-index l.placed)) l.notes

@@ -1,0 +1,139 @@
+//! The register bits of a design.
+//!
+//! One pass over all constructs notes for each bit that is stored its clock and edge, and one over the bits puts them in order.
+
+ghost use Rattle.std.specs.Prelude.{◌≡◌, ◌^◌, ◌<◌, ◌++◌, ◌∷◌, [], List, All, None, length, replicate, IfOk};
+ghost use Rattle.std.specs.List.{filter_map, flat_map};
+ghost use Rattle.bb_elab.specs.declared.stored.Stored.{Stored};
+ghost use Rattle.bb_elab.specs.Hierarchy.{Design};
+ghost use Rattle.bb_elab.specs.ListLaws.{IsBounded};
+ghost use Rattle.bb_elab.specs.NetBits.{net_order};
+ghost use Rattle.bb_elab.specs.Placements.{ArePlaced, AreOutlined, AreStored};
+ghost use Rattle.bb_elab.specs.StoredNumbers.{stored_from, part_stored, scope_stored, IsStorable, MayBeNoted, AreNotes};
+
+use crate::outline::{Outline, Part};
+use crate::placed::Placed;
+use crate::stored::Stored;
+use bb_bits::NoMemory;
+use bb_expr::laws::net_names_differ;
+use std::alloc::Global;
+
+// Notes a register bit, unless the bit is noted already.
+fn note(notes: &mut [Option<Stored>], stored: Stored)
+    requires there { stored.bit < length notes.old }
+    ensures noted { (all : List Stored) → AreNotes all notes.old → AreNotes (all ++ stored ∷ []) notes.new }
+{
+    let place = stored.bit as usize;
+    if notes[place].is_none() {
+        notes[place] = Some(stored);
+    }
+}
+
+// Notes these bits of the scope whose first bit has that number.
+fn note_bits(notes: &mut [Option<Stored>], first: u32, left: &[u32], clock: u32, falling: bool)
+    requires few { length notes.old < 2 ^ 32 }
+    requires there { All (IsStorable (length notes.old)) (stored_from first left.now clock falling) }
+    ensures noted { (all : List Stored) → AreNotes all notes.old → AreNotes (all ++ stored_from first left.now clock falling) notes.new }
+{
+    for bit in left {
+        note(
+            notes,
+            Stored {
+                bit: first + *bit,
+                clock: first + clock,
+                falling,
+            },
+        );
+    }
+}
+
+// Notes the bits that a construct of a scope stores.
+fn note_part(notes: &mut [Option<Stored>], scope: &Placed, part: &Part)
+    requires few { length notes.old < 2 ^ 32 }
+    requires there { All (IsStorable (length notes.old)) (part_stored scope.now part.now) }
+    ensures noted { (all : List Stored) → AreNotes all notes.old → AreNotes (all ++ part_stored scope.now part.now) notes.new }
+{
+    if let Part::Register {
+        left,
+        clock,
+        falling,
+        ..
+    } = part
+    {
+        note_bits(notes, scope.first, left, *clock, *falling);
+    }
+}
+
+// Notes the bits that constructs of a scope store.
+fn note_parts(notes: &mut [Option<Stored>], scope: &Placed, parts: &[Part])
+    requires few { length notes.old < 2 ^ 32 }
+    requires there { All (IsStorable (length notes.old)) (flat_map (part_stored scope.now) parts.now) }
+    ensures noted { (all : List Stored) → AreNotes all notes.old → AreNotes (all ++ flat_map (part_stored scope.now) parts.now) notes.new }
+{
+    for part in parts {
+        note_part(notes, scope, part);
+    }
+}
+
+// Notes the bits that a scope stores.
+fn note_scope(notes: &mut [Option<Stored>], outlines: &[Outline], scope: &Placed)
+    requires few { length notes.old < 2 ^ 32 }
+    requires there { MayBeNoted outlines.now (length notes.old) scope.now }
+    ensures noted { (all : List Stored) → AreNotes all notes.old → AreNotes (all ++ scope_stored outlines.now scope.now) notes.new }
+{
+    if !scope.boxed {
+        note_parts(notes, scope, &outlines[scope.module].parts);
+    }
+}
+
+// Notes the bits that all scopes store.
+fn note_scopes(notes: &mut [Option<Stored>], placed: &[Placed], outlines: &[Outline])
+    requires few { length notes.old < 2 ^ 32 }
+    requires there { All (MayBeNoted outlines.now (length notes.old)) placed.now }
+    ensures noted { (all : List Stored) → AreNotes all notes.old → AreNotes (all ++ flat_map (scope_stored outlines.now) placed.now) notes.new }
+{
+    for scope in placed {
+        note_scope(notes, outlines, scope);
+    }
+}
+
+// So many places without a note.
+fn no_notes(alloc: Global, bits: usize) -> Result<Vec<Option<Stored>>, NoMemory>
+    ensures none { IfOk result (λ notes. notes.items ≡ replicate bits None) }
+    ensures long { IfOk result (λ notes. length notes.items ≡ bits) }
+{
+    let mut notes = Vec::with_capacity(alloc, bits)?;
+    for _ in 0..bits {
+        notes.push(None)?;
+    }
+    Ok(notes)
+}
+
+// What is noted, in order.
+fn noted(alloc: Global, notes: &[Option<Stored>]) -> Result<Vec<Stored>, NoMemory>
+    ensures noted { IfOk result (λ all. all.items ≡ filter_map (λ note. note) notes.now) }
+{
+    let mut all = Vec::new(alloc);
+    for note in notes {
+        if let Some(stored) = note {
+            all.push(*stored)?;
+        }
+    }
+    Ok(all)
+}
+
+/// The register bits of a design, in net order.
+pub(crate) fn stored_bits(
+    alloc: Global,
+    placed: &[Placed],
+    outlines: &[Outline],
+    bits: usize,
+) -> Result<Vec<Stored>, NoMemory>
+    requires design { (d : Design) × ArePlaced d placed.now × AreOutlined d placed.now outlines.now × IsBounded d × (bits ≡ length (net_order d)) }
+    ensures stored { IfOk result (λ all. (d : Design) → ArePlaced d placed.now → AreOutlined d placed.now outlines.now → IsBounded d → bits ≡ length (net_order d) → AreStored d all.items) }
+{
+    net_names_differ();
+    let mut notes = no_notes(alloc, bits)?;
+    note_scopes(&mut notes, placed, outlines);
+    noted(alloc, &notes)
+}
