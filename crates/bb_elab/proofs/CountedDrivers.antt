@@ -1,20 +1,18 @@
 -- What the number of drivers of a bit tells: whether the bit is driven, and whether it is driven twice.
-use Rattle.std.proofs.Common.{◌≡◌, ◌≢◌, ◌⊎◌, ◌+◌, ◌<◌, ◌≤◌, ℕ, zero, suc, Bool, true, false, if◌then◌else◌, List, [], ◌∷◌, length, take, drop, get_or, AllPairs, Contains, Some, refl, sym, ap, ◌∙◌, subst, inl, inr, arith, true≢false}
-use Rattle.std.specs.Prelude.{min, slice_get}
+use Rattle.std.proofs.Common.{◌≡◌, ◌⊎◌, ◌<◌, ◌≤◌, ℕ, zero, suc, Bool, true, false, if◌then◌else◌, List, [], ◌∷◌, length, take, drop, get_or, Contains, Some, refl, sym, ap, ◌∙◌, subst, inl, inr, arith, true≢false}
+use Rattle.std.specs.Prelude.{slice_get}
 use Rattle.std.specs.List.{filter}
 use Rattle.std.proofs.lemmas.List.{get_or_default}
 use Rattle.std.proofs.lemmas.List.Elements.{All-contains}
 use Rattle.std.proofs.lemmas.Option.{slice_get_read}
-use Rattle.bb_elab.specs.Closures.{IsFirst}
 use Rattle.bb_elab.specs.Hierarchy.{Design}
 use Rattle.bb_elab.specs.NetBits.{Bit, same_bit, net_order}
 use Rattle.bb_elab.specs.Drivers.{driven_bits}
 use Rattle.bb_elab.specs.DrivenNumbers.{IsFirstAt}
 use Rattle.bb_elab.specs.ListLaws.{IsBounded}
-use Rattle.bb_elab.specs.Placements.{times_driven, AreCounts}
+use Rattle.bb_elab.specs.Placements.{AreCounts}
 use Rattle.bb_elab.specs.Refusals.{AreDrivenOnce, IsDrivenTwice}
 use Rattle.bb_elab.proofs.AllowedDesigns.{bits_there}
-use Rattle.bb_elab.proofs.CalleeLaw.{got}
 use Rattle.bb_elab.proofs.RecursiveNames.{some_at, split, taken}
 use Rattle.bb_elab.proofs.TopLaws.{contains_here, contains_there, contains_cases, none_in_nil}
 use Rattle.bb_elab.proofs.WorldLaws.{same_bit_is, same_bit_self}

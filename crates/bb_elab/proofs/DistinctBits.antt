@@ -1,8 +1,8 @@
 -- All bits of a design are different ones: scopes have different paths, and the nets of a scope different names.
-use Rattle.std.proofs.Common.{◌≡◌, ◌≢◌, ◌⊎◌, ◌+◌, ◌<◌, ◌≤◌, ◌++◌, ℕ, zero, suc, List, [], ◌∷◌, map, length, get_or, AllPairs, Contains, Option, Some, refl, sym, ap, ◌∙◌, subst, inl, inr, arith, append_assoc, append-nil, length-append, ap₂}
+use Rattle.std.proofs.Common.{◌≡◌, ◌≢◌, ◌⊎◌, ◌+◌, ◌≤◌, ◌++◌, ℕ, zero, suc, List, [], ◌∷◌, map, length, get_or, AllPairs, Contains, Some, refl, sym, ap, ◌∙◌, subst, inl, inr, arith, append_assoc, append-nil, length-append, ap₂}
 use Rattle.std.specs.Prelude.{slice_get, option_map}
 use Rattle.std.specs.List.{flat_map, range_with_len}
-use Rattle.std.proofs.lemmas.List.{map-append, length-map}
+use Rattle.std.proofs.lemmas.List.{map-append}
 use Rattle.std.proofs.lemmas.List.Elements.{All-contains, Contains-append_cases}
 use Rattle.std.proofs.lemmas.Simd.{map-map}
 use Rattle.bb_ast.specs.Syntax.{PlainModule}
@@ -15,13 +15,14 @@ use Rattle.bb_expr.specs.Spots.{module_named}
 use Rattle.bb_elab.specs.Hierarchy.{Design, Instance, Path, Scope, root, path_to, instances_of, children, below, scopes}
 use Rattle.bb_elab.specs.NetBits.{Bit, bits_of_net, scope_bits, net_order}
 use Rattle.bb_elab.specs.Laws.{HasNamesApart}
-use Rattle.bb_elab.proofs.CalledInstances.{child, children_are}
+use Rattle.bb_elab.proofs.CalledInstances.{child, children_are, there_at}
 use Rattle.bb_elab.proofs.CauseDecisions.{from_flat, from_map}
 use Rattle.bb_elab.proofs.ScopeLaws.{mapped_there}
-use Rattle.bb_elab.proofs.ScopePlacing.{some_same}
 use Rattle.bb_elab.proofs.SoundNames.{sound_texts_have_names_apart}
 use Rattle.bb_elab.proofs.TopLaws.{contains_here, contains_there, contains_cases, none_in_nil}
 use Rattle.bb_elab.proofs.WorldExists.{from_find, from_filter_map}
+use Rattle.bb_elab.proofs.NumberedLists.{some_same}
+use Rattle.bb_elab.proofs.Levels.{contains-map}
 
 -- nothing stands twice
 abbrev pub IsDistinct : {A : Type 0} → List A → Type 0
@@ -32,17 +33,12 @@ distinct_from : {A : Type 0} (xs : List A) → AllPairs ◌≢◌ xs → IsDisti
 distinct_from [] apart = tt
 distinct_from (x ∷ xs) apart = (λ has. apart 0 (suc has.0) x (omega arith) (omega (arith, has.1)) (sym has.2), distinct_from xs (λ i j e less within. apart (suc i) (suc j) e (omega (arith, less)) (omega (arith, within))))
 
-at_contains : {A : Type 0} (xs : List A) (k : ℕ) (x : A) → slice_get xs k ≡ Some x → Contains xs x
-at_contains [] k x e = cc
-at_contains (y ∷ ys) zero x e = subst (Contains (y ∷ ys)) (some_same y x e) (contains_here y ys)
-at_contains (y ∷ ys) (suc k) x e = contains_there y ys x (at_contains ys k x e)
-
 -- so it stands at one place
 pub one_place : {A : Type 0} (xs : List A) → IsDistinct xs → (j k : ℕ) (x : A) → slice_get xs j ≡ Some x → slice_get xs k ≡ Some x → j ≡ k
 one_place [] distinct j k x e f = cc
 one_place (y ∷ ys) distinct zero zero x e f = refl
-one_place (y ∷ ys) distinct zero (suc k) x e f = absurd (distinct.0 (subst (Contains ys) (sym (some_same y x e)) (at_contains ys k x f)))
-one_place (y ∷ ys) distinct (suc j) zero x e f = absurd (distinct.0 (subst (Contains ys) (sym (some_same y x f)) (at_contains ys j x e)))
+one_place (y ∷ ys) distinct zero (suc k) x e f = absurd (distinct.0 (subst (Contains ys) (sym (some_same y x e)) (there_at ys k x f)))
+one_place (y ∷ ys) distinct (suc j) zero x e f = absurd (distinct.0 (subst (Contains ys) (sym (some_same y x f)) (there_at ys j x e)))
 one_place (y ∷ ys) distinct (suc j) (suc k) x e f = ap suc (one_place ys distinct.1 j k x e f)
 
 distinct_append : {A : Type 0} (xs ys : List A) → IsDistinct xs → IsDistinct ys → ((z : A) → Contains xs z → Contains ys z → ⊥) → IsDistinct (xs ++ ys)
@@ -52,14 +48,6 @@ distinct_append (x ∷ xs) ys first second apart = (λ has. by (Contains-append_
     by : Contains xs x ⊎ Contains ys x → ⊥
     by (inl h) = first.0 h
     by (inr h) = apart x (contains_here x xs) h
-
-contains-map : {A B : Type 0} (f : A → B) (xs : List A) (x : A) → Contains xs x → Contains (map f xs) (f x)
-contains-map f [] x has = absurd (none_in_nil x has)
-contains-map f (y ∷ ys) x has = by (contains_cases y ys x has) (contains-map f ys x)
-  where
-    by : (y ≡ x) ⊎ Contains ys x → (Contains ys x → Contains (map f ys) (f x)) → Contains (map f (y ∷ ys)) (f x)
-    by (inl e) rest = subst (λ z. Contains (map f (y ∷ ys)) (f z)) e (contains_here (f y) (map f ys))
-    by (inr more) rest = contains_there (f y) (map f ys) (f x) (rest more)
 
 distinct_map : {A B : Type 0} (f : A → B) → ((x y : A) → f x ≡ f y → x ≡ y) → (xs : List A) → IsDistinct xs → IsDistinct (map f xs)
 distinct_map f one [] distinct = tt

@@ -26,6 +26,8 @@ pub mod DepthWalks
 pub mod DistinctBits
 pub mod DriverNumbers
 pub mod ElaboratedTexts
+pub mod DrivenBits
+pub mod DriverNumbers
 pub mod Enumerated
 pub mod Firsts
 pub mod FirstLoops
@@ -45,6 +47,7 @@ pub mod LoopPlaces
 pub mod NetNumbers
 pub mod ListingLoops
 pub mod ListNumbers
+pub mod ListSteps
 pub mod ListValues
 pub mod ListWalks
 pub mod ListWorlds
@@ -69,6 +72,7 @@ pub mod ModulesAt
 pub mod NamedTops
 pub mod NarrowNets
 pub mod NextStates
+pub mod NumberedLists
 pub mod Operators
 pub mod OutlinedDesigns
 pub mod PartBits
@@ -89,6 +93,10 @@ pub mod ScopePlacing
 pub mod SizeTotals
 pub mod SitedScopes
 pub mod ScopesAmong
+pub mod RegisterNumbers
+pub mod ScopeBits
+pub mod ScopeLaws
+pub mod ScopePlacing
 pub mod SoundBits
 pub mod SoundConstructs
 pub mod SoundModules

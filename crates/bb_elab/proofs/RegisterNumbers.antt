@@ -1,38 +1,28 @@
 -- The numbers of the register bits of a design are those of its register bits.
-use Rattle.std.proofs.Common.{◌≡◌, ◌⊎◌, ◌+◌, ◌<◌, ◌++◌, ℕ, zero, suc, Bool, true, false, if◌then◌else◌, List, [], ◌∷◌, map, length, drop, get_or, All, Contains, Option, Some, None, refl, sym, ap, ap₂, ◌∙◌, subst, arith, true≢false}
+use Rattle.std.proofs.Common.{if◌then◌else◌, ◌≡◌, ◌+◌, ◌++◌, ℕ, Bool, true, false, List, [], ◌∷◌, map, length, drop, All, Option, Some, None, refl, sym, ap, ap₂, ◌∙◌, subst, true≢false}
 use Rattle.std.specs.Prelude.{◌==◌, slice_get}
 use Rattle.std.specs.Option.{option_map_or}
-use Rattle.std.specs.List.{AllZip, cons_option, enumerate_from, filter_map, find, flat_map, slice_index_or}
+use Rattle.std.specs.List.{AllZip, cons_option, enumerate_from, filter_map, find, flat_map}
 use Rattle.std.proofs.lemmas.Grind.{flat_map-append}
-use Rattle.std.proofs.lemmas.List.{get_or-map}
-use Rattle.bb_ast.specs.Syntax.{PlainAlways, PlainModule}
+use Rattle.bb_ast.specs.Syntax.{PlainAlways}
 use Rattle.bb_elab.specs.declared.outline.Part.{Part}
-use Rattle.bb_elab.specs.declared.outline.Part.TheVariants as part
 use Rattle.bb_elab.specs.declared.outline.Outline.{Outline}
 use Rattle.bb_elab.specs.declared.placed.Placed.{Placed}
 use Rattle.bb_elab.specs.declared.stored.Stored.{Stored}
 use Rattle.bb_elab.specs.Hierarchy.{Design, Scope, scopes, is_box}
-use Rattle.bb_elab.specs.NetBits.{Bit, same_bit, scope_bits, net_order, written_bits}
-use Rattle.bb_elab.specs.Constructs.{Construct, Assignment, GateInstance, Register, SupplyNet, InputConnection, OutputConnection, BoxContents, body_constructs, constructs_at, parts}
+use Rattle.bb_elab.specs.NetBits.{Bit, same_bit, net_order, written_bits}
+use Rattle.bb_elab.specs.Constructs.{Construct, Assignment, GateInstance, Register, SupplyNet, InputConnection, OutputConnection, BoxContents, body_constructs, constructs_at}
 use Rattle.bb_elab.specs.DrivenNumbers.{numbers_from}
 use Rattle.bb_elab.specs.Outlines.{AreAt, AreBitsIn, IsPartOf, IsOutline}
 use Rattle.bb_elab.specs.Placements.{IsScopeAt, IsPlacedAt, ArePlaced, AreOutlined, IsStoredAt, AreStored}
-use Rattle.bb_elab.specs.Registers.{RegisterBit, stored_at, stored, registers}
+use Rattle.bb_elab.specs.Registers.{RegisterBit, stored_at, stored}
 use Rattle.bb_elab.specs.StoredNumbers.{stored_from, part_stored, scope_stored, IsStorable, MayBeNoted, AreNotes}
 use Rattle.bb_elab.proofs.CalleeLaw.{got}
 use Rattle.bb_elab.proofs.DistinctBits.{IsDistinct}
-use Rattle.bb_elab.proofs.DriverNumbers.{AreNumbered, at_scope_bits, zip_all, zip_by, zip_numbered}
-use Rattle.bb_elab.proofs.ListedData.{zip_append}
 use Rattle.bb_elab.proofs.Tallies.{test_same}
-
-head_at : {A : Type 0} (x y : A) (xs ys : List A) → x ∷ xs ≡ y ∷ ys → x ≡ y
-head_at x y xs ys e = ap (λ l. get_or l 0 x) e
-
-zip_flat_zip : {A B C D : Type 0} (R : A → B → Type 0) (S : C → D → Type 0) (f : A → List C) (g : B → List D) → ((x : A) (y : B) → R x y → AllZip S (f x) (g y)) → (xs : List A) (ys : List B) → AllZip R xs ys → AllZip S (flat_map f xs) (flat_map g ys)
-zip_flat_zip R S f g each [] [] zipped = tt
-zip_flat_zip R S f g each [] (y ∷ ys) zipped = absurd zipped
-zip_flat_zip R S f g each (x ∷ xs) [] zipped = absurd zipped
-zip_flat_zip R S f g each (x ∷ xs) (y ∷ ys) zipped = zip_append S (f x) (g y) (flat_map f xs) (flat_map g ys) (each x y zipped.0) (zip_flat_zip R S f g each xs ys zipped.1)
+use Rattle.bb_elab.proofs.NumberedLists.{zip_all, zip_by, AreNumbered, zip_numbered, zip_flat_zip, head_same}
+use Rattle.bb_elab.proofs.ScopeBits.{at_scope_bits}
+use Rattle.bb_elab.specs.declared.outline.Part.TheVariants as part
 
 flat_flat : {A B C : Type 0} (f : B → List C) (g : A → List B) (xs : List A) → flat_map f (flat_map g xs) ≡ flat_map (λ x. flat_map f (g x)) xs
 flat_flat f g [] = refl
@@ -45,7 +35,7 @@ flat_pairs f a (b ∷ bs) = ap (λ l. f (a, b) ++ l) (flat_pairs f a bs)
 -- the one bit of a clock
 one_bit : {A : Type 0} (o : Option A) (bits : List A) → o ∷ [] ≡ map Some bits → (b : A) × (bits ≡ b ∷ []) × (o ≡ Some b)
 one_bit o [] e = cc
-one_bit o (b ∷ []) e = (b, refl, head_at o (Some b) [] [] e)
+one_bit o (b ∷ []) e = (b, refl, head_same o (Some b) [] [] e)
 one_bit o (b ∷ c ∷ bits) e = cc
 
 module _ (d : Design) (s : Scope) (r : PlainAlways) (first clock : ℕ) (b : Bit) (is : written_bits s r.clock ≡ b ∷ []) (there : slice_get (net_order d) (first + clock) ≡ Some b) (falling : Bool) (edge : falling ≡ r.falling) where
@@ -55,7 +45,7 @@ module _ (d : Design) (s : Scope) (r : PlainAlways) (first clock : ℕ) (b : Bit
   registers_from a [] (c ∷ bits) at = cc
   registers_from a (x ∷ left) [] at = cc
   registers_from a (x ∷ left) (c ∷ bits) at = (
-    record { bit = head_at (slice_get (net_order d) (first + x)) (Some c) _ _ at; clock = (b, is, there); falling = edge },
+    record { bit = head_same (slice_get (net_order d) (first + x)) (Some c) _ _ at; clock = (b, is, there); falling = edge },
     registers_from (a + 1) left bits (ap (drop 1) at),
   )
 

@@ -1,150 +1,40 @@
 -- Scopes placed one after another in elaboration order, each with its children.
-use Rattle.std.proofs.Common.{◌≡◌, ◌≢◌, ◌⊎◌, ◌+◌, ◌-◌, ◌^◌, ◌<◌, ◌≤◌, ◌++◌, ◌&&◌, ℕ, Vec, Global, zero, suc, Bool, true, false, not, List, [], ◌∷◌, map, length, take, drop, get_or, Contains, Option, Some, None, refl, sym, ap, ap₂, ◌∙◌, subst, inl, inr, arith, append_assoc, append-nil, length-append}
-use Rattle.std.specs.Prelude.{slice_get, slice_set, is_some, min, sum_by, MatchOption}
-use Rattle.std.specs.Option.{IsSomeAnd}
-use Rattle.std.specs.List.{AllZip, flat_map, range_with_len, slice_index_or}
-use Rattle.std.proofs.lemmas.Grind.{flat_map-append}
-use Rattle.std.proofs.lemmas.List.{map-append, length-map, get_or-map}
-use Rattle.std.proofs.lemmas.List.Concat.{length-flat_map}
+use Rattle.std.proofs.Common.{◌≡◌, ◌⊎◌, ◌+◌, ◌-◌, ◌^◌, ◌<◌, ◌≤◌, ◌++◌, ◌&&◌, ℕ, Vec, Global, zero, suc, Bool, false, not, List, [], ◌∷◌, map, length, take, drop, get_or, Contains, Option, Some, None, refl, sym, ap, ap₂, ◌∙◌, subst, inl, inr, arith, append_assoc, append-nil, length-append}
+use Rattle.std.specs.Prelude.{slice_get, slice_set, is_some, min, sum_by}
+use Rattle.std.specs.List.{AllZip, flat_map}
+use Rattle.std.proofs.lemmas.List.{length-map, drop_all, take_all}
 use Rattle.std.proofs.lemmas.List.Elements.{All-contains}
-use Rattle.std.proofs.lemmas.List.FromFn.{length-range_with_len}
-use Rattle.std.proofs.lemmas.List.Sums.{sum_by-cons}
 use Rattle.std.proofs.lemmas.Option.{slice_get_read}
 use Rattle.bb_ast.specs.Syntax.{PlainModule}
-use Rattle.bb_expr.specs.declared.net.NetInfo.{NetInfo}
 use Rattle.bb_expr.specs.Nets.{nets_of, is_empty}
 use Rattle.bb_expr.specs.Ranges.{range_width}
-use Rattle.bb_expr.specs.Spots.{module_named}
-use Rattle.bb_elab.specs.declared.placed.Instance as placed
 use Rattle.bb_elab.specs.declared.placed.Placed.{Placed}
 use Rattle.bb_elab.specs.declared.scopes.Placing.{Placing}
 use Rattle.bb_elab.specs.declared.sketch.Sketch.{Sketch}
 use Rattle.bb_elab.specs.Callees.{callees}
 use Rattle.bb_elab.specs.Hierarchy.{Design, Instance, Path, Scope, root, path_to, instances_of, children, below, instances, scopes, is_top, is_box}
-use Rattle.bb_elab.specs.NetBits.{Bit, bits_of_net, scope_bits, net_order}
+use Rattle.bb_elab.specs.NetBits.{scope_bits}
 use Rattle.bb_elab.specs.Placements.{IsScopeAt, IsInstanceAt, IsChildAt, IsPlacedAt, ArePlaced}
 use Rattle.bb_elab.specs.Refusals.{design_on}
 use Rattle.bb_elab.specs.Placings.{IsAdded, with_children, bits_before, AreSketched, MayBePlaced, IsNext, IsPlacedNext}
 use Rattle.bb_elab.specs.Sketches.{IsSketch}
 use Rattle.bb_elab.proofs.CalledInstances.{place_of, source_of, child, there_at, stands, meant, children_are, called_here}
-use Rattle.bb_elab.proofs.CalleeLaw.{got, got-map}
+use Rattle.bb_elab.proofs.CalleeLaw.{got}
 use Rattle.bb_elab.proofs.ListedData.{zip_append}
 use Rattle.bb_elab.proofs.DepthWalks.{list_here}
-use Rattle.bb_elab.proofs.RecursiveNames.{called as called_lists, some_at, split}
+use Rattle.bb_elab.proofs.RecursiveNames.{called as called_lists, some_at}
 use Rattle.bb_elab.proofs.TopLaws.{contains_cases}
-
--- lists
-
-plus_one : (n : ℕ) → n + 1 ≡ suc n
-plus_one n = omega arith
-
-drop_suc : {A : Type 0} (xs : List A) (n : ℕ) (y : A) (ys : List A) → drop n xs ≡ y ∷ ys → (n < length xs) × (slice_get xs n ≡ Some y) × (drop (suc n) xs ≡ ys)
-drop_suc [] zero y ys e = cc
-drop_suc [] (suc n) y ys e = cc
-drop_suc (x ∷ xs) zero y ys e = (omega arith, grind (arith, e), ap (drop 1) e)
-drop_suc (x ∷ xs) (suc n) y ys e = let r = drop_suc xs n y ys e in (omega (arith, r.0), r.1, r.2)
-
-pub drop_first : {A : Type 0} (xs : List A) (n : ℕ) (y : A) (ys : List A) → drop n xs ≡ y ∷ ys → (n < length xs) × (slice_get xs n ≡ Some y) × (drop (n + 1) xs ≡ ys)
-drop_first xs n y ys e = let r = drop_suc xs n y ys e in (r.0, r.1, ap (λ k. drop k xs) (plus_one n) ∙ r.2)
-
-drop_at : {A : Type 0} (xs : List A) (k : ℕ) (x : A) → slice_get xs k ≡ Some x → drop k xs ≡ x ∷ drop (k + 1) xs
-drop_at xs k x e = at xs k e ∙ ap (λ j. x ∷ drop j xs) (sym (plus_one k))
-  where
-    at : (ys : List _) (j : ℕ) → slice_get ys j ≡ Some x → drop j ys ≡ x ∷ drop (suc j) ys
-    at [] j e = cc
-    at (y ∷ ys) zero e = let is : y ≡ x = grind (arith, e) in ap (λ z. z ∷ ys) is
-    at (y ∷ ys) (suc j) e = at ys j e
-
-take_at : {A : Type 0} (xs : List A) (k : ℕ) (x : A) → slice_get xs k ≡ Some x → take (k + 1) xs ≡ take k xs ++ x ∷ []
-take_at xs k x e = ap (λ j. take j xs) (plus_one k) ∙ at xs k e
-  where
-    at : (ys : List _) (j : ℕ) → slice_get ys j ≡ Some x → take (suc j) ys ≡ take j ys ++ x ∷ []
-    at [] j e = cc
-    at (y ∷ ys) zero e = let is : y ≡ x = grind (arith, e) in ap (λ z. z ∷ []) is
-    at (y ∷ ys) (suc j) e = ap (λ l. y ∷ l) (at ys j e)
-
-get_front : {A : Type 0} (xs ys : List A) (k : ℕ) → k < length xs → slice_get (xs ++ ys) k ≡ slice_get xs k
-get_front [] ys k lt = absurd (omega (arith, lt))
-get_front (x ∷ xs) ys zero lt = refl
-get_front (x ∷ xs) ys (suc k) lt = get_front xs ys k (omega (arith, lt))
-
-get_behind : {A : Type 0} (xs : List A) (y : A) (ys : List A) → slice_get (xs ++ y ∷ ys) (length xs) ≡ Some y
-get_behind [] y ys = refl
-get_behind (x ∷ xs) y ys = get_behind xs y ys
-
-set_behind : {A : Type 0} (xs : List A) (y z : A) (ys : List A) → slice_set (xs ++ y ∷ ys) (length xs) z ≡ xs ++ z ∷ ys
-set_behind [] y z ys = refl
-set_behind (x ∷ xs) y z ys = ap (λ l. x ∷ l) (set_behind xs y z ys)
-
-get_set_other : {A : Type 0} (xs : List A) (y z : A) (ys : List A) (k : ℕ) → (k ≡ length xs → ⊥) → slice_get (xs ++ y ∷ ys) k ≡ slice_get (xs ++ z ∷ ys) k
-get_set_other [] y z ys zero other = absurd (other refl)
-get_set_other [] y z ys (suc k) other = refl
-get_set_other (x ∷ xs) y z ys zero other = refl
-get_set_other (x ∷ xs) y z ys (suc k) other = get_set_other xs y z ys k (λ e. other (ap suc e))
-
-same_or_less : (n k : ℕ) → n ≤ k → (k ≡ n) ⊎ (n < k)
-same_or_less zero zero le = inl refl
-same_or_less zero (suc k) le = inr (omega arith)
-same_or_less (suc n) zero le = absurd (omega (arith, le))
-same_or_less (suc n) (suc k) le = by (same_or_less n k (omega (arith, le)))
-  where
-    by : (k ≡ n) ⊎ (n < k) → (suc k ≡ suc n) ⊎ (suc n < suc k)
-    by (inl e) = inl (ap suc e)
-    by (inr lt) = inr (omega (arith, lt))
-
-less_or_same : (n k : ℕ) → (k < n) ⊎ (n ≤ k)
-less_or_same zero k = inr (omega arith)
-less_or_same (suc n) zero = inl (omega arith)
-less_or_same (suc n) (suc k) = by (less_or_same n k)
-  where
-    by : (k < n) ⊎ (n ≤ k) → (suc k < suc n) ⊎ (suc n ≤ suc k)
-    by (inl lt) = inl (omega (arith, lt))
-    by (inr le) = inr (omega (arith, le))
-
-pub some_same : {A : Type 0} (x y : A) → Some x ≡ Some y → x ≡ y
-some_same x y e = grind (arith, e)
-
-pub zip_at : {A B : Type 0} (R : A → B → Type 0) (xs : List A) (ys : List B) (k : ℕ) (x : A) (y : B) → AllZip R xs ys → slice_get xs k ≡ Some x → slice_get ys k ≡ Some y → R x y
-zip_at R [] ys k x y all e f = cc
-zip_at R (a ∷ xs) [] k x y all e f = cc
-zip_at R (a ∷ xs) (b ∷ ys) zero x y all e f = subst (R x) (some_same b y f) (subst (λ z. R z b) (some_same a x e) all.0)
-zip_at R (a ∷ xs) (b ∷ ys) (suc k) x y all e f = zip_at R xs ys k x y all.1 e f
-
-pub zip_long : {A B : Type 0} (R : A → B → Type 0) (xs : List A) (ys : List B) → AllZip R xs ys → length xs ≡ length ys
-zip_long R [] [] all = refl
-zip_long R [] (y ∷ ys) all = absurd all
-zip_long R (x ∷ xs) [] all = absurd all
-zip_long R (x ∷ xs) (y ∷ ys) all = ap suc (zip_long R xs ys all.1)
-
--- bits of scopes
-
-pub bits_long : (path : Path) (nets : List NetInfo) → length (flat_map (bits_of_net path) nets) ≡ sum_by (λ net. range_width net.range) nets
-bits_long path nets = length-flat_map (bits_of_net path) nets ∙ same nets
-  where
-    one : (net : NetInfo) → length (bits_of_net path net) ≡ range_width net.range
-    one net = length-map (range_with_len 0 (range_width net.range)) _ ∙ length-range_with_len 0 (range_width net.range)
-
-    same : (all : List NetInfo) → sum_by (λ net. length (bits_of_net path net)) all ≡ sum_by (λ net. range_width net.range) all
-    same [] = refl
-    same (net ∷ all) = sum_by-cons (λ net. length (bits_of_net path net)) net all ∙ ap₂ ◌+◌ (one net) (same all) ∙ sym (sum_by-cons (λ net. range_width net.range) net all)
-
-bits_after : (d : Design) (n : ℕ) (s : Scope) → IsScopeAt d n s → bits_before d (n + 1) ≡ bits_before d n + length (scope_bits s)
-bits_after d n s at =
-    ap (λ l. length (flat_map scope_bits l)) (take_at (scopes d) n s at) ∙ ap length (flat_map-append scope_bits (take n (scopes d)) (s ∷ [])) ∙ length-append (flat_map scope_bits (take n (scopes d))) (flat_map scope_bits (s ∷ []))
-    ∙ ap (λ l. bits_before d n + length l) (append-nil (scope_bits s))
-
--- the bits of a scope among all
-pub bits_around : (d : Design) (n : ℕ) (s : Scope) → IsScopeAt d n s → net_order d ≡ flat_map scope_bits (take n (scopes d)) ++ (scope_bits s ++ flat_map scope_bits (drop (suc n) (scopes d)))
-bits_around d n s at = ap (flat_map scope_bits) (split (scopes d) n s at) ∙ flat_map-append scope_bits (take n (scopes d)) (s ∷ drop (suc n) (scopes d))
-
-bits_fit : (d : Design) (n : ℕ) (s : Scope) → IsScopeAt d n s → bits_before d n + length (scope_bits s) ≤ length (net_order d)
-bits_fit d n s at =
-    omega (arith, ap length (bits_around d n s at), length-append (flat_map scope_bits (take n (scopes d))) (scope_bits s ++ flat_map scope_bits (drop (suc n) (scopes d))), length-append (scope_bits s) (flat_map scope_bits (drop (suc n) (scopes d))))
+use Rattle.bb_elab.proofs.NumberedLists.{drop_first, drop_at, take_at, get_behind, set_behind, get_set_other, same_or_less, some_same, zip_at, map_at}
+use Rattle.bb_elab.proofs.ScopeBits.{bits_long, bits_after, bits_fit}
+use Rattle.bb_elab.proofs.InstanceNames.{in_front}
+use Rattle.bb_elab.proofs.CauseDecisions.{less_or_not}
+use Rattle.std.proofs.lemmas.Slice.Zip.{AllZip-long}
+use Rattle.bb_elab.specs.declared.placed.Instance as placed
 
 cut_off : (a b : ℕ) → a ≤ b → min a b ≡ a
 cut_off a b le = omega arith
 
--- the design on which the scopes are placed
+-- what stands next, and what there is room for
 module _ (d : Design) (called : List (List ℕ)) (sketches : List Sketch) (start : Placing) (place : ℕ) (instance : Option placed.Instance) (levels : ℕ) (s : Scope) (rest : List Scope)
     (next : IsNext d called sketches start place instance levels s rest) where
   abbrev n : ℕ
@@ -159,9 +49,6 @@ module _ (d : Design) (called : List (List ℕ)) (sketches : List Sketch) (start
   in_text : Contains d.text s.source
   in_text = there_at d.text place s.source next.source
 
-  pub few : n < 2 ^ 32
-  few = let small = next.may.small.0 in let lt = first.0 in omega (arith, small, lt)
-
   pub some_levels : 1 ≤ levels
   some_levels = by (contains_cases (root d) (instances d) s (there_at (scopes d) n s here))
     where
@@ -170,7 +57,7 @@ module _ (d : Design) (called : List (List ℕ)) (sketches : List Sketch) (start
       by (inr has) = let low = All-contains (λ (z : Scope). length z.path < 64) (instances d) s next.may.shallow has in omega (arith, next.long, low)
 
   pub place_there : place < length sketches
-  place_there = let g = got d.text place s.source s.source next.source in omega (arith, g.0, zip_long IsSketch d.text sketches next.sketched.each)
+  place_there = let g = got d.text place s.source s.source next.source in omega (arith, g.0, AllZip-long IsSketch d.text sketches next.sketched.each)
 
   pub list_there : place < length called
   list_there = let g = got d.text place s.source s.source next.source in omega (arith, g.0, ap length next.sketched.lists, length-map d.text (callees d.text))
@@ -299,11 +186,11 @@ module _ (d : Design) (called : List (List ℕ)) (sketches : List Sketch) (start
       bits = done.bits;
       children = subst (λ l. AllZip (IsChildAt d s) more l) (sym (take_at (instances_of s.source) k i at))
           (subst (λ l. AllZip (IsChildAt d s) l (take k (instances_of s.source) ++ i ∷ [])) (sym pushed) (zip_append (IsChildAt d s) inside (take k (instances_of s.source)) (number ∷ []) (i ∷ []) placing.children (is_child number done.is, tt)));
-      each = λ j r q lt scope got_q. by j r q lt scope got_q (less_or_same (length now.scopes.items) j);
+      each = λ j r q lt scope got_q. by j r q lt scope got_q (less_or_not j (length now.scopes.items));
     }
       where
         by : (j : ℕ) (r : Scope) (q : Placed) → m < j → IsScopeAt d j r → slice_get new.scopes.items j ≡ Some q → (j < length now.scopes.items) ⊎ (length now.scopes.items ≤ j) → IsPlacedAt d j r q
-        by j r q lt scope got_q (inl before) = placing.each j r q lt scope (sym (ap (λ l. slice_get l j) done.grows ∙ get_front now.scopes.items done.more j before) ∙ got_q)
+        by j r q lt scope got_q (inl before) = placing.each j r q lt scope (sym (ap (λ l. slice_get l j) done.grows ∙ in_front now.scopes.items done.more j before) ∙ got_q)
         by j r q lt scope got_q (inr behind) = done.each j r q behind scope got_q
 
   pub placing_ends : (now new : Placing) (inside : Vec ℕ Global) (k : ℕ) → IsPlacing d start now place instance levels s rest inside.items k → k ≡ length (instances_of s.source)
@@ -314,7 +201,7 @@ module _ (d : Design) (called : List (List ℕ)) (sketches : List Sketch) (start
     grows = grows;
     some = omega arith;
     within = omega (arith, placing.within, long);
-    behind = ap (λ j. drop j (scopes d)) long ∙ placing.behind ∙ ap (λ l. flat_map each_below (map (child d.text s) l) ++ rest) (none (instances_of s.source) k (omega (arith, whole)));
+    behind = ap (λ j. drop j (scopes d)) long ∙ placing.behind ∙ ap (λ l. flat_map each_below (map (child d.text s) l) ++ rest) (drop_all k (instances_of s.source) (omega (arith, whole)));
     bits = bits ∙ placing.bits ∙ ap (bits_before d) (sym long);
     each = λ j r q le scope got_q. by j r q scope got_q (same_or_less m j le);
   }
@@ -329,25 +216,13 @@ module _ (d : Design) (called : List (List ℕ)) (sketches : List Sketch) (start
       long : length new.scopes.items ≡ length now.scopes.items
       long = ap length grows ∙ length-append start.scopes.items (own ∷ placing.more) ∙ sym (ap length placing.grows ∙ length-append start.scopes.items (placing.own ∷ placing.more))
 
-      none : (xs : List Instance) (j : ℕ) → length xs ≤ j → drop j xs ≡ []
-      none [] zero le = refl
-      none [] (suc j) le = refl
-      none (x ∷ xs) zero le = absurd (omega (arith, le))
-      none (x ∷ xs) (suc j) le = none xs j (omega (arith, le))
-
-      all_taken : (xs : List Instance) (j : ℕ) → length xs ≤ j → take j xs ≡ xs
-      all_taken [] zero le = refl
-      all_taken [] (suc j) le = refl
-      all_taken (x ∷ xs) zero le = absurd (omega (arith, le))
-      all_taken (x ∷ xs) (suc j) le = ap (λ l. x ∷ l) (all_taken xs j (omega (arith, le)))
-
       at_own : (r : Scope) → s ≡ r → IsPlacedAt d m r own
       at_own r same = subst (λ z. IsPlacedAt d m z own) same (record {
         source = ap (slice_get d.text) placing.source ∙ next.source;
         instance = subst (IsInstanceAt d m s) (sym placing.is) next.is;
         boxed = placing.boxed;
         first = placing.begins ∙ next.bits;
-        children = subst (AllZip (IsChildAt d s) inside.items) (all_taken (instances_of s.source) k (omega (arith, whole))) placing.children;
+        children = subst (AllZip (IsChildAt d s) inside.items) (take_all k (instances_of s.source) (omega (arith, whole))) placing.children;
       })
 
       by : (j : ℕ) (r : Scope) (q : Placed) → IsScopeAt d j r → slice_get new.scopes.items j ≡ Some q → (j ≡ m) ⊎ (m < j) → IsPlacedAt d j r q
@@ -357,11 +232,6 @@ module _ (d : Design) (called : List (List ℕ)) (sketches : List Sketch) (start
           subst (λ z. IsPlacedAt d z r q) (sym same) (subst (IsPlacedAt d m r) is_own (at_own r is_s))
       by j r q scope got_q (inr behind) =
           placing.each j r q behind scope (ap (λ l. slice_get l j) placing.grows ∙ get_set_other start.scopes.items placing.own own placing.more j (λ e. omega (arith, e, behind)) ∙ ap (λ l. slice_get l j) (sym grows) ∙ got_q)
-
-map_at : {A B : Type 0} (f : A → B) (xs : List A) (ys : List B) (k : ℕ) (x : A) (y : B) → slice_get xs k ≡ Some x → ys ≡ map f xs → y ≡ get_or ys k y → y ≡ f x
-map_at f xs ys k x y at same is =
-    let g = got xs k x x at in
-    is ∙ ap (λ l. get_or l k y) same ∙ get_or-map f xs k x y g.0 ∙ ap f g.1
 
 -- the instances of a scope with their modules, as they stand in the lists
 module _ (d : Design) (lists : List (Vec ℕ Global)) (sketches : List Sketch) (start : Placing) (place : ℕ) (instance : Option placed.Instance) (levels : ℕ) (s : Scope) (rest : List Scope)

@@ -1,28 +1,17 @@
 -- Register bits noted at their numbers, one after another.
-use Rattle.std.proofs.Common.{◌≡◌, ◌≢◌, ◌⊎◌, ◌+◌, ◌<◌, ◌≤◌, ◌++◌, ℕ, zero, suc, Bool, true, false, if◌then◌else◌, List, [], ◌∷◌, map, length, take, drop, get_or, All, Option, Some, None, refl, sym, ap, ◌∙◌, subst, inl, inr, arith, append-nil, append_assoc, true≢false}
-use Rattle.std.specs.Prelude.{◌==◌, replicate, slice_get, is_some}
-use Rattle.std.specs.List.{find, filter_map, cons_option, flat_map, AllZip, slice_set}
+use Rattle.std.proofs.Common.{if◌then◌else◌, ◌≡◌, ◌⊎◌, ◌+◌, ◌<◌, ◌++◌, ℕ, zero, suc, Bool, true, false, List, [], ◌∷◌, map, length, take, get_or, All, Option, Some, None, refl, sym, ap, ◌∙◌, subst, inl, inr, arith, append_assoc, true≢false}
+use Rattle.std.specs.Prelude.{◌==◌, replicate, is_some}
+use Rattle.std.specs.List.{find, filter_map, cons_option, slice_set}
 use Rattle.std.proofs.lemmas.Bool.Decides.{nat_tests}
 use Rattle.std.proofs.lemmas.List.{get_or-set_same, get_or-set_other, length-set, length-map, get_or-map, get_or_default}
 use Rattle.std.proofs.lemmas.List.Elements.{filter_map-append}
 use Rattle.bb_elab.specs.declared.stored.Stored.{Stored}
 use Rattle.bb_elab.specs.StoredNumbers.{stored_from, IsStorable, AreNotes}
 use Rattle.bb_elab.proofs.ListSteps.{front_more}
-use Rattle.bb_elab.proofs.Tallies.{not_same}
+use Rattle.std.proofs.lemmas.List.Folds.{find-append}
+use Rattle.std.specs.Option.{option_or}
 
-abbrev or_else : {A : Type 0} → Option A → Option A → Option A
-or_else (Some x) o = Some x
-or_else None o = o
-
-find_push : {A : Type 0} (test : A → Bool) (xs : List A) (y : A) → find test (xs ++ y ∷ []) ≡ or_else (find test xs) (if test y then Some y else None)
-find_push test [] y = refl
-find_push test (x ∷ xs) y = by (test x) (find_push test xs y)
-  where
-    by : (t : Bool) → find test (xs ++ y ∷ []) ≡ or_else (find test xs) (if test y then Some y else None) → (if t then Some x else find test (xs ++ y ∷ [])) ≡ or_else (if t then Some x else find test xs) (if test y then Some y else None)
-    by true rest = refl
-    by false rest = rest
-
-or_none : {A : Type 0} (o : Option A) → or_else o None ≡ o
+or_none : {A : Type 0} (o : Option A) → option_or o None ≡ o
 or_none (Some x) = refl
 or_none None = refl
 
@@ -52,7 +41,7 @@ module _ (all : List Stored) (notes : List (Option Stored)) (x : Stored) (there 
 
   -- behind others, what is noted elsewhere stays
   kept : (k : ℕ) → (x.bit ≡ k → ⊥) → k < length notes → get_or notes k None ≡ find (at k) (all ++ x ∷ [])
-  kept k other lt = noted k lt ∙ sym (or_none (find (at k) all)) ∙ ap (λ (t : Bool). or_else (find (at k) all) (if t then Some x else None)) (sym (other_number x.bit k other)) ∙ sym (find_push (at k) all x)
+  kept k other lt = noted k lt ∙ sym (or_none (find (at k) all)) ∙ ap (λ (t : Bool). option_or (find (at k) all) (if t then Some x else None)) (sym (other_number x.bit k other)) ∙ sym (find-append (at k) all (x ∷ []))
 
   pub noted_first : get_or notes x.bit None ≡ None → AreNotes (all ++ x ∷ []) (slice_set notes x.bit (Some x))
   noted_first none k lt = by (same_or_other x.bit k)
@@ -62,7 +51,7 @@ module _ (all : List Stored) (notes : List (Option Stored)) (x : Stored) (there 
 
       here : get_or (slice_set notes x.bit (Some x)) x.bit None ≡ find (at x.bit) (all ++ x ∷ [])
       here = get_or-set_same notes x.bit (Some x) None there
-          ∙ ap (λ (t : Bool). or_else None (if t then Some x else None)) (sym (same_number x.bit x.bit refl)) ∙ ap (λ o. or_else o (if x.bit == x.bit then Some x else None)) (sym none ∙ noted x.bit there) ∙ sym (find_push (at x.bit) all x)
+          ∙ ap (λ (t : Bool). option_or None (if t then Some x else None)) (sym (same_number x.bit x.bit refl)) ∙ ap (λ o. option_or o (if x.bit == x.bit then Some x else None)) (sym none ∙ noted x.bit there) ∙ sym (find-append (at x.bit) all (x ∷ []))
 
       by : (x.bit ≡ k) ⊎ (x.bit ≡ k → ⊥) → get_or (slice_set notes x.bit (Some x)) k None ≡ find (at k) (all ++ x ∷ [])
       by (inl same) = subst (λ j. get_or (slice_set notes x.bit (Some x)) j None ≡ find (at j) (all ++ x ∷ [])) same here
@@ -72,7 +61,7 @@ module _ (all : List Stored) (notes : List (Option Stored)) (x : Stored) (there 
   noted_before y some k lt = by (same_or_other x.bit k)
     where
       here : get_or notes x.bit None ≡ find (at x.bit) (all ++ x ∷ [])
-      here = some ∙ ap (λ o. or_else o (if x.bit == x.bit then Some x else None)) (sym some ∙ noted x.bit there) ∙ sym (find_push (at x.bit) all x)
+      here = some ∙ ap (λ o. option_or o (if x.bit == x.bit then Some x else None)) (sym some ∙ noted x.bit there) ∙ sym (find-append (at x.bit) all (x ∷ []))
 
       by : (x.bit ≡ k) ⊎ (x.bit ≡ k → ⊥) → get_or notes k None ≡ find (at k) (all ++ x ∷ [])
       by (inl same) = subst (λ j. get_or notes j None ≡ find (at j) (all ++ x ∷ [])) same here

@@ -1,10 +1,10 @@
 -- Lists of numbers counted piece by piece.
-use Rattle.std.proofs.Common.{◌≡◌, ◌+◌, ◌<◌, ◌≤◌, ◌++◌, ℕ, zero, suc, Bool, true, false, if◌then◌else◌, List, [], ◌∷◌, map, length, take, drop, get_or, All, Some, refl, sym, ap, ◌∙◌, subst, arith, append-nil, append_assoc, true≢false}
+use Rattle.std.proofs.Common.{if◌then◌else◌, ◌≡◌, ◌+◌, ◌<◌, ◌++◌, ℕ, zero, suc, Bool, true, false, List, [], ◌∷◌, map, length, take, drop, get_or, All, Some, refl, sym, ap, ◌∙◌, subst, arith, append-nil, append_assoc, true≢false}
 use Rattle.std.specs.Prelude.{◌==◌, min, replicate, slice_get}
 use Rattle.std.specs.List.{filter, flat_map}
 use Rattle.std.proofs.lemmas.Bool.Decides.{nat_tests}
 use Rattle.std.proofs.lemmas.Grind.{flat_map-append}
-use Rattle.std.proofs.lemmas.List.{map-append, take_all}
+use Rattle.std.proofs.lemmas.List.{map-append, take_all, drop_all}
 use Rattle.std.proofs.lemmas.List.Elements.{All-contains}
 use Rattle.bb_elab.specs.Hierarchy.{Design}
 use Rattle.bb_elab.specs.NetBits.{Bit, same_bit, net_order}
@@ -17,8 +17,8 @@ use Rattle.bb_elab.proofs.CauseDecisions.{all_from}
 use Rattle.bb_elab.proofs.DistinctBits.{IsDistinct, one_place}
 use Rattle.bb_elab.proofs.ListSteps.{item_there, front_more}
 use Rattle.bb_elab.proofs.ReadingLaw.{into_flat}
-use Rattle.bb_elab.proofs.ScopePlacing.{some_same}
 use Rattle.bb_elab.proofs.WorldLaws.{same_bit_is, same_bit_self}
+use Rattle.bb_elab.proofs.NumberedLists.{some_same}
 
 -- these numbers have been counted besides
 abbrev pub TalliesMore : List ℕ → List ℕ → List ℕ → Type 0
@@ -42,15 +42,9 @@ module _ {A : Type 0} (xs : List A) (k : ℕ) (x : A) (lt : k < length xs) (at :
   pub all_of_one : {B : Type 0} (P : B → Type 0) (f : A → List B) → All P (flat_map f xs) → All P (f x)
   all_of_one P f all = all_from P (f x) (λ y has. All-contains P (flat_map f xs) y all (into_flat f xs x y (item_there xs k x lt at) has))
 
-drop_past : {A : Type 0} (xs : List A) (k : ℕ) → length xs ≤ k → drop k xs ≡ []
-drop_past [] zero le = refl
-drop_past [] (suc k) le = refl
-drop_past (x ∷ xs) zero le = absurd (omega (arith, le))
-drop_past (x ∷ xs) (suc k) le = drop_past xs k (omega (arith, le))
-
 -- what has been written stands there
 pub written_back : {A : Type 0} (n : ℕ) (old new : List A) → length new ≡ length old → n ≡ length old → take n (new ++ drop (length new) old) ≡ new
-written_back n old new long is = ap (λ l. take n (new ++ l)) (drop_past old (length new) (omega (arith, long))) ∙ ap (take n) (append-nil new) ∙ take_all n new (omega (arith, long, is))
+written_back n old new long is = ap (λ l. take n (new ++ l)) (drop_all (length new) old (omega (arith, long))) ∙ ap (take n) (append-nil new) ∙ take_all n new (omega (arith, long, is))
 
 pub none_counted : (counts : List ℕ) (n : ℕ) → counts ≡ replicate n 0 → IsTally [] counts
 none_counted counts n is k lt = ap (λ l. get_or l k 0) is ∙ zeros n k

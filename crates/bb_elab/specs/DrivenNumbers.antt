@@ -1,7 +1,7 @@
 -- No clause of a public call rests on this file: it says what functions inside the crate find.
 -- The driven bits of a design by their numbers, each as often as it is driven: those of the inputs of the top, and then those of
 -- the constructs, scope by scope.
-use Rattle.std.specs.Prelude.{◌≡◌, ℕ, ◌+◌, ◌<◌, ◌==◌, min, Bool, false, if◌then◌else◌, List, [], ◌∷◌, ◌++◌, map, length, All, Some, slice_get, slice_index_or}
+use Rattle.std.specs.Prelude.{◌≡◌, ℕ, ◌+◌, ◌<◌, ◌==◌, min, false, if◌then◌else◌, List, [], ◌∷◌, ◌++◌, map, length, All, Some, slice_get, slice_index_or}
 use Rattle.std.specs.List.{filter, flat_map}
 use Rattle.std.specs.Option.{option_map_or}
 use Rattle.bb_elab.specs.declared.outline.Part.{Part}

@@ -1,6 +1,6 @@
 -- No clause of a public call rests on this file: it says what functions inside the crate find.
 -- Scopes while they are numbered, one after another in elaboration order.
-use Rattle.std.specs.Prelude.{◌≡◌, ℕ, ◌+◌, ◌<◌, ◌≤◌, ◌&&◌, List, [], ◌∷◌, ◌++◌, Vec, length, map, take, drop, Contains, Option, Some, slice_get, is_some}
+use Rattle.std.specs.Prelude.{◌≡◌, ℕ, ◌+◌, ◌<◌, ◌≤◌, ◌&&◌, List, ◌∷◌, ◌++◌, Vec, length, map, take, drop, Contains, Option, Some, slice_get, is_some}
 use Rattle.std.specs.Global.{Global}
 use Rattle.std.specs.List.{AllZip, flat_map}
 use Rattle.bb_ast.specs.Syntax.{PlainModule}

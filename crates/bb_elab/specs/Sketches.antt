@@ -1,6 +1,6 @@
 -- No clause of a public call rests on this file: it says what functions inside the crate find.
 -- What all scopes of a module have in common.
-use Rattle.std.specs.Prelude.{◌≡◌, ◌-◌, ◌^◌, List, map, min, sum_by}
+use Rattle.std.specs.Prelude.{◌≡◌, ◌-◌, ◌^◌, map, min, sum_by}
 use Rattle.bb_ast.specs.Syntax.{PlainModule}
 use Rattle.bb_expr.specs.Nets.{nets_of, is_empty}
 use Rattle.bb_expr.specs.Ranges.{range_width}

@@ -1,4 +1,4 @@
-use Rattle.bb_elab.proofs.DriverNumbers.{last_outlined, last_bits}
+use Rattle.bb_elab.proofs.ScopeBits.{last_outlined, last_bits}
 use Rattle.bb_elab.proofs.drivers.bit_count.Goals as goal
 
 pub bits_through-requires : goal.bits_through-requires

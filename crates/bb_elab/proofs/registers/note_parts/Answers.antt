@@ -1,4 +1,4 @@
-use Rattle.std.proofs.Common.{◌<◌, length, take, subst, sym, arith}
+use Rattle.std.proofs.Common.{length, take, subst, sym, arith}
 use Rattle.std.specs.Prelude.{All}
 use Rattle.std.specs.List.{flat_map}
 use Rattle.std.proofs.lemmas.List.{take_all}

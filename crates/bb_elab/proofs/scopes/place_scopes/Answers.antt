@@ -1,8 +1,7 @@
-use Rattle.std.proofs.Common.{◌≡◌, map, length, subst, sym, ap, ◌∙◌, refl, arith}
-use Rattle.std.specs.Prelude.{slice_get, Some}
+use Rattle.std.proofs.Common.{map, subst, sym, refl, arith}
 use Rattle.std.specs.List.{AllZip}
 use Rattle.std.proofs.lemmas.List.{length-map}
-use Rattle.bb_expr.specs.Checked.{module_facts, syntax}
+use Rattle.bb_expr.specs.Checked.{syntax}
 use Rattle.bb_elab.specs.Refusals.{design_on}
 use Rattle.bb_elab.specs.Placings.{AreSketched}
 use Rattle.bb_elab.specs.Sketches.{IsSketch}
