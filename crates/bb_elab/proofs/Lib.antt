@@ -27,7 +27,6 @@ pub mod DistinctBits
 pub mod DriverNumbers
 pub mod ElaboratedTexts
 pub mod DrivenBits
-pub mod DriverNumbers
 pub mod Enumerated
 pub mod Firsts
 pub mod FirstLoops
@@ -47,7 +46,6 @@ pub mod LoopPlaces
 pub mod NetNumbers
 pub mod ListingLoops
 pub mod ListNumbers
-pub mod ListSteps
 pub mod ListValues
 pub mod ListWalks
 pub mod ListWorlds
@@ -93,10 +91,7 @@ pub mod ScopePlacing
 pub mod SizeTotals
 pub mod SitedScopes
 pub mod ScopesAmong
-pub mod RegisterNumbers
 pub mod ScopeBits
-pub mod ScopeLaws
-pub mod ScopePlacing
 pub mod SoundBits
 pub mod SoundConstructs
 pub mod SoundModules
