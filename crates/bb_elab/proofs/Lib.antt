@@ -1,5 +1,6 @@
 pub mod AllowedDesigns
 pub mod BitByBit
+pub mod BitNames
 pub mod BitPlaces
 pub mod BoxValues
 pub mod CalledInstances
