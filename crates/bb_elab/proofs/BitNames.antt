@@ -63,3 +63,13 @@ module _ (checked : List ModuleFacts) (ok : IsChecked checked) (all : List Place
         let bit : made ≡ b = same_Some made b (sym (net_bit_at s.path (nets_of s.source) j net place own lt) ∙ ap (slice_get (scope_bits s)) (ap (λ l. net_start l j + place) (sym same) ∙ sym is) ∙ here) in
         let range : range_at d made ≡ net.range = ap (option_and_then (λ m. range_of m net.name)) (source_at k s at) ∙ sym (own_range s.source j net own) in
         ap (λ r. path_prefix s.path ++ net_bit_text net.name r place) (sym range) ∙ ap (bit_text d) bit
+
+    module _ (outlined : AreOutlined d all outlines) (y : Outline) (kept : slice_get outlines p.module ≡ Some y) (nets : List NetInfo) (starts : List ℕ) (own : nets ≡ nets_of s.source) (same : starts ≡ y.starts.items) where
+      pub starts_each : (j : ℕ) → j < length nets → slice_get starts j ≡ Some (net_start nets j)
+      starts_each j lt =
+          let o = outlined k s p at there in
+          let is : o.0 ≡ y = same_Some o.0 y (sym o.1 ∙ kept) in
+          ap (λ l. slice_get l j) (same ∙ ap (λ (x : Outline). x.starts.items) (sym is)) ∙ o.2.starts j (subst (λ l. j < length l) own lt) ∙ ap (λ l. Some (net_start l j)) (sym own)
+
+      pub local_there : (local : ℕ) (b : Bit) → slice_get (scope_bits s) local ≡ Some b → local < bit_count nets
+      local_there local b is = omega (arith, slice_get_within (scope_bits s) local b is, bits-long s.path (nets_of s.source), ap bit_count own)
