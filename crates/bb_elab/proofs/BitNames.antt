@@ -1,7 +1,6 @@
 -- The text of a bit by its number.
-use Rattle.std.proofs.Common.{◌≡◌, ℕ, ◌+◌, ◌-◌, ◌<◌, ◌≤◌, ◌++◌, [], List, map, length, Contains, Option, Some, refl, sym, ap, ◌∙◌, subst, arith}
+use Rattle.std.proofs.Common.{◌≡◌, ℕ, ◌+◌, ◌<◌, ◌++◌, [], List, map, length, Contains, Some, refl, sym, ap, ◌∙◌, subst, arith}
 use Rattle.std.specs.Prelude.{All, slice_get}
-use Rattle.std.specs.List.{flat_map}
 use Rattle.std.specs.Option.{option_and_then}
 use Rattle.std.proofs.lemmas.Option.{slice_get_within, same_Some}
 use Rattle.bb_ast.specs.Syntax.{PlainModule}
@@ -13,10 +12,10 @@ use Rattle.bb_expr.specs.Ranges.{range_width}
 use Rattle.bb_elab.specs.declared.outline.Outline.{Outline}
 use Rattle.bb_elab.specs.declared.placed.Placed.{Placed}
 use Rattle.bb_elab.specs.Laws.{HasNamesApart}
-use Rattle.bb_elab.specs.Hierarchy.{Path, Design, Scope, scopes, module_at}
-use Rattle.bb_elab.specs.NetBits.{Bit, net_order, scope_bits, bits_of_net}
-use Rattle.bb_elab.specs.Outlines.{IsOutline, net_start}
-use Rattle.bb_elab.specs.Outlining.{module_in, bit_count}
+use Rattle.bb_elab.specs.Hierarchy.{Design, Scope, scopes, module_at}
+use Rattle.bb_elab.specs.NetBits.{Bit, scope_bits}
+use Rattle.bb_elab.specs.Outlines.{net_start}
+use Rattle.bb_elab.specs.Outlining.{bit_count}
 use Rattle.bb_elab.specs.Placements.{IsScopeAt, ArePlaced, AreOutlined}
 use Rattle.bb_elab.specs.Texts.{path_prefix, net_bit_text, bit_text, range_at}
 use Rattle.bb_elab.proofs.CalledInstances.{there_at}
