@@ -1,6 +1,7 @@
 -- The text of a bit by its number.
 use Rattle.std.proofs.Common.{◌≡◌, ℕ, ◌+◌, ◌<◌, ◌++◌, [], List, map, length, Contains, Some, refl, sym, ap, ◌∙◌, subst, arith}
 use Rattle.std.specs.Prelude.{All, slice_get}
+use Rattle.std.specs.List.{range_with_len}
 use Rattle.std.specs.Option.{option_and_then}
 use Rattle.std.proofs.lemmas.Option.{slice_get_within, same_Some}
 use Rattle.bb_ast.specs.Syntax.{PlainModule}
@@ -13,13 +14,13 @@ use Rattle.bb_elab.specs.declared.outline.Outline.{Outline}
 use Rattle.bb_elab.specs.declared.placed.Placed.{Placed}
 use Rattle.bb_elab.specs.Laws.{HasNamesApart}
 use Rattle.bb_elab.specs.Hierarchy.{Design, Scope, scopes, module_at}
-use Rattle.bb_elab.specs.NetBits.{Bit, scope_bits}
+use Rattle.bb_elab.specs.NetBits.{bits_of_net, Bit, scope_bits}
 use Rattle.bb_elab.specs.Outlines.{net_start}
 use Rattle.bb_elab.specs.Outlining.{bit_count}
 use Rattle.bb_elab.specs.Placements.{IsScopeAt, ArePlaced, AreOutlined}
-use Rattle.bb_elab.specs.Texts.{path_prefix, net_bit_text, bit_text, range_at}
+use Rattle.bb_elab.specs.Texts.{net_bit_text, pin_text, range_at}
 use Rattle.bb_elab.proofs.CalledInstances.{there_at}
-use Rattle.bb_elab.proofs.CauseDecisions.{from_map}
+use Rattle.bb_elab.proofs.CauseDecisions.{from_flat, from_map}
 use Rattle.bb_elab.proofs.ModulePlaces.{has_nets, module-is}
 use Rattle.bb_elab.proofs.NetNumbers.{bits-long, net_bit_at}
 use Rattle.bb_elab.proofs.OutlinedDesigns.{meant_at}
@@ -32,6 +33,13 @@ own_range : (m : PlainModule) (k : ℕ) (net : NetInfo) → slice_get (nets_of m
 own_range m k net e =
     let n = from_map (net_of m) (net_names m) net (there_at (nets_of m) k net e) in
     subst (λ (x : NetInfo). x.range ≡ range_of m x.name) n.2 refl
+
+-- a bit of a scope has its path
+pub own_path : (s : Scope) (k : ℕ) (b : Bit) → slice_get (scope_bits s) k ≡ Some b → b.path ≡ s.path
+own_path s k b e =
+    let net = from_flat (bits_of_net s.path) (nets_of s.source) b (there_at (scope_bits s) k b e) in
+    let place = from_map (λ i. record { path = s.path; net = net.0.name; place = i }) (range_with_len 0 (range_width net.0.range)) b net.2 in
+    ap (λ (c : Bit). c.path) (sym place.2)
 
 module _ (checked : List ModuleFacts) (ok : IsChecked checked) (all : List Placed) (outlines : List Outline) (d : Design) (text : d.text ≡ map syntax checked) (are : ArePlaced d all) where
   pub scope_at : (k : ℕ) → k < length all → (s : Scope) × IsScopeAt d k s
@@ -53,15 +61,15 @@ module _ (checked : List ModuleFacts) (ok : IsChecked checked) (all : List Place
     pub own_nets : (f : ModuleFacts) → slice_get checked p.module ≡ Some f → f.nets ≡ nets_of s.source
     own_nets f e = (has_nets checked p.module f e ok).nets ∙ ap nets_of (sym (module-is checked p.module f e) ∙ (meant_at checked p.module s.source (ap (λ l. slice_get l p.module) (sym text) ∙ (are.each k s p at there).source)).1)
 
-    -- the text of the bit at a place of a net of the scope
-    pub bit_named : (nets : List NetInfo) → nets ≡ nets_of s.source → (j : ℕ) (net : NetInfo) → slice_get nets j ≡ Some net → (local place : ℕ) → local ≡ net_start nets j + place → place < range_width net.range → (b : Bit) → slice_get (scope_bits s) local ≡ Some b
-        → path_prefix s.path ++ net_bit_text net.name net.range place ≡ bit_text d b
-    bit_named nets same j net e local place is lt b here =
+    -- the text without path of the bit at a place of a net of the scope
+    pub pin_named : (nets : List NetInfo) → nets ≡ nets_of s.source → (j : ℕ) (net : NetInfo) → slice_get nets j ≡ Some net → (local place : ℕ) → local ≡ net_start nets j + place → place < range_width net.range → (b : Bit) → slice_get (scope_bits s) local ≡ Some b
+        → net_bit_text net.name net.range place ≡ pin_text d b
+    pin_named nets same j net e local place is lt b here =
         let own = subst (λ l. slice_get l j ≡ Some net) same e in
         let made : Bit = record { path = s.path; net = net.name; place = place } in
         let bit : made ≡ b = same_Some made b (sym (net_bit_at s.path (nets_of s.source) j net place own lt) ∙ ap (slice_get (scope_bits s)) (ap (λ l. net_start l j + place) (sym same) ∙ sym is) ∙ here) in
         let range : range_at d made ≡ net.range = ap (option_and_then (λ m. range_of m net.name)) (source_at k s at) ∙ sym (own_range s.source j net own) in
-        ap (λ r. path_prefix s.path ++ net_bit_text net.name r place) (sym range) ∙ ap (bit_text d) bit
+        ap (λ r. net_bit_text net.name r place) (sym range) ∙ ap (pin_text d) bit
 
     module _ (outlined : AreOutlined d all outlines) (y : Outline) (kept : slice_get outlines p.module ≡ Some y) (nets : List NetInfo) (starts : List ℕ) (own : nets ≡ nets_of s.source) (same : starts ≡ y.starts.items) where
       pub starts_each : (j : ℕ) → j < length nets → slice_get starts j ≡ Some (net_start nets j)

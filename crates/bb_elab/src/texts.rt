@@ -10,7 +10,7 @@ ghost use Rattle.bb_elab.specs.Hierarchy.{Path, Design, Scope};
 ghost use Rattle.bb_elab.specs.NetBits.{Bit, net_order};
 ghost use Rattle.bb_elab.specs.PlacedPaths.{IsPathAt, AreRooted};
 ghost use Rattle.bb_elab.specs.Placements.{IsScopeAt, ArePlaced, AreOutlined};
-ghost use Rattle.bb_elab.specs.Texts.{path_prefix, path_text, index_text, net_bit_text, bit_text};
+ghost use Rattle.bb_elab.specs.Texts.{path_prefix, path_text, index_text, net_bit_text, bit_text, pin_text};
 
 use crate::bit_places::{net_of_bit, scope_of_bit};
 use crate::outline::Outline;
@@ -119,6 +119,30 @@ fn outline_of_module(outlines: &[Outline], module: usize) -> &Outline
     &outlines[module]
 }
 
+// Puts the text of a bit without its path behind a text.
+fn add_pin(
+    alloc: Global,
+    checked: &Checked,
+    placed: &[Placed],
+    outlines: &[Outline],
+    number: u32,
+    text: &mut Vec<u8>,
+) -> Result<(), NoMemory>
+    requires design { (d : Design) × (d.text ≡ map syntax checked.now) × ArePlaced d placed.now × AreOutlined d placed.now outlines.now × (number < length (net_order d)) }
+    ensures pin { (d : Design) → d.text ≡ map syntax checked.now → ArePlaced d placed.now → AreOutlined d placed.now outlines.now
+        → (b : Bit) → slice_get (net_order d) number ≡ Some b → OnOk result (text.new.items ≡ text.old.items ++ pin_text d b) }
+{
+    let scope = scope_of_bit(placed, number);
+    let at = &placed[scope];
+    let module = scope_of_module(checked, at.module);
+    let outline = outline_of_module(outlines, at.module);
+    let local = number - at.first;
+    let k = net_of_bit(&module.nets, &outline.starts, local);
+    let net = &module.nets[k];
+    let place = local - outline.starts[k];
+    add_net_bit(alloc, net, place, text)
+}
+
 /// The text of the bit with a number.
 pub(crate) fn bit_name(
     alloc: Global,
@@ -132,15 +156,25 @@ pub(crate) fn bit_name(
         → (b : Bit) → slice_get (net_order d) number ≡ Some b → n ≡ bit_text d b) }
 {
     let scope = scope_of_bit(placed, number);
-    let at = &placed[scope];
-    let module = scope_of_module(checked, at.module);
-    let outline = outline_of_module(outlines, at.module);
-    let local = number - at.first;
-    let k = net_of_bit(&module.nets, &outline.starts, local);
-    let net = &module.nets[k];
-    let place = local - outline.starts[k];
     let mut text = Vec::new(alloc);
     add_prefix(placed, scope, &mut text)?;
-    add_net_bit(alloc, net, place, &mut text)?;
+    add_pin(alloc, checked, placed, outlines, number, &mut text)?;
+    Name::of(alloc, &text)
+}
+
+/// The text of a pin of a box: that of the bit with a number, without its path.
+pub(crate) fn pin_name(
+    alloc: Global,
+    checked: &Checked,
+    placed: &[Placed],
+    outlines: &[Outline],
+    number: u32,
+) -> Result<Name, NoMemory>
+    requires design { (d : Design) × (d.text ≡ map syntax checked.now) × ArePlaced d placed.now × AreOutlined d placed.now outlines.now × (number < length (net_order d)) }
+    ensures name { IfOk result (λ n. (d : Design) → d.text ≡ map syntax checked.now → ArePlaced d placed.now → AreOutlined d placed.now outlines.now
+        → (b : Bit) → slice_get (net_order d) number ≡ Some b → n ≡ pin_text d b) }
+{
+    let mut text = Vec::new(alloc);
+    add_pin(alloc, checked, placed, outlines, number, &mut text)?;
     Name::of(alloc, &text)
 }
