@@ -1,17 +1,15 @@
-use Rattle.std.proofs.Common.{◌≡◌, ◌-◌, ◌<◌, ◌++◌, [], ℕ, List, Some, length, map, refl, sym, ap, ◌∙◌, arith}
+use Rattle.std.proofs.Common.{◌≡◌, ◌-◌, ◌<◌, ◌++◌, ℕ, List, Some, length, map, refl, sym, ap, ◌∙◌, arith}
 use Rattle.std.specs.Prelude.{slice_get}
 use Rattle.std.proofs.lemmas.Option.{slice_get_read, slice_get_within, get_or_from_slice_get}
 use Rattle.std.proofs.lemmas.Result.{on_ok_weaker}
 use Rattle.bb_expr.specs.Checked.{ModuleFacts, module_facts, syntax}
 use Rattle.bb_elab.specs.declared.placed.Placed.{Placed}
 use Rattle.bb_elab.specs.Hierarchy.{Design, scopes}
-use Rattle.bb_elab.specs.NetBits.{Bit, net_order}
+use Rattle.bb_elab.specs.NetBits.{net_order}
 use Rattle.bb_elab.specs.Outlines.{net_start}
-use Rattle.bb_elab.specs.Texts.{path_prefix, net_bit_text, bit_text}
-use Rattle.bb_elab.specs.Placements.{ArePlaced, AreOutlined}
+use Rattle.bb_elab.specs.Placements.{ArePlaced}
 use Rattle.bb_elab.proofs.BitNames.{own_nets, starts_each, local_there, pin_named}
 use Rattle.bb_elab.proofs.OutlinedDesigns.{meant_at}
-use Rattle.bb_elab.proofs.PlacedPaths.{are_rooted, path_there}
 use Rattle.bb_elab.proofs.RecursiveNames.{some_at}
 use Rattle.bb_elab.proofs.texts.add_pin.Goals as goal
 
