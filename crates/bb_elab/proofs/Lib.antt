@@ -2,6 +2,7 @@ pub mod AllowedDesigns
 pub mod ArrangedLists
 pub mod BitByBit
 pub mod BitNumbers
+pub mod BitNames
 pub mod BitPlaces
 pub mod CalledInstances
 pub mod CalleeLaw

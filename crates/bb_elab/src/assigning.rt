@@ -1,6 +1,6 @@
 //! The parts of assignments, registers and supply nets.
 
-ghost use Rattle.std.specs.Prelude.{◌≡◌, ◌≤◌, ◌++◌, List, All, map, IfOk, OnOk};
+ghost use Rattle.std.specs.Prelude.{◌++◌, List, All, map, IfOk, OnOk};
 ghost use Rattle.std.specs.List.{AllZip, flat_map};
 ghost use Rattle.bb_ast.specs.Syntax.{Net};
 ghost use Rattle.bb_ast.specs.Views.{expression, always_view, arm_view, named_view};

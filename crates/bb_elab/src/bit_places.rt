@@ -1,6 +1,6 @@
 //! Where a bit stands, by its number: its scope, and its number among the bits of that scope.
 
-ghost use Rattle.std.specs.Prelude.{◌≡◌, ◌⊎◌, ◌≤◌, ◌<◌, ◌+◌, ◌-◌, ℕ, Some, length, slice_get};
+ghost use Rattle.std.specs.Prelude.{◌≡◌, ◌≤◌, ◌<◌, ◌+◌, ◌-◌, ℕ, Some, length, slice_get};
 ghost use Rattle.std.specs.List.{slice_index_or};
 ghost use Rattle.bb_expr.specs.declared.net.NetInfo.{NetInfo};
 ghost use Rattle.bb_expr.specs.Ranges.{range_width};

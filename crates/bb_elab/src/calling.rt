@@ -1,6 +1,6 @@
 //! The parts of the connections of instances.
 
-ghost use Rattle.std.specs.Prelude.{◌≡◌, ◌≤◌, ◌<◌, ◌+◌, ◌++◌, ◌^◌, ℕ, List, All, length, map, option_to_list, Some, IfOk, OnOk};
+ghost use Rattle.std.specs.Prelude.{◌≡◌, ◌<◌, ◌+◌, ◌++◌, ◌^◌, ℕ, List, All, length, map, option_to_list, Some, IfOk, OnOk};
 ghost use Rattle.std.specs.List.{AllZip, flat_map};
 ghost use Rattle.bb_ast.specs.Syntax.{Order, Named};
 ghost use Rattle.bb_ast.specs.Views.{optional_view, named_view, conns_view, call_view};

@@ -1,22 +1,20 @@
 //! The parts of connections: what is connected to a port of an instance.
 
-ghost use Rattle.std.specs.Prelude.{◌≡◌, ◌≤◌, ◌<◌, ◌+◌, ◌++◌, ℕ, List, [], All, None, length, map, option_to_list, slice_get, Some, IfOk, IfSome, OnOk};
-ghost use Rattle.std.specs.List.{AllZip, flat_map, slice_index_or};
-ghost use Rattle.std.specs.Option.{option_and_then};
-ghost use Rattle.bb_ast.specs.Views.{expression, optional_view, call_view};
+ghost use Rattle.std.specs.Prelude.{◌≡◌, ◌<◌, ℕ, List, All, None, map, option_to_list, Some, IfOk, IfSome};
+ghost use Rattle.std.specs.List.{AllZip};
+ghost use Rattle.bb_ast.specs.Views.{optional_view};
 ghost use Rattle.bb_expr.specs.Checked.{module_facts, syntax, HasNets};
 ghost use Rattle.bb_expr.specs.Declarations.{port_direction};
 ghost use Rattle.bb_expr.specs.Fit.{HasNet};
-ghost use Rattle.bb_expr.specs.Nets.{nets_of};
-ghost use Rattle.bb_expr.specs.Spots.{pin_named, pin_at};
-ghost use Rattle.bb_elab.specs.Constructs.{Construct, connection, connections};
-ghost use Rattle.bb_elab.specs.Hierarchy.{Instance, instance_of};
+ghost use Rattle.bb_expr.specs.Spots.{pin_named};
+ghost use Rattle.bb_elab.specs.Constructs.{connection, connections};
+ghost use Rattle.bb_elab.specs.Hierarchy.{Instance};
 ghost use Rattle.bb_elab.specs.Outlining.{IsStarted, IsCallAt, IsMakeable, IsPartAt, module_in};
 
 use crate::expression_steps::{scope_at, steps_alone};
 use crate::left_bits::{left_bits, net_bits};
 use crate::outline::Part;
-use bb_ast::{Call, Conns, Dir, Expr};
+use bb_ast::{Dir, Expr};
 use bb_bits::{Name, NoMemory};
 use bb_expr::{Checked, CheckedModule};
 use std::alloc::Global;

@@ -1,6 +1,6 @@
 //! The bits of a left side by their numbers, the most significant first.
 
-ghost use Rattle.std.specs.Prelude.{◌≡◌, ◌≤◌, ◌+◌, ◌++◌, ℕ, List, All, Some, true, map, IfOk, OnOk};
+ghost use Rattle.std.specs.Prelude.{◌≡◌, ◌≤◌, ◌+◌, ◌++◌, List, All, Some, true, map, IfOk, OnOk};
 ghost use Rattle.std.specs.List.{flat_map};
 ghost use Rattle.std.specs.Map.{lookup};
 ghost use Rattle.bb_bits.specs.Names.{same_name};
@@ -131,7 +131,7 @@ fn add_left(
 
 // Puts the bits of left sides that stand side by side behind others.
 #[cycle(left)]
-pub(crate) fn add_lefts(
+fn add_lefts(
     scope: &CheckedModule,
     starts: &[u32],
     all: &[Expr],

@@ -1,13 +1,11 @@
 //! The bits of a scope by numbers: those of each net stand side by side, from the leftmost on.
 
-ghost use Rattle.std.specs.Prelude.{◌≡◌, ◌≤◌, ◌<◌, ◌+◌, ◌++◌, ◌^◌, ℕ, List, length, map, filter, Some, slice_get, IfOk, OnOk};
+ghost use Rattle.std.specs.Prelude.{◌≡◌, ◌≤◌, ◌<◌, ◌+◌, ◌++◌, ◌^◌, length, filter, Some, IfOk, OnOk};
 ghost use Rattle.std.specs.List.{flat_map, range_with_len};
-ghost use Rattle.bb_ast.specs.Syntax.{PlainModule};
-ghost use Rattle.bb_expr.specs.Nets.{nets_of};
 ghost use Rattle.bb_expr.specs.Ranges.{range_width};
 ghost use Rattle.bb_elab.specs.Hierarchy.{Path};
 ghost use Rattle.bb_elab.specs.NetBits.{bits_of_net};
-ghost use Rattle.bb_elab.specs.Outlines.{AreAt, net_start};
+ghost use Rattle.bb_elab.specs.Outlines.{AreAt};
 ghost use Rattle.bb_elab.specs.Outlining.{AreStarts, bit_count, is_port_of};
 
 use bb_ast::{Dir, Range};

@@ -2,30 +2,34 @@
 //!
 //! A path is told from its end upwards, since a scope knows the scope in which it stands.
 
-ghost use Rattle.std.specs.Prelude.{◌≡◌, ◌<◌, ◌++◌, decimal, length, IfOk, OnOk};
+ghost use Rattle.std.specs.Prelude.{◌≡◌, ◌<◌, ◌++◌, Some, decimal, length, map, slice_get, IfOk, OnOk};
+ghost use Rattle.bb_expr.specs.Checked.{module_facts, syntax, IsChecked};
 ghost use Rattle.bb_expr.specs.Ranges.{range_width};
 ghost use Rattle.bb_elab.specs.declared.placed.Placed.{Placed};
 ghost use Rattle.bb_elab.specs.Hierarchy.{Path, Design, Scope};
+ghost use Rattle.bb_elab.specs.NetBits.{Bit, net_order};
 ghost use Rattle.bb_elab.specs.PlacedPaths.{IsPathAt, AreRooted};
-ghost use Rattle.bb_elab.specs.Placements.{IsScopeAt, ArePlaced};
-ghost use Rattle.bb_elab.specs.Texts.{path_prefix, path_text, index_text, net_bit_text};
+ghost use Rattle.bb_elab.specs.Placements.{IsScopeAt, ArePlaced, AreOutlined};
+ghost use Rattle.bb_elab.specs.Texts.{path_prefix, path_text, index_text, net_bit_text, bit_text, pin_text};
 
+use crate::bit_places::{net_of_bit, scope_of_bit};
+use crate::outline::Outline;
 use crate::placed::Placed;
 use bb_ast::Range;
 use bb_bits::{Name, NoMemory};
-use bb_expr::NetInfo;
+use bb_expr::{Checked, CheckedModule, NetInfo};
 use std::alloc::Global;
 
 // Puts what stands before the names of the nets of a scope behind a text. Recursion goes as deep as the scope stands.
 #[cycle(prefix)]
-fn add_prefix(placed: &[Placed], scope: u32, text: &mut Vec<u8>) -> Result<(), NoMemory>
+fn add_prefix(placed: &[Placed], scope: usize, text: &mut Vec<u8>) -> Result<(), NoMemory>
     requires rooted { AreRooted placed.now }
     requires there { scope < length placed.now }
     ensures { (path : Path) → IsPathAt placed.now scope path → OnOk result (text.new.items ≡ text.old.items ++ path_prefix path) }
 {
-    let at = &placed[scope as usize];
+    let at = &placed[scope];
     if let Some(instance) = &at.instance {
-        add_prefix(placed, instance.scope, text)?;
+        add_prefix(placed, instance.scope as usize, text)?;
         text.extend_from_slice(instance.name.bytes())?;
         text.push(b'.')?;
     }
@@ -33,14 +37,14 @@ fn add_prefix(placed: &[Placed], scope: u32, text: &mut Vec<u8>) -> Result<(), N
 }
 
 // Puts the path of a scope behind a text.
-fn add_path(placed: &[Placed], scope: u32, text: &mut Vec<u8>) -> Result<(), NoMemory>
+fn add_path(placed: &[Placed], scope: usize, text: &mut Vec<u8>) -> Result<(), NoMemory>
     requires rooted { AreRooted placed.now }
     requires there { scope < length placed.now }
     ensures path { (path : Path) → IsPathAt placed.now scope path → OnOk result (text.new.items ≡ text.old.items ++ path_text path) }
 {
-    let at = &placed[scope as usize];
+    let at = &placed[scope];
     if let Some(instance) = &at.instance {
-        add_prefix(placed, instance.scope, text)?;
+        add_prefix(placed, instance.scope as usize, text)?;
         text.extend_from_slice(instance.name.bytes())?;
     }
     Ok(())
@@ -53,7 +57,7 @@ pub(crate) fn path_name(alloc: Global, placed: &[Placed], scope: u32) -> Result<
     ensures name { IfOk result (λ n. (d : Design) → ArePlaced d placed.now → (s : Scope) → IsScopeAt d scope s → n ≡ path_text s.path) }
 {
     let mut text = Vec::new(alloc);
-    add_path(placed, scope, &mut text)?;
+    add_path(placed, scope as usize, &mut text)?;
     Name::of(alloc, &text)
 }
 
@@ -96,4 +100,81 @@ fn add_net_bit(alloc: Global, net: &NetInfo, place: u32, text: &mut Vec<u8>) -> 
 {
     text.extend_from_slice(net.name.bytes())?;
     add_index(alloc, net.range, place, text)
+}
+
+// The module at a place.
+fn scope_of_module(checked: &Checked, module: usize) -> &CheckedModule
+    requires there { «module» < length checked.now }
+    ensures there { slice_get checked.now «module» ≡ Some (module_facts result.now) }
+    ensures checked { IsChecked checked.now }
+{
+    &checked.modules()[module]
+}
+
+// The outline of the module at a place.
+fn outline_of_module(outlines: &[Outline], module: usize) -> &Outline
+    requires there { «module» < length outlines.now }
+    ensures there { slice_get outlines.now «module» ≡ Some result.now }
+{
+    &outlines[module]
+}
+
+// Puts the text of a bit without its path behind a text.
+fn add_pin(
+    alloc: Global,
+    checked: &Checked,
+    placed: &[Placed],
+    outlines: &[Outline],
+    number: u32,
+    text: &mut Vec<u8>,
+) -> Result<(), NoMemory>
+    requires design { (d : Design) × (d.text ≡ map syntax checked.now) × ArePlaced d placed.now × AreOutlined d placed.now outlines.now × (number < length (net_order d)) }
+    ensures pin { (d : Design) → d.text ≡ map syntax checked.now → ArePlaced d placed.now → AreOutlined d placed.now outlines.now
+        → (b : Bit) → slice_get (net_order d) number ≡ Some b → OnOk result (text.new.items ≡ text.old.items ++ pin_text d b) }
+{
+    let scope = scope_of_bit(placed, number);
+    let at = &placed[scope];
+    let module = scope_of_module(checked, at.module);
+    let outline = outline_of_module(outlines, at.module);
+    let local = number - at.first;
+    let k = net_of_bit(&module.nets, &outline.starts, local);
+    let net = &module.nets[k];
+    let place = local - outline.starts[k];
+    add_net_bit(alloc, net, place, text)
+}
+
+/// The text of the bit with a number.
+pub(crate) fn bit_name(
+    alloc: Global,
+    checked: &Checked,
+    placed: &[Placed],
+    outlines: &[Outline],
+    number: u32,
+) -> Result<Name, NoMemory>
+    requires design { (d : Design) × (d.text ≡ map syntax checked.now) × ArePlaced d placed.now × AreOutlined d placed.now outlines.now × (number < length (net_order d)) }
+    ensures name { IfOk result (λ n. (d : Design) → d.text ≡ map syntax checked.now → ArePlaced d placed.now → AreOutlined d placed.now outlines.now
+        → (b : Bit) → slice_get (net_order d) number ≡ Some b → n ≡ bit_text d b) }
+{
+    let scope = scope_of_bit(placed, number);
+    let mut text = Vec::new(alloc);
+    add_prefix(placed, scope, &mut text)?;
+    add_pin(alloc, checked, placed, outlines, number, &mut text)?;
+    Name::of(alloc, &text)
+}
+
+/// The text of a pin of a box: that of the bit with a number, without its path.
+pub(crate) fn pin_name(
+    alloc: Global,
+    checked: &Checked,
+    placed: &[Placed],
+    outlines: &[Outline],
+    number: u32,
+) -> Result<Name, NoMemory>
+    requires design { (d : Design) × (d.text ≡ map syntax checked.now) × ArePlaced d placed.now × AreOutlined d placed.now outlines.now × (number < length (net_order d)) }
+    ensures name { IfOk result (λ n. (d : Design) → d.text ≡ map syntax checked.now → ArePlaced d placed.now → AreOutlined d placed.now outlines.now
+        → (b : Bit) → slice_get (net_order d) number ≡ Some b → n ≡ pin_text d b) }
+{
+    let mut text = Vec::new(alloc);
+    add_pin(alloc, checked, placed, outlines, number, &mut text)?;
+    Name::of(alloc, &text)
 }

@@ -1,4 +1,4 @@
-use Rattle.std.proofs.Common.{◌≡◌, ◌<◌, ◌≤◌, ◌-◌}
+use Rattle.std.proofs.Common.{◌<◌, ◌≤◌, ◌-◌}
 use Rattle.std.specs.List.{slice_index_or}
 use Rattle.bb_elab.proofs.bit_places.last_start.Given as goal
 

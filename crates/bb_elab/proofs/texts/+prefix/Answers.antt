@@ -1,7 +1,6 @@
-use Rattle.std.proofs.Common.{◌≡◌, ◌++◌, ◌∷◌, [], ℕ, Some, length, refl, sym, ap, ◌∙◌, arith, append_assoc, append-nil}
-use Rattle.std.specs.Prelude.{codes, slice_get}
+use Rattle.std.proofs.Common.{◌++◌, length, refl, sym, ap, ◌∙◌, arith, append_assoc, append-nil}
+use Rattle.std.specs.Prelude.{codes}
 use Rattle.std.proofs.lemmas.Option.{slice_get_read}
-use Rattle.bb_elab.specs.declared.placed.Placed.{Placed}
 use Rattle.bb_elab.specs.Texts.{path_prefix}
 use Rattle.bb_elab.proofs.PlacedPaths.{prefix-below, path_top, path_instance, rooted_lower}
 use Rattle.bb_elab.proofs.texts.+prefix.Goals as goal

@@ -1,5 +1,4 @@
-use Rattle.std.proofs.Common.{◌≡◌, ◌++◌, ◌∷◌, [], ℕ, Some, length, refl, sym, ap, ◌∙◌, arith, append_assoc, append-nil}
-use Rattle.std.specs.Prelude.{slice_get}
+use Rattle.std.proofs.Common.{◌++◌, length, refl, sym, ap, ◌∙◌, arith, append_assoc, append-nil}
 use Rattle.std.proofs.lemmas.Option.{slice_get_read}
 use Rattle.bb_elab.specs.Texts.{path_prefix, path_text}
 use Rattle.bb_elab.proofs.PlacedPaths.{text-below, path_top, path_instance, rooted_lower}

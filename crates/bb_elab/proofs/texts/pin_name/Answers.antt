@@ -1,0 +1,15 @@
+use Rattle.std.proofs.Common.{◌≡◌, ◌++◌, Some, map, ap, ◌∙◌}
+use Rattle.std.specs.Prelude.{slice_get}
+use Rattle.std.proofs.lemmas.Result.{IfOk-weaker}
+use Rattle.bb_expr.specs.Checked.{syntax}
+use Rattle.bb_elab.specs.Hierarchy.{Design}
+use Rattle.bb_elab.specs.NetBits.{Bit, net_order}
+use Rattle.bb_elab.specs.Placements.{ArePlaced, AreOutlined}
+use Rattle.bb_elab.specs.Texts.{pin_text}
+use Rattle.bb_elab.proofs.texts.pin_name.Goals as goal
+
+pub returns : goal.returns
+returns c = record {
+  name = IfOk-weaker c.of.result (λ n. n ≡ c.deref.result.now) (λ n. (d : Design) → d.text ≡ map syntax c.args.checked.now → ArePlaced d c.args.placed.now → AreOutlined d c.args.placed.now c.args.outlines.now → (b : Bit) → slice_get (net_order d) c.args.number ≡ Some b → n ≡ pin_text d b)
+      (λ n is e text are outlined b bit. is ∙ c.deref.ensures.value ∙ c.in_ok-add_pin.ensures.pin e text are outlined b bit ∙ ap (λ l. l ++ pin_text e b) c.new-text.ensures.items) c.of.ensures.ok;
+}
