@@ -9,13 +9,13 @@ ghost use Rattle.bb_elab.specs.Stages.{AtTop, IsFinite, AreGrown};
 
 use crate::drivers::{bit_count, driver_counts, first_driven_twice};
 use crate::fault::ElabFault;
-use crate::name_stub::bit_name;
 use crate::outline::Outline;
 use crate::outlining::outlines_of;
 use crate::placed::Placed;
 use crate::registers::stored_bits;
 use crate::scopes::place_scopes;
 use crate::stored::Stored;
+use crate::texts::bit_name;
 use bb_expr::Checked;
 use std::alloc::Global;
 

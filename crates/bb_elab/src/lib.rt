@@ -27,7 +27,6 @@ pub mod list_laws;
 mod listing;
 pub mod loop_laws;
 mod module_parts;
-mod name_stub;
 mod net_starts;
 mod outline;
 mod outlining;
