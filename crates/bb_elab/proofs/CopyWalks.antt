@@ -59,7 +59,7 @@ module _ (d : Design) (lowering : Lowering) (l : LooseList) (list : IsListOf d l
   abbrev pub To : Place → Bit → Type 0
   To p b = FollowsAt l.cells (list.number p) (list.number (NetBit b))
 
-  copy_on : (p q : Place) → IsListed d lowering l list p (cell.Copy (list.number q)) → (b : Bit) → To q b → To p b
+  pub copy_on : (p q : Place) → IsListed d lowering l list p (cell.Copy (list.number q)) → (b : Bit) → To q b → To p b
   copy_on p q listed b (inl same) = inr (One (subst (λ k. Contains {X = ℕ × ℕ} (copy_steps l.cells) (list.number p, k)) same (copy_to l.cells (list.number p) (list.number q) (cell.Const false) (listed_below d lowering l list p _ listed) (listed_cell d lowering l list p _ listed))))
   copy_on p q listed b (inr leads) = inr (More (copy_to l.cells (list.number p) (list.number q) (cell.Const false) (listed_below d lowering l list p _ listed) (listed_cell d lowering l list p _ listed)) leads)
 
@@ -83,7 +83,7 @@ module _ (d : Design) (lowering : Lowering) (l : LooseList) (list : IsListOf d l
     step_copies term j b (steps.Xor x y) listed has = absurd (none_in_nil b has)
     step_copies term j b (steps.Mux i t e) listed has = absurd (none_in_nil b has)
 
-    within_copies : (m j : ℕ) → j < m → j < length all → (b : Bit) → Contains (bit_itself s.path (term_within (nets_of s.source) all m j)) b → To (Step k n j) b
+    pub within_copies : (m j : ℕ) → j < m → j < length all → (b : Bit) → Contains (bit_itself s.path (term_within (nets_of s.source) all m j)) b → To (Step k n j) b
     unfolding term_within
     within_copies zero j below there b has = absurd (omega (arith, below))
     within_copies (suc m) j below there b low = step_copies (term_within (nets_of s.source) all m) j b (get_or all j (steps.Const false)) (step_listed d lowering l list k s c has n fits j there) low

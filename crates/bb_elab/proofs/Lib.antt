@@ -42,6 +42,7 @@ pub mod NarrowNets
 pub mod NextStates
 pub mod Operators
 pub mod PartBits
+pub mod PlacesRead
 pub mod ReadBits
 pub mod ReadingLaw
 pub mod RecursionLemmas

@@ -215,7 +215,7 @@ module _ (text : List PlainModule) (s : Scope) where
   stored_from (OutputConnection i pin e) r has = absurd (none_in_nil r has)
   stored_from BoxContents r has = absurd (none_in_nil r has)
 
-numbered_there : {A : Type 0} (a : ℕ) (xs : List A) (x : A) → Contains xs x → (k : ℕ) × Contains (enumerate_from a xs) (k, x)
+pub numbered_there : {A : Type 0} (a : ℕ) (xs : List A) (x : A) → Contains xs x → (k : ℕ) × Contains (enumerate_from a xs) (k, x)
 numbered_there a [] x has = absurd (none_in_nil x has)
 numbered_there a (y ∷ ys) x has = by (contains_cases y ys x has) (numbered_there (a + 1) ys x)
   where
