@@ -1,7 +1,7 @@
 -- Where a bit is read, its place in the list of cells is read.
-use Rattle.std.proofs.Common.{◌≡◌, ◌⊎◌, ℕ, zero, suc, ◌+◌, ◌-◌, ◌<◌, ◌≤◌, Bool, true, false, if◌then◌else◌, List, [], ◌∷◌, ◌++◌, map, fold, length, get_or, All, Contains, Option, Some, None, refl, sym, ap, ◌∙◌, subst, inl, inr, arith}
+use Rattle.std.proofs.Common.{◌≡◌, ◌⊎◌, ℕ, zero, suc, ◌+◌, ◌-◌, ◌<◌, ◌≤◌, Bool, true, false, if◌then◌else◌, List, [], ◌∷◌, ◌++◌, map, fold, zip, length, get_or, All, Contains, Option, Some, None, refl, sym, ap, ◌∙◌, subst, inl, inr, arith}
 use Rattle.std.specs.List.{enumerate_from, flat_map, range_with_len}
-use Rattle.std.proofs.lemmas.List.{get_or_default}
+use Rattle.std.proofs.lemmas.List.{get_or_default, length-drop}
 use Rattle.std.proofs.lemmas.List.Elements.{All-contains, Contains-append_cases, Contains-append_left, Contains-append_right, Contains-get_or}
 use Rattle.std.proofs.lemmas.List.Sorted.{Contains-permutation}
 use Rattle.bb_ast.specs.declared.module.Gate.{Gate}
@@ -18,20 +18,26 @@ use Rattle.bb_net.specs.declared.loose.LooseCell.TheVariants as cell
 use Rattle.bb_net.specs.Loose.{LooseList, loose_at}
 use Rattle.bb_net.specs.Netlists.{Pins}
 use Rattle.bb_elab.specs.Constructs.{Construct, Assignment, GateInstance, Register, SupplyNet, InputConnection, OutputConnection, BoxContents, parts}
-use Rattle.bb_elab.specs.Contexts.{width_of, context_width, made_in}
-use Rattle.bb_elab.specs.Drivers.{terminal_terms}
+use Rattle.bb_elab.specs.Contexts.{width_of, context_width, low_bits, made_in}
+use Rattle.bb_elab.specs.Drivers.{Free, Drive, driven, drives, driven_bits, terminal_terms}
 use Rattle.bb_elab.specs.GateFunctions.{on_terms, joins, joined, joined_after, joining_cells, gate_cells, inverts, gate_gives}
 use Rattle.bb_ast.specs.Syntax.{PlainAlways}
 use Rattle.bb_elab.specs.Hierarchy.{Design, Scope, boxes}
-use Rattle.bb_elab.specs.NetBits.{Bit, input_bits, top_outputs, written_bits}
-use Rattle.bb_elab.specs.Places.{Place, Constant, NetBit, Step, Joined, Inverted, lowered_in, Lowering, IsLowering, terminal_place, joined_place, step_cell, net_place, join_cell, pins_of, data_places, IsListOf}
+use Rattle.bb_elab.specs.NetBits.{Bit, net_order, input_bits, top_outputs, written_bits}
+use Rattle.bb_elab.specs.Places.{Place, Constant, NetBit, Step, Joined, Inverted, lowered_in, Lowering, IsLowering, terminal_place, joined_place, step_cell, net_place, join_cell, pins_of, step_places, data_at, place_in, data_places, IsListOf}
 use Rattle.bb_elab.specs.Reading.{bit_itself, cells_at, operand_terms, read_at, read_beside, read_directly}
-use Rattle.bb_elab.specs.Registers.{data_terms}
+use Rattle.bb_elab.specs.Registers.{RegisterBit, stored_at, registers, data_terms}
+use Rattle.bb_elab.specs.Laws.{BitsAreThere}
+use Rattle.bb_elab.specs.Refusals.{AreDrivenOnce}
+use Rattle.bb_elab.proofs.DataPlaces.{data_place}
+use Rattle.bb_elab.proofs.GivenDrives.{term_of, low_terms, part_driven}
+use Rattle.bb_elab.proofs.PartBits.{zip_parts}
+use Rattle.bb_elab.proofs.WorldLaws.{stored_register}
 use Rattle.bb_elab.specs.ReadPlaces.{read_by, read_places, FollowsAt, IsReadPlace}
 use Rattle.bb_elab.proofs.CalleeLaw.{from_filter}
 use Rattle.bb_elab.proofs.CauseDecisions.{from_flat, from_map}
-use Rattle.bb_elab.proofs.CopyWalks.{To, copy_on, no_bit, within_copies, input_copies}
-use Rattle.bb_elab.proofs.Enumerated.{enumerated_from, numbered_at}
+use Rattle.bb_elab.proofs.CopyWalks.{To, copy_on, no_bit, within_copies, steps_copies, input_copies}
+use Rattle.bb_elab.proofs.Enumerated.{enumerated_from, numbered_at, from_drop}
 use Rattle.bb_elab.proofs.ListedPlaces.{IsListed, lowered_at, listed_cell, listed_below, step_listed, joined_listed, inverted_listed}
 use Rattle.bb_elab.proofs.ListedSources.{IsWired, part_there, terminal_there}
 use Rattle.bb_elab.proofs.ListWalks.{input, terminals_are}
@@ -287,18 +293,17 @@ module _ (d : Design) (lowering : Lowering) (l : LooseList) (list : IsListOf d l
         by (inl h) = (
           list.number (NetBit b),
           Contains-append_right (flat_map read_by l.cells) (flat_map (λ (b : Pins). b.ins) l.boxes ++ (l.outs ++ clocks)) _ (Contains-append_right (flat_map (λ (b : Pins). b.ins) l.boxes) (l.outs ++ clocks) _
-          (Contains-append_right l.outs clocks _ (timed s a (from_numbered 0 (parts d) (k, (s, Register a)) has) b h))),
+              (Contains-append_right l.outs clocks _ (timed s a (from_numbered 0 (parts d) (k, (s, Register a)) has) b h))),
           inl refl,
         )
         by (inr h) = let t = from_flat (bit_itself s.path) (data_terms s a) b h in dated k s a has t.0 t.1 b t.2
     beside k s BoxContents has b at =
         let box = box_scope s (from_numbered 0 (parts d) (k, (s, BoxContents)) has) in
         let i = numbered_there 0 (boxes d) s box in
-        let pins = contains-map (pins_of list.number) (enumerate_from 0 (boxes d)) (i.0, s) i.1 in
-        (
+        let pins = contains-map (pins_of list.number) (enumerate_from 0 (boxes d)) (i.0, s) i.1 in (
           list.number (NetBit b),
           Contains-append_right (flat_map read_by l.cells) (flat_map (λ (b : Pins). b.ins) l.boxes ++ (l.outs ++ clocks)) _ (Contains-append_left (flat_map (λ (b : Pins). b.ins) l.boxes) (l.outs ++ clocks) _
-          (into_flat (λ (b : Pins). b.ins) l.boxes (pins_of list.number (i.0, s)) _ (subst (λ all. Contains all (pins_of list.number (i.0, s))) (sym list.boxes) pins) (contains-map (λ x. list.number (NetBit x)) (input_bits s) b at))),
+              (into_flat (λ (b : Pins). b.ins) l.boxes (pins_of list.number (i.0, s)) _ (subst (λ all. Contains all (pins_of list.number (i.0, s))) (sym list.boxes) pins) (contains-map (λ x. list.number (NetBit x)) (input_bits s) b at))),
           inl refl,
         )
       where
@@ -322,7 +327,49 @@ module _ (d : Design) (lowering : Lowering) (l : LooseList) (list : IsListOf d l
         by (inl h) = (
           list.number (NetBit b),
           Contains-append_right (flat_map read_by l.cells) (flat_map (λ (b : Pins). b.ins) l.boxes ++ (l.outs ++ clocks)) _ (Contains-append_right (flat_map (λ (b : Pins). b.ins) l.boxes) (l.outs ++ clocks) _
-          (Contains-append_left l.outs clocks _ (subst (λ all. Contains all (list.number (NetBit b))) (sym list.outs) (Contains-append_left (map (λ b. list.number (NetBit b)) (top_outputs d)) (map list.number (data_places d lowering)) _ (contains-map (λ b. list.number (NetBit b)) (top_outputs d) b h))))),
+              (Contains-append_left l.outs clocks _ (subst (λ all. Contains all (list.number (NetBit b))) (sym list.outs) (Contains-append_left (map (λ b. list.number (NetBit b)) (top_outputs d)) (map list.number (data_places d lowering)) _ (contains-map (λ b. list.number (NetBit b)) (top_outputs d) b h))))),
           inl refl,
         )
         by (inr h) = let x = from_flat read_at (parts d) b h in let k = numbered_there 0 (parts d) x.0 x.1 in part x.0.0 x.0.1 k.0 k.1 x.2
+
+  zip_second : {A B : Type 0} (xs : List A) (ys : List B) (y : B) → Contains ys y → length ys ≤ length xs → (x : A) × Contains (zip xs ys) (x, y)
+  zip_second xs [] y has short = absurd (none_in_nil y has)
+  zip_second [] (z ∷ ys) y has short = absurd (omega (arith, short))
+  zip_second {A = A} {B = B} (x ∷ xs) (z ∷ ys) y has short = by (contains_cases z ys y has) (λ more. zip_second xs ys y more (omega (arith, short)))
+    where
+      by : (z ≡ y) ⊎ Contains ys y → (Contains ys y → (x : A) × Contains (zip xs ys) (x, y)) → (w : A) × Contains (zip (x ∷ xs) (z ∷ ys)) (w, y)
+      by (inl same) rest = (x, subst (λ v. Contains {X = A × B} ((x, z) ∷ zip xs ys) (x, v)) same (contains_here (x, z) (zip xs ys)))
+      by (inr more) rest = let r = rest more in (r.0, contains_there (x, z) (zip xs ys) (r.0, y) r.1)
+
+  short_low : {A : Type 0} (n : ℕ) (xs : List A) → length (low_bits n xs) ≤ n
+  short_low n xs = omega (arith, length-drop (length xs - n) xs)
+
+  -- where bits are driven once, the data of registers are read
+  pub data_read : BitsAreThere d → AreDrivenOnce d → (k : ℕ) (s : Scope) (a : PlainAlways) → Contains (enumerate_from 0 (parts d)) (k, (s, Register a)) → (t : Term) → Contains (data_terms s a) t → (b : Bit) → Contains (bit_itself s.path t) b → IsReadAt b
+  data_read inside once k s a has t at b bit =
+      let m = length (written_bits s a.left) in
+      let w = context_width s a.left a.right in
+      let entry = contains_here {A = ℕ × (Expression × ℕ)} (0, (a.right, w)) [] in
+      let here = from_numbered 0 (parts d) (k, (s, Register a)) has in
+      let low = low_bits m (step_places lowering k 0) in
+      let p = from_map (term_of lowering s) low t (subst (λ ts. Contains ts t) (sym (low_terms d lowering lowered k s (Register a) has m 0 a.right w entry)) at) in
+      let z = zip_second (written_bits s a.left) low p.0 p.1 (short_low m (step_places lowering k 0)) in
+      let all_data = flat_map (data_at lowering) (enumerate_from 0 (parts d)) in
+      let place = data_place lowering d once z.0 p.0 (into_flat (data_at lowering) (enumerate_from 0 (parts d)) (k, (s, Register a)) (z.0, p.0) has z.1) in
+      let written = (zip_parts (written_bits s a.left) low (z.0, p.0) z.1).0 in
+      let drive = part_driven d (s, Register a) here (driven Free z.0) (contains-map (driven Free) (written_bits s a.left) z.0 written) in
+      let net = All-contains (Contains (net_order d)) (driven_bits d) z.0 inside.driven (contains-map (λ (x : Drive). x.bit) (drives d) (driven Free z.0) drive) in
+      let i = numbered_there 0 (written_bits s a.left) z.0 written in
+      let make : ℕ × Bit → RegisterBit = λ y. record { scope = s; item = a; place = y.0; bit = y.1 } in
+      let r = stored_register d (make (i.0, z.0)) (into_flat stored_at (parts d) (s, Register a) (make (i.0, z.0)) here (contains-map make (enumerate_from 0 (written_bits s a.left)) (i.0, z.0) i.1)) net in
+      let listed : Contains (data_places d lowering) p.0 = subst (Contains (data_places d lowering)) (ap (place_in all_data) r.2 ∙ place) (contains-map (λ (r : RegisterBit). place_in all_data r.bit) (registers d) r.0 r.1) in
+      let j = from_map (Step k 0) (lowering k 0).bits p.0 (from_drop _ (step_places lowering k 0) p.0 p.1) in
+      let lower = lowered_at d lowering lowered k s (Register a) has 0 a.right w entry in
+      let fits = All-contains (λ j. j < length (lowering k 0).all) (lowering k 0).bits j.0 lower.places j.1 in
+      let step_bit : Contains (bit_itself s.path (term_of lowering s (Step k 0 j.0))) b = subst (λ v. Contains (bit_itself s.path v) b) (sym (ap (term_of lowering s) j.2 ∙ p.2)) bit in
+      let to = steps_copies d lowering l list lowered wired k s (Register a) has 0 (omega arith) j.0 fits b step_bit in (
+        list.number p.0,
+        Contains-append_right (flat_map read_by l.cells) (flat_map (λ (b : Pins). b.ins) l.boxes ++ (l.outs ++ clocks)) _ (Contains-append_right (flat_map (λ (b : Pins). b.ins) l.boxes) (l.outs ++ clocks) _
+            (Contains-append_left l.outs clocks _ (subst (λ all. Contains all (list.number p.0)) (sym list.outs) (Contains-append_right (map (λ b. list.number (NetBit b)) (top_outputs d)) (map list.number (data_places d lowering)) _ (contains-map list.number (data_places d lowering) p.0 listed))))),
+        subst (λ q. Follows (list.number q) b) j.2 to,
+      )
