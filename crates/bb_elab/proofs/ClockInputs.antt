@@ -107,7 +107,7 @@ module _ (d : Design) (lowering : Lowering) (l : LooseList) (list : IsListOf d l
       by false off zero e more = let same : x ≡ c = grind (arith, e) in absurd (true≢false (sym (same_bit_self c) ∙ ap (same_bit c) (sym same) ∙ off))
       by false off (suc k) e more = let r = more k c e in (suc r.0, r.1, omega (arith, r.2), chosen false off ∙ r.3 ∙ ap (λ i. Some (r.1, Input i)) (next r.0))
 
-  join : (j k m : ℕ) → FollowsAt l.cells j k → FollowsAt l.cells k m → FollowsAt l.cells j m
+  pub join : (j k m : ℕ) → FollowsAt l.cells j k → FollowsAt l.cells k m → FollowsAt l.cells j m
   join j k m (inl same) rest = subst (λ i. FollowsAt l.cells i m) (sym same) rest
   join j k m (inr leads) (inl same) = inr (subst (λ i. Leads (copy_steps l.cells) j i) same leads)
   join j k m (inr leads) (inr more) = inr (both j k m leads more)

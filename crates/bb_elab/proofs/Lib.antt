@@ -14,6 +14,7 @@ pub mod ContentTables
 pub mod CopyLoops
 pub mod CopyMarks
 pub mod CopyWalks
+pub mod ReadsHold
 pub mod DataPlaces
 pub mod Deciding
 pub mod DependenceWalks

@@ -1,7 +1,6 @@
 use Rattle.std.proofs.Common.{◌≡◌, ◌+◌, [], List, Bool, refl, take, drop, sym, ap, ◌∙◌}
 use Rattle.bb_elab.proofs.ReadBits.{place_read, read_part, read_within}
-use Rattle.bb_elab.proofs.PlacesRead.{direct_place}
-use Rattle.bb_elab.proofs.DataPlaces.{data_place}
+use Rattle.bb_elab.proofs.ReadsHold.{read_holds}
 use Rattle.bb_elab.proofs.reading.read_bits.Goals as goal
 
 pub returns-clause-only : goal.returns-clause-only
