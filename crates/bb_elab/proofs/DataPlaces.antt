@@ -1,12 +1,12 @@
 -- Where bits are driven once, the data of a register bit have one place.
-use Rattle.std.proofs.Common.{◌≡◌, ◌≢◌, ◌⊎◌, ℕ, zero, suc, ◌+◌, ◌-◌, ◌<◌, ◌≤◌, Bool, true, false, if◌then◌else◌, List, [], ◌∷◌, ◌++◌, map, find, zip, length, get_or, AllPairs, Contains, Option, Some, None, refl, sym, ap, ◌∙◌, subst, inl, inr, arith, true≢false, length-append}
+use Rattle.std.proofs.Common.{◌≡◌, ◌≢◌, ◌⊎◌, ℕ, suc, ◌+◌, Bool, true, false, if◌then◌else◌, List, [], ◌∷◌, ◌++◌, map, find, zip, length, AllPairs, Contains, Some, refl, sym, ap, ◌∙◌, subst, inl, inr, arith, length-append}
 use Rattle.std.specs.List.{enumerate_from, flat_map}
 use Rattle.std.specs.Option.{option_map_or}
-use Rattle.std.proofs.lemmas.List.{get_or_append_left, get_or-append-add, length-map, map-append}
+use Rattle.std.proofs.lemmas.List.{get_or_append_left, get_or-append-add, map-append}
 use Rattle.std.proofs.lemmas.List.Elements.{Contains-append_cases}
 use Rattle.bb_elab.specs.Constructs.{Construct, Assignment, GateInstance, Register, SupplyNet, InputConnection, OutputConnection, BoxContents, parts}
 use Rattle.bb_elab.specs.Contexts.{low_bits}
-use Rattle.bb_elab.specs.Drivers.{Free, Drive, driven, drives_at, drives, driven_bits}
+use Rattle.bb_elab.specs.Drivers.{Free, Drive, driven, drives_at}
 use Rattle.bb_elab.specs.Hierarchy.{Design, Scope}
 use Rattle.bb_elab.specs.NetBits.{Bit, same_bit, top_inputs, written_bits}
 use Rattle.bb_elab.specs.Places.{Place, Constant, Lowering, step_places, data_at, place_in}

@@ -1,5 +1,5 @@
 -- Where a bit is read, its place in the list of cells is read.
-use Rattle.std.proofs.Common.{◌≡◌, ◌⊎◌, ℕ, zero, suc, ◌+◌, ◌-◌, ◌<◌, ◌≤◌, Bool, true, false, if◌then◌else◌, List, [], ◌∷◌, ◌++◌, map, fold, zip, length, get_or, All, Contains, Option, Some, None, refl, sym, ap, ◌∙◌, subst, inl, inr, arith}
+use Rattle.std.proofs.Common.{◌≡◌, ◌⊎◌, ℕ, zero, suc, ◌+◌, ◌-◌, ◌<◌, ◌≤◌, Bool, true, false, if◌then◌else◌, List, [], ◌∷◌, ◌++◌, map, fold, zip, length, get_or, All, Contains, Some, None, refl, sym, ap, ◌∙◌, subst, inl, inr, arith}
 use Rattle.std.specs.List.{enumerate_from, flat_map, range_with_len}
 use Rattle.std.proofs.lemmas.List.{get_or_default, length-drop}
 use Rattle.std.proofs.lemmas.List.Elements.{All-contains, Contains-append_cases, Contains-append_left, Contains-append_right, Contains-get_or}
@@ -15,7 +15,7 @@ use Rattle.bb_expr.specs.Terms.{Term}
 use Rattle.bb_expr.specs.Terms as term
 use Rattle.bb_net.specs.declared.loose.LooseCell.{LooseCell}
 use Rattle.bb_net.specs.declared.loose.LooseCell.TheVariants as cell
-use Rattle.bb_net.specs.Loose.{LooseList, loose_at}
+use Rattle.bb_net.specs.Loose.{LooseList}
 use Rattle.bb_net.specs.Netlists.{Pins}
 use Rattle.bb_elab.specs.Constructs.{Construct, Assignment, GateInstance, Register, SupplyNet, InputConnection, OutputConnection, BoxContents, parts}
 use Rattle.bb_elab.specs.Contexts.{width_of, context_width, low_bits, made_in}
@@ -33,7 +33,7 @@ use Rattle.bb_elab.proofs.DataPlaces.{data_place}
 use Rattle.bb_elab.proofs.GivenDrives.{term_of, low_terms, part_driven}
 use Rattle.bb_elab.proofs.PartBits.{zip_parts}
 use Rattle.bb_elab.proofs.WorldLaws.{stored_register}
-use Rattle.bb_elab.specs.ReadPlaces.{read_by, read_places, FollowsAt, IsReadPlace}
+use Rattle.bb_elab.specs.ReadPlaces.{read_by, FollowsAt, IsReadPlace}
 use Rattle.bb_elab.proofs.CalleeLaw.{from_filter}
 use Rattle.bb_elab.proofs.CauseDecisions.{from_flat, from_map}
 use Rattle.bb_elab.proofs.CopyWalks.{To, copy_on, no_bit, within_copies, steps_copies, input_copies}

@@ -1,5 +1,5 @@
 -- Where a bit is read, its place in the list is read, given that the clock of each register stands among the clocks.
-use Rattle.std.proofs.Common.{◌≡◌, ◌⊎◌, ℕ, List, Contains, inl, inr, sym, subst}
+use Rattle.std.proofs.Common.{ℕ, List, Contains, inl, inr}
 use Rattle.bb_ast.specs.Syntax.{PlainAlways}
 use Rattle.bb_net.specs.Loose.{LooseList}
 use Rattle.bb_elab.specs.Constructs.{Register, parts}
@@ -7,7 +7,7 @@ use Rattle.bb_elab.specs.Hierarchy.{Design, Scope}
 use Rattle.bb_elab.specs.ListLaws.{IsBounded}
 use Rattle.bb_elab.specs.NetBits.{Bit, written_bits}
 use Rattle.bb_elab.specs.Places.{NetBit, Lowering, IsLowering, IsListOf}
-use Rattle.bb_elab.specs.ReadPlaces.{FollowsAt, IsReadPlace}
+use Rattle.bb_elab.specs.ReadPlaces.{IsReadPlace}
 use Rattle.bb_elab.specs.Reading.{IsRead, read_directly}
 use Rattle.bb_elab.specs.Refusals.{AreDrivenOnce}
 use Rattle.bb_elab.proofs.AllowedDesigns.{wired, bits_there}

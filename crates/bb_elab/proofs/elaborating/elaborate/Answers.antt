@@ -6,7 +6,7 @@ use Rattle.bb_ast.specs.Syntax.{PlainModule}
 use Rattle.bb_expr.specs.Checked.{syntax}
 use Rattle.bb_elab.specs.declared.fault.ElabFault.TheVariants.{Recursive, TooDeep, TooLarge}
 use Rattle.bb_elab.specs.Hierarchy.{top_of}
-use Rattle.bb_elab.specs.Refusals.{IsFirstRefusal, IsTold, IsAbsent, Recursion, Depth, Size, design_on}
+use Rattle.bb_elab.specs.Refusals.{IsFirstRefusal, IsTold, IsAbsent, Recursion, Depth, design_on}
 use Rattle.bb_elab.proofs.DepthWalks.{depth_refused, size_refused}
 use Rattle.bb_elab.proofs.RecursiveNames.{some_at, recursion_refused}
 use Rattle.bb_elab.proofs.RefusalLaws.{not_sound_and_refused, first_refusals_are_one}

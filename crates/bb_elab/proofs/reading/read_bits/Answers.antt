@@ -1,4 +1,4 @@
-use Rattle.std.proofs.Common.{◌≡◌, ◌+◌, [], List, Bool, refl, take, drop, sym, ap, ◌∙◌}
+use Rattle.std.proofs.Common.{◌+◌, [], List, Bool, refl, take, drop, sym, ap, ◌∙◌}
 use Rattle.bb_elab.proofs.ReadBits.{place_read, read_place, read_part, read_within}
 use Rattle.bb_elab.proofs.reading.read_bits.Goals as goal
 
