@@ -1,10 +1,10 @@
 -- Sums that stop at a greatest number, element by element; and what stands in a checked module is as narrow as a net may be.
-use Rattle.std.proofs.Common.{◌≡◌, ◌⊎◌, ℕ, zero, suc, ◌+◌, ◌-◌, ◌≤◌, ◌<◌, Bool, true, false, filter, List, [], ◌∷◌, ◌++◌, map, length, take, drop, get_or, All, Option, Some, None, refl, sym, ap, ◌∙◌, subst, inl, inr, arith}
-use Rattle.std.specs.Prelude.{if◌then◌else◌, sum_by, min, max, slice_get, IsSomeAnd}
+use Rattle.std.proofs.Common.{◌≡◌, ◌⊎◌, ℕ, ◌+◌, ◌-◌, ◌≤◌, ◌<◌, Bool, true, false, filter, List, [], ◌∷◌, ◌++◌, map, length, take, drop, get_or, All, Option, Some, None, refl, sym, ap, ◌∙◌, subst, inl, inr, arith}
+use Rattle.std.specs.Prelude.{if◌then◌else◌, sum_by, min, slice_get, IsSomeAnd}
 use Rattle.std.specs.List.{flat_map}
 use Rattle.std.specs.Option.{option_and_then}
 use Rattle.std.proofs.lemmas.List.{length-map, length-drop, drop-map, drop_all, get_or-map, map_more, map-append, take_more, take_all}
-use Rattle.std.proofs.lemmas.List.Elements.{All-contains, Contains-append_left, Contains-append_right}
+use Rattle.std.proofs.lemmas.List.Elements.{All-contains}
 use Rattle.std.proofs.lemmas.List.Sums.{sum_by-cons, sum_by_push, sum_by-append}
 use Rattle.bb_ast.specs.declared.expr.Expr.{Expr}
 use Rattle.bb_ast.specs.declared.module.Gate.{Gate}
@@ -15,13 +15,12 @@ use Rattle.bb_expr.specs.Checked.{ModuleFacts, syntax, IsChecked}
 use Rattle.bb_expr.specs.Declarations.{range_of}
 use Rattle.bb_expr.specs.Fit.{AreFit, ranges_in}
 use Rattle.bb_expr.specs.FitLaws.{StandingIsFit}
-use Rattle.bb_expr.specs.Standing.{expressions_in, StandsAt, ranges_at}
+use Rattle.bb_expr.specs.Standing.{StandsAt, ranges_at}
 use Rattle.bb_expr.specs.Widths.{own_width}
 use Rattle.bb_elab.specs.Weights.{inputs_of}
 use Rattle.bb_elab.proofs.CauseDecisions.{all_from, less_or_not}
 use Rattle.bb_elab.proofs.Levels.{contains-map}
 use Rattle.bb_elab.proofs.ReadingLaw.{into_flat}
-use Rattle.bb_elab.proofs.TopLaws.{contains_here}
 
 pub two_shares : (m a b first second result : ℕ) → first ≡ min m a → second ≡ min m b → result ≡ min (first + second) m → result ≡ min m (a + b)
 two_shares m a b first second result x y is = omega (arith, x, y, is)

@@ -1,10 +1,9 @@
 -- The cells of a design are those of its top and of all its instances, each as many as its module has.
-use Rattle.std.proofs.Common.{◌≡◌, ◌⊎◌, ℕ, zero, suc, ◌+◌, ◌-◌, ◌<◌, ◌≤◌, Bool, true, false, not, ◌&&◌, List, [], ◌∷◌, ◌++◌, map, filter, length, get_or, All, Contains, Option, Some, None, refl, sym, ap, ◌∙◌, subst, inl, inr, arith, true≢false, length-append}
+use Rattle.std.proofs.Common.{◌≡◌, ◌⊎◌, ℕ, zero, suc, ◌+◌, ◌<◌, ◌≤◌, Bool, true, false, not, ◌&&◌, List, [], ◌∷◌, map, filter, length, All, Contains, Option, Some, None, refl, sym, ap, ◌∙◌, subst, inl, inr, arith, length-append}
 use Rattle.std.specs.Prelude.{if◌then◌else◌, nat_lt, min, sum_by, option_map, slice_get, slice_index_or}
 use Rattle.std.specs.List.{flat_map}
 use Rattle.std.proofs.lemmas.List.{length-map, get_or_past}
 use Rattle.std.proofs.lemmas.List.Sums.{sum_by-cons}
-use Rattle.std.proofs.lemmas.Option.{slice_get_within}
 use Rattle.bb_ast.specs.Syntax.{PlainItem, PlainModule}
 use Rattle.bb_expr.specs.Declarations.{range_of}
 use Rattle.bb_expr.specs.Faults.{IsSound}
@@ -12,16 +11,15 @@ use Rattle.bb_expr.specs.FitLaws.{AssignableIsNets}
 use Rattle.bb_expr.specs.Laws.{CellsAreCounted, MadeHasValue, ValuesHaveWidth}
 use Rattle.bb_expr.specs.Nets.{nets_of, is_empty}
 use Rattle.bb_expr.specs.Spots.{module_named}
-use Rattle.bb_elab.specs.Constructs.{Construct, BoxContents, body_constructs, constructs_at, parts}
-use Rattle.bb_elab.specs.Hierarchy.{Instance, Path, Design, Scope, root, is_top, is_box, path_to, children, below, instances, instances_of, scopes, too_low}
+use Rattle.bb_elab.specs.Constructs.{BoxContents, body_constructs, constructs_at, parts}
+use Rattle.bb_elab.specs.Hierarchy.{Path, Design, Scope, root, is_top, is_box, path_to, children, below, instances, instances_of, scopes, too_low}
 use Rattle.bb_elab.specs.Laws.{HasNamesApart}
-use Rattle.bb_elab.specs.NetBits.{output_bits, input_bits, top_inputs}
+use Rattle.bb_elab.specs.NetBits.{output_bits, top_inputs}
 use Rattle.bb_elab.specs.Refusals.{design_on}
 use Rattle.bb_elab.specs.Registers.{RegisterBit, registers, cut_bits}
 use Rattle.bb_elab.specs.Sizes.{cell_count_at, cells_in, bits_and_instances}
-use Rattle.bb_elab.specs.Weights.{net_width, is_input_net, is_output_net, bit_count, item_cells, register_count, construct_cells, instance_cells, total_below}
+use Rattle.bb_elab.specs.Weights.{net_width, is_input_net, is_output_net, bit_count, item_cells, construct_cells, instance_cells, total_below}
 use Rattle.bb_elab.proofs.CalledInstances.{there_at}
-use Rattle.bb_elab.proofs.CalleeLaw.{got}
 use Rattle.bb_elab.proofs.CauseDecisions.{from_flat, less_or_not}
 use Rattle.bb_elab.proofs.CellSums.{sum_flat}
 use Rattle.bb_elab.proofs.ConstructCounts.{sum_items}

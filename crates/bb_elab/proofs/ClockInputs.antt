@@ -1,37 +1,36 @@
 -- A clock comes from the input of the top to whose place copies lead from the place of the clock.
-use Rattle.std.proofs.Common.{◌≡◌, ◌⊎◌, ℕ, zero, suc, ◌+◌, ◌-◌, ◌<◌, ◌≤◌, Bool, true, false, if◌then◌else◌, List, [], ◌∷◌, ◌++◌, map, find, length, get_or, Contains, Option, Some, None, refl, sym, ap, ◌∙◌, subst, inl, inr, arith, true≢false, length-append, append_assoc}
+use Rattle.std.proofs.Common.{◌≡◌, ℕ, zero, suc, ◌+◌, ◌<◌, ◌≤◌, Bool, true, false, if◌then◌else◌, List, [], ◌∷◌, ◌++◌, map, find, length, Contains, Option, Some, None, refl, sym, ap, ◌∙◌, subst, inl, inr, arith, true≢false, length-append, append_assoc}
 use Rattle.std.specs.Prelude.{slice_get, IfSome, IfNone}
 use Rattle.std.specs.List.{enumerate_from, flat_map, range_with_len}
 use Rattle.std.specs.Option.{option_map_or}
-use Rattle.std.proofs.lemmas.List.{length-map, get_or_append_left}
+use Rattle.std.proofs.lemmas.List.{length-map}
 use Rattle.std.proofs.lemmas.List.FromFn.{length-range_with_len}
 use Rattle.std.proofs.lemmas.List.Elements.{All-contains}
 use Rattle.std.proofs.lemmas.Option.{slice_get-get_or}
 use Rattle.bb_net.specs.declared.loose.LooseCell.{LooseCell}
 use Rattle.bb_net.specs.declared.loose.LooseCell.TheVariants as cell
-use Rattle.bb_net.specs.Loose.{LooseList, loose_at, IsLoose}
+use Rattle.bb_net.specs.Loose.{LooseList}
 use Rattle.bb_elab.specs.Closures.{Leads, One, More}
 use Rattle.bb_elab.specs.Hierarchy.{Design, boxes}
 use Rattle.bb_elab.specs.ListLaws.{IsBounded}
 use Rattle.bb_elab.specs.NetBits.{Bit, same_bit, net_order, top_inputs}
 use Rattle.bb_elab.specs.Constructs.{parts}
 use Rattle.bb_elab.specs.Drivers.{Free, Drive, driven, drives, driven_bits}
-use Rattle.bb_elab.specs.Places.{Place, Constant, Input, NetBit, Numbering, Lowering, IsLowering, IsListOf, given_at, given_by_box, given, place_in, front_places}
+use Rattle.bb_elab.specs.Places.{Place, Constant, Input, NetBit, Lowering, IsLowering, IsListOf, given_at, given_by_box, given, place_in, front_places}
 use Rattle.bb_elab.specs.ReadPlaces.{copy_steps, FollowsAt}
 use Rattle.bb_elab.specs.Refusals.{AreDrivenOnce}
 use Rattle.bb_elab.specs.Registers.{RegisterBit, registers, cut_bits}
-use Rattle.bb_elab.specs.Stands.{Follows, IsClock}
+use Rattle.bb_elab.specs.Stands.{IsClock}
 use Rattle.bb_elab.proofs.AllowedDesigns.{wired, bits_there}
 use Rattle.bb_elab.proofs.CalleeLaw.{got, got-map}
 use Rattle.bb_elab.proofs.CopyLoops.{inputs_followed}
-use Rattle.bb_elab.proofs.CopyMarks.{copy_to, leads_on}
+use Rattle.bb_elab.proofs.CopyMarks.{copy_to}
 use Rattle.bb_elab.proofs.CopyWalks.{follows_at}
 use Rattle.bb_elab.proofs.Enumerated.{numbered_at}
 use Rattle.bb_elab.proofs.GivenDrives.{top_driven}
 use Rattle.bb_elab.proofs.Levels.{contains-map}
-use Rattle.bb_elab.proofs.ListedPlaces.{listed_cell, listed_below, net_listed, input_listed}
+use Rattle.bb_elab.proofs.ListedPlaces.{listed_cell, listed_below, net_listed}
 use Rattle.bb_elab.proofs.RecursiveNames.{some_at}
-use Rattle.bb_elab.proofs.TopLaws.{contains_here, contains_there, contains_cases, none_in_nil}
 use Rattle.bb_elab.proofs.WorldLaws.{same_bit_self}
 
 behind : {A : Type 0} (xs ys : List A) (i : ℕ) → slice_get (xs ++ ys) (length xs + i) ≡ slice_get ys i
@@ -107,7 +106,7 @@ module _ (d : Design) (lowering : Lowering) (l : LooseList) (list : IsListOf d l
       by false off zero e more = let same : x ≡ c = grind (arith, e) in absurd (true≢false (sym (same_bit_self c) ∙ ap (same_bit c) (sym same) ∙ off))
       by false off (suc k) e more = let r = more k c e in (suc r.0, r.1, omega (arith, r.2), chosen false off ∙ r.3 ∙ ap (λ i. Some (r.1, Input i)) (next r.0))
 
-  join : (j k m : ℕ) → FollowsAt l.cells j k → FollowsAt l.cells k m → FollowsAt l.cells j m
+  pub join : (j k m : ℕ) → FollowsAt l.cells j k → FollowsAt l.cells k m → FollowsAt l.cells j m
   join j k m (inl same) rest = subst (λ i. FollowsAt l.cells i m) (sym same) rest
   join j k m (inr leads) (inl same) = inr (subst (λ i. Leads (copy_steps l.cells) j i) same leads)
   join j k m (inr leads) (inr more) = inr (both j k m leads more)

@@ -1,7 +1,7 @@
 -- How many cells the constructs of an item make in a text without faults.
-use Rattle.std.proofs.Common.{◌≡◌, ◌⊎◌, ℕ, zero, suc, ◌+◌, ◌-◌, ◌<◌, ◌≤◌, Bool, true, false, not, ◌&&◌, List, [], ◌∷◌, ◌++◌, map, take, drop, length, All, Contains, Option, Some, None, refl, sym, ap, ◌∙◌, subst, inl, inr, arith, true≢false, length-append}
-use Rattle.std.specs.Prelude.{if◌then◌else◌, nat_lt, max, sum_by, option_to_list, option_map, is_none, slice_get, fold}
-use Rattle.std.specs.List.{enumerate_from, flat_map, find}
+use Rattle.std.proofs.Common.{◌≡◌, ℕ, suc, ◌+◌, ◌-◌, ◌<◌, ◌≤◌, Bool, true, false, List, [], ◌∷◌, ◌++◌, map, length, Contains, Option, Some, None, refl, sym, ap, ◌∙◌, subst, arith, true≢false, length-append}
+use Rattle.std.specs.Prelude.{if◌then◌else◌, nat_lt, max, sum_by, option_to_list, option_map, is_none}
+use Rattle.std.specs.List.{enumerate_from, flat_map}
 use Rattle.std.specs.Option.{option_and_then}
 use Rattle.std.proofs.lemmas.Bool.Decides.{nat_tests}
 use Rattle.std.proofs.lemmas.List.{length-map}
@@ -10,13 +10,12 @@ use Rattle.std.proofs.lemmas.List.Sums.{sum_by-cons}
 use Rattle.bb_bits.specs.Contents.{Contents}
 use Rattle.bb_bits.specs.Names.{same_name}
 use Rattle.bb_ast.specs.declared.module.Gate.{Gate}
-use Rattle.bb_ast.specs.Gates.{output_count}
 use Rattle.bb_ast.specs.Syntax.{Expression, Net, PlainConns, Order, Named, PlainBody, Ports, Nets, Regs, Supply, Assign, Gates, Calls, Always, PlainHead, PlainItem, PlainModule}
 use Rattle.bb_expr.specs.declared.fault.NameFault.{NameFault}
 use Rattle.bb_expr.specs.declared.fault.NameFault.TheVariants as name_faults
-use Rattle.bb_expr.specs.Cells.{made, cell_count}
-use Rattle.bb_expr.specs.Declarations.{Declaration, declared_by_head, declared_by, instance_declaration, range_of, direction_of, port_direction}
-use Rattle.bb_expr.specs.Faults.{IsSound, Rows, is_input, told_if, unknown, wrong_role, kinds, statement_faults, module_faults}
+use Rattle.bb_expr.specs.Cells.{cell_count}
+use Rattle.bb_expr.specs.Declarations.{Declaration, declared_by_head, instance_declaration, range_of, direction_of, port_direction}
+use Rattle.bb_expr.specs.Faults.{IsSound, Rows, is_input, unknown, wrong_role, kinds, statement_faults, module_faults}
 use Rattle.bb_expr.specs.FitLaws.{AssignableIsNets}
 use Rattle.bb_expr.specs.Laws.{CellsAreCounted, MadeHasValue, ValuesHaveWidth}
 use Rattle.bb_expr.specs.Shares.{own_cells}
@@ -25,9 +24,8 @@ use Rattle.bb_expr.specs.Standing.{conns_expressions}
 use Rattle.bb_expr.specs.Terms.{Term, bit_of}
 use Rattle.bb_expr.specs.Values.{Bits}
 use Rattle.bb_expr.specs.Widths.{Ranges, own_width}
-use Rattle.bb_expr.specs.Walks.{each_from}
-use Rattle.bb_elab.specs.Constructs.{Construct, Assignment, GateInstance, Register, SupplyNet, InputConnection, OutputConnection, BoxContents, initial_construct, gate_construct, connection, connections, body_constructs}
-use Rattle.bb_elab.specs.Contexts.{width_of, context_width, made_in}
+use Rattle.bb_elab.specs.Constructs.{Construct, Assignment, Register, SupplyNet, InputConnection, OutputConnection, initial_construct, gate_construct, connection, connections, body_constructs}
+use Rattle.bb_elab.specs.Contexts.{width_of, made_in}
 use Rattle.bb_elab.specs.Drivers.{terminal_terms}
 use Rattle.bb_elab.specs.DrivenWorlds.{IsLegal}
 use Rattle.bb_elab.specs.GateFunctions.{inverts, on_terms, gate_gives, joined_after, joining_cells, gate_cells}
@@ -35,7 +33,6 @@ use Rattle.bb_elab.specs.Hierarchy.{Scope}
 use Rattle.bb_elab.specs.Sizes.{cell_count_at}
 use Rattle.bb_elab.specs.Weights.{assigned_cells, initial_cells, assignment_cells, inputs_of, inversions, gate_weight, item_cells}
 use Rattle.bb_elab.proofs.CalleeLaw.{got}
-use Rattle.bb_elab.proofs.CauseDecisions.{from_flat}
 use Rattle.bb_elab.proofs.CellSums.{sum_flat}
 use Rattle.bb_elab.proofs.Enumerated.{enumerated_from}
 use Rattle.bb_elab.proofs.HierarchySums.{sum_map, sum_same, sum_ones, length_flat}
@@ -44,7 +41,7 @@ use Rattle.bb_elab.proofs.NarrowNets.{each_there}
 use Rattle.bb_elab.proofs.ReadingLaw.{into_flat}
 use Rattle.bb_elab.proofs.RecursiveNames.{some_at}
 use Rattle.bb_elab.proofs.SoundConstructs.{IsSoundSpot, body_legal, each_nil, flat_nil, left_nil, map_nil, not_told, spot_sound}
-use Rattle.bb_elab.proofs.TopLaws.{contains_here, contains_there, contains_cases, none_in_nil}
+use Rattle.bb_elab.proofs.TopLaws.{contains_here, contains_there}
 use Rattle.bb_elab.proofs.TopLemmas.{same_self}
 use Rattle.bb_elab.proofs.WorldExists.{from_find}
 use Rattle.bb_elab.proofs.WorldLaws.{find_there}

@@ -17,7 +17,7 @@ use Rattle.bb_net.specs.declared.loose.LooseCell.TheVariants as cell
 use Rattle.bb_net.specs.Loose.{LooseList, loose_at}
 use Rattle.bb_net.specs.Netlists.{Pins}
 use Rattle.bb_elab.specs.Closures.{Leads, One, More}
-use Rattle.bb_elab.specs.Hierarchy.{Design, Scope, boxes, scopes, is_box, path_to}
+use Rattle.bb_elab.specs.Hierarchy.{Design, Scope, boxes, path_to}
 use Rattle.bb_elab.specs.NetBits.{Bit, same_bit, net_order, bits_named, pin_bits, input_bits, output_bits, written_bits, top_outputs}
 use Rattle.bb_elab.specs.Contexts.{width_of, context_width, low_bits, made_in}
 use Rattle.bb_elab.specs.Constructs.{Construct, Assignment, GateInstance, Register, SupplyNet, InputConnection, OutputConnection, BoxContents, parts}
@@ -30,8 +30,8 @@ use Rattle.std.proofs.lemmas.List.Sorted.{Contains-permutation, IsPermutation-sy
 use Rattle.bb_elab.proofs.CalleeLaw.{into_filter}
 use Rattle.std.proofs.lemmas.List.{get_or_default}
 use Rattle.bb_elab.specs.Laws.{BitsAreThere}
-use Rattle.bb_elab.proofs.CopyWalks.{no_bit, follows_at}
-use Rattle.bb_elab.specs.Drivers.{Made, Box, Drive, driven, driven_by, terminal_terms, drives_at, drives}
+use Rattle.bb_elab.proofs.CopyWalks.{follows_at}
+use Rattle.bb_elab.specs.Drivers.{Made, Drive, driven, driven_by, terminal_terms, drives_at, drives}
 use Rattle.bb_elab.specs.GateFunctions.{on_terms, joins, joined, joined_after, joining_cells, gate_cells, inverts, gate_gives}
 use Rattle.bb_elab.specs.Places.{Place, Constant, Input, NetBit, Step, Joined, Inverted, BoxPin, lowered_in, Lowering, IsLowering, step_places, given_at, given_by_box, given, place_in, terminal_place, joined_place, gate_place, step_cell, step_cells, net_place, join_cell, joining_places, inverting_place, gate_places, places_at, box_places, front_places, operator_places, pins_of, data_at, data_places, IsListOf}
 use Rattle.bb_elab.specs.Registers.{RegisterBit, registers, cut_bits, data_terms}
@@ -43,13 +43,13 @@ use Rattle.bb_elab.proofs.PartBits.{zip_parts}
 use Rattle.bb_elab.proofs.ReadingLaw.{into_flat}
 use Rattle.bb_elab.proofs.WorldLaws.{same_bit_is}
 use Rattle.bb_expr.specs.Spots.{Pin}
-use Rattle.bb_elab.proofs.KnownNets.{filtered_there, scope_there, from_range}
+use Rattle.bb_elab.proofs.KnownNets.{from_range}
 use Rattle.bb_elab.proofs.CauseDecisions.{from_flat, from_map}
-use Rattle.bb_elab.proofs.ListedPlaces.{IsListed, lowered_at, listed_at, listed_cell, constant_listed, input_listed, net_listed, pin_listed, step_listed, joined_listed, inverted_listed, box_is}
+use Rattle.bb_elab.proofs.ListedPlaces.{IsListed, lowered_at, listed_at, listed_cell, constant_listed, input_listed, net_listed, pin_listed, step_listed, joined_listed, inverted_listed}
 use Rattle.bb_elab.proofs.ListedSources.{IsWired, part_of, net_bit_of_step, terminal_there}
 use Rattle.bb_elab.proofs.ListNumbers.{one_place_listed}
 use Rattle.bb_elab.proofs.ListWalks.{input, terminals_are}
-use Rattle.bb_elab.proofs.TopLaws.{contains_here, contains_there, contains_cases, none_in_nil, kept_from}
+use Rattle.bb_elab.proofs.TopLaws.{contains_here, contains_there, contains_cases, none_in_nil}
 use Rattle.bb_elab.proofs.WorldExists.{from_find, from_numbered}
 
 -- whether a place is neither that of a bit of a net nor that of an input

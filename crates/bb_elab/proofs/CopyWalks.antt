@@ -1,11 +1,11 @@
 -- Where a bit is a copy of another, copies in the list of cells lead from the one to the other.
-use Rattle.std.proofs.Common.{◌≡◌, ◌⊎◌, ℕ, zero, suc, ◌+◌, ◌-◌, ◌<◌, ◌≤◌, Bool, true, false, if◌then◌else◌, List, [], ◌∷◌, ◌++◌, map, flat_map, fold, zip, length, get_or, All, Contains, refl, sym, ap, ◌∙◌, subst, inl, inr, arith}
+use Rattle.std.proofs.Common.{◌≡◌, ◌⊎◌, ℕ, zero, suc, ◌+◌, ◌-◌, ◌<◌, ◌≤◌, Bool, true, false, if◌then◌else◌, List, [], ◌++◌, map, flat_map, fold, zip, length, get_or, All, Contains, refl, sym, ap, ◌∙◌, subst, inl, inr, arith}
 use Rattle.std.specs.List.{enumerate_from, range_with_len}
 use Rattle.std.specs.Option.{option_map_or}
 use Rattle.std.proofs.lemmas.List.Elements.{All-contains, Contains-append_cases, Contains-get_or}
 use Rattle.bb_ast.specs.declared.module.Gate.{Gate}
 use Rattle.bb_ast.specs.declared.module.Gate.TheVariants as gates
-use Rattle.bb_ast.specs.Syntax.{Expression, Plain}
+use Rattle.bb_ast.specs.Syntax.{Expression}
 use Rattle.bb_expr.specs.declared.step.BitStep.{BitStep}
 use Rattle.bb_expr.specs.declared.step.BitStep.TheVariants as steps
 use Rattle.bb_expr.specs.Lowered.{step_term, term_within, term_at, name_at}
@@ -15,11 +15,11 @@ use Rattle.bb_expr.specs.Terms.{Term}
 use Rattle.bb_expr.specs.Terms as term
 use Rattle.bb_net.specs.declared.loose.LooseCell.{LooseCell}
 use Rattle.bb_net.specs.declared.loose.LooseCell.TheVariants as cell
-use Rattle.bb_net.specs.Loose.{LooseList, loose_at}
+use Rattle.bb_net.specs.Loose.{LooseList}
 use Rattle.bb_elab.specs.Closures.{Leads, One, More}
 use Rattle.bb_elab.specs.Constructs.{Construct, Assignment, GateInstance, Register, SupplyNet, InputConnection, OutputConnection, BoxContents, parts}
 use Rattle.bb_elab.specs.Contexts.{width_of, context_width, low_bits}
-use Rattle.bb_elab.specs.Drivers.{Source, Free, Made, Box, Drive, driven, driven_by, terminal_terms, drives_at, drives, driven_bits}
+use Rattle.bb_elab.specs.Drivers.{Free, Made, Box, Drive, driven, driven_by, terminal_terms, drives_at, drives, driven_bits}
 use Rattle.bb_elab.specs.GateFunctions.{on_terms, joins, joined, inverts, gate_gives}
 use Rattle.bb_elab.specs.Hierarchy.{Design, Scope, path_to, boxes}
 use Rattle.bb_elab.specs.Laws.{BitsAreThere}
@@ -31,8 +31,8 @@ use Rattle.bb_elab.specs.Refusals.{AreDrivenOnce}
 use Rattle.bb_elab.specs.Registers.{cut_bits}
 use Rattle.bb_elab.specs.Stands.{Follows}
 use Rattle.bb_elab.proofs.CauseDecisions.{from_flat, from_map}
-use Rattle.bb_elab.proofs.CopyMarks.{copy_to, leads_on}
-use Rattle.bb_elab.proofs.Enumerated.{enumerated_from, numbered_at, from_drop}
+use Rattle.bb_elab.proofs.CopyMarks.{copy_to}
+use Rattle.bb_elab.proofs.Enumerated.{enumerated_from, from_drop}
 use Rattle.bb_elab.proofs.GivenDrives.{term_of, cut_driven, box_part, part_driven, whole_terms, low_terms, pin_terms, sides_meet, found}
 use Rattle.bb_elab.proofs.Levels.{contains-map}
 use Rattle.bb_elab.proofs.ListedPlaces.{IsListed, lowered_at, listed_cell, listed_below, net_listed, step_listed, joined_listed}
@@ -59,7 +59,7 @@ module _ (d : Design) (lowering : Lowering) (l : LooseList) (list : IsListOf d l
   abbrev pub To : Place → Bit → Type 0
   To p b = FollowsAt l.cells (list.number p) (list.number (NetBit b))
 
-  copy_on : (p q : Place) → IsListed d lowering l list p (cell.Copy (list.number q)) → (b : Bit) → To q b → To p b
+  pub copy_on : (p q : Place) → IsListed d lowering l list p (cell.Copy (list.number q)) → (b : Bit) → To q b → To p b
   copy_on p q listed b (inl same) = inr (One (subst (λ k. Contains {X = ℕ × ℕ} (copy_steps l.cells) (list.number p, k)) same (copy_to l.cells (list.number p) (list.number q) (cell.Const false) (listed_below d lowering l list p _ listed) (listed_cell d lowering l list p _ listed))))
   copy_on p q listed b (inr leads) = inr (More (copy_to l.cells (list.number p) (list.number q) (cell.Const false) (listed_below d lowering l list p _ listed) (listed_cell d lowering l list p _ listed)) leads)
 
@@ -83,7 +83,7 @@ module _ (d : Design) (lowering : Lowering) (l : LooseList) (list : IsListOf d l
     step_copies term j b (steps.Xor x y) listed has = absurd (none_in_nil b has)
     step_copies term j b (steps.Mux i t e) listed has = absurd (none_in_nil b has)
 
-    within_copies : (m j : ℕ) → j < m → j < length all → (b : Bit) → Contains (bit_itself s.path (term_within (nets_of s.source) all m j)) b → To (Step k n j) b
+    pub within_copies : (m j : ℕ) → j < m → j < length all → (b : Bit) → Contains (bit_itself s.path (term_within (nets_of s.source) all m j)) b → To (Step k n j) b
     unfolding term_within
     within_copies zero j below there b has = absurd (omega (arith, below))
     within_copies (suc m) j below there b low = step_copies (term_within (nets_of s.source) all m) j b (get_or all j (steps.Const false)) (step_listed d lowering l list k s c has n fits j there) low

@@ -1,8 +1,7 @@
 -- What all instances of a design add, by the places of their modules.
-use Rattle.std.proofs.Common.{◌≡◌, ◌⊎◌, ℕ, zero, suc, ◌+◌, ◌-◌, ◌≤◌, ◌<◌, List, [], ◌∷◌, ◌++◌, map, length, get_or, Contains, Option, Some, None, refl, sym, ap, ◌∙◌, subst, inl, inr, arith, length-append}
+use Rattle.std.proofs.Common.{◌≡◌, ◌⊎◌, ℕ, zero, suc, ◌+◌, ◌≤◌, ◌<◌, List, [], ◌∷◌, map, length, Contains, Option, Some, None, refl, sym, ap, ◌∙◌, inl, inr, arith, length-append}
 use Rattle.std.specs.Prelude.{sum_by, min, nat_lt, slice_get, slice_index_or}
-use Rattle.std.specs.List.{flat_map, range_with_len}
-use Rattle.std.proofs.lemmas.List.{length-map}
+use Rattle.std.specs.List.{flat_map}
 use Rattle.std.proofs.lemmas.List.FromFn.{length-map-range_with_len}
 use Rattle.std.proofs.lemmas.List.Sums.{sum_by-cons}
 use Rattle.bb_ast.specs.Syntax.{PlainModule}
@@ -10,8 +9,8 @@ use Rattle.bb_expr.specs.declared.net.NetInfo.{NetInfo}
 use Rattle.bb_expr.specs.Faults.{IsSound}
 use Rattle.bb_expr.specs.Nets.{nets_of}
 use Rattle.bb_expr.specs.Ranges.{range_width}
-use Rattle.bb_elab.specs.Hierarchy.{Instance, Path, Design, Scope, root, below, instances, instances_of, children, scopes, too_low}
-use Rattle.bb_elab.specs.NetBits.{Bit, bits_from, bits_of_net, scope_bits, net_order}
+use Rattle.bb_elab.specs.Hierarchy.{Path, Design, Scope, root, below, instances, instances_of, children}
+use Rattle.bb_elab.specs.NetBits.{bits_of_net, scope_bits, net_order}
 use Rattle.bb_elab.specs.Refusals.{design_on}
 use Rattle.bb_elab.specs.Sizes.{bits_and_instances}
 use Rattle.bb_elab.specs.Weights.{net_width, bit_count, total_below}

@@ -20,6 +20,8 @@ pub mod CountedDrivers
 pub mod CopyLoops
 pub mod CopyMarks
 pub mod CopyWalks
+pub mod ReadsHold
+pub mod DataPlaces
 pub mod Deciding
 pub mod DependenceWalks
 pub mod DepthHeights
@@ -79,6 +81,7 @@ pub mod PlacedPaths
 pub mod PlainClocks
 pub mod PortNets
 pub mod PlacesInRow
+pub mod PlacesRead
 pub mod ReadBits
 pub mod ReadingLaw
 pub mod RecursionLemmas

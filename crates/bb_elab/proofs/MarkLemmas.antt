@@ -1,7 +1,7 @@
 -- Marks of the bits of nets.
-use Rattle.std.proofs.Common.{◌≡◌, ◌≢◌, ◌⊎◌, ℕ, zero, suc, ◌+◌, ◌-◌, ◌≤◌, ◌<◌, Bool, true, false, not, ◌&&◌, ◌||◌, List, [], ◌∷◌, ◌++◌, map, length, take, drop, get_or, set, filter, All, AllPairs, Contains, Option, Some, None, refl, sym, ap, ◌∙◌, subst, inl, inr, arith, true≢false, Vec, Global, length-append, append_assoc, append-nil}
+use Rattle.std.proofs.Common.{◌≡◌, ◌≢◌, ◌⊎◌, ℕ, zero, suc, ◌+◌, ◌≤◌, ◌<◌, Bool, true, false, ◌&&◌, ◌||◌, List, [], ◌∷◌, ◌++◌, map, length, take, get_or, set, filter, Option, Some, None, refl, sym, ap, ◌∙◌, subst, inl, inr, arith, true≢false, Vec, Global, length-append, append_assoc, append-nil}
 use Rattle.std.specs.Prelude.{if◌then◌else◌, replicate, sum_by, min, max, nat_le, nat_lt, ◌==◌, slice_get, slice_index_or}
-use Rattle.std.specs.List.{flat_map, list_any, range_with_len}
+use Rattle.std.specs.List.{flat_map, list_any}
 use Rattle.std.specs.Map.{lookup}
 use Rattle.std.proofs.lemmas.Bool.Decides.{nat_tests}
 use Rattle.std.proofs.lemmas.List.{get_or-set_same, get_or-set_other, length-set, map-set, map_more, take_all, get_or-map, length-map}

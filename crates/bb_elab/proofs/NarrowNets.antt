@@ -1,5 +1,5 @@
 -- What stands in a checked module, and that the nets to which a wire's declaration assigns are there and narrow.
-use Rattle.std.proofs.Common.{◌≡◌, ◌⊎◌, ℕ, zero, suc, ◌+◌, ◌<◌, ◌≤◌, Bool, true, false, List, [], ◌∷◌, ◌++◌, map, length, get_or, All, Contains, Option, Some, None, refl, sym, ap, ◌∙◌, subst, inl, inr, arith}
+use Rattle.std.proofs.Common.{◌≡◌, ◌⊎◌, ℕ, ◌+◌, ◌≤◌, false, List, [], ◌∷◌, ◌++◌, map, All, Contains, Option, Some, None, refl, sym, ap, ◌∙◌, subst, inl, inr, arith}
 use Rattle.std.specs.Prelude.{nat_lt, slice_get, IsSomeAnd, IfSome}
 use Rattle.std.specs.List.{flat_map}
 use Rattle.std.specs.Map.{lookup}
@@ -21,13 +21,12 @@ use Rattle.bb_expr.specs.Ranges.{range_width}
 use Rattle.bb_expr.specs.Spots.{Read, Driven, Spot, Declared, Used, initial_spots, spots_in, item_spots}
 use Rattle.bb_expr.specs.Standing.{expressions_in, item_expressions, StandsIn, StandsAt}
 use Rattle.bb_expr.specs.Walks.{each_from}
-use Rattle.bb_elab.specs.Hierarchy.{Scope}
 use Rattle.bb_elab.specs.Weights.{any_scope, IsNarrowNet, AreNarrowNets}
 use Rattle.bb_elab.proofs.CalleeLaw.{got-map, holds-place}
 use Rattle.bb_elab.proofs.CauseDecisions.{all_from, from_flat}
 use Rattle.bb_elab.proofs.MarkLemmas.{names_are}
 use Rattle.bb_elab.proofs.ReadingLaw.{into_flat}
-use Rattle.bb_elab.proofs.SoundConstructs.{IsSoundSpot, spot_sound, not_told}
+use Rattle.bb_elab.proofs.SoundConstructs.{spot_sound, not_told}
 use Rattle.bb_elab.proofs.SoundSpots.{net_used}
 use Rattle.bb_elab.proofs.TopLaws.{contains_here, contains_there, contains_cases, none_in_nil}
 

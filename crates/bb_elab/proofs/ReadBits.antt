@@ -1,29 +1,33 @@
 -- The bits of nets that are read, from the places that are read.
-use Rattle.std.proofs.Common.{◌≡◌, ◌⊎◌, ℕ, zero, suc, ◌+◌, ◌-◌, ◌<◌, ◌≤◌, Bool, true, false, List, [], ◌∷◌, ◌++◌, map, take, drop, length, get_or, Contains, Option, Some, None, refl, sym, ap, ◌∙◌, subst, inl, inr, arith}
+use Rattle.std.proofs.Common.{◌≡◌, ◌⊎◌, ℕ, zero, suc, ◌+◌, ◌<◌, ◌≤◌, Bool, true, false, List, [], ◌∷◌, ◌++◌, map, take, drop, length, get_or, Contains, Some, refl, sym, ap, ◌∙◌, subst, inl, inr, arith}
 use Rattle.std.specs.Prelude.{slice_get}
-use Rattle.std.specs.List.{AllZip, flat_map, slice_index_or}
+use Rattle.std.specs.List.{AllZip, flat_map}
 use Rattle.std.proofs.lemmas.List.{get_or-take, get_or_past}
 use Rattle.std.proofs.Common.{true≢false}
 use Rattle.std.proofs.lemmas.List.Elements.{Contains-append_left, Contains-append_right}
+use Rattle.bb_ast.specs.Syntax.{PlainAlways}
 use Rattle.bb_net.specs.Loose.{LooseList}
 use Rattle.bb_elab.specs.declared.stored.Stored.{Stored}
 use Rattle.bb_elab.specs.Constructs.{Register, parts}
-use Rattle.bb_elab.specs.Hierarchy.{Design}
+use Rattle.bb_elab.specs.Hierarchy.{Design, Scope}
 use Rattle.bb_elab.specs.ListLaws.{IsBounded}
 use Rattle.bb_elab.specs.NetBits.{Bit, net_order, top_outputs, written_bits}
 use Rattle.bb_elab.specs.Placements.{IsStoredAt, AreStored}
 use Rattle.bb_elab.specs.Places.{NetBit, Lowering, IsLowering, IsListOf}
 use Rattle.bb_elab.specs.Reading.{IsRead, bit_itself, operand_terms, cells_at, read_at, read_beside, read_directly}
-use Rattle.bb_elab.specs.ReadPlaces.{IsReadPlace}
+use Rattle.bb_elab.specs.ReadPlaces.{IsReadPlace, AreTimed}
+use Rattle.bb_elab.specs.Refusals.{AreDrivenOnce}
 use Rattle.bb_elab.specs.Registers.{RegisterBit, registers, cut_bits, data_terms}
 use Rattle.bb_elab.proofs.AllowedDesigns.{wired, bits_there}
 use Rattle.bb_elab.proofs.CalleeLaw.{got}
 use Rattle.bb_elab.proofs.CauseDecisions.{from_map}
 use Rattle.bb_elab.proofs.ClockInputs.{net_number}
 use Rattle.bb_elab.proofs.CopyLoops.{reads_followed}
+use Rattle.bb_elab.proofs.Levels.{contains-map}
 use Rattle.bb_elab.proofs.ModuleCells.{less_or_past}
 use Rattle.bb_elab.proofs.NextStates.{register_part}
 use Rattle.bb_elab.proofs.ReadingLaw.{into_flat}
+use Rattle.bb_elab.proofs.ReadsHold.{read_holds}
 use Rattle.bb_elab.proofs.TopLaws.{contains_here, contains_there, contains_cases, none_in_nil}
 
 zip_there : {A B : Type 0} (R : A → B → Type 0) (xs : List A) (ys : List B) (x : A) → AllZip R xs ys → Contains xs x → (y : B) × Contains ys y × R x y
@@ -73,3 +77,14 @@ read_within reads count k long on = by (less_or_past k count)
     by : (k < count) ⊎ (count ≤ k) → k < count
     by (inl h) = h
     by (inr past) = absurd (true≢false (sym on ∙ get_or_past reads k false (omega (arith, long, past))))
+
+pub read_place : (d : Design) (lowering : Lowering) (l : LooseList) → IsBounded d → AreDrivenOnce d → IsLowering d lowering → (list : IsListOf d lowering l) → (stored : List Stored) → (first : ℕ) → first ≡ 2 + length (cut_bits d) → AreTimed d (map (λ (x : Stored). x.clock) stored)
+    → (k : ℕ) (b : Bit) → slice_get (net_order d) k ≡ Some b → IsRead d b → IsReadPlace l (map (λ (x : Stored). first + x.clock) stored) (first + k)
+read_place d lowering l bounded once lowered list stored first is timed k b at read =
+    subst (IsReadPlace l (map (λ (x : Stored). first + x.clock) stored)) (net_number d lowering l list k b at ∙ ap (λ n. n + k) (sym is)) (read_holds d lowering l list lowered bounded once (map (λ (x : Stored). first + x.clock) stored) there b read)
+  where
+    there : (s : Scope) (a : PlainAlways) → Contains (parts d) (s, Register a) → (c : Bit) → Contains (written_bits s a.clock) c → Contains (map (λ (x : Stored). first + x.clock) stored) (list.number (NetBit c))
+    there s a has c clock =
+        let x = timed s a has c clock in
+        let e = from_map (λ (x : Stored). x.clock) stored x.0 x.2 in
+        subst (Contains (map (λ (x : Stored). first + x.clock) stored)) (ap (λ n. first + n) e.2 ∙ ap (λ n. n + x.0) is ∙ sym (net_number d lowering l list x.0 c x.1)) (contains-map (λ (x : Stored). first + x.clock) stored e.0 e.1)

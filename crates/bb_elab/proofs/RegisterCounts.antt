@@ -1,5 +1,5 @@
 -- The register bits of a design are those of its scopes, and each scope of a module has as many.
-use Rattle.std.proofs.Common.{◌≡◌, ◌⊎◌, ℕ, zero, suc, ◌+◌, ◌-◌, ◌<◌, ◌≤◌, Bool, true, false, not, ◌&&◌, ◌||◌, List, [], ◌∷◌, ◌++◌, map, filter, find, filter_map, length, All, Contains, Option, Some, None, is_some, refl, sym, ap, ap₂, ◌∙◌, subst, inl, inr, arith, true≢false}
+use Rattle.std.proofs.Common.{◌≡◌, ◌⊎◌, ℕ, suc, ◌+◌, Bool, true, false, ◌||◌, List, [], ◌∷◌, ◌++◌, map, filter, find, filter_map, length, All, Contains, Option, Some, None, is_some, refl, sym, ap, ap₂, ◌∙◌, subst, inl, inr, arith, true≢false}
 use Rattle.std.specs.Prelude.{if◌then◌else◌, sum_by}
 use Rattle.std.specs.List.{cons_option, enumerate_from, flat_map, list_any, range_with_len}
 use Rattle.std.specs.Option.{option_and_then}
@@ -9,7 +9,6 @@ use Rattle.std.proofs.lemmas.List.Elements.{filter-append}
 use Rattle.std.proofs.lemmas.List.Sums.{sum_by-cons}
 use Rattle.bb_ast.specs.Folds.{of_parts}
 use Rattle.bb_ast.specs.Syntax.{Expression, Net, Bit as BitOf, Part, Sized, Plain, Not, Chain, Cond, Concat, Repeat, Parts, no_part, part, PlainAlways, PlainConns, Order, Named, PlainBody, Ports, Nets, Regs, Supply, Assign, Gates, Calls, Always, PlainItem, PlainModule}
-use Rattle.bb_expr.specs.declared.net.NetInfo.{NetInfo}
 use Rattle.bb_expr.specs.Declarations.{range_of}
 use Rattle.bb_expr.specs.Nets.{nets_of}
 use Rattle.bb_expr.specs.Ranges.{distance, range_width, place_of}
@@ -23,7 +22,6 @@ use Rattle.bb_elab.specs.Registers.{RegisterBit, stored_at, stored, registers}
 use Rattle.bb_elab.specs.Weights.{any_scope, stored_by, stored_bits, register_count}
 use Rattle.bb_elab.proofs.CalledInstances.{any-map}
 use Rattle.bb_elab.proofs.CauseDecisions.{from_flat, from_map}
-use Rattle.bb_elab.proofs.HierarchySums.{sum_same}
 use Rattle.bb_elab.proofs.Levels.{contains-map}
 use Rattle.bb_elab.proofs.ReadingLaw.{into_flat}
 use Rattle.bb_elab.proofs.ScopeLaws.{paths_lead_to_scopes}
@@ -215,7 +213,7 @@ module _ (text : List PlainModule) (s : Scope) where
   stored_from (OutputConnection i pin e) r has = absurd (none_in_nil r has)
   stored_from BoxContents r has = absurd (none_in_nil r has)
 
-numbered_there : {A : Type 0} (a : ℕ) (xs : List A) (x : A) → Contains xs x → (k : ℕ) × Contains (enumerate_from a xs) (k, x)
+pub numbered_there : {A : Type 0} (a : ℕ) (xs : List A) (x : A) → Contains xs x → (k : ℕ) × Contains (enumerate_from a xs) (k, x)
 numbered_there a [] x has = absurd (none_in_nil x has)
 numbered_there a (y ∷ ys) x has = by (contains_cases y ys x has) (numbered_there (a + 1) ys x)
   where

@@ -3,12 +3,14 @@
 -- and, where a copy is read, the place of which it is a copy.
 use Rattle.std.specs.Prelude.{◌≡◌, ◌⊎◌, ◌↔◌, ◌<◌, ℕ, Bool, true, false, List, [], ◌∷◌, ◌++◌, map, length, Contains, Some, slice_get, slice_index_or}
 use Rattle.std.specs.List.{enumerate_from, flat_map}
+use Rattle.bb_ast.specs.Syntax.{PlainAlways}
 use Rattle.bb_net.specs.declared.loose.LooseCell.{LooseCell}
 use Rattle.bb_net.specs.declared.loose.LooseCell.TheVariants.{Const, Input, Not, And, Or, Xor, Mux, BoxOut, Copy}
 use Rattle.bb_net.specs.Loose.{LooseList}
 use Rattle.bb_elab.specs.Closures.{Leads}
-use Rattle.bb_elab.specs.Hierarchy.{Design}
-use Rattle.bb_elab.specs.NetBits.{Bit, net_order}
+use Rattle.bb_elab.specs.Constructs.{Register, parts}
+use Rattle.bb_elab.specs.Hierarchy.{Design, Scope}
+use Rattle.bb_elab.specs.NetBits.{Bit, net_order, written_bits}
 use Rattle.bb_elab.specs.Reading.{IsRead}
 
 -- what a cell that is no copy reads, but for the pins of its box
@@ -52,6 +54,10 @@ IsReadPlace l clocks k = (j : ℕ) × Contains (read_places l clocks) j × Follo
 -- copies of what is marked lead to what is marked, where that is in the list
 abbrev pub AreClosed : List LooseCell → List Bool → Type 0
 AreClosed cells marks = (j k : ℕ) → slice_index_or marks j false ≡ true → Contains (copy_steps cells) (j, k) → k < length marks → slice_index_or marks k false ≡ true
+
+-- the clocks of all registers are among these, which are numbers of bits in net order
+abbrev pub AreTimed : Design → List ℕ → Type 0
+AreTimed d clocks = (s : Scope) (a : PlainAlways) → Contains (parts d) (s, Register a) → (b : Bit) → Contains (written_bits s a.clock) b → (k : ℕ) × (slice_get (net_order d) k ≡ Some b) × Contains clocks k
 
 -- for each bit of a net whether it is read
 pub record AreReads (d : Design) (reads : List Bool) : Type 0 where

@@ -1,12 +1,12 @@
 -- No clause of a public call rests on this file: it says what functions inside the crate find.
 -- What a module adds to the size of a design, once for each scope of it: bits, and cells, construct by construct. Modules and
 -- their callees go by their places in the text.
-use Rattle.std.specs.Prelude.{◌≡◌, ◌⊎◌, ℕ, zero, suc, ◌+◌, ◌-◌, ◌<◌, ◌≤◌, ◌&&◌, nat_le, nat_lt, max, Bool, false, not, if◌then◌else◌, List, [], ◌∷◌, map, length, drop, sum_by, Option, Some, None, option_to_list, slice_get, All, IfSome, IsSomeAnd}
+use Rattle.std.specs.Prelude.{◌≡◌, ◌⊎◌, ℕ, zero, suc, ◌+◌, ◌-◌, ◌<◌, ◌≤◌, ◌&&◌, nat_le, nat_lt, max, Bool, false, not, if◌then◌else◌, List, [], length, drop, sum_by, Option, Some, None, option_to_list, slice_get, All, IfSome, IsSomeAnd}
 use Rattle.std.specs.List.{filter, flat_map, list_any, slice_index_or}
 use Rattle.bb_ast.specs.declared.module.Gate.{Gate}
 use Rattle.bb_ast.specs.declared.module.Range.{Range}
 use Rattle.bb_ast.specs.Gates.{output_count}
-use Rattle.bb_ast.specs.Syntax.{Expression, PlainBody, Nets, Assign, Gates, Calls, Always, PlainItem, PlainModule}
+use Rattle.bb_ast.specs.Syntax.{Expression, PlainBody, Nets, Assign, Gates, Calls, Always, PlainModule}
 use Rattle.bb_expr.specs.declared.net.NetInfo.{NetInfo}
 use Rattle.bb_expr.specs.Cells.{cell_count}
 use Rattle.bb_expr.specs.Checked.{ModuleFacts}

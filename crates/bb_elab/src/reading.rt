@@ -13,7 +13,8 @@ ghost use Rattle.bb_elab.specs.NetBits.{Bit, net_order};
 ghost use Rattle.bb_elab.specs.Placements.{AreStored};
 ghost use Rattle.bb_elab.specs.Places.{Lowering, IsLowering, IsListOf};
 ghost use Rattle.bb_elab.specs.Reading.{IsRead};
-ghost use Rattle.bb_elab.specs.ReadPlaces.{read_by, read_places, copy_steps, FollowsAt, IsReadPlace, AreClosed};
+ghost use Rattle.bb_elab.specs.ReadPlaces.{read_by, read_places, copy_steps, FollowsAt, IsReadPlace, AreClosed, AreTimed};
+ghost use Rattle.bb_elab.specs.Refusals.{AreDrivenOnce};
 ghost use Rattle.bb_elab.specs.Registers.{cut_bits};
 
 use crate::stored::Stored;
@@ -180,9 +181,10 @@ pub(crate) fn read_bits(
     // What is found to be read is read.
     ensures only { IfOk result (λ reads. (d : Design) (lowering : Lowering) → IsBounded d → IsLowering d lowering → IsListOf d lowering list.now → AreStored d stored.now → first ≡ 2 + length (cut_bits d)
         → (k : ℕ) (b : Bit) → slice_get (net_order d) k ≡ Some b → slice_index_or reads.items k false ≡ true → IsRead d b) }
-    // Whose place is read is found to be read.
+    // What is read is found to be read, where the clocks of all registers are among those of the stored bits.
     ensures read { IsLoose list.now → All (λ x. first + x.clock < length list.now.cells) stored.now
-        → IfOk result (λ reads. (k : ℕ) → k < count → IsReadPlace list.now (map (λ x. first + x.clock) stored.now) (first + k) → slice_index_or reads.items k false ≡ true) }
+        → IfOk result (λ reads. (d : Design) (lowering : Lowering) → IsBounded d → AreDrivenOnce d → IsLowering d lowering → IsListOf d lowering list.now → first ≡ 2 + length (cut_bits d) → AreTimed d (map (λ x. x.clock) stored.now)
+        → (k : ℕ) (b : Bit) → slice_get (net_order d) k ≡ Some b → k < count → IsRead d b → slice_index_or reads.items k false ≡ true) }
 {
     let marks = read_marks(alloc, list, stored, first)?;
     let reads = part_of(alloc, &marks, first as usize, count as usize)?;

@@ -1,12 +1,10 @@
-use Rattle.std.proofs.Common.{◌≡◌, ℕ, ◌-◌, List, [], ◌∷◌, map, Option, All, sym, ap, ◌∙◌, subst, arith}
-use Rattle.std.specs.Prelude.{◌^◌, sum_by, option_to_list, IfSome}
-use Rattle.std.specs.List.{flat_map}
-use Rattle.bb_ast.specs.Syntax.{Expression, PlainConns}
-use Rattle.bb_ast.specs.Views.{expression, optional_view, named_view, arm_view, gate_view, conns_view, call_view, body_view, item_view}
+use Rattle.std.proofs.Common.{◌-◌, map, Option, sym, ap, ◌∙◌}
+use Rattle.std.specs.Prelude.{◌^◌, sum_by, option_to_list}
+use Rattle.bb_ast.specs.Syntax.{Expression}
+use Rattle.bb_ast.specs.Views.{optional_view}
 use Rattle.bb_expr.specs.Shares.{capped, own_cells}
-use Rattle.bb_expr.specs.Standing.{StandsAt, ranges_at, conns_expressions, item_expressions}
-use Rattle.bb_elab.specs.Weights.{assigned_cells, initial_cells, assignment_cells, inputs_of, inversions, gate_weight, item_cells, IsNarrowNet, AreNarrowNets}
-use Rattle.bb_elab.proofs.CellSums.{share_more, share_all, all_here, all_within, sum_flat}
+use Rattle.bb_expr.specs.Standing.{StandsAt, ranges_at}
+use Rattle.bb_elab.proofs.CellSums.{share_more, share_all, all_within, sum_flat}
 use Rattle.bb_elab.proofs.cells.ordered_cells.Goals as goal
 
 pub connected_cells-requires : goal.connected_cells-requires

@@ -3,7 +3,7 @@ use Rattle.std.specs.Prelude.{sum_by}
 use Rattle.bb_ast.specs.Views.{optional_view}
 use Rattle.bb_expr.specs.Shares.{capped, own_cells}
 use Rattle.bb_expr.specs.Standing.{ranges_at}
-use Rattle.std.proofs.Common.{ℕ, List, Option}
+use Rattle.std.proofs.Common.{Option}
 use Rattle.std.specs.Prelude.{option_to_list}
 use Rattle.bb_ast.specs.Syntax.{Expression}
 use Rattle.bb_elab.proofs.cells.ordered_cells.Given as goal

@@ -1,5 +1,4 @@
 use Rattle.std.proofs.Common.{◌+◌, sym, ap, ◌∙◌}
-use Rattle.bb_elab.specs.ListLaws.{IsBounded}
 use Rattle.bb_elab.proofs.ClockInputs.{net_number, clock_is, few_inputs}
 use Rattle.bb_elab.proofs.clocks.clock_input.Goals as goal
 

@@ -1,7 +1,7 @@
-use Rattle.std.proofs.Common.{◌≡◌, ◌<◌, ◌≤◌, false, List, length, subst, sym, ap, ◌∙◌}
+use Rattle.std.proofs.Common.{◌<◌, ◌≤◌, false, List, length, subst, sym, ap, ◌∙◌}
 use Rattle.std.specs.Prelude.{slice_index_or}
 use Rattle.bb_net.specs.declared.loose.LooseCell.{LooseCell}
-use Rattle.bb_net.specs.declared.loose.LooseCell.TheVariants.{Const, Copy}
+use Rattle.bb_net.specs.declared.loose.LooseCell.TheVariants.{Const}
 use Rattle.bb_elab.proofs.ClockWalks.{followed_starts, followed_goes, ends_there, ends_soon, if_none}
 use Rattle.bb_elab.proofs.clocks.input_copied.Goals as goal
 

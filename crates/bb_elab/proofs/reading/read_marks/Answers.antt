@@ -1,8 +1,8 @@
-use Rattle.std.proofs.Common.{◌+◌, ◌<◌, false, List, Bool, All, length, map, get_or, subst, sym, ap, ◌∙◌, arith}
+use Rattle.std.proofs.Common.{◌+◌, ◌<◌, false, List, Bool, length, map, get_or, subst, sym, ap, ◌∙◌, arith}
 use Rattle.std.proofs.lemmas.List.Elements.{All-contains}
-use Rattle.std.specs.List.{Contains, slice_index_or}
+use Rattle.std.specs.List.{Contains}
 use Rattle.bb_elab.specs.declared.stored.Stored.{Stored}
-use Rattle.bb_elab.specs.ReadPlaces.{read_places, AreClosed}
+use Rattle.bb_elab.specs.ReadPlaces.{AreClosed}
 use Rattle.bb_elab.proofs.CauseDecisions.{all_from, from_map}
 use Rattle.bb_elab.proofs.CopyMarks.{all_marked}
 use Rattle.bb_elab.proofs.MarkLemmas.{written_back}

@@ -1,10 +1,10 @@
-use Rattle.std.proofs.Common.{◌≡◌, ◌++◌, Bool, List, Vec, Global, map, sym, ap, ◌∙◌, subst, rules}
+use Rattle.std.proofs.Common.{◌++◌, map, sym, ap, ◌∙◌, subst, rules}
 use Rattle.std.specs.List.{flat_map}
 use Rattle.std.proofs.lemmas.Result.{on_ok_weaker}
 use Rattle.bb_ast.specs.declared.expr.Expr.{the_lemmas}
 use Rattle.bb_ast.specs.Views.{expression}
 use Rattle.bb_expr.specs.Checked.{module_facts, syntax}
-use Rattle.bb_elab.specs.NetBits.{Bit, written_bits}
+use Rattle.bb_elab.specs.NetBits.{written_bits}
 use Rattle.bb_elab.specs.Weights.{any_scope, AreMarks}
 use Rattle.bb_elab.proofs.MarkLemmas.{bit_written, parts_written, flat_more, flat_all}
 use Rattle.bb_elab.proofs.register_bits.+marking.Goals as goal

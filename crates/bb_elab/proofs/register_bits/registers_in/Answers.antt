@@ -1,4 +1,4 @@
-use Rattle.std.proofs.Common.{◌≡◌, Bool, List, Vec, Global, filter, length, [], map, ap, ◌∙◌, subst, arith}
+use Rattle.std.proofs.Common.{Bool, List, Vec, Global, filter, length, [], map, ap, ◌∙◌, subst, arith}
 use Rattle.std.specs.Prelude.{replicate, sum_by}
 use Rattle.std.specs.List.{flat_map}
 use Rattle.std.proofs.lemmas.List.{length-map}

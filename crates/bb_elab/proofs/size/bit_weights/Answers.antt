@@ -1,8 +1,7 @@
-use Rattle.std.proofs.Common.{◌≡◌, ◌<◌, ◌-◌, ◌+◌, ◌++◌, ◌∷◌, [], ℕ, List, map, length, take, sym, ap, ◌∙◌, arith}
+use Rattle.std.proofs.Common.{◌<◌, ◌-◌, ◌+◌, ◌++◌, ◌∷◌, [], map, length, take, sym, ap, ◌∙◌, arith}
 use Rattle.std.specs.Prelude.{◌^◌, sum_by}
 use Rattle.std.proofs.lemmas.List.{length-map, take_all}
 use Rattle.bb_ast.specs.Syntax.{PlainModule}
-use Rattle.bb_expr.specs.declared.checked.CheckedModule.{CheckedModule}
 use Rattle.bb_expr.specs.Checked.{module_facts, syntax}
 use Rattle.bb_expr.specs.Shares.{capped}
 use Rattle.bb_elab.specs.Weights.{bit_count, net_width}

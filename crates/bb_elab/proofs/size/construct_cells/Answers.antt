@@ -1,5 +1,5 @@
-use Rattle.std.proofs.Common.{◌≡◌, ◌-◌, ◌+◌, ◌<◌, All, Some, map, length, refl, subst, sym, ap, ◌∙◌, arith, List}
-use Rattle.std.specs.Prelude.{◌^◌, slice_get, sum_by}
+use Rattle.std.proofs.Common.{◌-◌, All, map, subst, sym, ap, ◌∙◌, arith, List}
+use Rattle.std.specs.Prelude.{◌^◌, sum_by}
 use Rattle.std.specs.List.{flat_map}
 use Rattle.std.proofs.lemmas.List.{length-map}
 use Rattle.bb_ast.specs.declared.module.Item.{Item}

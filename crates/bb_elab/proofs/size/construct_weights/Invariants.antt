@@ -3,7 +3,7 @@ use Rattle.std.specs.Prelude.{slice_get, slice_index_or}
 use Rattle.bb_ast.specs.Syntax.{PlainModule}
 use Rattle.bb_expr.specs.Checked.{syntax}
 use Rattle.bb_expr.specs.Shares.{capped}
-use Rattle.bb_elab.specs.Weights.{construct_cells, instance_cells}
+use Rattle.bb_elab.specs.Weights.{construct_cells}
 use Rattle.bb_elab.proofs.size.construct_weights.Given as goal
 
 abbrev pub invariant-loop-place : goal.invariant-loop-place

@@ -1,4 +1,4 @@
-use Rattle.std.proofs.Common.{◌≡◌, ◌<◌, ◌-◌, All, List, map, length, refl, subst, sym, ap, ◌∙◌, arith}
+use Rattle.std.proofs.Common.{◌≡◌, ◌<◌, ◌-◌, All, map, length, refl, subst, sym, ap, ◌∙◌, arith}
 use Rattle.std.specs.Prelude.{◌^◌, slice_index_or}
 use Rattle.std.proofs.lemmas.List.{length-map, get_or_default}
 use Rattle.bb_expr.specs.Checked.{syntax}
@@ -6,7 +6,7 @@ use Rattle.bb_expr.specs.Shares.{capped}
 use Rattle.bb_elab.specs.Callees.{callees}
 use Rattle.bb_elab.specs.Weights.{total_below}
 use Rattle.bb_elab.proofs.HierarchySums.{many_bits}
-use Rattle.bb_elab.proofs.RecursiveNames.{called, all_there}
+use Rattle.bb_elab.proofs.RecursiveNames.{all_there}
 use Rattle.bb_elab.proofs.size.has_many_bits.Goals as goal
 
 pub totals-requires-clause-there : goal.totals-requires-clause-there

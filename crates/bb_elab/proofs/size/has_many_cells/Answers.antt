@@ -1,7 +1,7 @@
-use Rattle.std.proofs.Common.{◌≡◌, ◌<◌, ◌-◌, ◌+◌, ℕ, All, List, filter, map, length, refl, subst, sym, ap, ◌∙◌, arith}
+use Rattle.std.proofs.Common.{◌≡◌, ◌<◌, ◌-◌, ◌+◌, ℕ, All, List, filter, map, length, subst, sym, ap, ◌∙◌, arith}
 use Rattle.std.specs.Prelude.{◌^◌, min, sum_by, slice_index_or}
 use Rattle.std.proofs.lemmas.List.{length-map, get_or_default}
-use Rattle.bb_expr.specs.Checked.{module_facts, syntax}
+use Rattle.bb_expr.specs.Checked.{syntax}
 use Rattle.bb_expr.specs.declared.checked.CheckedModule.{CheckedModule}
 use Rattle.bb_expr.specs.Nets.{nets_of}
 use Rattle.bb_expr.specs.Shares.{capped}

@@ -1,4 +1,4 @@
-use Rattle.std.proofs.Common.{◌≡◌, ◌<◌, ◌≤◌, ℕ, Some, map, length}
+use Rattle.std.proofs.Common.{◌≡◌, ◌<◌, ℕ, Some, map, length}
 use Rattle.std.specs.Prelude.{slice_get, slice_index_or}
 use Rattle.bb_ast.specs.Syntax.{PlainModule}
 use Rattle.bb_expr.specs.Checked.{syntax}

@@ -1,6 +1,5 @@
-use Rattle.std.proofs.Common.{◌-◌, ap, ◌∙◌}
+use Rattle.std.proofs.Common.{◌-◌}
 use Rattle.std.specs.Prelude.{◌^◌}
-use Rattle.bb_expr.specs.declared.net.NetInfo.{NetInfo}
 use Rattle.bb_elab.specs.Weights.{net_width}
 use Rattle.bb_elab.proofs.CellSums.{share_step, share_end}
 use Rattle.bb_elab.proofs.MarkLemmas.{below_cap}

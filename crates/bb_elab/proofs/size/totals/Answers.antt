@@ -1,7 +1,7 @@
-use Rattle.std.proofs.Common.{◌-◌, ◌+◌, ◌∙◌, ℕ, List, ap, map, length}
+use Rattle.std.proofs.Common.{◌-◌, ◌+◌, ◌∙◌, ℕ, List, ap, map}
 use Rattle.std.specs.Prelude.{◌^◌, sum_by, slice_index_or}
 use Rattle.bb_expr.specs.Shares.{capped}
-use Rattle.bb_elab.proofs.SizeTotals.{AreTotals, more_totals}
+use Rattle.bb_elab.proofs.SizeTotals.{more_totals}
 use Rattle.bb_elab.proofs.size.totals.Goals as goal
 
 pub loop-round-preserved : goal.loop-round-preserved
