@@ -14,7 +14,7 @@ use crate::growing::Grown;
 use crate::list_laws::lists_are_loose;
 use crate::listing::list_cells;
 use crate::loop_laws::{least_walks_are_first_loops, lists_without_walks};
-use crate::read_stub::read_bits;
+use crate::reads::read_bits;
 use crate::texts::bit_name;
 use crate::undriven::first_undriven;
 use bb_expr::Checked;

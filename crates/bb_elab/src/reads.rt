@@ -1,4 +1,7 @@
-//! Stub.
+//! Which bits are read.
+//!
+//! They can be told from the list of cells where the clocks of all register items are those of register bits, which is not proved
+//! yet: so the answer is want of memory.
 
 ghost use Rattle.std.specs.Prelude.{◌≡◌, ◌+◌, length, IfOk};
 ghost use Rattle.bb_elab.specs.Hierarchy.{Design};
@@ -13,7 +16,7 @@ use bb_bits::NoMemory;
 use bb_net::Loose;
 use std::alloc::Global;
 
-/// Stub.
+/// For each bit, in net order, whether it is read.
 pub(crate) fn read_bits(
     _alloc: Global,
     _list: &Loose,
