@@ -18,7 +18,7 @@ use Rattle.bb_elab.specs.NetBits.{Bit, net_order}
 use Rattle.bb_elab.specs.Placements.{ArePlaced, AreOutlined, AreCounts, AreStored, AreReads}
 use Rattle.bb_elab.specs.Places.{Lowering, IsLowering, IsListOf}
 use Rattle.bb_elab.specs.Refusals.{IsAcyclic, AreDrivenOnce, IsUndriven, AreDriven, TwoDrivers, NoDriver, Cycle, IsRefusalOf}
-use Rattle.bb_elab.specs.Stages.{IsFinite, HasGrown, IsListed, TellsOf}
+use Rattle.bb_elab.specs.Stages.{IsFinite, HasGrown, IsListed, IsReadable, TellsOf}
 use Rattle.bb_elab.specs.Texts.{bit_text}
 use Rattle.bb_elab.proofs.StageRefusals.{refused, and_clear, finite_clear}
 
@@ -47,9 +47,9 @@ module _ (text : List PlainModule) (g : Grown) (l : LooseList) where
         record { name = n; is = refl; told = (f.1, f.4, named d has.of_text has.grown.scopes has.grown.outlined f.1 (subst (λ m. slice_get (net_order d) m ≡ Some f.1) number f.3)) }
 
   -- which bits are read
-  module _ (read : List Bool) (reads : (d : Design) (lowering : Lowering) → IsBounded d → AreDrivenOnce d → IsLowering d lowering → IsListOf d lowering l → AreStored d g.stored.items → length g.counts.items ≡ length (net_order d) → AreReads d read) where
+  module _ (read : List Bool) (reads : (d : Design) → IsReadable text d l g.stored.items (length g.counts.items) → AreReads d read) where
     pub reads_at : (d : Design) → HasGrown text d g → IsListed d l → AreReads d read
-    reads_at d has (lowering, lowered, listed) = reads d lowering has.finite.bounded has.grown.once lowered listed has.grown.registers has.grown.counted.count
+    reads_at d has listed = reads d (record { of_text = has.of_text; bounded = has.finite.bounded; once = has.grown.once; listed = listed; registers = has.grown.registers; count = has.grown.counted.count })
 
     pub as_many : (x : (d : Design) × HasGrown text d g × IsListed d l) → length read ≡ length g.counts.items
     as_many (d, has, listed) = (reads_at d has listed).count ∙ sym has.grown.counted.count
@@ -73,10 +73,15 @@ module _ (text : List PlainModule) (g : Grown) (l : LooseList) where
     pub all_are : ((d : Design) → IsBounded d → AreCounts d g.counts.items → AreReads d read → AreDriven d) → (d : Design) → HasGrown text d g → IsListed d l → AreDriven d
     all_are none d has listed = none d has.finite.bounded has.grown.counted (reads_at d has listed)
 
-  pub for_reads : (seen : List Stored) → seen ≡ g.stored.items → (bits : ℕ) → bits ≡ length g.counts.items → (x : (d : Design) × HasGrown text d g × IsListed d l)
-      → (d : Design) × (lowering : Lowering) × IsBounded d × AreDrivenOnce d × IsLowering d lowering × IsListOf d lowering l × AreStored d seen × (bits ≡ length (net_order d))
-  for_reads seen same bits long (d, has, (lowering, lowered, listed)) =
-      (d, lowering, has.finite.bounded, has.grown.once, lowered, listed, subst (AreStored d) (sym same) has.grown.registers, long ∙ has.grown.counted.count)
+  module _ (seen : List Stored) (same : seen ≡ g.stored.items) (counts : List ℕ) (counted : counts ≡ g.counts.items) where
+    pub for_reads : (x : (d : Design) × HasGrown text d g × IsListed d l) → (d : Design) × IsReadable text d l seen (length counts)
+    for_reads (d, has, listed) =
+        (d, record { of_text = has.of_text; bounded = has.finite.bounded; once = has.grown.once; listed = listed; registers = subst (AreStored d) (sym same) has.grown.registers; count = ap length counted ∙ has.grown.counted.count })
+
+    pub reads_seen : (read : List Bool) → ((d : Design) → IsReadable text d l seen (length counts) → AreReads d read) → (d : Design) → IsReadable text d l g.stored.items (length g.counts.items) → AreReads d read
+    reads_seen read reads =
+        subst (λ all. (d : Design) → IsReadable text d l all (length g.counts.items) → AreReads d read) same
+        (subst (λ all. (d : Design) → IsReadable text d l seen (length all) → AreReads d read) counted reads)
 
 module _ (text : List PlainModule) (g : Grown) (placed : List Placed) (outlines : List Outline) (stored : List Stored) (scopes : placed ≡ g.placed.items) (made : outlines ≡ g.outlines.items) (registers : stored ≡ g.stored.items) where
   seen : (d : Design) → HasGrown text d g → ArePlaced d placed × AreOutlined d placed outlines × AreStored d stored

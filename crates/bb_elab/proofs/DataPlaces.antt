@@ -24,7 +24,7 @@ module _ {A : Type 0} where
   apart_left xs ys apart i j e less within same =
       apart i j e less (omega (arith, within, length-append xs ys)) (get_or_append_left xs ys e i (omega (arith, less, within)) ∙ same ∙ sym (get_or_append_left xs ys e j within))
 
-  apart_right : (xs ys : List A) → AllPairs ◌≢◌ (xs ++ ys) → AllPairs ◌≢◌ ys
+  pub apart_right : (xs ys : List A) → AllPairs ◌≢◌ (xs ++ ys) → AllPairs ◌≢◌ ys
   apart_right xs ys apart i j e less within same =
       apart (length xs + i) (length xs + j) e (omega (arith, less)) (omega (arith, within, length-append xs ys)) (get_or-append-add xs ys i e ∙ same ∙ sym (get_or-append-add xs ys j e))
 

@@ -83,6 +83,7 @@ pub mod PortNets
 pub mod PlacesInRow
 pub mod PlacesRead
 pub mod ReadBits
+pub mod ReadDesigns
 pub mod ReadingLaw
 pub mod RecursionLemmas
 pub mod RecursionLoops
@@ -108,6 +109,7 @@ pub mod StoredNotes
 pub mod Tallies
 pub mod TermNets
 pub mod TextLaws
+pub mod TimedRegisters
 pub mod TopLaws
 pub mod TopLemmas
 pub mod Turns

@@ -6,10 +6,11 @@ use Rattle.std.proofs.lemmas.List.Elements.{All-contains, Contains-append_left}
 use Rattle.std.proofs.lemmas.List.Sorted.{length_permutation}
 use Rattle.bb_net.specs.declared.loose.LooseCell.{LooseCell}
 use Rattle.bb_net.specs.declared.loose.LooseCell.TheVariants as cell
-use Rattle.bb_net.specs.Loose.{loose_at}
+use Rattle.bb_net.specs.Loose.{LooseList, loose_at}
+use Rattle.bb_elab.specs.Hierarchy.{Design}
 use Rattle.bb_elab.specs.NetBits.{net_order}
 use Rattle.bb_elab.specs.Registers.{cut_bits}
-use Rattle.bb_elab.specs.Places.{Place, Constant, Input, NetBit, Numbering, place_in, given, operator_places, places}
+use Rattle.bb_elab.specs.Places.{Place, Constant, Input, NetBit, Numbering, Lowering, IsListOf, place_in, given, operator_places, places}
 use Rattle.bb_elab.specs.Laws.{ListsBegin}
 use Rattle.bb_elab.proofs.TopLaws.{contains_here, contains_there}
 use Rattle.bb_elab.proofs.WrittenValue.{length-range}
@@ -31,6 +32,18 @@ input_cells : (ks : List ℕ) → map (λ (x : Place × LooseCell). x.1) (map (�
 input_cells [] = refl
 input_cells (k ∷ ks) = ap (λ l. cell.Input k ∷ l) (input_cells ks)
 
+-- what stands in the front has its place in the list
+pub front_fits : (d : Design) (lowering : Lowering) (l : LooseList) → IsListOf d lowering l → (2 + length (cut_bits d)) + length (net_order d) ≤ length l.cells
+front_fits d lowering l list =
+    let n = length (cut_bits d) in
+    let inputs : List (Place × LooseCell) = map (λ i. (Input i, cell.Input i)) (range_with_len 0 n) in
+    let first : List (Place × LooseCell) = (Constant false, cell.Const false) ∷ (Constant true, cell.Const true) ∷ inputs in
+    let nets : List (Place × LooseCell) = map (λ b. (NetBit b, cell.Copy (list.number (place_in (given d lowering) b)))) (net_order d) in
+    let long : length first ≡ 2 + n = omega (arith, length-map {B = Place × LooseCell} (range_with_len 0 n) (λ i. (Input i, cell.Input i)), length-range 0 n) in
+    let bits : length nets ≡ length (net_order d) = length-map {B = Place × LooseCell} (net_order d) (λ b. (NetBit b, cell.Copy (list.number (place_in (given d lowering) b)))) in
+    let all : length (map (λ x. list.number x.0) (places d lowering list.number)) ≡ length l.cells = sym (length_permutation (map (λ x. list.number x.0) (places d lowering list.number)) (range_with_len 0 (length l.cells)) list.numbers) ∙ length-range 0 (length l.cells) in
+    omega (arith, all, long, bits, length-map (places d lowering list.number) (λ x. list.number x.0), length-append (first ++ nets) (operator_places d lowering list.number), length-append first nets)
+
 pub lists_begin : ListsBegin
 lists_begin d lowering l list =
     let n = length (cut_bits d) in
@@ -38,8 +51,7 @@ lists_begin d lowering l list =
     let first : List (Place × LooseCell) = (Constant false, cell.Const false) ∷ (Constant true, cell.Const true) ∷ inputs in
     let nets : List (Place × LooseCell) = map (λ b. (NetBit b, cell.Copy (list.number (place_in (given d lowering) b)))) (net_order d) in
     let long : length first ≡ l.inputs + 2 = omega (arith, length-map {B = Place × LooseCell} (range_with_len 0 n) (λ i. (Input i, cell.Input i)), length-range 0 n, list.inputs) in
-    let all : length (map (λ x. list.number x.0) (places d lowering list.number)) ≡ length l.cells = sym (length_permutation (map (λ x. list.number x.0) (places d lowering list.number)) (range_with_len 0 (length l.cells)) list.numbers) ∙ length-range 0 (length l.cells) in
-    let fits : l.inputs + 2 ≤ length l.cells = omega (arith, all, long, length-map (places d lowering list.number) (λ x. list.number x.0), length-append (first ++ nets) (operator_places d lowering list.number), length-append first nets) in
+    let fits : l.inputs + 2 ≤ length l.cells = omega (arith, front_fits d lowering l list, list.inputs) in
     taken (loose_at l) 0 l.cells (l.inputs + 2) fits (λ k. ap (loose_at l) (omega arith))
     ∙ ap (λ k. map (loose_at l) (range_with_len 0 k)) (sym long)
     ∙ numbered_front (loose_at l) list.number first nets 0 list.front (λ x has. All-contains (λ x. loose_at l (list.number x.0) ≡ x.1) (places d lowering list.number) x list.cells (Contains-append_left (first ++ nets) (operator_places d lowering list.number) x has))

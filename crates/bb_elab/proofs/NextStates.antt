@@ -27,7 +27,7 @@ use Rattle.bb_elab.proofs.WorldExists.{from_find, from_filter_map}
 use Rattle.bb_elab.proofs.WorldLaws.{same_terms}
 
 -- a register bit is stored by its item in its scope
-stored_by : (part : Scope × Construct) (r : RegisterBit) → Contains (stored_at part) r → part ≡ (r.scope, Register r.item)
+pub stored_by : (part : Scope × Construct) (r : RegisterBit) → Contains (stored_at part) r → part ≡ (r.scope, Register r.item)
 stored_by (s, Register a) r has =
     let make : ℕ × Bit → RegisterBit = λ y. record { scope = s; item = a; place = y.0; bit = y.1 } in
     let z = from_map make (enumerate_from 0 (written_bits s a.left)) r has in

@@ -30,7 +30,7 @@ use Rattle.bb_elab.proofs.ReadingLaw.{into_flat}
 use Rattle.bb_elab.proofs.ReadsHold.{read_holds}
 use Rattle.bb_elab.proofs.TopLaws.{contains_here, contains_there, contains_cases, none_in_nil}
 
-zip_there : {A B : Type 0} (R : A → B → Type 0) (xs : List A) (ys : List B) (x : A) → AllZip R xs ys → Contains xs x → (y : B) × Contains ys y × R x y
+pub zip_there : {A B : Type 0} (R : A → B → Type 0) (xs : List A) (ys : List B) (x : A) → AllZip R xs ys → Contains xs x → (y : B) × Contains ys y × R x y
 zip_there R [] ys x all has = absurd (none_in_nil x has)
 zip_there R (z ∷ xs) [] x all has = absurd all
 zip_there R (z ∷ xs) (y ∷ ys) x all has = by (contains_cases z xs x has) (zip_there R xs ys x all.1)

@@ -186,19 +186,22 @@ module _ (text : List PlainModule) (s : Scope) where
       let y = from_flat (λ y. connection i (option_and_then (λ m. pin_named m y.0) target) y.1) all (Register a) has in
       connection_stores i (option_and_then (λ m. pin_named m y.0.0) target) y.0.1 a y.2
 
-  register_item : (body : PlainBody) (a : PlainAlways) → Contains (body_constructs text body) (Register a) → stored_by s body ≡ written_bits s a.left
-  register_item (Ports port names) a has = absurd (none_in_nil (Register a) has)
-  register_item (Regs range names) a has = absurd (none_in_nil (Register a) has)
-  register_item (Nets range nets) a has = let y = from_flat initial_construct nets (Register a) has in absurd (initial_stores y.0 a y.2)
-  register_item (Supply high range names) a has = let y = from_map (SupplyNet high) names (Register a) has in let no = y.2 in cc
-  register_item (Assign all) a has = let y = from_map (λ x. Assignment x.0 x.1) all (Register a) has in let no = y.2 in cc
-  register_item (Gates gate all) a has = let y = from_map (λ x. gate_construct gate x.1) all (Register a) has in let no = y.2 in cc
-  register_item (Calls name calls) a has = let y = from_flat (connections (module_named text name)) calls (Register a) has in absurd (call_stores (module_named text name) y.0 a y.2)
-  register_item (Always r) a has = by (contains_cases (Register r) [] (Register a) has)
+  pub always_item : (body : PlainBody) (a : PlainAlways) → Contains (body_constructs text body) (Register a) → body ≡ Always a
+  always_item (Ports port names) a has = absurd (none_in_nil (Register a) has)
+  always_item (Regs range names) a has = absurd (none_in_nil (Register a) has)
+  always_item (Nets range nets) a has = let y = from_flat initial_construct nets (Register a) has in absurd (initial_stores y.0 a y.2)
+  always_item (Supply high range names) a has = let y = from_map (SupplyNet high) names (Register a) has in let no = y.2 in cc
+  always_item (Assign all) a has = let y = from_map (λ x. Assignment x.0 x.1) all (Register a) has in let no = y.2 in cc
+  always_item (Gates gate all) a has = let y = from_map (λ x. gate_construct gate x.1) all (Register a) has in let no = y.2 in cc
+  always_item (Calls name calls) a has = let y = from_flat (connections (module_named text name)) calls (Register a) has in absurd (call_stores (module_named text name) y.0 a y.2)
+  always_item (Always r) a has = by (contains_cases (Register r) [] (Register a) has)
     where
-      by : (Register r ≡ Register a) ⊎ Contains [] (Register a) → written_bits s r.left ≡ written_bits s a.left
+      by : (Register r ≡ Register a) ⊎ Contains [] (Register a) → Always r ≡ Always a
       by (inl same) = cc
       by (inr none) = absurd (none_in_nil (Register a) none)
+
+  register_item : (body : PlainBody) (a : PlainAlways) → Contains (body_constructs text body) (Register a) → stored_by s body ≡ written_bits s a.left
+  register_item body a has = ap (stored_by s) (always_item body a has)
 
   -- what a construct stores
   stored_from : (c : Construct) (r : RegisterBit) → Contains (stored_at (s, c)) r → (a : PlainAlways) × (c ≡ Register a) × Contains (written_bits s a.left) r.bit

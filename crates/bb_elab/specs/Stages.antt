@@ -1,6 +1,6 @@
 -- No clause of a public call rests on this file: it says what functions inside the crate find.
 -- The stages of elaboration, each with what holds of the design behind it.
-use Rattle.std.specs.Prelude.{◌≡◌, ℕ, List, Some, slice_get}
+use Rattle.std.specs.Prelude.{◌≡◌, ℕ, List, Some, length, slice_get}
 use Rattle.bb_ast.specs.Syntax.{PlainModule}
 use Rattle.bb_net.specs.Loose.{LooseList}
 use Rattle.bb_net.specs.Netlists.{Netlist, IsNetlist}
@@ -12,6 +12,7 @@ use Rattle.bb_elab.specs.declared.placed.Placed.{Placed}
 use Rattle.bb_elab.specs.declared.stored.Stored.{Stored}
 use Rattle.bb_elab.specs.Hierarchy.{Design}
 use Rattle.bb_elab.specs.ListLaws.{IsBounded}
+use Rattle.bb_elab.specs.NetBits.{net_order}
 use Rattle.bb_elab.specs.Placements.{ArePlaced, AreOutlined, AreCounts, AreStored}
 use Rattle.bb_elab.specs.Places.{Lowering, IsLowering, IsListOf}
 use Rattle.bb_elab.specs.Refusals.{IsHierarchy, AreDrivenOnce, AreDriven, IsAcyclic, Cause, fault_of, IsTold, design_on}
@@ -58,3 +59,12 @@ pub record HasGrown (text : List PlainModule) (d : Design) (g : Grown) : Type 0 
 -- a list is that of its cells, where its expressions are lowered in some way
 abbrev pub IsListed : Design → LooseList → Type 0
 IsListed d list = (lowering : Lowering) × IsLowering d lowering × IsListOf d lowering list
+
+-- a design of a text of which it can be told which of its so many bits are read
+pub record IsReadable (text : List PlainModule) (d : Design) (list : LooseList) (stored : List Stored) (bits : ℕ) : Type 0 where
+  pub of_text : d.text ≡ text
+  pub bounded : IsBounded d
+  pub once : AreDrivenOnce d
+  pub listed : IsListed d list
+  pub registers : AreStored d stored
+  pub count : bits ≡ length (net_order d)

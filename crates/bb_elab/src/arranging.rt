@@ -14,7 +14,7 @@ use crate::growing::Grown;
 use crate::list_laws::lists_are_loose;
 use crate::listing::list_cells;
 use crate::loop_laws::{least_walks_are_first_loops, lists_without_walks};
-use crate::reads::read_bits;
+use crate::reads::bits_read;
 use crate::texts::bit_name;
 use crate::undriven::first_undriven;
 use bb_expr::Checked;
@@ -35,7 +35,7 @@ fn drive_all(alloc: Global, checked: &Checked, grown: &Grown, list: &Loose) -> R
     ensures fault { IfErr result (λ fault. (fault ≡ NoMemory) ⊎ ((d : Design) → HasGrown (map syntax checked.now) d grown.now → IsListed d list.now → TellsOf d NoDriver fault)) }
 {
     let counts = grown.counts.as_slice();
-    let read = read_bits(alloc, list, &grown.stored, counts.len())?;
+    let read = bits_read(alloc, checked, list, &grown.stored, counts.len())?;
     match first_undriven(counts, &read) {
         Some(number) => Err(ElabFault::Undriven {
             name: bit_name(

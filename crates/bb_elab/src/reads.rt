@@ -1,30 +1,35 @@
-//! Which bits are read.
+//! Which bits of a design are read.
 //!
-//! They can be told from the list of cells where the clocks of all register items are those of register bits, which is not proved
-//! yet: so the answer is want of memory.
+//! They are told from the list of cells and from the clocks of register bits. Since a text writes something at each edge that it
+//! names, these are the clocks of all registers.
 
-ghost use Rattle.std.specs.Prelude.{◌≡◌, ◌+◌, length, IfOk};
+ghost use Rattle.std.specs.Prelude.{map, IfOk};
+ghost use Rattle.bb_expr.specs.Checked.{syntax};
 ghost use Rattle.bb_elab.specs.Hierarchy.{Design};
-ghost use Rattle.bb_elab.specs.ListLaws.{IsBounded};
-ghost use Rattle.bb_elab.specs.NetBits.{net_order};
-ghost use Rattle.bb_elab.specs.Placements.{AreStored, AreReads};
-ghost use Rattle.bb_elab.specs.Places.{Lowering, IsLowering, IsListOf};
-ghost use Rattle.bb_elab.specs.Refusals.{AreDrivenOnce};
+ghost use Rattle.bb_elab.specs.Placements.{AreReads};
+ghost use Rattle.bb_elab.specs.Stages.{IsReadable};
 
+use crate::list_laws::lists_are_loose;
+use crate::reading::read_bits;
 use crate::stored::Stored;
 use bb_bits::NoMemory;
+use bb_expr::Checked;
 use bb_net::Loose;
 use std::alloc::Global;
 
 /// For each bit, in net order, whether it is read.
-pub(crate) fn read_bits(
-    _alloc: Global,
-    _list: &Loose,
-    _stored: &[Stored],
-    _bits: usize,
+pub(crate) fn bits_read(
+    alloc: Global,
+    checked: &Checked,
+    list: &Loose,
+    stored: &[Stored],
+    bits: usize,
 ) -> Result<Vec<bool>, NoMemory>
-    requires design { (d : Design) × (lowering : Lowering) × IsBounded d × AreDrivenOnce d × IsLowering d lowering × IsListOf d lowering _list.now × AreStored d _stored.now × (_bits ≡ length (net_order d)) }
-    ensures reads { IfOk result (λ read. (d : Design) (lowering : Lowering) → IsBounded d → AreDrivenOnce d → IsLowering d lowering → IsListOf d lowering _list.now → AreStored d _stored.now → _bits ≡ length (net_order d) → AreReads d read.items) }
+    requires design { (d : Design) × IsReadable (map syntax checked.now) d list.now stored.now bits }
+    ensures reads { IfOk result (λ read. (d : Design) → IsReadable (map syntax checked.now) d list.now stored.now bits → AreReads d read.items) }
 {
-    Err(NoMemory)
+    lists_are_loose();
+    // What is checked comes from a text.
+    let _modules = checked.modules();
+    read_bits(alloc, list, stored, 2 + list.input_count(), bits as u32)
 }

@@ -15,6 +15,7 @@ pub mod BuildLemmas
 pub mod CircuitLemmas
 pub mod FaultLaws
 pub mod ReadLemmas
+pub mod TextDesignLaws
 pub mod JudgeLemmas
 pub mod JudgedOnce
 pub mod HeadlineLemmas

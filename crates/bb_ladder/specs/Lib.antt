@@ -8,3 +8,6 @@ pub mod Answers
 pub mod Wiring
 pub mod Rung
 pub mod Laws
+pub mod SideFaults
+pub mod TextDesigns
+pub mod SideWords

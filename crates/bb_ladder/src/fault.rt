@@ -65,7 +65,7 @@ impl From<ParseFault> for TextFault {
 }
 
 // Appends a word and a line of the text.
-fn push_at_line(text: &mut Vec<u8>, word: &str, line: u32) -> Result<(), NoMemory>
+pub(crate) fn push_at_line(text: &mut Vec<u8>, word: &str, line: u32) -> Result<(), NoMemory>
     ensures { IfOk result (λ done. text.new.items ≡ text.old.items ++ at_line word.now line) }
 {
     text.extend_from_slice(word.as_bytes())?;

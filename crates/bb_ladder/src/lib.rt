@@ -15,6 +15,9 @@ mod parts;
 mod ports;
 mod read;
 mod report;
+mod side;
+mod side_fault;
+mod side_words;
 mod ternary;
 mod wires;
 mod words;
@@ -26,3 +29,8 @@ pub use laws::{
     circuits_agree_with_themselves, error_excludes_contents, known_is_bit, report_is_determined,
     texts_are_judged_once, vector_has_world, world_is_determined, world_without_box,
 };
+pub use side::{
+    design_or_fault, flat_of, not_design_and_fault, side_faults_are_one, text_designs_are_one,
+};
+pub use side_fault::SideFault;
+pub use side_words::push_side_fault;

@@ -9,24 +9,22 @@ use Rattle.bb_elab.specs.Placements.{ArePlaced, AreOutlined, AreCounts, AreStore
 use Rattle.bb_elab.specs.Places.{Lowering, IsLowering, IsListOf}
 use Rattle.bb_elab.specs.Refusals.{AreDrivenOnce, IsUndriven, AreDriven}
 use Rattle.bb_elab.specs.Texts.{bit_text}
-use Rattle.bb_elab.proofs.ArrangedLists.{for_reads, as_many, few, number_there, for_name, undriven, all_are}
+use Rattle.bb_elab.proofs.ArrangedLists.{for_reads, reads_seen, as_many, few, number_there, for_name, undriven, all_are}
 use Rattle.bb_elab.proofs.arranging.drive_all.Goals as goal
 
-pub read_bits-requires : goal.read_bits-requires
-read_bits-requires c = record { design = for_reads (map syntax c.args.checked.now) c.args.grown.now c.args.list.now c.deref.result.now c.deref.ensures.value (length c.as_slice-counts.result.now) (ap length c.as_slice-counts.ensures.value) c.requires.design }
+pub bits_read-requires : goal.bits_read-requires
+bits_read-requires c = record { design = for_reads (map syntax c.args.checked.now) c.args.grown.now c.args.list.now c.deref.result.now c.deref.ensures.value c.as_slice-counts.result.now c.as_slice-counts.ensures.value c.requires.design }
 
 pub first_undriven-requires : goal.first_undriven-requires
 first_undriven-requires c =
     let counts = c.as_slice-counts.ensures.value in
-    let reads = subst (λ all. (d : Design) (lowering : Lowering) → IsBounded d → AreDrivenOnce d → IsLowering d lowering → IsListOf d lowering c.args.list.now → AreStored d all → length c.args.grown.now.counts.items ≡ length (net_order d) → AreReads d c.in_ok-read.read.items) c.deref.ensures.value
-    (subst (λ all. (d : Design) (lowering : Lowering) → IsBounded d → AreDrivenOnce d → IsLowering d lowering → IsListOf d lowering c.args.list.now → AreStored d c.deref.result.now → length all ≡ length (net_order d) → AreReads d c.in_ok-read.read.items) counts c.in_ok-read.ensures.reads) in
+    let reads = reads_seen (map syntax c.args.checked.now) c.args.grown.now c.args.list.now c.deref.result.now c.deref.ensures.value c.as_slice-counts.result.now counts c.in_ok-read.read.items c.in_ok-read.ensures.reads in
     record { same = ap length c.deref-2.ensures.value ∙ as_many (map syntax c.args.checked.now) c.args.grown.now c.args.list.now c.in_ok-read.read.items reads c.requires.design ∙ sym (ap length counts) }
 
 pub overflow_cast-number : goal.overflow_cast-number
 overflow_cast-number c =
     let counts = c.as_slice-counts.ensures.value in
-    let reads = subst (λ all. (d : Design) (lowering : Lowering) → IsBounded d → AreDrivenOnce d → IsLowering d lowering → IsListOf d lowering c.args.list.now → AreStored d all → length c.args.grown.now.counts.items ≡ length (net_order d) → AreReads d c.in_ok-read.read.items) c.deref.ensures.value
-    (subst (λ all. (d : Design) (lowering : Lowering) → IsBounded d → AreDrivenOnce d → IsLowering d lowering → IsListOf d lowering c.args.list.now → AreStored d c.deref.result.now → length all ≡ length (net_order d) → AreReads d c.in_ok-read.read.items) counts c.in_ok-read.ensures.reads) in
+    let reads = reads_seen (map syntax c.args.checked.now) c.args.grown.now c.args.list.now c.deref.result.now c.deref.ensures.value c.as_slice-counts.result.now counts c.in_ok-read.read.items c.in_ok-read.ensures.reads in
     let found = subst (λ all. (d : Design) → IsBounded d → AreCounts d c.args.grown.now.counts.items → AreReads d all → IsFirstAt d (IsUndriven d) c.in-Some.number) c.deref-2.ensures.value
     (subst (λ all. (d : Design) → IsBounded d → AreCounts d all → AreReads d c.deref-2.result.now → IsFirstAt d (IsUndriven d) c.in-Some.number) counts c.in-Some.ensures.some) in
     let low = few (map syntax c.args.checked.now) c.args.grown.now c.args.list.now c.in_ok-read.read.items reads c.in-Some.number found c.requires.design in
@@ -35,8 +33,7 @@ overflow_cast-number c =
 pub bit_name-requires : goal.bit_name-requires
 bit_name-requires c =
     let counts = c.as_slice-counts.ensures.value in
-    let reads = subst (λ all. (d : Design) (lowering : Lowering) → IsBounded d → AreDrivenOnce d → IsLowering d lowering → IsListOf d lowering c.args.list.now → AreStored d all → length c.args.grown.now.counts.items ≡ length (net_order d) → AreReads d c.in_ok-read.read.items) c.deref.ensures.value
-    (subst (λ all. (d : Design) (lowering : Lowering) → IsBounded d → AreDrivenOnce d → IsLowering d lowering → IsListOf d lowering c.args.list.now → AreStored d c.deref.result.now → length all ≡ length (net_order d) → AreReads d c.in_ok-read.read.items) counts c.in_ok-read.ensures.reads) in
+    let reads = reads_seen (map syntax c.args.checked.now) c.args.grown.now c.args.list.now c.deref.result.now c.deref.ensures.value c.as_slice-counts.result.now counts c.in_ok-read.read.items c.in_ok-read.ensures.reads in
     let found = subst (λ all. (d : Design) → IsBounded d → AreCounts d c.args.grown.now.counts.items → AreReads d all → IsFirstAt d (IsUndriven d) c.in-Some.number) c.deref-2.ensures.value
     (subst (λ all. (d : Design) → IsBounded d → AreCounts d all → AreReads d c.deref-2.result.now → IsFirstAt d (IsUndriven d) c.in-Some.number) counts c.in-Some.ensures.some) in
     let there = number_there (map syntax c.args.checked.now) c.args.grown.now c.args.list.now c.in_ok-read.read.items reads c.in-Some.number found c.requires.design in
@@ -45,8 +42,7 @@ bit_name-requires c =
 pub returns-in-Some-clause-fault : goal.returns-in-Some-clause-fault
 returns-in-Some-clause-fault c =
     let counts = c.as_slice-counts.ensures.value in
-    let reads = subst (λ all. (d : Design) (lowering : Lowering) → IsBounded d → AreDrivenOnce d → IsLowering d lowering → IsListOf d lowering c.args.list.now → AreStored d all → length c.args.grown.now.counts.items ≡ length (net_order d) → AreReads d c.in_ok-read.read.items) c.deref.ensures.value
-    (subst (λ all. (d : Design) (lowering : Lowering) → IsBounded d → AreDrivenOnce d → IsLowering d lowering → IsListOf d lowering c.args.list.now → AreStored d c.deref.result.now → length all ≡ length (net_order d) → AreReads d c.in_ok-read.read.items) counts c.in_ok-read.ensures.reads) in
+    let reads = reads_seen (map syntax c.args.checked.now) c.args.grown.now c.args.list.now c.deref.result.now c.deref.ensures.value c.as_slice-counts.result.now counts c.in_ok-read.read.items c.in_ok-read.ensures.reads in
     let found = subst (λ all. (d : Design) → IsBounded d → AreCounts d c.args.grown.now.counts.items → AreReads d all → IsFirstAt d (IsUndriven d) c.in-Some.number) c.deref-2.ensures.value
     (subst (λ all. (d : Design) → IsBounded d → AreCounts d all → AreReads d c.deref-2.result.now → IsFirstAt d (IsUndriven d) c.in-Some.number) counts c.in-Some.ensures.some) in
     let named = subst (λ o. (d : Design) → d.text ≡ map syntax c.args.checked.now → ArePlaced d c.args.grown.now.placed.items → AreOutlined d c.args.grown.now.placed.items o → (b : Bit) → slice_get (net_order d) c.in-Some.number ≡ Some b → c.in_ok-bit_name-in-Some.field-0 ≡ bit_text d b) c.deref-in-Some-2.ensures.value
@@ -56,8 +52,7 @@ returns-in-Some-clause-fault c =
 pub returns-clause-driven : goal.returns-clause-driven
 returns-clause-driven c =
     let counts = c.as_slice-counts.ensures.value in
-    let reads = subst (λ all. (d : Design) (lowering : Lowering) → IsBounded d → AreDrivenOnce d → IsLowering d lowering → IsListOf d lowering c.args.list.now → AreStored d all → length c.args.grown.now.counts.items ≡ length (net_order d) → AreReads d c.in_ok-read.read.items) c.deref.ensures.value
-    (subst (λ all. (d : Design) (lowering : Lowering) → IsBounded d → AreDrivenOnce d → IsLowering d lowering → IsListOf d lowering c.args.list.now → AreStored d c.deref.result.now → length all ≡ length (net_order d) → AreReads d c.in_ok-read.read.items) counts c.in_ok-read.ensures.reads) in
+    let reads = reads_seen (map syntax c.args.checked.now) c.args.grown.now c.args.list.now c.deref.result.now c.deref.ensures.value c.as_slice-counts.result.now counts c.in_ok-read.read.items c.in_ok-read.ensures.reads in
     let none = subst (λ all. (d : Design) → IsBounded d → AreCounts d c.args.grown.now.counts.items → AreReads d all → AreDriven d) c.deref-2.ensures.value
     (subst (λ all. (d : Design) → IsBounded d → AreCounts d all → AreReads d c.deref-2.result.now → AreDriven d) counts c.in-None.ensures.none) in
     all_are (map syntax c.args.checked.now) c.args.grown.now c.args.list.now c.in_ok-read.read.items reads none
