@@ -1,6 +1,6 @@
 -- Which bits matter. A cell reads its operands; a register reads its data and its clock, a box its input pins, and from outside the
--- outputs of the top are read. A copy is a bit that takes the value of another bit through constructs of which no cell is made:
--- where a bit is read, so is the bit of which it is a copy. No other bit is read. The standard has no such rule: a net without
+-- outputs of the top are read. A bit is a copy of another where it has its value by constructs alone that make no cell: what is
+-- read of the copy is read of the other. No other bit is read. The standard has no such rule: a net without
 -- driver has the value z there (IEEE 1364-2005, 4.2.1), which only matters where the net is read.
 use Rattle.std.specs.Prelude.{◌⊎◌, List, [], ◌∷◌, ◌++◌, map, Contains}
 use Rattle.std.specs.List.{flat_map}

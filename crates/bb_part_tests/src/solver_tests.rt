@@ -76,7 +76,7 @@ fn three_pigeons_have_no_place_in_two_holes(rt: HostRuntime) -> Result<(), Fail>
     Ok(())
 }
 
-// The clauses i or i + 1 for i from 1 to 99 and from 103 to 201, and all four on 101 and 102.
+// Two chains of clauses i or i + 1, over the variables 1 to 100 and 103 to 202, and between them all four clauses over two more.
 fn chains(alloc: Global) -> Result<Vec<SmallVec<Lit, 4>>, Fail> {
     let mut all = clauses(
         alloc,

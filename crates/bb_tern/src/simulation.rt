@@ -20,8 +20,8 @@ pub struct Hit {
     pub output: u32,
 }
 
-/// The first pattern, and in it the first output, at which the implementation's value in three values is known and is not the
-/// specification's. None where there is none. A pattern has a bit for each input of the pair, in order.
+/// The first of the patterns that shows a mistake: some output's value in three values is known and is not the specification's;
+/// and the first of these outputs. None where no pattern shows one. A pattern has a bit for each input of the pair, in order.
 pub fn simulate(alloc: Global, pair: &Pair, patterns: &[Vec<bool>]) -> Result<Option<Hit>, NoMemory>
     requires { All (λ p. length p.items ≡ pair.now.imp.inputs) patterns.now }
     ensures hit { IfOk result (λ found. IfSome found (λ h. IsFirstHit pair.now.spec pair.now.imp (map vec_items patterns.now) h.pattern.items h.output)) }
