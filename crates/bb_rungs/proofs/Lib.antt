@@ -1,3 +1,4 @@
 pub mod ErrorLaw
 pub mod Findings
 pub mod ToldLaw
+pub mod OpenLaw

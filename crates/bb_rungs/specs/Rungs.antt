@@ -58,8 +58,10 @@ SaidTells p (Error found) = Tells p found
 SaidTells p Nothing = Unit {0}
 SaidTells p Nodes = Unit {0}
 
--- the bounds are in their ranges
+-- the bounds are in their ranges, and the first check does not stand behind the last
 pub record AreBounds (o : Options) : Type 0 where
+  pub order : rank o.from ≤ rank o.to
+  pub seed : 1 ≤ o.seed
   pub patterns : o.patterns ≤ 4096
   pub nodes : o.nodes ≤ 50000000
   pub cache_least : 1 ≤ o.cache

@@ -1,6 +1,6 @@
 //! Laws of what checks say. Each function has a law as its contract and does nothing.
 
-ghost use Rattle.bb_rungs.specs.Laws.{ErrorsExcludeTables, ClimbsAreTold};
+ghost use Rattle.bb_rungs.specs.Laws.{ErrorsExcludeTables, ClimbsAreTold, ClimbsLeaveOpen};
 
 use bb_net::conditions_weaken;
 use bb_tern::laws::patterns_are_vectors;
@@ -19,3 +19,8 @@ pub fn climbs_are_told()
 {
     patterns_are_vectors();
 }
+
+/// Where no check says so, each that is asked for leaves the question open.
+pub fn climbs_leave_open()
+    ensures { ClimbsLeaveOpen }
+{}

@@ -10,7 +10,7 @@ mod rung;
 mod verdict;
 
 pub use climbing::climb;
-pub use laws::{climbs_are_told, errors_exclude_tables};
+pub use laws::{climbs_are_told, climbs_leave_open, errors_exclude_tables};
 pub use line::{Line, Said};
 pub use options::Options;
 pub use reporting::report;

@@ -7,13 +7,13 @@ use crate::rung::Rung;
 pub struct Options {
     /// The first check.
     pub from: Rung,
-    /// The last one.
+    /// The last one, which does not stand before the first.
     pub to: Rung,
     /// Whether the checks go on after an error.
     pub all: bool,
     /// How many patterns are drawn beside those that are always tried: at most 4,096.
     pub patterns: u32,
-    /// Where the drawing starts.
+    /// Where the drawing starts: at least 1.
     pub seed: u64,
     /// How many nodes a check by diagrams may hold: at most 50,000,000.
     pub nodes: u32,
