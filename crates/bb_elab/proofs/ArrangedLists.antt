@@ -16,7 +16,6 @@ use Rattle.bb_elab.specs.ListLaws.{IsBounded, ListsAreLoose}
 use Rattle.bb_elab.specs.LoopLaws.{ListsWithoutWalks, LeastWalksAreFirstLoops}
 use Rattle.bb_elab.specs.NetBits.{Bit, net_order}
 use Rattle.bb_elab.specs.Placements.{ArePlaced, AreOutlined, AreCounts, AreStored, AreReads}
-use Rattle.bb_elab.specs.Places.{Lowering, IsLowering, IsListOf}
 use Rattle.bb_elab.specs.Refusals.{IsAcyclic, AreDrivenOnce, IsUndriven, AreDriven, TwoDrivers, NoDriver, Cycle, IsRefusalOf}
 use Rattle.bb_elab.specs.Stages.{IsFinite, HasGrown, IsListed, IsReadable, TellsOf}
 use Rattle.bb_elab.specs.Texts.{bit_text}

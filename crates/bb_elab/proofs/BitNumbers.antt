@@ -1,10 +1,7 @@
 -- The numbers of bits in net order, and what they are for the bits of a scope, of its nets and of its instances.
-use Rattle.std.proofs.Common.{◌≡◌, ℕ, zero, suc, ◌+◌, ◌<◌, ◌==◌, Bool, true, false, if◌then◌else◌, List, [], ◌∷◌, ◌++◌, map, flat_map, length, take, get_or, Contains, Some, refl, sym, ap, ◌∙◌, subst, arith, length-append, true≢false}
-use Rattle.std.specs.Prelude.{slice_get, slice_index, sum_by, IfSome}
-use Rattle.std.specs.List.{AllZip, range_with_len}
+use Rattle.std.proofs.Common.{◌≡◌, ℕ, zero, suc, ◌+◌, ◌<◌, ◌==◌, Bool, true, false, if◌then◌else◌, List, [], ◌∷◌, flat_map, length, take, get_or, Contains, Some, refl, sym, ap, ◌∙◌, subst, arith, true≢false}
+use Rattle.std.specs.Prelude.{slice_get, slice_index, IfSome}
 use Rattle.std.specs.Option.{option_map_or, option_and_then}
-use Rattle.std.proofs.lemmas.List.FromFn.{length-map-range_with_len}
-use Rattle.std.proofs.lemmas.List.Sums.{sum_by-cons}
 use Rattle.std.proofs.lemmas.Option.{slice_get_within, slice_get-get_or, get_or_from_slice_get}
 use Rattle.bb_ast.specs.Syntax.{PlainModule}
 use Rattle.bb_expr.specs.declared.net.NetInfo.{NetInfo}
@@ -16,7 +13,7 @@ use Rattle.bb_expr.specs.Ranges.{range_width}
 use Rattle.bb_expr.specs.Spots.{module_named}
 use Rattle.bb_elab.specs.declared.outline.Outline.{Outline}
 use Rattle.bb_elab.specs.declared.placed.Placed.{Placed}
-use Rattle.bb_elab.specs.Hierarchy.{Instance, Path, Design, Scope, instances_of, path_to, scopes}
+use Rattle.bb_elab.specs.Hierarchy.{Instance, Design, Scope, instances_of, path_to, scopes}
 use Rattle.bb_elab.specs.NetBits.{Bit, same_bit, bits_of_net, scope_bits, net_order}
 use Rattle.bb_elab.specs.Listing.{Site, inner_first, site_of}
 use Rattle.bb_elab.specs.ListLaws.{IsBounded}

@@ -1,5 +1,5 @@
 -- A netlist that stands for a design has no more cells than the design.
-use Rattle.std.proofs.Common.{◌≡◌, ◌⊎◌, ℕ, zero, suc, ◌+◌, ◌-◌, ◌<◌, ◌≤◌, ◌==◌, Bool, true, false, if◌then◌else◌, List, [], ◌∷◌, ◌++◌, map, filter, flat_map, filter_map, length, get_or, Contains, Option, Some, None, refl, sym, ap, ◌∙◌, subst, inl, inr, arith, length-append}
+use Rattle.std.proofs.Common.{◌≡◌, ◌⊎◌, ℕ, suc, ◌+◌, ◌-◌, ◌<◌, ◌≤◌, ◌==◌, Bool, true, false, if◌then◌else◌, List, [], ◌∷◌, ◌++◌, map, filter, flat_map, filter_map, length, Contains, Some, None, refl, sym, ap, ◌∙◌, subst, inl, inr, arith, length-append}
 use Rattle.std.specs.Prelude.{sum_by}
 use Rattle.std.specs.Set.{is_member}
 use Rattle.std.specs.List.{cons_option, enumerate_from, range_with_len}
@@ -10,9 +10,7 @@ use Rattle.std.proofs.lemmas.List.{length-map}
 use Rattle.std.proofs.lemmas.List.Sums.{sum_by-cons, sum_by-append}
 use Rattle.std.proofs.lemmas.List.Sorted.{length_permutation}
 use Rattle.bb_ast.specs.declared.module.Gate.{Gate}
-use Rattle.bb_ast.specs.declared.module.Gate.TheVariants as gates
-use Rattle.bb_ast.specs.Syntax.{Expression, PlainModule, Plain}
-use Rattle.bb_expr.specs.declared.net.NetInfo.{NetInfo}
+use Rattle.bb_ast.specs.Syntax.{Expression}
 use Rattle.bb_expr.specs.declared.step.BitStep.{BitStep}
 use Rattle.bb_expr.specs.declared.step.BitStep.TheVariants as steps
 use Rattle.bb_expr.specs.Declarations.{range_of}
@@ -32,8 +30,8 @@ use Rattle.bb_elab.specs.NetBits.{Bit, net_order, output_bits}
 use Rattle.bb_elab.specs.Contexts.{made_in, width_of, context_width}
 use Rattle.bb_elab.specs.Constructs.{Construct, Assignment, GateInstance, Register, SupplyNet, InputConnection, OutputConnection, BoxContents, body_constructs, constructs_at, parts}
 use Rattle.bb_elab.specs.Drivers.{terminal_terms}
-use Rattle.bb_elab.specs.GateFunctions.{inverts, joins, on_terms, joined_after, joining_cells, gate_gives, gate_cells}
-use Rattle.bb_elab.specs.Places.{Place, Constant, Input, NetBit, Step, Inverted, BoxPin, Numbering, lowered_in, Lowering, IsLowering, step_cell, net_place, step_cells, joined_place, joining_places, inverting_place, gate_places, places_at, box_places, front_places, operator_places, places, given, place_in, IsListOf}
+use Rattle.bb_elab.specs.GateFunctions.{inverts, joins, on_terms, joined_after, gate_gives, gate_cells}
+use Rattle.bb_elab.specs.Places.{Constant, Input, NetBit, Step, Inverted, BoxPin, Numbering, lowered_in, Lowering, IsLowering, step_cell, net_place, step_cells, joined_place, joining_places, inverting_place, gate_places, places_at, box_places, front_places, operator_places, places, given, place_in, IsListOf}
 use Rattle.bb_elab.specs.Reading.{cells_at}
 use Rattle.bb_elab.specs.Registers.{cut_bits}
 use Rattle.bb_elab.specs.Sizes.{cell_count_at, cells_in}

@@ -129,14 +129,14 @@ module _ (d : Design) (lowering : Lowering) (l : LooseList) (list : IsListOf d l
           (z.0, part_driven d p.0.1 (from_numbered 0 (parts d) p.0 p.1) z.0 z.1, z.2)
 
   -- one step or more of the list
-  abbrev Steps : ℕ → ℕ → Type 0
+  abbrev pub Steps : ℕ → ℕ → Type 0
   Steps a b = (m : ℕ) × Reaches (suc m) l a b
 
   further : (m a b c : ℕ) → Reaches (suc m) l a b → Steps b c → Steps a c
   further zero a b c walk rest = (suc rest.0, (walk.0, walk.1, subst (λ x. Reaches (suc rest.0) l x c) (sym walk.2) rest.1))
   further (suc m) a b c walk rest = let more = further m walk.0 b c walk.2 rest in (suc more.0, (walk.0, walk.1, more.1))
 
-  abbrev place : Bit → ℕ
+  abbrev pub place : Bit → ℕ
   place b = list.number (NetBit b)
 
   module _ (there : BitsAreThere d) (once : AreDrivenOnce d) where
@@ -161,7 +161,7 @@ module _ (d : Design) (lowering : Lowering) (l : LooseList) (list : IsListOf d l
         let rest = subst (λ p. To p c) (sym from) walk in
         (rest.0, (list.number q, reads, rest.1))
 
-    leads_walk : (b c : Bit) → Leads (dependences d) b c → Steps (place b) (place c)
+    pub leads_walk : (b c : Bit) → Leads (dependences d) b c → Steps (place b) (place c)
     leads_walk b c (One has) = step_walk b c has
     leads_walk b c (More {y = y} has rest) = let first = step_walk b y has in further first.0 (place b) (place y) (place c) first.1 (leads_walk y c rest)
 

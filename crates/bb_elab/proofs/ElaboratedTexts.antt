@@ -1,5 +1,5 @@
 -- From the design with a module on top to the text with a top, which may be named.
-use Rattle.std.proofs.Common.{◌≡◌, ◌⊎◌, ℕ, ◌<◌, List, length, Option, Some, inl, inr, sym, ◌∙◌, arith}
+use Rattle.std.proofs.Common.{◌≡◌, ◌⊎◌, ℕ, ◌<◌, List, length, Option, Some, inl, inr, sym, ◌∙◌}
 use Rattle.std.specs.Prelude.{slice_get}
 use Rattle.bb_ast.specs.Syntax.{PlainModule}
 use Rattle.bb_elab.specs.declared.fault.ElabFault.{ElabFault}

@@ -6,20 +6,18 @@ use Rattle.std.proofs.lemmas.List.Elements.{Contains-get_or, Contains-append_lef
 use Rattle.std.proofs.lemmas.List.FromFn.{get_or-range_with_len}
 use Rattle.std.proofs.lemmas.Option.{slice_get-get_or}
 use Rattle.bb_net.specs.declared.loose.LooseCell.TheVariants as cell
-use Rattle.bb_net.specs.Loose.{LooseList, loose_at, operands, IsOnClosedWalk, IsLeastOnClosedWalk}
-use Rattle.bb_elab.specs.Closures.{IsFirst}
-use Rattle.bb_elab.specs.Dependence.{IsOnLoop}
+use Rattle.bb_net.specs.Loose.{LooseList, loose_at, operands, IsOnClosedWalk}
 use Rattle.bb_elab.specs.Hierarchy.{Design}
 use Rattle.bb_elab.specs.LoopLaws.{LeastWalksAreFirstLoops}
 use Rattle.bb_elab.specs.NetBits.{Bit, net_order}
-use Rattle.bb_elab.specs.Places.{Constant, Input, NetBit, Lowering, IsLowering, given, place_in, operator_places, IsListOf}
+use Rattle.bb_elab.specs.Places.{Constant, Input, NetBit, Lowering, given, place_in, operator_places, IsListOf}
 use Rattle.bb_elab.specs.Registers.{cut_bits}
 use Rattle.bb_elab.proofs.AllowedDesigns.{wired}
 use Rattle.bb_elab.proofs.CalleeLaw.{got, got-map}
 use Rattle.bb_elab.proofs.CalledInstances.{there_at}
 use Rattle.bb_elab.proofs.CauseDecisions.{from_map, less_or_not}
 use Rattle.bb_elab.proofs.ListedEntries.{Entry}
-use Rattle.bb_elab.proofs.ListedPlaces.{listed_cell, net_listed}
+use Rattle.bb_elab.proofs.ListedPlaces.{listed_cell}
 use Rattle.bb_elab.proofs.LoopPlaces.{closed_walk_passes}
 use Rattle.bb_elab.proofs.RecursiveNames.{some_at, split, taken}
 use Rattle.bb_elab.proofs.TopLaws.{contains_cases, none_in_nil}

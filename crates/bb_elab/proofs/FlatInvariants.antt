@@ -1,5 +1,5 @@
 -- A flat netlist that stands for a sound design is what every flat netlist keeps, where its texts are printable.
-use Rattle.std.proofs.Common.{◌≡◌, ◌≢◌, ℕ, zero, suc, ◌+◌, ◌<◌, ◌≤◌, Bool, true, false, not, if◌then◌else◌, List, [], ◌∷◌, ◌++◌, map, filter, filter_map, flat_map, find, length, get_or, slice_get, All, AllPairs, Contains, Option, Some, None, IfSome, refl, sym, ap, ap₂, ◌∙◌, subst, arith, length-append}
+use Rattle.std.proofs.Common.{◌≡◌, ◌≢◌, ℕ, suc, ◌+◌, ◌<◌, ◌≤◌, Bool, true, false, not, if◌then◌else◌, List, [], ◌∷◌, map, filter, filter_map, flat_map, find, length, get_or, All, AllPairs, Option, Some, None, IfSome, refl, sym, ap, ap₂, ◌∙◌, subst, arith, length-append}
 use Rattle.std.specs.Prelude.{option_to_list}
 use Rattle.std.specs.List.{AllZip, cons_option, list_any}
 use Rattle.std.proofs.lemmas.List.{length-map, get_or-map}
@@ -8,17 +8,17 @@ use Rattle.std.proofs.lemmas.List.Elements.{All-nil, All-cons}
 use Rattle.std.proofs.lemmas.Option.{slice_get_within}
 use Rattle.bb_expr.specs.Faults.{is_input}
 use Rattle.bb_expr.specs.Nets.{nets_of}
-use Rattle.bb_net.specs.Netlists.{Pins, box_at, IsNetlist}
+use Rattle.bb_net.specs.Netlists.{box_at}
 use Rattle.bb_net.specs.Pairs.{BoxTexts, NamesPins}
 use Rattle.bb_elab.specs.declared.flat.Reg.{Reg}
 use Rattle.bb_elab.specs.Flats.{FlatNet, AreNamed, AreApart, ArePrintable, IsWithin, IsFlat}
-use Rattle.bb_elab.specs.Hierarchy.{Design, root, instances, scopes, boxes, is_box}
+use Rattle.bb_elab.specs.Hierarchy.{Design, root, instances, boxes, is_box}
 use Rattle.bb_elab.specs.ListLaws.{IsBounded}
-use Rattle.bb_elab.specs.NetBits.{Bit, same_bit, net_order, scope_bits, top_inputs, top_outputs, input_bits, output_bits, bits_of_net}
+use Rattle.bb_elab.specs.NetBits.{same_bit, net_order, scope_bits, top_inputs, top_outputs, input_bits, output_bits, bits_of_net}
 use Rattle.bb_elab.specs.Places.{NetBit, data_places}
 use Rattle.bb_elab.specs.Refusals.{BoxTexts as BoxCause, RegisterTexts, PortTexts, IsSoundDesign, box_paths, register_texts}
-use Rattle.bb_elab.specs.Registers.{RegisterBit, registers, cut_bits, stored}
-use Rattle.bb_elab.specs.Stands.{IsClock, IsRegister, StandsFor, box_texts, box_number}
+use Rattle.bb_elab.specs.Registers.{RegisterBit, registers, stored}
+use Rattle.bb_elab.specs.Stands.{IsClock, IsRegister, StandsFor, box_number}
 use Rattle.bb_elab.specs.Texts.{bit_text, path_text}
 use Rattle.bb_elab.proofs.CellCounts.{nets_are_no_larger}
 use Rattle.bb_elab.proofs.ContentTables.{one_place, none, number_of_box, box_of, list_count, text_count, text_is, path_is, pins_are, number_there}
@@ -88,7 +88,7 @@ module _ (d : Design) (f : FlatNet) (bounded : IsBounded d) (sound : IsSoundDesi
         outs = length-map (output_bits (box_of d f stands b)) _ ∙ sym pins.1;
       })
 
-  are_named : AreNamed f
+  pub are_named : AreNamed f
   are_named = record {
     inputs = stands.ordered.inputs ∙ stands.listed.inputs ∙ length-append (top_inputs d) (map (λ (r : RegisterBit). r.bit) (registers d)) ∙ ap₂ ◌+◌ (sym in_count) (length-map (registers d) (λ (r : RegisterBit). r.bit) ∙ sym register_count);
     outputs = omega (arith, net_outs, out_count, register_count);

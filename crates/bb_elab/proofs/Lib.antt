@@ -32,6 +32,7 @@ pub mod ElaboratedTexts
 pub mod DrivenBits
 pub mod Enumerated
 pub mod Firsts
+pub mod FinishedNets
 pub mod FirstLoops
 pub mod FlatInvariants
 pub mod GivenDrives
@@ -70,6 +71,9 @@ pub mod ModuleCells
 pub mod ModuleItems
 pub mod ModulePlaces
 pub mod ModulesAt
+pub mod NamedBits
+pub mod NamedRegisters
+pub mod NamedScopes
 pub mod NamedTops
 pub mod NarrowNets
 pub mod NextStates
@@ -78,10 +82,11 @@ pub mod Operators
 pub mod OutlinedDesigns
 pub mod PartBits
 pub mod PlacedPaths
-pub mod PlainClocks
+pub mod RegisterItems
 pub mod PortNets
 pub mod PlacesInRow
 pub mod PlacesRead
+pub mod PrintableTexts
 pub mod ReadBits
 pub mod ReadDesigns
 pub mod ReadingLaw
@@ -121,3 +126,6 @@ pub mod WorldBits
 pub mod WorldExists
 pub mod WorldLaws
 pub mod WrittenValue
+pub mod GivenPins
+pub mod BoxNeeds
+pub mod StandingNames

@@ -1,6 +1,6 @@
 -- A closed walk in the list of cells passes the place of a bit, and the least place on one is the place of the first bit on a loop.
-use Rattle.std.proofs.Common.{◌≡◌, ◌⊎◌, ℕ, zero, suc, ◌+◌, ◌-◌, ◌<◌, ◌≤◌, Bool, true, false, List, [], ◌∷◌, map, length, Contains, refl, sym, ap, get_or, slice_get, ◌∙◌, subst, inl, inr, arith}
-use Rattle.std.specs.List.{enumerate_from, range_with_len}
+use Rattle.std.proofs.Common.{◌≡◌, ◌⊎◌, ℕ, zero, suc, ◌+◌, ◌-◌, ◌<◌, List, [], ◌∷◌, length, Contains, refl, sym, ap, get_or, ◌∙◌, subst, inl, inr, arith}
+use Rattle.std.specs.List.{enumerate_from}
 use Rattle.std.proofs.lemmas.List.Elements.{All-contains, Contains-get_or}
 use Rattle.bb_ast.specs.declared.module.Gate.{Gate}
 use Rattle.bb_ast.specs.declared.module.Gate.TheVariants as gates
@@ -14,9 +14,9 @@ use Rattle.bb_net.specs.declared.loose.LooseCell.TheVariants as cell
 use Rattle.bb_net.specs.Loose.{LooseList, operands, Reaches, IsOnClosedWalk}
 use Rattle.bb_net.specs.Netlists.{Pins}
 use Rattle.bb_elab.specs.Hierarchy.{Design, Scope, boxes, scopes, is_box}
-use Rattle.bb_elab.specs.NetBits.{Bit, net_order, input_bits, output_bits}
+use Rattle.bb_elab.specs.NetBits.{Bit, net_order, input_bits}
 use Rattle.bb_elab.specs.Constructs.{Construct, GateInstance, parts}
-use Rattle.bb_elab.specs.Places.{Place, Constant, Input, NetBit, Step, Joined, Inverted, BoxPin, lowered_in, Lowering, IsLowering, terminal_place, joined_place, step_cell, net_place, join_cell, places, IsListOf}
+use Rattle.bb_elab.specs.Places.{Place, Constant, Input, NetBit, Step, Joined, Inverted, BoxPin, lowered_in, Lowering, IsLowering, terminal_place, joined_place, step_cell, net_place, join_cell, IsListOf}
 use Rattle.bb_elab.proofs.CauseDecisions.{from_map}
 use Rattle.bb_elab.proofs.KnownNets.{filtered_there, scope_there}
 use Rattle.bb_elab.proofs.ListedEntries.{Entry, Part, Cases, each_entry}
@@ -27,7 +27,8 @@ use Rattle.bb_elab.proofs.ListNumbers.{one_place_listed}
 use Rattle.bb_elab.proofs.TopLaws.{contains_cases, none_in_nil, kept_from}
 use Rattle.bb_elab.proofs.WorldExists.{from_numbered}
 
--- places that are no bit's, by their kinds: an operator of a gate is higher than the steps of its inputs
+-- places that are no bit's, by their kinds: an operator of a gate is higher than the steps of its inputs, and a pin of a box, which
+-- only bits read, is the highest
 abbrev class : Place → ℕ
 class (NetBit b) = 0
 class (Constant b) = 0
@@ -35,7 +36,7 @@ class (Input i) = 0
 class (Step k x j) = 1
 class (Joined k x) = 2
 class (Inverted k) = 3
-class (BoxPin b p) = 0
+class (BoxPin b p) = 4
 
 -- and among places of one kind
 abbrev index : Place → ℕ
@@ -47,7 +48,7 @@ index (Joined k x) = x
 index (Inverted k) = 0
 index (BoxPin b p) = 0
 
-abbrev Lower : Place → Place → Type 0
+abbrev pub Lower : Place → Place → Type 0
 Lower q p = (class q < class p) ⊎ ((class q ≡ class p) × (index q < index p))
 
 lower_on : (r q p : Place) → Lower r q → Lower q p → Lower r p
@@ -55,6 +56,23 @@ lower_on r q p (inl a) (inl b) = inl (omega (arith, a, b))
 lower_on r q p (inl a) (inr b) = inl (omega (arith, a, b.0))
 lower_on r q p (inr a) (inl b) = inl (omega (arith, a.0, b))
 lower_on r q p (inr a) (inr b) = inr (a.0 ∙ b.0, omega (arith, a.1, b.1))
+
+-- nothing that is no bit's leads to a pin of a box
+pub pin_not_lower : (b p : ℕ) (q : Place) → Lower (BoxPin b p) q → ⊥
+pin_not_lower b p (NetBit c) (inl h) = omega (arith, h)
+pin_not_lower b p (NetBit c) (inr h) = omega (arith, h.0)
+pin_not_lower b p (Constant c) (inl h) = omega (arith, h)
+pin_not_lower b p (Constant c) (inr h) = omega (arith, h.0)
+pin_not_lower b p (Input i) (inl h) = omega (arith, h)
+pin_not_lower b p (Input i) (inr h) = omega (arith, h.0)
+pin_not_lower b p (Step k x j) (inl h) = omega (arith, h)
+pin_not_lower b p (Step k x j) (inr h) = omega (arith, h.0)
+pin_not_lower b p (Joined k x) (inl h) = omega (arith, h)
+pin_not_lower b p (Joined k x) (inr h) = omega (arith, h.0)
+pin_not_lower b p (Inverted k) (inl h) = omega (arith, h)
+pin_not_lower b p (Inverted k) (inr h) = omega (arith, h.0)
+pin_not_lower b p (BoxPin c q) (inl h) = omega (arith, h)
+pin_not_lower b p (BoxPin c q) (inr h) = omega (arith, h.1)
 
 not_lower : (p : Place) → Lower p p → ⊥
 not_lower p (inl a) = omega (arith, a)
@@ -162,11 +180,11 @@ module _ (d : Design) (lowering : Lowering) (l : LooseList) (list : IsListOf d l
   }
 
   -- a walk of so many steps passes the place of a bit
-  abbrev Passes : ℕ → ℕ → ℕ → Type 0
+  abbrev pub Passes : ℕ → ℕ → ℕ → Type 0
   Passes n from to = (b : Bit) × (i : ℕ) × (j : ℕ) × (i + j ≡ n) × Contains (net_order d) b × Reaches i l from (list.number (NetBit b)) × Reaches j l (list.number (NetBit b)) to
 
   -- one that does not has no step or ends at a lower place
-  walk_falls : (n : ℕ) (p : Place) (u : LooseCell) → IsListed d lowering l list p u → (q : Place) (v : LooseCell) → IsListed d lowering l list q v → Reaches n l (list.number p) (list.number q)
+  pub walk_falls : (n : ℕ) (p : Place) (u : LooseCell) → IsListed d lowering l list p u → (q : Place) (v : LooseCell) → IsListed d lowering l list q v → Reaches n l (list.number p) (list.number q)
       → Passes n (list.number p) (list.number q) ⊎ (((n ≡ 0) × (p ≡ q)) ⊎ Lower q p)
   walk_falls zero p u at q v end walk = inr (inl (refl, one_place_listed d lowering l list p q u v at end walk))
   walk_falls (suc n) p u at q v end walk = by (each_entry d lowering l list lowered Falls fall_cases (p, u) at) (λ r w listed rest. walk_falls n r w listed q v end rest)
@@ -190,7 +208,7 @@ module _ (d : Design) (lowering : Lowering) (l : LooseList) (list : IsListOf d l
       by (inl (b, has, is)) rest = inl (b, 0, suc n, omega arith, has, ap list.number is, subst (λ k. Reaches (suc n) l k (list.number q)) (ap list.number is) walk)
       by (inr falls) rest = next rest (falls walk.0 (subst (λ x. Contains (operands l.boxes x) walk.0) (listed_cell d lowering l list p u at) walk.1))
 
-  walk_joined : (i j n a b c : ℕ) → i + j ≡ n → Reaches i l a b → Reaches j l b c → Reaches n l a c
+  pub walk_joined : (i j n a b c : ℕ) → i + j ≡ n → Reaches i l a b → Reaches j l b c → Reaches n l a c
   walk_joined zero j n a b c sum same walk = let is : j ≡ n = omega (arith, sum) in subst (λ m. Reaches m l a c) is (subst (λ k. Reaches j l k c) (sym same) walk)
   walk_joined (suc i) j zero a b c sum walk rest = absurd (omega (arith, sum))
   walk_joined (suc i) j (suc n) a b c sum (k, has, on) rest = (k, has, walk_joined i j n k b c (omega (arith, sum)) on rest)

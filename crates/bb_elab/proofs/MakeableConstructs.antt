@@ -29,7 +29,7 @@ use Rattle.bb_elab.proofs.KnownNets.{declared_net}
 use Rattle.bb_elab.proofs.Levels.{contains-map}
 use Rattle.bb_elab.proofs.ModuleItems.{item_stands}
 use Rattle.bb_elab.proofs.ModulePlaces.{module-is, has_nets}
-use Rattle.bb_elab.proofs.PlainClocks.{IsOneName, HasClock, read_clock}
+use Rattle.bb_elab.proofs.RegisterItems.{IsOneName, HasClock, read_clock}
 use Rattle.bb_elab.proofs.PortNets.{named_has}
 use Rattle.bb_elab.proofs.ReadingLaw.{into_flat}
 use Rattle.bb_elab.proofs.SoundConstructs.{IsSoundSpot, spot_sound, not_told, clock_right}

@@ -1,13 +1,12 @@
 -- A cause that a stage finds, where the stages before it found none, is the first refusal of the design.
-use Rattle.std.proofs.Common.{◌≡◌, ◌⊎◌, ℕ, suc, ◌<◌, ◌≤◌, List, Some, inl, inr, sym, ap, ◌∙◌, subst, arith}
-use Rattle.std.specs.Prelude.{slice_get}
+use Rattle.std.proofs.Common.{◌≡◌, ◌⊎◌, ℕ, suc, ◌<◌, ◌≤◌, List, inl, inr, sym, ap, ◌∙◌, subst, arith}
 use Rattle.std.specs.List.{AllByRecursion}
 use Rattle.bb_ast.specs.Formed.{IsFormed}
 use Rattle.bb_ast.specs.Syntax.{PlainModule}
 use Rattle.bb_expr.specs.Faults.{IsSound}
 use Rattle.bb_elab.specs.declared.fault.ElabFault.{ElabFault}
 use Rattle.bb_elab.specs.Hierarchy.{Design}
-use Rattle.bb_elab.specs.Refusals.{Cause, Recursion, Depth, Size, TwoDrivers, NoDriver, Cycle, BoxTexts, RegisterTexts, PortTexts, rank, fault_of, IsTold, IsAbsent, IsRefusalOf, IsSoundDesign, design_on}
+use Rattle.bb_elab.specs.Refusals.{Cause, Recursion, Depth, Size, TwoDrivers, NoDriver, Cycle, BoxTexts, RegisterTexts, PortTexts, rank, IsAbsent, IsRefusalOf, IsSoundDesign}
 use Rattle.bb_elab.specs.Stages.{AtTop, TellsOf, IsFinite}
 use Rattle.bb_elab.proofs.CalledInstances.{there_at}
 use Rattle.bb_elab.proofs.CauseDecisions.{less_or_not}

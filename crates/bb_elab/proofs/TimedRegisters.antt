@@ -1,5 +1,5 @@
 -- The clock of each register is that of a register bit: something is written at an edge, and to each bit by one item.
-use Rattle.std.proofs.Common.{◌≡◌, ◌≢◌, ◌⊎◌, ℕ, ◌≤◌, ◌<◌, Bool, true, false, if◌then◌else◌, List, [], ◌∷◌, ◌++◌, map, length, AllPairs, Contains, Some, refl, sym, ap, ◌∙◌, subst, inl, inr, arith}
+use Rattle.std.proofs.Common.{◌≡◌, ◌≢◌, ◌⊎◌, ℕ, ◌≤◌, Bool, true, false, if◌then◌else◌, List, [], ◌∷◌, ◌++◌, map, length, AllPairs, Contains, Some, sym, ap, ◌∙◌, subst, inl, inr, arith}
 use Rattle.std.proofs.lemmas.List.{map-append}
 use Rattle.std.proofs.lemmas.List.Elements.{All-contains}
 use Rattle.std.specs.Prelude.{slice_get}
@@ -23,7 +23,7 @@ use Rattle.bb_elab.proofs.GivenDrives.{part_driven}
 use Rattle.bb_elab.proofs.Levels.{contains-map}
 use Rattle.bb_elab.proofs.ListedSources.{part_of}
 use Rattle.bb_elab.proofs.NextStates.{stored_by}
-use Rattle.bb_elab.proofs.PlainClocks.{HasLeft, read_left}
+use Rattle.bb_elab.proofs.RegisterItems.{HasLeft, read_left}
 use Rattle.bb_elab.proofs.ReadingLaw.{into_flat}
 use Rattle.bb_elab.proofs.RegisterCounts.{always_item}
 use Rattle.bb_elab.proofs.SoundSpots.{source_there}
@@ -80,7 +80,7 @@ abbrev clock_bits : Scope × Construct → List Bit
 clock_bits (s, Register a) = written_bits s a.clock
 clock_bits (s, c) = []
 
-zip_back : {A B : Type 0} (R : A → B → Type 0) (xs : List A) (ys : List B) (y : B) → AllZip R xs ys → Contains ys y → (x : A) × Contains xs x × R x y
+pub zip_back : {A B : Type 0} (R : A → B → Type 0) (xs : List A) (ys : List B) (y : B) → AllZip R xs ys → Contains ys y → (x : A) × Contains xs x × R x y
 zip_back R xs [] y all has = absurd (none_in_nil y has)
 zip_back R [] (z ∷ ys) y all has = absurd all
 zip_back R (x ∷ xs) (z ∷ ys) y all has = by (contains_cases z ys y has) (zip_back R xs ys y all.1)

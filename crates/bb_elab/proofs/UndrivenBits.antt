@@ -1,15 +1,12 @@
 -- The first bit that is read and has no driver, from the number of drivers of each bit and whether it is read.
-use Rattle.std.proofs.Common.{◌≡◌, ℕ, suc, ◌<◌, Bool, true, false, List, take, drop, length, get_or, Contains, Some, refl, sym, subst, arith}
+use Rattle.std.proofs.Common.{◌≡◌, ℕ, suc, ◌<◌, Bool, true, false, List, take, drop, length, get_or, Some, refl, sym, arith}
 use Rattle.std.specs.Prelude.{slice_get}
 use Rattle.std.proofs.lemmas.Option.{slice_get_read}
-use Rattle.bb_elab.specs.Closures.{IsFirst}
 use Rattle.bb_elab.specs.DrivenNumbers.{IsFirstAt}
-use Rattle.bb_elab.specs.Drivers.{driven_bits}
 use Rattle.bb_elab.specs.Hierarchy.{Design}
 use Rattle.bb_elab.specs.ListLaws.{IsBounded}
-use Rattle.bb_elab.specs.NetBits.{Bit, net_order}
+use Rattle.bb_elab.specs.NetBits.{net_order}
 use Rattle.bb_elab.specs.Placements.{AreCounts, AreReads}
-use Rattle.bb_elab.specs.Reading.{IsRead}
 use Rattle.bb_elab.specs.Refusals.{IsUndriven, AreDriven}
 use Rattle.bb_elab.proofs.AllowedDesigns.{bits_there}
 use Rattle.bb_elab.proofs.CountedDrivers.{driven_counted, undriven_counted}

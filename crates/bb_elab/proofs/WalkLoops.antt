@@ -367,7 +367,7 @@ module _ (d : Design) (lowering : Lowering) (l : LooseList) (list : IsListOf d l
             let c = z.2.1 in
             leads c.0 (subst (λ u. Contains (dependences d) (u, c.0)) bit (into_flat (λ (z : Drive). map (λ e. (z.bit, e)) (needed z.source)) (drives d) z.0 (z.0.bit, c.0) z.1 (contains-map {B = Bit × Bit} (λ e. (z.0.bit, e)) (needed z.0.source) c.0 c.1))) c.2
 
-  claims : (n : ℕ) → Claims n
+  pub claims : (n : ℕ) → Claims n
   claims zero = record {
     nets = λ b has walk. inl (net_same b e (one_place_listed d lowering l list (NetBit b) (NetBit e) _ _ (net_listed d lowering l list b has) (net_listed d lowering l list e there) walk));
     steps = steps_zero;

@@ -37,3 +37,4 @@ pub mod ListLaws
 pub mod ContentTables
 pub mod LoopLaws
 pub mod CopyLaws
+pub mod NamingLaws

@@ -10,6 +10,7 @@ ghost use Rattle.bb_elab.specs.Stands.{StandsFor, StandsForText};
 
 use crate::arranging::arrange;
 use crate::fault::ElabFault;
+use crate::finishing::finish;
 use crate::flat::Flat;
 use crate::growing::grow;
 use crate::hierarchy::hierarchy;
@@ -25,8 +26,8 @@ fn flatten(alloc: Global, checked: &Checked, top: usize) -> Result<Flat, ElabFau
 {
     let called = hierarchy(alloc, checked, top)?;
     let grown = grow(alloc, checked, &called, top)?;
-    let _arranged = arrange(alloc, checked, &grown)?;
-    Err(ElabFault::NoMemory)
+    let arranged = arrange(alloc, checked, &grown)?;
+    finish(alloc, checked, &grown, arranged)
 }
 
 /// The flat netlist of a source, or the first cause for which it is refused.

@@ -50,6 +50,26 @@ impl Model for Flat {
 }
 
 impl Flat {
+    // A flat netlist of these parts.
+    pub(crate) fn of(
+        net: Net,
+        ins: Vec<Name>,
+        regs: Vec<Reg>,
+        outs: Vec<Name>,
+        boxes: Vec<BoxName>,
+    ) -> Flat
+        requires flat { IsFlat (record { net = net; ins = ins.items; regs = regs.items; outs = outs.items; boxes = boxes.items }) }
+        ensures flat { result ≡ record { net = net; ins = ins.items; regs = regs.items; outs = outs.items; boxes = boxes.items } }
+    {
+        Flat {
+            net,
+            ins,
+            regs,
+            outs,
+            boxes,
+        }
+    }
+
     /// The netlist.
     pub fn net(&self) -> &Net
         ensures net { result.now ≡ self.now.net }

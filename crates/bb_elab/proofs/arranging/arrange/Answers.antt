@@ -1,11 +1,9 @@
-use Rattle.std.proofs.Common.{◌≡◌, ◌⊎◌, rules, map, inl, inr}
-use Rattle.std.specs.Prelude.{IfErr, OnOk, Result, Ok, Err}
+use Rattle.std.proofs.Common.{◌≡◌, ◌⊎◌, map}
 use Rattle.bb_expr.specs.Checked.{syntax}
-use Rattle.bb_elab.specs.declared.fault.ElabFault.{ElabFault}
 use Rattle.bb_elab.specs.declared.fault.ElabFault.TheVariants.{NoMemory}
 use Rattle.bb_elab.specs.Hierarchy.{Design}
-use Rattle.bb_elab.specs.Refusals.{NoDriver, Cycle, IsRefusalOf}
-use Rattle.bb_elab.specs.Stages.{HasGrown, IsListed, TellsOf}
+use Rattle.bb_elab.specs.Refusals.{IsRefusalOf}
+use Rattle.bb_elab.specs.Stages.{HasGrown}
 use Rattle.bb_elab.proofs.ArrangedLists.{for_list, listed_at, first_undriven_cause, first_loop_cause, told_on, if_err}
 use Rattle.bb_elab.proofs.arranging.arrange.Goals as goal
 

@@ -1,13 +1,12 @@
-use Rattle.std.proofs.Common.{◌≡◌, ℕ, Some, map, length, inr, sym, ◌∙◌, ap, subst, arith}
-use Rattle.std.specs.Prelude.{slice_get, IfNone}
+use Rattle.std.proofs.Common.{◌≡◌, Some, map, length, inr, sym, ◌∙◌, ap, subst, arith}
+use Rattle.std.specs.Prelude.{slice_get}
 use Rattle.bb_expr.specs.Checked.{syntax}
 use Rattle.bb_elab.specs.DrivenNumbers.{IsFirstAt}
 use Rattle.bb_elab.specs.Hierarchy.{Design}
 use Rattle.bb_elab.specs.ListLaws.{IsBounded}
 use Rattle.bb_elab.specs.NetBits.{Bit, net_order}
-use Rattle.bb_elab.specs.Placements.{ArePlaced, AreOutlined, AreCounts, AreStored, AreReads}
-use Rattle.bb_elab.specs.Places.{Lowering, IsLowering, IsListOf}
-use Rattle.bb_elab.specs.Refusals.{AreDrivenOnce, IsUndriven, AreDriven}
+use Rattle.bb_elab.specs.Placements.{ArePlaced, AreOutlined, AreCounts, AreReads}
+use Rattle.bb_elab.specs.Refusals.{IsUndriven, AreDriven}
 use Rattle.bb_elab.specs.Texts.{bit_text}
 use Rattle.bb_elab.proofs.ArrangedLists.{for_reads, reads_seen, as_many, few, number_there, for_name, undriven, all_are}
 use Rattle.bb_elab.proofs.arranging.drive_all.Goals as goal

@@ -1,4 +1,4 @@
-use Rattle.std.proofs.Common.{◌≡◌, [], inl, inr, map, refl, subst, arith}
+use Rattle.std.proofs.Common.{[], inr, map, refl, subst}
 use Rattle.std.specs.Prelude.{IfSome, IfNone}
 use Rattle.bb_expr.specs.Checked.{syntax}
 use Rattle.bb_elab.specs.Refusals.{Recursion, Depth, Size, IsTold, IsAbsent, design_on}

@@ -38,22 +38,26 @@ or-false false = refl
 
 pub returns-then-contains : goal.returns-then-contains
 returns-then-contains c =
-    let x = c.index-names-k.result in
-    let there = slice_get_read c.args.names.now (length c.args.names.now) c.loop-k.k x refl c.loop-k-test.true c.index-names-k.is in
-    record { some = (x, there, repeat_here c.args.names.now c.loop-k.k x there c.loop-k.invariant.apart (sym (c.loop-k.invariant.seen x) ∙ sym c.contains.ensures ∙ c.if-contains.true)); none = tt }
-
-pub loop-k-preserved : goal.loop-k-preserved
-loop-k-preserved c =
-    let names = c.args.names.now in
-    let k = c.loop-k.k in
-    let x = c.index-names-k.result in
+    let x = c.name-item.result in
+    let k = c.loop-name.name-index in
+    let there = slice_get_read c.args.names.now (length c.args.names.now) k x refl c.loop-name-test.true c.name-item.is in
     record {
-      apart = still_apart names k x c.loop-k-test.true c.index-names-k.is c.loop-k.invariant.apart (sym (c.loop-k.invariant.seen x) ∙ sym c.contains.ensures ∙ c.if-contains.false);
-      seen = λ n. ap (list_any (same_name n)) c.in_ok-insert.ensures.keys ∙ any-inserted n c.loop-k.seen.keys c.in_ok-clone.field-0
-          ∙ ap (λ b. b || same_name n c.in_ok-clone.field-0) (c.loop-k.invariant.seen n) ∙ ap (λ y. list_any (same_name n) (take k names) || same_name n y) c.in_ok-clone.ensures.cases
+      some = subst (IsFirstRepeat c.args.names.now) (sym c.in_ok-clone.ensures.cases) (repeat_here c.args.names.now k x there c.loop-name.invariant.apart (sym (c.loop-name.invariant.seen x) ∙ sym c.contains.ensures ∙ c.if-contains.true));
+      none = tt;
+    }
+
+pub loop-name-preserved : goal.loop-name-preserved
+loop-name-preserved c =
+    let names = c.args.names.now in
+    let k = c.loop-name.name-index in
+    let x = c.name-item.result in
+    record {
+      apart = still_apart names k x c.loop-name-test.true c.name-item.is c.loop-name.invariant.apart (sym (c.loop-name.invariant.seen x) ∙ sym c.contains.ensures ∙ c.if-contains.false);
+      seen = λ n. ap (list_any (same_name n)) c.in_ok-insert.ensures.keys ∙ any-inserted n c.loop-name.seen.keys c.in_ok-clone-2.field-0
+          ∙ ap (λ b. b || same_name n c.in_ok-clone-2.field-0) (c.loop-name.invariant.seen n) ∙ ap (λ y. list_any (same_name n) (take k names) || same_name n y) c.in_ok-clone-2.ensures.cases
           ∙ ap (λ b. list_any (same_name n) (take k names) || b) (sym (or-false (same_name n x))) ∙ sym (list_any-append (same_name n) (take k names) (x ∷ []))
-          ∙ ap (list_any (same_name n)) (sym (next-taken names k x c.loop-k-test.true c.index-names-k.is));
+          ∙ ap (list_any (same_name n)) (sym (next-taken names k x c.loop-name-test.true c.name-item.is));
     }
 
 pub returns : goal.returns
-returns c = record { some = tt; none = subst (AllPairs ◌≢◌) (take_all c.loop-k.k c.args.names.now c.loop-k-test.false) c.loop-k.invariant.apart }
+returns c = record { some = tt; none = subst (AllPairs ◌≢◌) (take_all c.loop-name.name-index c.args.names.now c.loop-name-test.false) c.loop-name.invariant.apart }

@@ -1,4 +1,4 @@
--- The clock of a register is a net or one bit of a net, and its left side has a bit, as a text says it.
+-- What a text says of a register: its clock is a net or one bit of a net, and its left side has a bit.
 use Rattle.std.proofs.Common.{◌≡◌, ◌⊎◌, ℕ, zero, suc, ◌+◌, ◌≤◌, List, [], ◌∷◌, length, Contains, Option, None, Some, sym, subst, inl, inr, arith, length-append}
 use Rattle.std.specs.List.{flat_map}
 use Rattle.bb_ast.specs.declared.module.Range.{Range}

@@ -1,0 +1,61 @@
+-- The numbers of the bits of ports of a scope.
+use Rattle.std.proofs.Common.{◌≡◌, ℕ, ◌+◌, ◌<◌, List, [], ◌∷◌, map, length, Some, refl, sym, ap, ap₂, ◌∙◌, subst, arith}
+use Rattle.std.specs.Prelude.{slice_get}
+use Rattle.std.proofs.lemmas.Option.{slice_get_within, same_Some}
+use Rattle.bb_ast.specs.Syntax.{PlainModule}
+use Rattle.bb_net.specs.Pairs.{BoxTexts}
+use Rattle.bb_elab.specs.declared.growing.Grown.{Grown}
+use Rattle.bb_elab.specs.declared.outline.Outline.{Outline}
+use Rattle.bb_elab.specs.declared.placed.Placed.{Placed}
+use Rattle.bb_elab.specs.DrivenNumbers.{numbers_from}
+use Rattle.bb_elab.specs.Hierarchy.{Design, Scope, root}
+use Rattle.bb_elab.specs.NetBits.{Bit, net_order, input_bits, output_bits, top_inputs, top_outputs}
+use Rattle.bb_elab.specs.Outlines.{AreAt, IsOutline}
+use Rattle.bb_elab.specs.Placements.{IsScopeAt}
+use Rattle.bb_elab.specs.Stages.{HasGrown}
+use Rattle.bb_elab.specs.Stands.{box_texts}
+use Rattle.bb_elab.specs.Texts.{path_text, pin_text}
+use Rattle.bb_elab.proofs.ScopeBits.{at_scope_bits}
+
+module _ (text : List PlainModule) (d : Design) (g : Grown) (has : HasGrown text d g) (k : ℕ) (s : Scope) (at : IsScopeAt d k s) (p : Placed) (there : slice_get g.placed.items k ≡ Some p) where
+  made : (o : Outline) × (slice_get g.outlines.items p.module ≡ Some o) × IsOutline d.text s.source o
+  made = has.grown.outlined k s p at there
+
+  pub module_within : p.module < length g.outlines.items
+  module_within = slice_get_within g.outlines.items p.module made.0 made.1
+
+  module _ (o : Outline) (kept : slice_get g.outlines.items p.module ≡ Some o) where
+    is_outline : IsOutline d.text s.source o
+    is_outline = subst (IsOutline d.text s.source) (same_Some made.0 o (sym made.1 ∙ kept)) made.2
+
+    pub inputs_at : AreAt (net_order d) (numbers_from p.first o.inputs.items) (input_bits s)
+    inputs_at = at_scope_bits d k s p.first at (has.grown.scopes.each k s p at there).first o.inputs.items (input_bits s) (is_outline.inputs s.path)
+
+    pub outputs_at : AreAt (net_order d) (numbers_from p.first o.outputs.items) (output_bits s)
+    outputs_at = at_scope_bits d k s p.first at (has.grown.scopes.each k s p at there).first o.outputs.items (output_bits s) (is_outline.outputs s.path)
+
+from_zero : (n : ℕ) → n ≡ 0 → (ks : List ℕ) → numbers_from n ks ≡ ks
+from_zero n is [] = refl
+from_zero n is (k ∷ ks) = let same : n + k ≡ k = omega (arith, is) in ap₂ ◌∷◌ same (from_zero n is ks)
+
+-- the top comes first
+module _ (text : List PlainModule) (d : Design) (g : Grown) (has : HasGrown text d g) where
+  pub top_placed : 0 < length g.placed.items
+  top_placed = let count = has.grown.scopes.count in omega (arith, count)
+
+  module _ (p : Placed) (there : slice_get g.placed.items 0 ≡ Some p) (o : Outline) (kept : slice_get g.outlines.items p.module ≡ Some o) where
+    pub top_inputs_at : AreAt (net_order d) o.inputs.items (top_inputs d)
+    top_inputs_at = subst (λ ks. AreAt (net_order d) ks (top_inputs d)) (from_zero p.first (has.grown.scopes.each 0 (root d) p refl there).first o.inputs.items) (inputs_at text d g has 0 (root d) refl p there o kept)
+
+    pub top_outputs_at : AreAt (net_order d) o.outputs.items (top_outputs d)
+    top_outputs_at = subst (λ ks. AreAt (net_order d) ks (top_outputs d)) (from_zero p.first (has.grown.scopes.each 0 (root d) p refl there).first o.outputs.items) (outputs_at text d g has 0 (root d) refl p there o kept)
+
+-- numbers that are moved to a scope
+pub moved_at : (d : Design) (bits : List Bit) (first : ℕ) (own listed moved : List ℕ) → AreAt (net_order d) (numbers_from first own) bits → listed ≡ own → moved ≡ map (λ i. first + i) listed → AreAt (net_order d) moved bits
+moved_at d bits first own listed moved at same is = subst (λ l. AreAt (net_order d) l bits) (sym (is ∙ ap (map (λ i. first + i)) same)) at
+
+pub box_is : (d : Design) (s : Scope) (n : BoxTexts) (path : List ℕ) (ins outs : List (List ℕ)) → n ≡ record { path = path; ins = ins; outs = outs }
+    → path ≡ path_text s.path → ins ≡ map (pin_text d) (input_bits s) → outs ≡ map (pin_text d) (output_bits s) → n ≡ box_texts d s
+box_is d s n path ins outs is p q r =
+    is ∙ ap (λ (x : List ℕ). record { path = x; ins = ins; outs = outs }) p ∙ ap (λ (x : List (List ℕ)). record { path = path_text s.path; ins = x; outs = outs }) q
+    ∙ ap (λ (x : List (List ℕ)). record { path = path_text s.path; ins = map (pin_text d) (input_bits s); outs = x }) r

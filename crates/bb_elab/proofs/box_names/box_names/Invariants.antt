@@ -1,0 +1,11 @@
+use Rattle.std.proofs.Common.{◌≡◌, map, take}
+use Rattle.std.specs.List.{AllZip}
+use Rattle.bb_expr.specs.Checked.{syntax}
+use Rattle.bb_elab.specs.Hierarchy.{Design, boxes}
+use Rattle.bb_elab.specs.Placements.{IsScopeAt}
+use Rattle.bb_elab.specs.Stages.{HasGrown}
+use Rattle.bb_elab.specs.Stands.{box_number, box_texts}
+use Rattle.bb_elab.proofs.box_names.box_names.Given as goal
+
+abbrev pub invariant-loop-number : goal.invariant-loop-number
+invariant-loop-number l = (d : Design) → HasGrown (map syntax l.checked) d l.grown → AllZip (IsScopeAt d) l.boxed (boxes d) → l.names.items ≡ map (λ b. box_texts d (box_number d b)) (take l.number-index l.numbers)

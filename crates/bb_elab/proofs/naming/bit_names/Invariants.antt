@@ -1,0 +1,11 @@
+use Rattle.std.proofs.Common.{◌≡◌, List, map, take}
+use Rattle.bb_expr.specs.Checked.{syntax}
+use Rattle.bb_elab.specs.Hierarchy.{Design}
+use Rattle.bb_elab.specs.NetBits.{Bit}
+use Rattle.bb_elab.specs.Placements.{AreBitsAt}
+use Rattle.bb_elab.specs.Stages.{HasGrown}
+use Rattle.bb_elab.specs.Texts.{bit_text}
+use Rattle.bb_elab.proofs.naming.bit_names.Given as goal
+
+abbrev pub invariant-loop-number : goal.invariant-loop-number
+invariant-loop-number l = (d : Design) → HasGrown (map syntax l.checked) d l.grown → (bits : List Bit) → AreBitsAt d l.numbers bits → l.names.items ≡ map (bit_text d) (take l.number-index bits)

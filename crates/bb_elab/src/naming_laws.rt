@@ -1,0 +1,18 @@
+//! Laws of the names in flat netlists. Each function has a law as its contract and does nothing.
+
+ghost use Rattle.bb_elab.specs.NamingLaws.{BoxNeedsAreOne, StandingNetsAreNamed, StandingNetsAreNamedAlike};
+
+/// A box depends on another in every list of the cells of a design or in none.
+pub fn box_needs_are_one()
+    ensures { BoxNeedsAreOne }
+{}
+
+/// In a netlist that stands for a design everything has its text.
+pub fn standing_nets_are_named()
+    ensures { StandingNetsAreNamed }
+{}
+
+/// Netlists that stand for one design call everything alike, in one order.
+pub fn standing_nets_are_named_alike()
+    ensures { StandingNetsAreNamedAlike }
+{}
