@@ -24,7 +24,7 @@ use Rattle.bb_elab.specs.Refusals.{BoxTexts as BoxCause}
 use Rattle.bb_elab.specs.Stands.{StandsFor}
 use Rattle.bb_elab.specs.Worlds.{World, Vector, CutInput, TopInput, State, CutOutput, TopOutput, NextState, HasVector, IsWorld, FitDesign, outputs_in}
 use Rattle.bb_match.specs.CutPoints.{register_texts, cut_inputs, cut_outputs}
-use Rattle.bb_match.specs.DesignAgreement.{HaveSameBits, ContentsAgree, NoContentsAgree, IsPairFor, TablesAgreeAsContents, NoTablesNoContents}
+use Rattle.bb_match.specs.DesignAgreement.{HaveSameBits, ContentsAgree, NoContentsAgree, IsPairFor, TablesAgreeAsContents, NoTablesNoContents, DesignsAgreeWithThemselves}
 use Rattle.bb_match.specs.Pairing.{Picks, IsPairOf}
 use Rattle.bb_match.specs.Refusals.{Box}
 use Rattle.bb_match.proofs.NamedVectors.{vector_of, vector_is, vector_bits_are, outputs_are}
@@ -268,3 +268,12 @@ tables_agree_as_contents laws spec imp p spec_allowed imp_allowed pair contents 
 
 pub no_tables_exactly : Laws → NoTablesNoContents
 no_tables_exactly laws spec imp p spec_allowed imp_allowed pair = no_tables_no_contents laws spec imp p spec_allowed imp_allowed pair
+
+-- both worlds have the bits of the netlist at an output's place
+pub agree_with_themselves : Laws → DesignsAgreeWithThemselves
+agree_with_themselves laws d f allowed stands flat_net contents fit x w v is_w has_w is_v has_v o a b in_w in_v =
+    let t = laws.tables d f stands contents fit in
+    let here = output_at laws d f allowed stands flat_net contents t.0 fit t.1 x w is_w has_w o a in_w in
+    let there = output_at laws d f allowed stands flat_net contents t.0 fit t.1 x v is_v has_v o b in_v in
+    let same : here.0 ≡ there.0 = one_place (cut_outputs f) here.0 there.0 o (outputs_apart f flat_net) here.1 there.1 in
+    sym here.3 ∙ ap (bit_out laws d f allowed stands flat_net contents t.0 fit t.1 x) same ∙ there.3

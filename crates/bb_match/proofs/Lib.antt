@@ -11,3 +11,4 @@ pub mod PairLemmas
 pub mod PickLemmas
 pub mod PlaceLemmas
 pub mod RefusalLaws
+pub mod TakenAlike

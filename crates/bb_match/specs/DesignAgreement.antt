@@ -49,3 +49,7 @@ TablesAgreeAsContents = (spec imp : Design) (p : NetPair) → IsAllowed spec →
 -- and no tables agree exactly where no contents do
 abbrev pub NoTablesNoContents : Type 0
 NoTablesNoContents = (spec imp : Design) (p : NetPair) → IsAllowed spec → IsAllowed imp → IsPairFor spec imp p → NoTablesAgree p.spec p.imp ↔ NoContentsAgree spec imp
+
+-- a design agrees with itself, whatever fits its boxes
+abbrev pub DesignsAgreeWithThemselves : Type 0
+DesignsAgreeWithThemselves = (d : Design) (f : FlatNet) → IsAllowed d → StandsFor d f → IsFlat f → (contents : Contents) → FitDesign d contents → ContentsAgree d d contents

@@ -1,5 +1,6 @@
 pub mod CutPoints
 pub mod DesignAgreement
+pub mod DesignRefusals
 pub mod Laws
 pub mod Pairing
 pub mod Places

@@ -1,9 +1,11 @@
 //! Laws of these definitions. Each function has a law as its contract and does nothing.
 
-ghost use Rattle.bb_match.specs.DesignAgreement.{TablesAgreeAsContents, NoTablesNoContents};
+ghost use Rattle.bb_match.specs.DesignAgreement.{DesignsAgreeWithThemselves, NoTablesNoContents, TablesAgreeAsContents};
+ghost use Rattle.bb_match.specs.DesignRefusals.{StandingNetsAreTakenAlike, DesignRefusalsAreOne, NotPairAndRefusal};
 ghost use Rattle.bb_match.specs.Laws.{NotFitAndRefused, FirstRefusalsAreOne, FitOrRefused, PairsAreOne, FittingHavePair};
 
 use bb_elab::list_laws::standing_nets_give_outputs;
+use bb_elab::naming_laws::{standing_nets_are_named, standing_nets_are_named_alike};
 use bb_elab::table_laws::{contents_have_tables, tables_give_outputs, tables_have_contents};
 use bb_net::{rearranged_keeps_values, value_goes_by_boxes};
 
@@ -47,6 +49,42 @@ pub fn tables_agree_as_contents()
 /// No tables agree in such a pair exactly where no contents do.
 pub fn no_tables_no_contents()
     ensures { NoTablesNoContents }
+{
+    value_goes_by_boxes();
+    rearranged_keeps_values();
+    standing_nets_give_outputs();
+    tables_give_outputs();
+    contents_have_tables();
+    tables_have_contents();
+}
+
+/// Netlists that stand for the same designs are refused alike.
+pub fn standing_nets_are_refused_alike()
+    ensures { StandingNetsAreTakenAlike }
+{
+    standing_nets_are_named();
+    standing_nets_are_named_alike();
+}
+
+/// Two designs have one first refusal at most.
+pub fn design_refusals_are_one()
+    ensures { DesignRefusalsAreOne }
+{
+    standing_nets_are_named();
+    standing_nets_are_named_alike();
+}
+
+/// No two designs have a pair and a refusal.
+pub fn not_pair_and_refusal()
+    ensures { NotPairAndRefusal }
+{
+    standing_nets_are_named();
+    standing_nets_are_named_alike();
+}
+
+/// A design agrees with itself, whatever fits its boxes.
+pub fn designs_agree_with_themselves()
+    ensures { DesignsAgreeWithThemselves }
 {
     value_goes_by_boxes();
     rearranged_keeps_values();
