@@ -1,0 +1,4 @@
+pub mod FoundLemmas
+pub mod NumberLemmas
+pub mod PlainLemmas
+pub mod WithinLemmas

@@ -1,0 +1,108 @@
+-- What the words of a command line ask for: which files are compared and which module is the top of each, which checks are run, and within
+-- which bounds. Words that clap does not take, or whose values are not in the table below, ask for nothing.
+use Rattle.std.specs.Prelude.{ℕ, Bool, false, nat_le, List, [], ◌∷◌, Option, Some, None, if◌then◌else◌, option_and_then, option_map, option_copied, find, codes}
+use Rattle.std.specs.Str.{bytes_eq}
+use Rattle.clap.specs.Words.{Row, first_of}
+use Rattle.bb_rungs.specs.declared.options.Options.{Options}
+use Rattle.bb_rungs.specs.declared.rung.Rung.{Rung}
+use Rattle.bb_rungs.specs.declared.rung.Rung.TheVariants.{Ternary, Output}
+use Rattle.bb_rungs.specs.Rungs.{all_rungs, rank, rung_name}
+use Rattle.bb_words.specs.Commands.{found_in, is_taken}
+use Rattle.bb_words.specs.Numbers.{number_within}
+use Rattle.bb_words.specs.declared.asked.Asked.{Asked}
+
+pub record Request : Type 0 where
+  -- the names of the two files
+  pub spec : List ℕ
+  pub imp : List ℕ
+  -- the name of the top module, where it is given
+  pub top_spec : Option (List ℕ)
+  pub top_imp : Option (List ℕ)
+  pub options : Options
+  -- how many clauses an expansion may have, and whether it prints a proof
+  pub clauses : ℕ
+  pub proof : Bool
+
+-- a name is not empty
+abbrev pub name : List ℕ → Option (List ℕ)
+name [] = None
+name (b ∷ bs) = Some (b ∷ bs)
+
+-- the check of this name
+abbrev pub rung_named : List ℕ → Option Rung
+rung_named text = find (λ rung. bytes_eq (rung_name rung) text) all_rungs
+
+-- the value of an option, or what stands for it where the option is not given
+abbrev pub value_or : {X : Type 0} → X → (List ℕ → Option X) → Option (List ℕ) → Option X
+value_or default read None = Some default
+value_or default read (Some text) = read text
+
+-- the name of a file has to be given
+abbrev pub file : Option (List ℕ) → Option (List ℕ)
+file = option_and_then name
+
+-- the name of a module may be given
+abbrev pub top : Option (List ℕ) → Option (Option (List ℕ))
+top = value_or None (λ text. option_map (λ given. Some given) (name text))
+
+-- whether a flag is given
+abbrev pub is_true : Option (List ℕ) → Bool
+is_true None = false
+is_true (Some text) = bytes_eq text (codes "true")
+
+-- what follows from a value, if there is one
+abbrev pub given : {X Y : Type 0} → Option X → (X → Option Y) → Option Y
+given value next = option_and_then next value
+
+-- which checks are run, and their bounds, by what was found
+abbrev pub asked_options : List Row → Option Options
+asked_options found =
+    given (value_or Ternary rung_named (first_of (codes "from") found)) (λ from.
+    given (value_or Output rung_named (first_of (codes "to") found)) (λ to.
+    given (value_or 32 (number_within 0 4096) (first_of (codes "patterns") found)) (λ patterns.
+    given (value_or 1 (number_within 1 18446744073709551615) (first_of (codes "seed") found)) (λ seed.
+    given (value_or 1000000 (number_within 0 50000000) (first_of (codes "nodes") found)) (λ nodes.
+    given (value_or 65536 (number_within 1 1048576) (first_of (codes "cache") found)) (λ cache.
+    if nat_le (rank from) (rank to) then Some (record {
+      from = from;
+      to = to;
+      all = is_true (first_of (codes "all") found);
+      patterns = patterns;
+      seed = seed;
+      nodes = nodes;
+      cache = cache;
+    }) else None))))))
+
+-- all that is asked, by what was found
+abbrev pub asked_request : List Row → Option Request
+asked_request found =
+    given (file (first_of (codes "SPEC") found)) (λ spec.
+    given (file (first_of (codes "IMPL") found)) (λ imp.
+    given (top (first_of (codes "top-spec") found)) (λ top_spec.
+    given (top (first_of (codes "top-impl") found)) (λ top_imp.
+    given (asked_options found) (λ options.
+    given (value_or 2000000 (number_within 0 8000000) (first_of (codes "clauses") found)) (λ clauses.
+    Some (record {
+      spec = spec;
+      imp = imp;
+      top_spec = top_spec;
+      top_imp = top_imp;
+      options = options;
+      clauses = clauses;
+      proof = is_true (first_of (codes "proof") found);
+    })))))))
+
+abbrev pub asked : List (List ℕ) → Option Request
+asked words = if is_taken words then asked_request (found_in words) else None
+
+-- the request that the code hands over
+abbrev pub request_of : Asked → Request
+request_of a = record {
+  spec = a.spec.now;
+  imp = a.imp.now;
+  top_spec = option_copied a.top_spec;
+  top_imp = option_copied a.top_imp;
+  options = a.options;
+  clauses = a.clauses;
+  proof = a.proof;
+}

@@ -1,0 +1,43 @@
+//! What the words ask for, and why they ask for nothing.
+
+use bb_rungs::Options;
+use std::alloc::AllocError;
+
+/// What the words ask for. The names are parts of the words.
+#[derive(Clone, Copy, Debug)]
+pub struct Asked<'a> {
+    /// The name of the specification's file: not empty.
+    pub spec: &'a str,
+    /// The name of the implementation's file: not empty.
+    pub imp: &'a str,
+    /// The specification's top module, or none for the one that no module instantiates.
+    pub top_spec: Option<&'a str>,
+    /// The implementation's top module, or none for the one that no module instantiates.
+    pub top_imp: Option<&'a str>,
+    /// Which checks are run, and their bounds.
+    pub options: Options,
+    /// How many clauses an expansion may have: at most 8,000,000. No check reads it yet.
+    pub clauses: u32,
+    /// Whether an expansion prints its proof. No check reads it yet.
+    pub proof: bool,
+}
+
+/// Why words ask for nothing.
+#[derive(Clone, Copy, Debug, PartialEq, Eq)]
+pub enum WordsFault {
+    /// The words are not those of the command.
+    Usage,
+    /// There was no memory to read them.
+    NoMemory,
+}
+
+impl From<AllocError> for WordsFault {
+    ghost use Rattle.std.specs.Prelude.{◌≡◌};
+    ghost use Rattle.bb_words.specs.declared.asked.WordsFault.TheVariants as fault;
+
+    ghost from_gives = { λ _ e. e ≡ fault.NoMemory };
+
+    fn from(_: AllocError) -> WordsFault {
+        WordsFault::NoMemory
+    }
+}

@@ -1,0 +1,78 @@
+//! The command whose words are read.
+
+ghost use Rattle.std.specs.Prelude.{◌≡◌, ◌⊎◌, false, true, map, option_copied, string_bytes, IfOk, IfErr};
+ghost use Rattle.clap.specs.Words.{app_of, first_of, found_of, kind_of, rows_of, rule_of};
+ghost use Rattle.bb_words.specs.Commands.{bare, command, flag, found_in, is_taken, positional, valued};
+
+use clap::error::ErrorKind;
+use clap::{Arg, ArgAction, ArgMatches, Command, Error};
+use std::alloc::{AllocError, Global};
+
+// A word with no name before it.
+fn positional<'a>(alloc: Global, name: &'a str) -> Arg<'a>
+    ensures rule { rule_of result ≡ positional name.entry.now }
+    ensures local { result.global ≡ false }
+{
+    Arg::new(alloc, name).action(ArgAction::Set)
+}
+
+// A flag, which takes no value.
+fn flag<'a>(alloc: Global, name: &'a str) -> Arg<'a>
+    ensures rule { rule_of result ≡ flag name.entry.now }
+    ensures local { result.global ≡ false }
+{
+    Arg::new(alloc, name).long(name).action(ArgAction::SetTrue)
+}
+
+// An option with one value.
+fn valued<'a>(alloc: Global, name: &'a str) -> Arg<'a>
+    ensures rule { rule_of result ≡ valued name.entry.now }
+    ensures local { result.global ≡ false }
+{
+    Arg::new(alloc, name).long(name).action(ArgAction::Set)
+}
+
+// The command with no argument yet.
+fn bare<'a>(alloc: Global) -> Command<'a>
+    ensures app { app_of result ≡ bare }
+{
+    Command::new(alloc, "bbeq").disable_help_flag(true)
+}
+
+// The command with all its arguments.
+fn command<'a>(alloc: Global) -> Result<Command<'a>, AllocError>
+    ensures app { IfOk result (λ c. app_of c ≡ command) }
+{
+    let command = bare(alloc)
+        .arg(positional(alloc, "SPEC"))?
+        .arg(positional(alloc, "IMPL"))?
+        .arg(flag(alloc, "all"))?
+        .arg(flag(alloc, "proof"))?
+        .arg(valued(alloc, "top-spec"))?
+        .arg(valued(alloc, "top-impl"))?
+        .arg(valued(alloc, "from"))?
+        .arg(valued(alloc, "to"))?
+        .arg(valued(alloc, "patterns"))?
+        .arg(valued(alloc, "seed"))?
+        .arg(valued(alloc, "nodes"))?
+        .arg(valued(alloc, "clauses"))?
+        .arg(valued(alloc, "cache"))?;
+    Ok(command)
+}
+
+/// What is found in the words, of which the first is the program's own name.
+pub fn parse<'a>(alloc: Global, words: &'a [String]) -> Result<ArgMatches<'a>, Error>
+    ensures found { IfOk result (λ m. rows_of (found_of m) ≡ found_in (map string_bytes words.entry.now)) }
+    ensures taken { IfOk result (λ _. is_taken (map string_bytes words.entry.now) ≡ true) }
+    ensures refused { IfErr result (λ e. (kind_of e ≡ ErrorKind.OutOfMemory) ⊎ (is_taken (map string_bytes words.entry.now) ≡ false)) }
+{
+    command(alloc)?.try_get_matches_from(words)
+}
+
+/// What was found of one argument.
+#[tactic(auto, using(crate::proofs::FoundLemmas::value_by_rows))]
+pub fn value<'a>(matches: &ArgMatches<'a>, name: &str) -> Option<&'a str>
+    ensures value { option_copied result ≡ first_of name.now (rows_of (found_of matches.now)) }
+{
+    matches.get_str(name)
+}

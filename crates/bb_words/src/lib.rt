@@ -1,0 +1,15 @@
+//! The words of the command line: which files are compared, and by which checks.
+#![tactic(auto)]
+
+mod asked;
+mod command;
+mod laws;
+mod number;
+mod reading;
+#[cfg(test)]
+mod tests;
+mod value;
+
+pub use asked::{Asked, WordsFault};
+pub use laws::{few_words_ask_for_nothing, plain_words_are_files, requests_are_within};
+pub use reading::read_words;

@@ -1,0 +1,90 @@
+//! What the words ask for, by the values that the command finds in them.
+
+ghost use Rattle.std.specs.Prelude.{◌≡◌, ◌⊎◌, map, option_map, string_bytes, IfOk, IfErr, None, Some};
+ghost use Rattle.clap.specs.Words.{found_of, rows_of};
+ghost use Rattle.bb_rungs.specs.Rungs.{AreBounds};
+ghost use Rattle.bb_words.specs.Asked.{asked, asked_options, asked_request, request_of};
+
+use crate::asked::{Asked, WordsFault};
+use crate::command::{parse, value};
+use crate::value::{file, is_true, number_or, rung_or, small_or, top};
+use bb_rungs::{Options, Rung};
+use clap::ArgMatches;
+use clap::error::ErrorKind;
+use std::alloc::Global;
+
+// Which checks are run, and their bounds.
+fn options(matches: &ArgMatches<'_>) -> Option<Options>
+    ensures options { result ≡ asked_options (rows_of (found_of matches.now)) }
+{
+    let from = rung_or(value(matches, "from"), Rung::Ternary)?;
+    let to = rung_or(value(matches, "to"), Rung::Output)?;
+    let patterns = small_or(value(matches, "patterns"), 32, 0, 4_096)?;
+    let seed = number_or(value(matches, "seed"), 1, 1, u64::MAX)?;
+    let nodes = small_or(value(matches, "nodes"), 1_000_000, 0, 50_000_000)?;
+    let cache = small_or(value(matches, "cache"), 65_536, 1, 1_048_576)?;
+    if to.rank() < from.rank() {
+        return None;
+    }
+    Some(Options {
+        from,
+        to,
+        all: is_true(value(matches, "all")),
+        patterns,
+        seed,
+        nodes,
+        cache,
+    })
+}
+
+// All that is asked.
+fn request<'a>(matches: &ArgMatches<'a>) -> Option<Asked<'a>>
+    ensures request { option_map request_of result ≡ asked_request (rows_of (found_of matches.now)) }
+{
+    let spec = file(value(matches, "SPEC"))?;
+    let imp = file(value(matches, "IMPL"))?;
+    let top_spec = top(value(matches, "top-spec"))?;
+    let top_imp = top(value(matches, "top-impl"))?;
+    let options = options(matches)?;
+    let clauses = small_or(value(matches, "clauses"), 2_000_000, 0, 8_000_000)?;
+    Some(Asked {
+        spec,
+        imp,
+        top_spec,
+        top_imp,
+        options,
+        clauses,
+        proof: is_true(value(matches, "proof")),
+    })
+}
+
+/// What the words of a command line ask for. The first word is the program's own name, and is not looked at. The others are
+/// two files, the specification's before the implementation's, and in any order among them these, each at most once:
+///
+/// | Words | Value | Without it |
+/// |---|---|---|
+/// | `--top-spec`, `--top-impl` | the name of a module | the one that no module instantiates |
+/// | `--from`, `--to` | `ternary`, `symbolic`, `local`, `output`, the last no earlier than the first | `ternary`, `output` |
+/// | `--patterns` | 0 to 4,096 | 32 |
+/// | `--seed` | 1 to 18,446,744,073,709,551,615 | 1 |
+/// | `--nodes` | 0 to 50,000,000 | 1,000,000 |
+/// | `--cache` | 1 to 1,048,576 | 65,536 |
+/// | `--clauses` | 0 to 8,000,000 | 2,000,000 |
+/// | `--all`, `--proof` | none | not set |
+///
+/// A value stands behind its option as the next word or behind `=`; one that begins with a minus sign, and is more than that,
+/// has to stand behind `=`. No name is empty. A number has at most 20 digits. Behind `--` every word is a file.
+///
+/// # Errors
+/// `Usage` where the words are not of this form, and `NoMemory` where there is no memory to read them.
+pub fn read_words<'a>(alloc: Global, words: &'a [String]) -> Result<Asked<'a>, WordsFault>
+    ensures ok { IfOk result (λ a. asked (map string_bytes words.entry.now) ≡ Some (request_of a)) }
+    ensures bounds { IfOk result (λ a. AreBounds a.options) }
+    ensures usage { IfErr result (λ fault. (fault ≡ WordsFault.NoMemory) ⊎ ((fault ≡ WordsFault.Usage) × (asked (map string_bytes words.entry.now) ≡ None))) }
+{
+    match parse(alloc, words) {
+        Ok(matches) => request(&matches).ok_or(WordsFault::Usage),
+        Err(error) if error.kind() == ErrorKind::OutOfMemory => Err(WordsFault::NoMemory),
+        Err(_) => Err(WordsFault::Usage),
+    }
+}

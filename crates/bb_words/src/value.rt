@@ -1,0 +1,85 @@
+//! The values of options, each read by its kind, with what stands for an option that is not given.
+
+ghost use Rattle.std.specs.Prelude.{◌≡◌, option_map, option_copied};
+ghost use Rattle.bb_words.specs.Asked.{file, is_true, name, rung_named, top, value_or};
+ghost use Rattle.bb_words.specs.Numbers.{number_within};
+
+use crate::number::{number_within, small_within};
+use bb_rungs::Rung;
+
+// A name, which is not empty.
+fn name(text: &str) -> Option<&str>
+    ensures name { option_copied result ≡ name text.now }
+{
+    if text.is_empty() { None } else { Some(text) }
+}
+
+/// The name of a file, which has to be given.
+pub fn file(value: Option<&str>) -> Option<&str>
+    ensures file { option_copied result ≡ file (option_copied value.entry) }
+{
+    name(value?)
+}
+
+/// The name of a module, which may be given.
+pub fn top(value: Option<&str>) -> Option<Option<&str>>
+    ensures top { option_map option_copied result ≡ top (option_copied value.entry) }
+{
+    match value {
+        None => Some(None),
+        Some(text) => Some(Some(name(text)?)),
+    }
+}
+
+/// Whether a flag is given.
+pub fn is_true(value: Option<&str>) -> bool
+    ensures set { result ≡ is_true (option_copied value.entry) }
+{
+    match value {
+        None => false,
+        Some(text) => text == "true",
+    }
+}
+
+// The check of this name.
+fn rung_named(text: &str) -> Option<Rung>
+    ensures rung { result ≡ rung_named text.now }
+{
+    match text {
+        "ternary" => Some(Rung::Ternary),
+        "symbolic" => Some(Rung::Symbolic),
+        "local" => Some(Rung::Local),
+        "output" => Some(Rung::Output),
+        _ => None,
+    }
+}
+
+/// A check by its name.
+pub fn rung_or(value: Option<&str>, default: Rung) -> Option<Rung>
+    ensures rung { result ≡ value_or default rung_named (option_copied value.entry) }
+{
+    match value {
+        None => Some(default),
+        Some(text) => rung_named(text),
+    }
+}
+
+/// A number within bounds.
+pub fn number_or(value: Option<&str>, default: u64, least: u64, most: u64) -> Option<u64>
+    ensures number { result ≡ value_or default (number_within least most) (option_copied value.entry) }
+{
+    match value {
+        None => Some(default),
+        Some(text) => number_within(text, least, most),
+    }
+}
+
+/// A smaller number within bounds.
+pub fn small_or(value: Option<&str>, default: u32, least: u32, most: u32) -> Option<u32>
+    ensures number { result ≡ value_or default (number_within least most) (option_copied value.entry) }
+{
+    match value {
+        None => Some(default),
+        Some(text) => small_within(text, least, most),
+    }
+}
