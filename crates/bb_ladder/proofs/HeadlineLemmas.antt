@@ -1,81 +1,67 @@
--- What statuses 1 and 3 say of the two files: no contents of the box make the designs agree, or neither vector shows a mistake.
+-- What statuses 1, 3 and 4 say of the two files: no contents of the boxes make the designs agree, each check leaves the question open, or
+-- a read failed.
 use Rattle.std.proofs.Common.{◌≡◌, ◌<◌, ℕ, List, length, take, Option, Some, arith, sym, ◌∙◌, ap, subst}
 use Rattle.std.proofs.lemmas.List.{take_all, length-take}
 use Rattle.bb_outside.specs.Counts.{Reads, Rose}
 use Rattle.bb_ladder.specs.declared.answer.TheConstants.{READ_LIMIT}
-use Rattle.bb_ladder.specs.Answers.{Judges, SpecRefused, ImpRefused, PairUnknown, Judged, AfterSpec, ImpUnread, ImpLong, BothRead, SpecUnread, SpecLong, SpecRead, MayAnswer, Usage, Asked, AreTexts, Held, AreRefuted, AreOpen}
-use Rattle.bb_ladder.specs.Report.{Reports, AtZero, AtOne, Open}
-use Rattle.bb_ladder.proofs.WorldLawsError.{error_none}
+use Rattle.bb_ladder.specs.declared.asked.Asked.{Asked as TextsAsked}
+use Rattle.bb_ladder.specs.Answers.{Question, AfterSpec, ImpUnread, ImpLong, BothRead, OfFiles, SpecUnread, SpecLong, SpecRead, MayAnswer, Usage, Asked, AreTexts}
+use Rattle.bb_ladder.specs.TextAnswers.{Judges, Refused, Judged, ErrorsRefute, OpenAnswersLeaveOpen}
+use Rattle.bb_ladder.specs.TextPairs.{AreRefuted, AreLeftOpen}
+use Rattle.bb_ladder.proofs.TextPairLaws.{report_status}
 
 -- a front that is shorter than the limit is the whole
 whole_front : (n : ℕ) (text front : List ℕ) → front ≡ take n text → length front < n → front ≡ text
 whole_front n text front e short =
     let l = length-take n text in let m = ap length e in e ∙ take_all n text (omega arith)
 
-same_names : (a b : List ℕ × List ℕ) → Some a ≡ Some b → a ≡ b
-same_names a b e = cc
+same_question : (a b : Question) → Some a ≡ Some b → a ≡ b
+same_question a b e = cc
 
 -- what a status says of two texts that are judged, where no refusal and no failed read has that status
-module _ (so : List ℕ → List ℕ → Type 0) (n : ℕ) (not_refused : n ≡ 2 → ⊥) (not_unread : n ≡ 4 → ⊥)
-    (judged : (spec imp text : List ℕ) (status : ℕ) → Judges spec imp status text → status ≡ n → so spec imp) where
-  after_so : (held : Option (List ℕ)) (name : List ℕ) (before after : Reads) (spec whole imp text : List ℕ) (status : ℕ) → spec ≡ take READ_LIMIT whole → length spec < READ_LIMIT → held ≡ Some imp
-      → AfterSpec held name before after spec status text → status ≡ n → so whole imp
-  after_so held name before after spec whole imp text status g short there (ImpUnread c r s t) is = absurd (not_unread (sym is ∙ s))
-  after_so held name before after spec whole imp text status g short there (ImpLong other h l c s t) is = absurd (not_refused (sym is ∙ s))
-  after_so held name before after spec whole imp text status g short there (BothRead other h low c j) is =
+module _ (so : TextsAsked → List ℕ → List ℕ → Type 0) (n : ℕ) (not_refused : n ≡ 2 → ⊥) (not_unread : n ≡ 4 → ⊥)
+    (judged : (asked : TextsAsked) (spec imp : List ℕ) (status : ℕ) (text : List ℕ) → Judges asked spec imp status text → status ≡ n → so asked spec imp) where
+  after_so : (held : Option (List ℕ)) (q : Question) (before after : Reads) (spec whole imp text : List ℕ) (status : ℕ) → spec ≡ take READ_LIMIT whole → length spec < READ_LIMIT → held ≡ Some imp
+      → AfterSpec held q before after spec status text → status ≡ n → so q.asked whole imp
+  after_so held q before after spec whole imp text status g short there (ImpUnread c r s t) is = absurd (not_unread (sym is ∙ s))
+  after_so held q before after spec whole imp text status g short there (ImpLong other h l c s t) is = absurd (not_refused (sym is ∙ s))
+  after_so held q before after spec whole imp text status g short there (BothRead other h low c j) is =
       let front : other ≡ take READ_LIMIT imp = rw there at h in
-      subst (λ m. so m imp) (whole_front READ_LIMIT whole spec g short) (subst (λ m. so spec m) (whole_front READ_LIMIT imp other front low) (judged spec other text status j is))
+      subst (λ m. so q.asked m imp) (whole_front READ_LIMIT whole spec g short) (subst (λ m. so q.asked spec m) (whole_front READ_LIMIT imp other front low) (judged q.asked spec other status text j is))
 
-  answer_so : (words : List (List ℕ)) (holds : List ℕ → Option (List ℕ)) (before after : Reads) (status : ℕ) (text spec imp : List ℕ) → MayAnswer words holds before after status text → status ≡ n
-      → AreTexts words holds spec imp → so spec imp
-  answer_so words holds before after status text spec imp (Usage none c s t) is texts = absurd (not_refused (sym is ∙ s))
-  answer_so words holds before after status text spec imp (Asked names e (SpecUnread c r s t)) is texts = absurd (not_unread (sym is ∙ s))
-  answer_so words holds before after status text spec imp (Asked names e (SpecLong other g l c s t)) is texts = absurd (not_refused (sym is ∙ s))
-  answer_so words holds before after status text spec imp (Asked names e (SpecRead other between g short c a)) is (Held known asked_is spec_is imp_is) =
-      let same : names ≡ known = same_names names known (sym e ∙ asked_is) in
-      let spec_there : holds names.0 ≡ Some spec = rw same spec_is in
-      let imp_there : holds names.1 ≡ Some imp = rw same imp_is in
+  files_so : (holds : List ℕ → Option (List ℕ)) (q : Question) (before after : Reads) (spec imp text : List ℕ) (status : ℕ) → holds q.spec ≡ Some spec → holds q.imp ≡ Some imp
+      → OfFiles holds q before after status text → status ≡ n → so q.asked spec imp
+  files_so holds q before after spec imp text status spec_there imp_there (SpecUnread c r s t) is = absurd (not_unread (sym is ∙ s))
+  files_so holds q before after spec imp text status spec_there imp_there (SpecLong other g l c s t) is = absurd (not_refused (sym is ∙ s))
+  files_so holds q before after spec imp text status spec_there imp_there (SpecRead other between g short c a) is =
       let front : other ≡ take READ_LIMIT spec = rw spec_there at g in
-      after_so (holds names.1) names.1 between after other spec imp text status front short imp_there a is
+      after_so (holds q.imp) q between after other spec imp text status front short imp_there a is
 
-pub refuted : (spec imp text : List ℕ) (status : ℕ) → Judges spec imp status text → status ≡ 1 → AreRefuted spec imp
-refuted spec imp text status (SpecRefused fault is s t) one = absurd (omega (arith, s))
-refuted spec imp text status (ImpRefused d is fault never s t) one = absurd (omega (arith, s))
-refuted spec imp text status (PairUnknown d e empty is im never s t) one = absurd (omega (arith, s))
-refuted spec imp text status (Judged d e empty is im ports reports) one =
-    (d, e, empty, is, im, ports, error_none d e empty text is.1 im.1 ports (subst (λ n. Reports d e empty n text) one reports))
+  answer_so : (words : List (List ℕ)) (holds : List ℕ → Option (List ℕ)) (before after : Reads) (status : ℕ) (text : List ℕ) (q : Question) (spec imp : List ℕ) → MayAnswer words holds before after status text → status ≡ n
+      → AreTexts words holds q spec imp → so q.asked spec imp
+  answer_so words holds before after status text q spec imp (Usage none c s t) is texts = absurd (not_refused (sym is ∙ s))
+  answer_so words holds before after status text q spec imp (Asked known e files) is texts =
+      files_so holds q before after spec imp text status texts.spec_held texts.imp_held (subst (λ z. OfFiles holds z before after status text) (same_question known q (sym e ∙ texts.asks)) files) is
 
-pub left_open : (spec imp text : List ℕ) (status : ℕ) → Judges spec imp status text → status ≡ 3 → AreOpen spec imp
-left_open spec imp text status (SpecRefused fault is s t) three = absurd (omega (arith, s))
-left_open spec imp text status (ImpRefused d is fault never s t) three = absurd (omega (arith, s))
-left_open spec imp text status (PairUnknown d e empty is im never s t) three = absurd (omega (arith, s))
-left_open spec imp text status (Judged d e empty is im ports (AtZero name fails s t)) three = absurd (omega (arith, s))
-left_open spec imp text status (Judged d e empty is im ports (AtOne name passes fails s t)) three = absurd (omega (arith, s))
-left_open spec imp text status (Judged d e empty is im ports (Open zero one s t)) three = (d, e, empty, is, im, ports, zero, one)
+pub error_sound : ErrorsRefute → (words : List (List ℕ)) (holds : List ℕ → Option (List ℕ)) (before after : Reads) (status : ℕ) (text : List ℕ) (q : Question) (spec imp : List ℕ) → MayAnswer words holds before after status text → status ≡ 1
+    → AreTexts words holds q spec imp → AreRefuted q.asked spec imp
+error_sound refute = answer_so AreRefuted 1 (λ e. omega (arith, e)) (λ e. omega (arith, e)) refute
 
-pub error_sound : (words : List (List ℕ)) (holds : List ℕ → Option (List ℕ)) (before after : Reads) (status : ℕ) (text spec imp : List ℕ) → MayAnswer words holds before after status text → status ≡ 1
-    → AreTexts words holds spec imp → AreRefuted spec imp
-error_sound = answer_so AreRefuted 1 (λ e. omega (arith, e)) (λ e. omega (arith, e)) refuted
-
-pub open_sound : (words : List (List ℕ)) (holds : List ℕ → Option (List ℕ)) (before after : Reads) (status : ℕ) (text spec imp : List ℕ) → MayAnswer words holds before after status text → status ≡ 3
-    → AreTexts words holds spec imp → AreOpen spec imp
-open_sound = answer_so AreOpen 3 (λ e. omega (arith, e)) (λ e. omega (arith, e)) left_open
+pub open_sound : OpenAnswersLeaveOpen → (words : List (List ℕ)) (holds : List ℕ → Option (List ℕ)) (before after : Reads) (status : ℕ) (text : List ℕ) (q : Question) (spec imp : List ℕ) → MayAnswer words holds before after status text → status ≡ 3
+    → AreTexts words holds q spec imp → AreLeftOpen q.asked spec imp
+open_sound leave = answer_so AreLeftOpen 3 (λ e. omega (arith, e)) (λ e. omega (arith, e)) leave
 
 -- no text that is judged gives the status of a failed read
-never_unread : (spec imp text : List ℕ) (status : ℕ) → Judges spec imp status text → status ≡ 4 → ⊥
-never_unread spec imp text status (SpecRefused fault is s t) four = omega (arith, s, four)
-never_unread spec imp text status (ImpRefused d is fault never s t) four = omega (arith, s, four)
-never_unread spec imp text status (PairUnknown d e empty is im never s t) four = omega (arith, s, four)
-never_unread spec imp text status (Judged d e empty is im ports (AtZero name fails s t)) four = omega (arith, s, four)
-never_unread spec imp text status (Judged d e empty is im ports (AtOne name passes fails s t)) four = omega (arith, s, four)
-never_unread spec imp text status (Judged d e empty is im ports (Open zero one s t)) four = omega (arith, s, four)
+never_unread : (asked : TextsAsked) (spec imp : List ℕ) (status : ℕ) (text : List ℕ) → Judges asked spec imp status text → status ≡ 4 → ⊥
+never_unread asked spec imp status text (Refused r is s t) four = omega (arith, s, four)
+never_unread asked spec imp status text (Judged p lines stands climb s t) four = report_status lines (sym s ∙ four)
 
 -- a failed read is told only where one was counted
 pub unread_rose : (words : List (List ℕ)) (holds : List ℕ → Option (List ℕ)) (before after : Reads) (status : ℕ) (text : List ℕ) → MayAnswer words holds before after status text → status ≡ 4
     → Rose before.faults after.faults
 unread_rose words holds before after status text (Usage none c s t) four = absurd (omega (arith, s, four))
-unread_rose words holds before after status text (Asked names e (SpecUnread c rose s t)) four = rose
-unread_rose words holds before after status text (Asked names e (SpecLong spec g l c s t)) four = absurd (omega (arith, s, four))
-unread_rose words holds before after status text (Asked names e (SpecRead spec between g short c (ImpUnread d rose s t))) four = omega (arith, c.later, rose)
-unread_rose words holds before after status text (Asked names e (SpecRead spec between g short c (ImpLong imp h l d s t))) four = absurd (omega (arith, s, four))
-unread_rose words holds before after status text (Asked names e (SpecRead spec between g short c (BothRead imp h low d j))) four = absurd (never_unread spec imp text status j four)
+unread_rose words holds before after status text (Asked q e (SpecUnread c rose s t)) four = rose
+unread_rose words holds before after status text (Asked q e (SpecLong spec g l c s t)) four = absurd (omega (arith, s, four))
+unread_rose words holds before after status text (Asked q e (SpecRead spec between g short c (ImpUnread d rose s t))) four = omega (arith, c.later, rose)
+unread_rose words holds before after status text (Asked q e (SpecRead spec between g short c (ImpLong imp h l d s t))) four = absurd (omega (arith, s, four))
+unread_rose words holds before after status text (Asked q e (SpecRead spec between g short c (BothRead imp h low d j))) four = absurd (never_unread q.asked spec imp status text j four)

@@ -5,14 +5,25 @@ ghost use Rattle.bb_ladder.specs.declared.side_fault.SideFault.{SideFault};
 ghost use Rattle.bb_ladder.specs.Refusals.{at_line};
 ghost use Rattle.bb_ladder.specs.SideWords.{design_words, fault_words, name_words, with_name};
 
-use crate::fault::push_at_line;
 use crate::side_fault::SideFault;
 use bb_bits::{Name, NoMemory};
 use bb_elab::ElabFault;
 use bb_expr::NameFault;
+use itoa::Buffer;
+
+// Appends a word and a line of the text.
+fn push_at_line(text: &mut Vec<u8>, word: &str, line: u32) -> Result<(), NoMemory>
+    ensures { IfOk result (λ done. text.new.items ≡ text.old.items ++ at_line word.now line) }
+{
+    text.extend_from_slice(word.as_bytes())?;
+    text.extend_from_slice(b" line ")?;
+    let mut buffer = Buffer::new();
+    text.extend_from_slice(buffer.format(line).as_bytes())?;
+    Ok(())
+}
 
 // Appends a word and a name.
-fn push_with_name(text: &mut Vec<u8>, word: &str, name: &Name) -> Result<(), NoMemory>
+pub(crate) fn push_with_name(text: &mut Vec<u8>, word: &str, name: &Name) -> Result<(), NoMemory>
     ensures { IfOk result (λ done. text.new.items ≡ text.old.items ++ with_name word.now name.now) }
 {
     text.extend_from_slice(word.as_bytes())?;

@@ -4,6 +4,4 @@
 #[cfg(test)]
 mod lex_tests;
 #[cfg(test)]
-mod narrow_tests;
-#[cfg(test)]
 mod parse_tests;

@@ -1,9 +1,11 @@
 -- What was written into an empty sink is the report, and the files are those that were given.
-use Rattle.std.proofs.Common.{◌≡◌, ℕ, List, [], ◌∷◌, codes, Some, refl, sym, ◌∙◌, subst}
+use Rattle.std.proofs.Common.{◌≡◌, ℕ, List, [], ◌∷◌, codes, Some, refl, sym, ap, subst}
+use Rattle.std.specs.Prelude.{option_map}
 use Rattle.std.specs.Io.KnownBytes.{append_known}
 use Rattle.bb_outside.specs.Counts.{Reads}
 use Rattle.bb_outside.specs.MemFiles.{HeldFiles, text_under, reads_of}
-use Rattle.bb_ladder.specs.Answers.{MayAnswer, AreTexts, Held, AreRefuted}
+use Rattle.bb_ladder.specs.Answers.{MayAnswer, AreTexts, Question, question}
+use Rattle.bb_words.specs.Laws.{PlainWordsAreFiles, files_alone}
 use Rattle.bb_rows.specs.Memory.{holds, none_read, MayTell}
 
 -- an empty sink that grew by a text holds the text
@@ -24,14 +26,18 @@ told words known files spec imp before after status text e f g may = (
       (subst (λ (r : Reads). MayAnswer words (λ name. Some (text_under files name)) r after status text) g may)),
 )
 
--- the two names ask for the two texts
-named : (program spec imp : List ℕ) → AreTexts (program ∷ codes "s.v" ∷ codes "i.v" ∷ []) (holds spec imp) spec imp
-named program spec imp = Held (codes "s.v", codes "i.v") refl refl refl
+-- what known words ask of the two texts, the words that were read ask of the files
+pub asked : (words known : List (List ℕ)) (files : List (List ℕ × List ℕ)) (spec imp : List ℕ) (q : Question) (s i : List ℕ)
+    → words ≡ known → files ≡ (codes "s.v", spec) ∷ (codes "i.v", imp) ∷ []
+    → AreTexts known (holds spec imp) q s i → AreTexts words (λ name. Some (text_under files name)) q s i
+asked words known files spec imp q s i e f texts =
+    subst (λ (w : List (List ℕ)). AreTexts w (λ name. Some (text_under files name)) q s i) (sym e)
+    (subst (λ (fs : List (List ℕ × List ℕ)). AreTexts known (λ name. Some (text_under fs name)) q s i) (sym f) texts)
 
-pub refuted : (words known : List (List ℕ)) (files : List (List ℕ × List ℕ)) (program spec imp : List ℕ)
-    → words ≡ known → files ≡ (codes "s.v", spec) ∷ (codes "i.v", imp) ∷ [] → known ≡ program ∷ codes "s.v" ∷ codes "i.v" ∷ []
-    → ((s i : List ℕ) → AreTexts words (λ name. Some (text_under files name)) s i → AreRefuted s i) → AreRefuted spec imp
-refuted words known files program spec imp e f g so =
-    so spec imp (subst (λ (w : List (List ℕ)). AreTexts w (λ name. Some (text_under files name)) spec imp) (sym (e ∙ g))
-    (subst (λ (fs : List (List ℕ × List ℕ)). AreTexts (program ∷ codes "s.v" ∷ codes "i.v" ∷ []) (λ name. Some (text_under fs name)) spec imp) (sym f)
-    (named program spec imp)))
+-- the question of the two names
+abbrev pub named : Question
+named = question (files_alone (codes "s.v") (codes "i.v"))
+
+-- the two names ask for the two texts
+pub names_ask : PlainWordsAreFiles → (program spec imp : List ℕ) (known : List (List ℕ)) → known ≡ program ∷ codes "s.v" ∷ codes "i.v" ∷ [] → AreTexts known (holds spec imp) named spec imp
+names_ask law program spec imp known e = rw e (record { asks = ap (option_map question) (law program (codes "s.v") (codes "i.v") refl refl); spec_held = refl; imp_held = refl })

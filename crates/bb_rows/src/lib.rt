@@ -7,11 +7,11 @@ mod example_tests;
 mod fault_tests;
 mod memory;
 #[cfg(test)]
+mod option_tests;
+#[cfg(test)]
 mod outside_tests;
 #[cfg(test)]
-mod reference;
-#[cfg(test)]
-mod reference_tests;
+mod row_tests;
 #[cfg(test)]
 mod tests;
 

@@ -1,10 +1,13 @@
 //! One run of the top call over two texts in memory.
 ghost use Rattle.std.specs.Prelude.{◌≡◌, ◌<◌, ◌≤◌, ◌∷◌, [], ℕ, List, length, take, map, codes, string_bytes, IfOk};
-ghost use Rattle.bb_ladder.specs.Answers.{AreRefuted};
-ghost use Rattle.bb_rows.specs.Memory.{MayTell};
+ghost use Rattle.bb_ladder.specs.Answers.{AreTexts, Question, question};
+ghost use Rattle.bb_ladder.specs.TextPairs.{AreLeftOpen, AreRefuted};
+ghost use Rattle.bb_rows.specs.Memory.{MayTell, holds};
+ghost use Rattle.bb_words.specs.Laws.{files_alone};
 
 use bb_ladder::run;
 use bb_outside::{MemFiles, MemSink, Take};
+use bb_words::plain_words_are_files;
 use std::alloc::{AllocError, Global};
 
 /// A status and what was written.
@@ -77,10 +80,18 @@ pub fn run_in_memory(
         × (outcome.report.items ≡ take n text) × MayTell (map (λ text. text.now) texts.now) spec.now imp.now status text) }
     ensures silent { IfOk result (λ outcome. outcome.status ≡ 5 → outcome.report.items ≡ []) }
 
-    // An error is reported only where no contents of the box make the two agree.
-    ensures error { IfOk result (λ outcome. outcome.status ≡ 1 → (program : List ℕ)
-        → map (λ text. text.now) texts.now ≡ program ∷ codes "s.v" ∷ codes "i.v" ∷ [] → AreRefuted spec.now imp.now) }
+    // An error is reported only where no contents of the boxes make the two agree, and the question is left open only where
+    // each check that the words ask for leaves it open.
+    ensures error { IfOk result (λ outcome. outcome.status ≡ 1 → (q : Question) (s i : List ℕ)
+        → AreTexts (map (λ text. text.now) texts.now) (holds spec.now imp.now) q s i → AreRefuted q.asked s i) }
+    ensures left_open { IfOk result (λ outcome. outcome.status ≡ 3 → (q : Question) (s i : List ℕ)
+        → AreTexts (map (λ text. text.now) texts.now) (holds spec.now imp.now) q s i → AreLeftOpen q.asked s i) }
+
+    // So it is where the words are the two names.
+    ensures refuted { IfOk result (λ outcome. outcome.status ≡ 1 → (program : List ℕ)
+        → map (λ text. text.now) texts.now ≡ program ∷ codes "s.v" ∷ codes "i.v" ∷ [] → AreRefuted (question (files_alone (codes "s.v") (codes "i.v"))).asked spec.now imp.now) }
 {
+    plain_words_are_files();
     let words = words(alloc, texts)?;
     let mut files = held_files(alloc, spec, imp, failing)?;
     let mut sink = planned_sink(alloc, plan)?;

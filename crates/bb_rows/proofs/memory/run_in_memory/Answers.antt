@@ -1,5 +1,5 @@
 use Rattle.std.proofs.Common.{◌∙◌, ap, map, string_bytes}
-use Rattle.bb_rows.proofs.Told.{fresh, grown, refuted, told}
+use Rattle.bb_rows.proofs.Told.{asked, fresh, grown, named, names_ask, told}
 use Rattle.bb_rows.proofs.memory.run_in_memory.Goals as goal
 
 pub returns-clause-whole : goal.returns-clause-whole
@@ -25,6 +25,13 @@ returns-clause-front c = λ six.
     )
 
 pub returns-clause-error : goal.returns-clause-error
-returns-clause-error c = λ one program asked.
-    refuted _ _ _ program _ _ (ap (map string_bytes) c.deref.ensures.value ∙ c.in_ok-words.ensures) c.in_ok-files.ensures.files asked
-    (c.run-status.ensures.error one)
+returns-clause-error c = λ one q s i texts. c.run-status.ensures.error one q s i
+    (asked _ _ _ _ _ q s i (ap (map string_bytes) c.deref.ensures.value ∙ c.in_ok-words.ensures) c.in_ok-files.ensures.files texts)
+
+pub returns-clause-left_open : goal.returns-clause-left_open
+returns-clause-left_open c = λ three q s i texts. c.run-status.ensures.left_open three q s i
+    (asked _ _ _ _ _ q s i (ap (map string_bytes) c.deref.ensures.value ∙ c.in_ok-words.ensures) c.in_ok-files.ensures.files texts)
+
+pub returns-clause-refuted : goal.returns-clause-refuted
+returns-clause-refuted c = λ one program names. c.run-status.ensures.error one named _ _
+    (asked _ _ _ _ _ named _ _ (ap (map string_bytes) c.deref.ensures.value ∙ c.in_ok-words.ensures) c.in_ok-files.ensures.files (names_ask c.plain_words_are_files.ensures program _ _ _ names))

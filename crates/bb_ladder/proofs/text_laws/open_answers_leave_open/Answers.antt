@@ -1,0 +1,5 @@
+use Rattle.bb_ladder.proofs.TextPairLaws.{open_answers_leave_open}
+use Rattle.bb_ladder.proofs.text_laws.open_answers_leave_open.Goals as goal
+
+pub returns : goal.returns
+returns c = open_answers_leave_open c.climbs_leave_open.ensures

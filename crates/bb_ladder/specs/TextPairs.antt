@@ -1,0 +1,52 @@
+-- Two texts, that of a specification and that of an implementation with boxes, and what is asked of them: their designs, or the first
+-- thing for which they are refused; the pair that stands for them; and whether contents of the boxes agree. What is wrong with the
+-- specification comes before what is wrong with the implementation, and that before what is wrong with the two as a pair.
+use Rattle.std.specs.Prelude.{◌≡◌, ℕ, List, Option}
+use Rattle.bb_elab.specs.Hierarchy.{Design}
+use Rattle.bb_elab.specs.ListLaws.{IsAllowed}
+use Rattle.bb_match.specs.DesignAgreement.{IsPairFor, NoContentsAgree}
+use Rattle.bb_match.specs.DesignRefusals.{IsRefusalFor}
+use Rattle.bb_net.specs.Pairs.{NetPair}
+use Rattle.bb_rungs.specs.LeftOpen.{AllLeaveOpen}
+use Rattle.bb_ladder.specs.declared.asked.Asked.{Asked}
+use Rattle.bb_ladder.specs.declared.refusal.Refusal.{Refusal}
+use Rattle.bb_ladder.specs.declared.refusal.Refusal.TheVariants.{Spec, Imp, Pair, NoMemory}
+use Rattle.bb_ladder.specs.TextDesigns.{IsDesignOf, IsSideFault}
+
+-- they are the designs of the two texts
+pub record AreDesignsOf (asked : Asked) (spec imp : List ℕ) (s i : Design) : Type 0 where
+  pub spec_design : IsDesignOf asked.spec_top spec s
+  pub imp_design : IsDesignOf asked.imp_top imp i
+
+-- it is the first refusal of the two texts
+abbrev pub IsRefusal : Asked → List ℕ → List ℕ → Refusal → Type 0
+IsRefusal asked spec imp (Spec fault) = IsSideFault asked.spec_top spec fault
+IsRefusal asked spec imp (Imp fault) = (s : Design) × IsDesignOf asked.spec_top spec s × IsSideFault asked.imp_top imp fault
+IsRefusal asked spec imp (Pair fault) = (s i : Design) × AreDesignsOf asked spec imp s i × IsRefusalFor s i fault
+IsRefusal asked spec imp NoMemory = ⊥
+
+-- the pair stands for the two texts: it stands for their designs
+abbrev pub StandsForTexts : Asked → List ℕ → List ℕ → NetPair → Type 0
+StandsForTexts asked spec imp p = (s i : Design) × AreDesignsOf asked spec imp s i × IsPairFor s i p
+
+-- they fit, so that a pair stands for them, and no contents of the boxes make the two agree
+abbrev pub AreRefuted : Asked → List ℕ → List ℕ → Type 0
+AreRefuted asked spec imp = (s i : Design) × AreDesignsOf asked spec imp s i × ((p : NetPair) × IsPairFor s i p) × NoContentsAgree s i
+
+-- a pair stands for the two, and each check that is asked for leaves the question open for it
+abbrev pub AreLeftOpen : Asked → List ℕ → List ℕ → Type 0
+AreLeftOpen asked spec imp = (p : NetPair) × StandsForTexts asked spec imp p × AllLeaveOpen p asked.options
+
+-- laws that a reader expects
+
+-- the design of a text is one of which the laws of designs speak
+abbrev pub DesignsAreAllowed : Type 0
+DesignsAreAllowed = (name : Option (List ℕ)) (text : List ℕ) (d : Design) → IsDesignOf name text d → IsAllowed d
+
+-- two texts have at most one first refusal
+abbrev pub RefusalsAreOne : Type 0
+RefusalsAreOne = (asked : Asked) (spec imp : List ℕ) (e f : Refusal) → IsRefusal asked spec imp e → IsRefusal asked spec imp f → e ≡ f
+
+-- and no pair where they have one
+abbrev pub NotPairAndRefusal : Type 0
+NotPairAndRefusal = (asked : Asked) (spec imp : List ℕ) (p : NetPair) (refusal : Refusal) → StandsForTexts asked spec imp p → IsRefusal asked spec imp refusal → ⊥

@@ -1,0 +1,83 @@
+//! The verdict on two texts: they are made into a pair, and the checks that are asked for are run on it.
+
+ghost use Rattle.std.specs.Prelude.{◌≡◌, ◌<◌, List, length, IfOk};
+ghost use Rattle.bb_rungs.specs.declared.line.Line.{Line};
+ghost use Rattle.bb_rungs.specs.Reports.{report_text, status_of, verdict_of};
+ghost use Rattle.bb_rungs.specs.Rungs.{AreBounds, IsClimb};
+ghost use Rattle.bb_ladder.specs.declared.answer.TheConstants.{READ_LIMIT};
+ghost use Rattle.bb_ladder.specs.declared.refusal.Refusal.{Refusal};
+ghost use Rattle.bb_ladder.specs.RefusalLines.{refusal_line};
+ghost use Rattle.bb_ladder.specs.TextAnswers.{Judges};
+ghost use Rattle.bb_ladder.specs.TextPairs.{AreLeftOpen, AreRefuted};
+
+use crate::answer::Answer;
+use crate::asked::Asked;
+use crate::pair_texts::{keeps, pair_of};
+use crate::refusal::Refusal;
+use crate::refusal_words::push_refusal;
+use crate::text_laws::{errors_refute, open_answers_leave_open};
+use bb_bits::NoMemory;
+use bb_net::Pair;
+use bb_rungs::{Options, climb, climbs_are_told, report, verdict_of};
+use std::alloc::Global;
+
+// The answer that refuses two texts.
+fn refuse(alloc: Global, refusal: &Refusal) -> Result<Answer, NoMemory>
+    ensures status { IfOk result (λ answer. answer.status ≡ 2) }
+    ensures report { IfOk result (λ answer. answer.report.items ≡ refusal_line refusal.now) }
+    ensures memory { IfOk result (λ answer. refusal.now ≡ Refusal.NoMemory → ⊥) }
+{
+    let mut report = Vec::new(alloc);
+    push_refusal(&mut report, refusal)?;
+    Ok(Answer { status: 2, report })
+}
+
+// The answer of the checks of a pair.
+fn check(alloc: Global, pair: &Pair, options: &Options) -> Result<Answer, NoMemory>
+    requires bounds { AreBounds options.now }
+    ensures answer { IfOk result (λ answer. (lines : List Line) × IsClimb pair.now options.now lines
+        × (answer.status ≡ status_of (verdict_of lines)) × (answer.report.items ≡ report_text pair.now lines)) }
+{
+    climbs_are_told();
+    keeps(pair);
+    let lines = climb(alloc, pair, options)?;
+    let text = report(alloc, pair, &lines)?;
+    Ok(Answer {
+        status: verdict_of(&lines).status(),
+        report: text,
+    })
+}
+
+// The answer to two texts.
+fn answer(alloc: Global, spec: &[u8], imp: &[u8], asked: &Asked) -> Result<Answer, NoMemory>
+    requires spec { length spec.now < READ_LIMIT }
+    requires imp { length imp.now < READ_LIMIT }
+    requires bounds { AreBounds asked.now.options }
+    ensures answer { IfOk result (λ answer. Judges asked.now spec.now imp.now answer.status answer.report.items) }
+{
+    match pair_of(alloc, spec, imp, asked) {
+        Ok(pair) => check(alloc, &pair, &asked.options),
+        Err(refusal) => refuse(alloc, &refusal),
+    }
+}
+
+/// What is answered to the text of the specification and that of the implementation, whoever read them.
+///
+/// Status 1 says that no contents of the boxes make the two agree, status 3 that each check that is asked for leaves the question
+/// open, and status 2 that the line is their first refusal.
+///
+/// # Errors
+///
+/// Want of memory alone.
+pub fn judge_pair(alloc: Global, spec: &[u8], imp: &[u8], asked: &Asked) -> Result<Answer, NoMemory>
+    requires spec { length spec.now < READ_LIMIT }
+    requires imp { length imp.now < READ_LIMIT }
+    requires bounds { AreBounds asked.now.options }
+    ensures answer { IfOk result (λ answer. Judges asked.now spec.now imp.now answer.status answer.report.items) }
+    ensures error { IfOk result (λ answer. answer.status ≡ 1 → AreRefuted asked.now spec.now imp.now) }
+    ensures left_open { IfOk result (λ answer. answer.status ≡ 3 → AreLeftOpen asked.now spec.now imp.now) }
+{
+    errors_refute();
+    open_answers_leave_open();
+    answer(alloc, spec, imp, asked)
+}

@@ -1,0 +1,123 @@
+//! Two texts as a pair, or why they are refused.
+//!
+//! The specification is made into its flat netlist first, and of what is made on the way only that is kept; then the implementation
+//! is; then the two are laid beside each other.
+
+ghost use Rattle.std.specs.Prelude.{◌≡◌, ◌<◌, ◌⊎◌, ℕ, List, length, option_copied, IfOk, IfErr, MatchResult};
+ghost use Rattle.bb_elab.specs.Hierarchy.{Design};
+ghost use Rattle.bb_elab.specs.Stands.{StandsFor};
+ghost use Rattle.bb_match.specs.DesignAgreement.{IsPairFor};
+ghost use Rattle.bb_net.specs.Pairs.{NetPair, IsPair};
+ghost use Rattle.bb_ladder.specs.declared.answer.TheConstants.{READ_LIMIT};
+ghost use Rattle.bb_ladder.specs.declared.asked.Asked.{Asked};
+ghost use Rattle.bb_ladder.specs.declared.refusal.Refusal.{Refusal};
+ghost use Rattle.bb_ladder.specs.TextDesigns.{IsDesignOf};
+ghost use Rattle.bb_ladder.specs.TextPairs.{AreDesignsOf, IsRefusal, StandsForTexts};
+
+use crate::asked::Asked;
+use crate::refusal::{Refusal, of_imp, of_pair, of_spec};
+use crate::side::flat_of;
+use crate::text_laws::{no_pair_and_refusal, refusals_are_one};
+use bb_bits::Name;
+use bb_elab::Flat;
+use bb_match::pair;
+use bb_net::Pair;
+use std::alloc::Global;
+
+// The bytes of a top's name, if it has one.
+fn top_bytes(top: &Option<Name>) -> Option<&[u8]>
+    ensures bytes { option_copied result ≡ top.now }
+{
+    match top {
+        Some(name) => Some(name.bytes()),
+        None => None,
+    }
+}
+
+// The flat netlist of the specification.
+fn spec_flat(alloc: Global, spec: &[u8], asked: &Asked) -> Result<Flat, Refusal>
+    requires short { length spec.now < READ_LIMIT }
+    ensures ok { IfOk result (λ flat. (s : Design) × IsDesignOf asked.now.spec_top spec.now s × StandsFor s flat) }
+    ensures refusal { IfErr result (λ refusal. (refusal ≡ Refusal.NoMemory) ⊎ ((imp : List ℕ) → IsRefusal asked.now spec.now imp refusal)) }
+{
+    match flat_of(alloc, spec, top_bytes(&asked.spec_top)) {
+        Ok(flat) => Ok(flat),
+        Err(fault) => Err(of_spec(fault)),
+    }
+}
+
+// The flat netlist of the implementation.
+fn imp_flat(alloc: Global, imp: &[u8], asked: &Asked) -> Result<Flat, Refusal>
+    requires short { length imp.now < READ_LIMIT }
+    ensures ok { IfOk result (λ flat. (i : Design) × IsDesignOf asked.now.imp_top imp.now i × StandsFor i flat) }
+    ensures refusal { IfErr result (λ refusal. (refusal ≡ Refusal.NoMemory)
+        ⊎ ((spec : List ℕ) (s : Design) → IsDesignOf asked.now.spec_top spec s → IsRefusal asked.now spec imp.now refusal)) }
+{
+    match flat_of(alloc, imp, top_bytes(&asked.imp_top)) {
+        Ok(flat) => Ok(flat),
+        Err(fault) => Err(of_imp(fault)),
+    }
+}
+
+// What every pair keeps.
+pub(crate) fn keeps(pair: &Pair)
+    ensures kept { IsPair pair.now }
+{
+    pair.imp();
+}
+
+// The pair of the two flat netlists.
+fn beside(alloc: Global, spec: Flat, imp: Flat) -> Result<Pair, Refusal>
+    ensures ok { IfOk result (λ p. (s i : Design) → StandsFor s spec → StandsFor i imp → IsPairFor s i p) }
+    ensures refusal { IfErr result (λ refusal. (refusal ≡ Refusal.NoMemory)
+        ⊎ ((asked : Asked) (spec_text imp_text : List ℕ) (s i : Design) → AreDesignsOf asked spec_text imp_text s i → StandsFor s spec → StandsFor i imp → IsRefusal asked spec_text imp_text refusal)) }
+{
+    match pair(alloc, spec, imp) {
+        Ok(pair) => {
+            keeps(&pair);
+            Ok(pair)
+        }
+        Err(fault) => Err(of_pair(fault)),
+    }
+}
+
+// The pair of two texts.
+fn made(alloc: Global, spec: &[u8], imp: &[u8], asked: &Asked) -> Result<Pair, Refusal>
+    requires spec { length spec.now < READ_LIMIT }
+    requires imp { length imp.now < READ_LIMIT }
+    ensures ok { IfOk result (StandsForTexts asked.now spec.now imp.now) }
+    ensures refusal { IfErr result (λ refusal. (refusal ≡ Refusal.NoMemory) ⊎ IsRefusal asked.now spec.now imp.now refusal) }
+{
+    let of_spec = match spec_flat(alloc, spec, asked) {
+        Ok(flat) => flat,
+        Err(refusal) => return Err(refusal),
+    };
+    let of_imp = match imp_flat(alloc, imp, asked) {
+        Ok(flat) => flat,
+        Err(refusal) => return Err(refusal),
+    };
+    beside(alloc, of_spec, of_imp)
+}
+
+/// The pair of the text of a specification and that of an implementation, or why they are refused.
+///
+/// # Errors
+///
+/// The first thing that is wrong: with the specification, else with the implementation, else with the two as a pair; or want of memory.
+pub fn pair_of(alloc: Global, spec: &[u8], imp: &[u8], asked: &Asked) -> Result<Pair, Refusal>
+    requires spec { length spec.now < READ_LIMIT }
+    requires imp { length imp.now < READ_LIMIT }
+
+    // What is answered stands for the two texts, or is their first refusal.
+    ensures ok { IfOk result (StandsForTexts asked.now spec.now imp.now) }
+    ensures refusal { IfErr result (λ refusal. (refusal ≡ Refusal.NoMemory) ⊎ IsRefusal asked.now spec.now imp.now refusal) }
+
+    // A pair is answered where there is one, and else the first refusal, unless memory runs out.
+    ensures only_pair { (p : NetPair) → StandsForTexts asked.now spec.now imp.now p → IfErr result (λ refusal. refusal ≡ Refusal.NoMemory) }
+    ensures only_refusal { (first : Refusal) → IsRefusal asked.now spec.now imp.now first
+        → MatchResult result (λ p. ⊥) (λ refusal. (refusal ≡ first) ⊎ (refusal ≡ Refusal.NoMemory)) }
+{
+    refusals_are_one();
+    no_pair_and_refusal();
+    made(alloc, spec, imp, asked)
+}

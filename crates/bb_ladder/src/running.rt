@@ -1,0 +1,117 @@
+//! The top call: the words are read, then the two files, and the report is made whole before its first byte is written.
+ghost use Rattle.std.specs.Prelude.{◌≡◌, ◌≤◌, ◌<◌, ◌≢◌, ℕ, List, length, map, take, string_bytes, IfOk};
+ghost use Rattle.std.specs.Io.KnownBytes.{append_known};
+ghost use Rattle.bb_outside.specs.Counts.{Rose};
+ghost use Rattle.bb_rungs.specs.Rungs.{AreBounds};
+ghost use Rattle.bb_ladder.specs.declared.answer.TheConstants.{READ_LIMIT};
+ghost use Rattle.bb_ladder.specs.Answers.{AfterSpec, AreTexts, MayAnswer, OfFiles, Question as TextQuestion};
+ghost use Rattle.bb_ladder.specs.TextPairs.{AreLeftOpen, AreRefuted};
+
+use crate::answer::{Answer, READ_LIMIT, say};
+use crate::judging::judge_pair;
+use crate::text_laws::{errors_refute, open_answers_leave_open};
+use crate::words::{Question, question_of};
+use bb_bits::NoMemory;
+use bb_outside::{FileFault, Files, Sink, put_all};
+use bb_words::WordsFault;
+use std::alloc::Global;
+
+// Reads the implementation after the specification.
+fn read_imp<F: Files>(
+    alloc: Global,
+    spec: &[u8],
+    question: &Question<'_>,
+    files: &mut F,
+) -> Result<Answer, NoMemory>
+    requires short { length spec.now < READ_LIMIT }
+    requires bounds { AreBounds question.now.asked.options }
+    ensures answer { IfOk result (λ answer. AfterSpec (F.holds files.old question.now.imp.now) (record { spec = question.now.spec.now; imp = question.now.imp.now; asked = question.now.asked })
+        (F.reads files.old) (F.reads files.new) spec.now answer.status answer.report.items) }
+    ensures never_falls { (F.reads files.old).faults ≤ (F.reads files.new).faults }
+    ensures kept { (n : List ℕ) → F.holds files.new n ≡ F.holds files.old n }
+{
+    match files.read(alloc, question.imp, READ_LIMIT) {
+        Err(FileFault::Failed) => say(alloc, 4, "unread impl\n"),
+        Err(FileFault::NoMemory) => Err(NoMemory),
+        Ok(text) if text.len() as u64 == READ_LIMIT => say(alloc, 2, "refused impl toolong\n"),
+        Ok(text) => judge_pair(alloc, spec, &text, &question.asked),
+    }
+}
+
+// Reads the specification, and then the implementation.
+fn read_spec<F: Files>(
+    alloc: Global,
+    question: &Question<'_>,
+    files: &mut F,
+) -> Result<Answer, NoMemory>
+    requires bounds { AreBounds question.now.asked.options }
+    ensures answer { IfOk result (λ answer. OfFiles (F.holds files.old) (record { spec = question.now.spec.now; imp = question.now.imp.now; asked = question.now.asked })
+        (F.reads files.old) (F.reads files.new) answer.status answer.report.items) }
+    ensures never_falls { (F.reads files.old).faults ≤ (F.reads files.new).faults }
+    ensures kept { (n : List ℕ) → F.holds files.new n ≡ F.holds files.old n }
+{
+    match files.read(alloc, question.spec, READ_LIMIT) {
+        Err(FileFault::Failed) => say(alloc, 4, "unread spec\n"),
+        Err(FileFault::NoMemory) => Err(NoMemory),
+        Ok(text) if text.len() as u64 == READ_LIMIT => say(alloc, 2, "refused spec toolong\n"),
+        Ok(text) => read_imp(alloc, &text, question, files),
+    }
+}
+
+// What is answered to the words.
+fn answer<F: Files>(alloc: Global, words: &[String], files: &mut F) -> Result<Answer, NoMemory>
+    ensures answer { IfOk result (λ answer. MayAnswer (map string_bytes words.now) (F.holds files.old) (F.reads files.old) (F.reads files.new)
+        answer.status answer.report.items) }
+    ensures never_falls { (F.reads files.old).faults ≤ (F.reads files.new).faults }
+    ensures kept { (n : List ℕ) → F.holds files.new n ≡ F.holds files.old n }
+{
+    match question_of(alloc, words) {
+        Ok(question) => read_spec(alloc, &question, files),
+        Err(WordsFault::Usage) => say(alloc, 2, "refused usage\n"),
+        Err(WordsFault::NoMemory) => Err(NoMemory),
+    }
+}
+
+/// Compares the implementation with the specification and writes a report. It answers a status:
+///
+/// - 1: the report is written and ends with `verdict error`;
+/// - 2: the report is the line of a refusal;
+/// - 3: the report is written and ends with `verdict open`;
+/// - 4: a file could not be read, and the report says which;
+/// - 5: memory ran out, and nothing is written;
+/// - 6: the sink failed, and a front of a report is written.
+///
+/// The first word is the program's name. The specification is read first and the implementation after it, each by one read.
+pub fn run<F: Files, K: Sink>(alloc: Global, words: &[String], files: &mut F, out: &mut K) -> u8
+    ensures status { result ≤ 6 }
+
+    // What is written is a whole report, nothing, or a front of a report.
+    ensures whole { result < 5 → (text : List ℕ) × (K.written out.new ≡ append_known (K.written out.old) text)
+        × MayAnswer (map string_bytes words.now) (F.holds files.old) (F.reads files.old) (F.reads files.new) result text }
+    ensures silent { result ≡ 5 → K.written out.new ≡ K.written out.old }
+    ensures front { result ≡ 6 → (status : ℕ) × (text : List ℕ) × (n : ℕ) × (n < length text) × (K.written out.new ≡ append_known (K.written out.old) (take n text))
+        × MayAnswer (map string_bytes words.now) (F.holds files.old) (F.reads files.old) (F.reads files.new) status text }
+
+    // An error is reported only where no contents of the boxes make every output and every next state agree on every vector.
+    ensures error { result ≡ 1 → (q : TextQuestion) (spec imp : List ℕ) → AreTexts (map string_bytes words.now) (F.holds files.old) q spec imp → AreRefuted q.asked spec imp }
+
+    // The question is left open only where each check that is asked for finds no mistake, or would need too many nodes.
+    ensures left_open { result ≡ 3 → (q : TextQuestion) (spec imp : List ℕ) → AreTexts (map string_bytes words.now) (F.holds files.old) q spec imp → AreLeftOpen q.asked spec imp }
+
+    // What the files hold stays, and a file or the sink is blamed only where a failure was counted in this call.
+    ensures kept { (n : List ℕ) → F.holds files.new n ≡ F.holds files.old n }
+    ensures unread { result ≡ 4 → Rose (F.reads files.old).faults (F.reads files.new).faults }
+    ensures failed { result ≡ 6 → Rose (K.faults out.old) (K.faults out.new) }
+    ensures reads_never_fall { (F.reads files.old).faults ≤ (F.reads files.new).faults }
+    ensures faults_never_fall { K.faults out.old ≤ K.faults out.new }
+{
+    errors_refute();
+    open_answers_leave_open();
+    let Ok(answer) = answer(alloc, words, files) else {
+        return 5;
+    };
+    match put_all(out, &answer.report) {
+        Ok(()) => answer.status,
+        Err(_) => 6,
+    }
+}

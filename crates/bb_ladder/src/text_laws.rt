@@ -1,0 +1,64 @@
+//! Laws of two texts: refusals are one, a refusal and a pair exclude each other, and what an answer says of the texts. Each function has
+//! a law as its contract and does nothing.
+
+ghost use Rattle.bb_ladder.specs.TextAnswers.{ErrorsRefute, OpenAnswersLeaveOpen, RefusedAreAnsweredOnce};
+ghost use Rattle.bb_ladder.specs.TextPairs.{DesignsAreAllowed, NotPairAndRefusal, RefusalsAreOne};
+
+use crate::side::{not_design_and_fault, side_faults_are_one, text_designs_are_one};
+use bb_elab::list_laws::sound_texts_are_allowed;
+use bb_match::laws::{design_refusals_are_one, no_tables_no_contents, not_pair_and_refusal};
+use bb_parse::laws::sources_are_formed;
+use bb_rungs::{climbs_leave_open, errors_exclude_tables};
+
+/// The design of a text is one of which the laws of designs speak.
+pub fn designs_are_allowed()
+    ensures { DesignsAreAllowed }
+{
+    sources_are_formed();
+    sound_texts_are_allowed();
+}
+
+/// Two texts have at most one first refusal.
+pub fn refusals_are_one()
+    ensures { RefusalsAreOne }
+{
+    designs_are_allowed();
+    text_designs_are_one();
+    side_faults_are_one();
+    not_design_and_fault();
+    design_refusals_are_one();
+}
+
+/// No pair stands for two texts that have a refusal.
+pub fn no_pair_and_refusal()
+    ensures { NotPairAndRefusal }
+{
+    designs_are_allowed();
+    text_designs_are_one();
+    not_design_and_fault();
+    not_pair_and_refusal();
+}
+
+/// An error is told only where no contents agree.
+pub fn errors_refute()
+    ensures { ErrorsRefute }
+{
+    designs_are_allowed();
+    errors_exclude_tables();
+    no_tables_no_contents();
+}
+
+/// The question is left open only where each check that is asked for leaves it open.
+pub fn open_answers_leave_open()
+    ensures { OpenAnswersLeaveOpen }
+{
+    climbs_leave_open();
+}
+
+/// Where two texts have a refusal, its line is the only answer.
+pub fn refused_are_answered_once()
+    ensures { RefusedAreAnsweredOnce }
+{
+    refusals_are_one();
+    no_pair_and_refusal();
+}

@@ -1,4 +1,0 @@
-pub mod Loops
-pub mod Growing
-pub mod Laws
-pub mod SizeLaws
