@@ -1,0 +1,29 @@
+//! Tests of elaboration and of pairs of designs, through their public calls.
+#![tactic(auto)]
+
+#[cfg(test)]
+mod bits;
+#[cfg(test)]
+mod designs;
+#[cfg(test)]
+mod fitting;
+#[cfg(test)]
+mod pair_tests;
+#[cfg(test)]
+mod reference;
+#[cfg(test)]
+mod refusal_tests;
+#[cfg(test)]
+mod run_pairs;
+#[cfg(test)]
+mod run_tests;
+#[cfg(test)]
+mod size_tests;
+#[cfg(test)]
+mod sound_tests;
+#[cfg(test)]
+mod telling;
+#[cfg(test)]
+mod value_tests;
+#[cfg(test)]
+mod values;
