@@ -34,3 +34,21 @@ fn the_least_point_with_given_first_bits(rt: HostRuntime) -> Result<(), Fail> {
     assert_eq!(rt; point, [true, false]);
     Ok(())
 }
+
+#[test]
+fn quantifiers_and_least_points_of_a_conjunction(rt: HostRuntime) -> Result<(), Fail> {
+    let mut d = Diagrams::start(rt.alloc(), 2, 3, 4)?;
+    let a = d.var(0)?;
+    let b = d.var(1)?;
+    let both = d.and(a, b)?;
+    assert_eq!(rt; exists(&mut d, both, 1)?, a);
+    assert_eq!(rt; forall(&mut d, both, 0)?, Ref(0));
+    let mut point = [false, false];
+    assert!(rt; least(&d, both, true, 0, &mut point));
+    assert_eq!(rt; point, [true, true]);
+    assert!(rt; least(&d, both, false, 1, &mut point));
+    assert_eq!(rt; point, [true, false]);
+    point = [false, true];
+    assert!(rt; !least(&d, both, true, 1, &mut point));
+    Ok(())
+}
