@@ -1,6 +1,6 @@
 -- When contents of its boxes make a design agree with a specification. Both are taken between their cut points: a register's
 -- present state counts as an input and its next state as an output, and inputs and outputs of the two go by kind and text, so
--- that they agree in every state, clock cycle by clock cycle.
+-- that they agree in every state, in what they give and in the state that comes next.
 use Rattle.std.specs.Prelude.{◌≡◌, ◌↔◌, Bool, List, Contains}
 use Rattle.bb_bits.specs.Contents.{Contents}
 use Rattle.bb_bits.specs.Tables.{TableBits}
