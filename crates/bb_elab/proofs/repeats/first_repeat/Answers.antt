@@ -1,4 +1,4 @@
-use Rattle.std.proofs.Common.{◌≡◌, ◌≢◌, ◌<◌, ◌+◌, ◌++◌, ◌||◌, ◌∷◌, [], ℕ, zero, suc, Bool, true, false, List, Contains, take, drop, length, get_or, refl, sym, ap, ◌∙◌, subst, arith, true≢false, Some}
+use Rattle.std.proofs.Common.{◌≡◌, ◌≢◌, ◌<◌, ◌+◌, ◌||◌, ◌∷◌, [], ℕ, suc, Bool, true, false, List, Contains, take, drop, length, get_or, refl, sym, ap, ◌∙◌, subst, true≢false, Some}
 use Rattle.std.specs.Prelude.{slice_get}
 use Rattle.std.specs.List.{AllPairs, list_any}
 use Rattle.std.proofs.lemmas.List.{take_all}
@@ -7,18 +7,11 @@ use Rattle.std.proofs.lemmas.Option.{slice_get_read}
 use Rattle.bb_bits.specs.Names.{same_name}
 use Rattle.bb_elab.specs.Closures.{IsFirstRepeat}
 use Rattle.bb_elab.proofs.KnownNets.{any_there}
+use Rattle.bb_elab.proofs.NamedBits.{taken-push}
 use Rattle.bb_elab.proofs.RecursiveNames.{split}
 use Rattle.bb_elab.proofs.SoundNames.{none_of, push_name}
 use Rattle.bb_elab.proofs.TopLemmas.{same_equal, same_self, any-inserted}
 use Rattle.bb_elab.proofs.repeats.first_repeat.Goals as goal
-
-next-taken : (xs : List (List ℕ)) (i : ℕ) (x : List ℕ) → i < length xs → x ≡ get_or xs i x → take (i + 1) xs ≡ take i xs ++ x ∷ []
-next-taken [] i x lt is = absurd (omega (arith, lt))
-next-taken (y ∷ ys) zero x lt is = ap (λ z. z ∷ []) (sym is)
-next-taken (y ∷ ys) (suc i) x lt is = ap (λ n. take n (y ∷ ys)) (later i) ∙ ap (λ l. y ∷ l) (next-taken ys i x (omega (arith, lt)) is)
-  where
-    later : (j : ℕ) → suc j + 1 ≡ suc (j + 1)
-    later j = omega arith
 
 -- the name stands there already
 repeat_here : (names : List (List ℕ)) (k : ℕ) (x : List ℕ) → slice_get names k ≡ Some x → AllPairs ◌≢◌ (take k names) → list_any (same_name x) (take k names) ≡ true → IsFirstRepeat names x
@@ -29,7 +22,7 @@ repeat_here names k x there apart again =
 -- it does not
 still_apart : (names : List (List ℕ)) (k : ℕ) (x : List ℕ) → k < length names → x ≡ get_or names k x → AllPairs ◌≢◌ (take k names) → list_any (same_name x) (take k names) ≡ false → AllPairs ◌≢◌ (take (k + 1) names)
 still_apart names k x lt is apart none =
-    subst (AllPairs ◌≢◌) (sym (next-taken names k x lt is)) (push_name (take k names) x apart
+    subst (AllPairs ◌≢◌) (sym (taken-push names k x (slice_get_read names (length names) k x refl lt is))) (push_name (take k names) x apart
     (λ y has same. true≢false (sym (subst (λ z. same_name x z ≡ true) (sym same) (same_self x)) ∙ none_of (same_name x) (take k names) none y has)))
 
 or-false : (b : Bool) → (b || false) ≡ b
@@ -56,7 +49,7 @@ loop-name-preserved c =
       seen = λ n. ap (list_any (same_name n)) c.in_ok-insert.ensures.keys ∙ any-inserted n c.loop-name.seen.keys c.in_ok-clone-2.field-0
           ∙ ap (λ b. b || same_name n c.in_ok-clone-2.field-0) (c.loop-name.invariant.seen n) ∙ ap (λ y. list_any (same_name n) (take k names) || same_name n y) c.in_ok-clone-2.ensures.cases
           ∙ ap (λ b. list_any (same_name n) (take k names) || b) (sym (or-false (same_name n x))) ∙ sym (list_any-append (same_name n) (take k names) (x ∷ []))
-          ∙ ap (list_any (same_name n)) (sym (next-taken names k x c.loop-name-test.true c.name-item.is));
+          ∙ ap (list_any (same_name n)) (sym (taken-push names k x (slice_get_read names (length names) k x refl c.loop-name-test.true c.name-item.is)));
     }
 
 pub returns : goal.returns
