@@ -6,7 +6,7 @@ use Rattle.std.proofs.Common.{inl, inr}
 use Rattle.bb_bits.specs.Numbers.{number_of}
 use Rattle.bb_bits.specs.Tables.{TableBits}
 use Rattle.std.specs.Prelude.{if◌then◌else◌}
-use Rattle.std.proofs.lemmas.Nat.{pow_below}
+use Rattle.std.proofs.lemmas.Nat.{pow_below, pow_pos, mul-le}
 use Rattle.bb_net.specs.Netlists.{Netlist, Pins, cell_at, box_at, IsNetlist}
 use Rattle.bb_net.specs.Values.{bit_of, gate, tabled_bit, flat_with}
 use Rattle.bb_net.proofs.ValueLaws.{value_is_unique_lem}
@@ -41,3 +41,15 @@ pub flat_with_is : (net : Netlist) (x : List Bool) (tables : List TableBits) (ou
     → out ≡ flat_with net x tables
 flat_with_is net x tables out kept len each =
     value_is_unique_lem net x (tabled_bit tables) out kept.ordered (record { whole = len; each = each })
+
+-- a box with an output pin and more than 24 input pins, or with more output pins than the bound, has too large a table
+pub many_bits : (m k : ℕ) → 0 < m → 24 < k → 2 ^ 24 < m * 2 ^ k
+many_bits m k some many =
+    let p : 2 ^ 24 < 2 ^ k = pow_below 24 k many in
+    let q : 1 * 2 ^ k ≤ m * 2 ^ k = mul-le 1 (2 ^ k) m (2 ^ k) some (omega arith) in
+    omega (arith, p, q)
+
+pub many_outs : (m k : ℕ) → 2 ^ 24 < m → 2 ^ 24 < m * 2 ^ k
+many_outs m k many =
+    let q : m * 1 ≤ m * 2 ^ k = mul-le m 1 m (2 ^ k) (omega arith) (pow_pos k) in
+    omega (arith, many, q)

@@ -1,4 +1,5 @@
 pub mod Agreement
+pub mod Completions
 pub mod Conditions
 pub mod Loose
 pub mod NetFaults

@@ -1,8 +1,9 @@
 //! Values of a netlist whose boxes hold tables.
 
-ghost use Rattle.std.specs.Prelude.{◌≡◌, ◌+◌, ◌<◌, ◌≤◌, ℕ, All, length, map};
+ghost use Rattle.std.specs.Prelude.{◌≡◌, ◌+◌, ◌*◌, ◌^◌, ◌<◌, ◌≤◌, ℕ, All, length, map, IfSome, IfNone};
 ghost use Rattle.bb_bits.specs.Numbers.{number_of};
 ghost use Rattle.bb_bits.specs.Tables.{table_bit};
+ghost use Rattle.bb_net.specs.Completions.{table_bits};
 ghost use Rattle.bb_net.specs.Netlists.{ReadsBefore, IsPinAt, box_at, cell_at};
 ghost use Rattle.bb_net.specs.Values.{bit_of, gate, tabled_bit, FitBoxes, flat_with};
 
@@ -10,7 +11,19 @@ use crate::value::cell_bit;
 use crate::{BoxPins, Cell, Net};
 use bb_bits::{Table, number_doubles, number_is_below, tables_have_few_inputs};
 
+// The most bits that tables may have together.
+const MOST_BITS: u64 = 1 << 24;
+
 impl Net {
+    /// How many bits tables for all boxes have together; None exactly where they have more than 2^24.
+    pub fn table_bits(&self) -> Option<u32>
+        ensures some { IfSome result (λ bits. bits ≡ table_bits self.now.boxes) }
+        ensures small { IfSome result (λ bits. bits ≤ 2 ^ 24) }
+        ensures none { IfNone result (2 ^ 24 < table_bits self.now.boxes) }
+    {
+        count_bits(&self.boxes)
+    }
+
     /// Writes the value of each cell, for the inputs `x` and boxes that hold the tables, one for each box in order.
     pub fn value_with(&self, x: &[bool], tables: &[Table], out: &mut [bool])
         requires inputs { length x.now ≡ self.now.inputs }
@@ -79,4 +92,37 @@ fn row_number(inputs: u32, places: &[u32], out: &[bool]) -> u32
         }
     }
     number
+}
+
+// The bits of the table of a box, if they are not too many.
+fn box_bits(pins: &BoxPins) -> Option<u64>
+    ensures some { IfSome result (λ bits. bits ≡ length pins.now.outs * 2 ^ length pins.now.ins) }
+    ensures small { IfSome result (λ bits. bits ≤ 2 ^ 24) }
+    ensures none { IfNone result (2 ^ 24 < length pins.now.outs * 2 ^ length pins.now.ins) }
+{
+    let outs = pins.outs.len() as u64;
+    if outs == 0 {
+        return Some(0);
+    }
+    if pins.ins.len() > 24 || outs > MOST_BITS {
+        return None;
+    }
+    let bits = outs << pins.ins.len();
+    (bits <= MOST_BITS).then_some(bits)
+}
+
+// The bits of the tables of boxes, if they are not too many.
+fn count_bits(boxes: &[BoxPins]) -> Option<u32>
+    ensures some { IfSome result (λ bits. bits ≡ table_bits boxes.now) }
+    ensures small { IfSome result (λ bits. bits ≤ 2 ^ 24) }
+    ensures none { IfNone result (2 ^ 24 < table_bits boxes.now) }
+{
+    let mut bits = 0;
+    for pins in boxes {
+        bits += box_bits(pins)?;
+        if bits > MOST_BITS {
+            return None;
+        }
+    }
+    Some(bits as u32)
 }
