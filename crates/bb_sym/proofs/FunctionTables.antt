@@ -2,7 +2,7 @@
 use Rattle.std.proofs.Common.{◌≡◌, ◌<◌, ℕ, zero, suc, Bool, true, false, List, [], ◌∷◌, length, refl, ap, ap₂, arith}
 use Rattle.bb_bits.specs.Truth.{Bit, Halves, IsTruthTable, truth_at, constant, variable, combined}
 use Rattle.bb_net.specs.Values.{bit_of}
-use Rattle.bb_sym.specs.Functions.{Function, table}
+use Rattle.bb_sym.specs.Plain.{Function, table}
 
 pub truth_at-table : (n : ℕ) (f : Function) (p : List Bool) → length p ≡ n → truth_at (table n f) p ≡ f p
 truth_at-table zero f [] e = refl

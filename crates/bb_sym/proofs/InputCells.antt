@@ -1,30 +1,23 @@
 -- the variables, and the cells of both nets over the inputs alone
-use Rattle.std.proofs.Common.{◌≡◌, ℕ, ◌+◌, ◌≤◌, Bool, List, ◌++◌, length, map, flat_map, sym, ap, ap₂, ◌∙◌, subst, arith, take_all, drop_of_length-le, append_assoc}
-use Rattle.std.proofs.lemmas.Simd.{map-map}
+use Rattle.std.proofs.Common.{◌≡◌, ℕ, ◌+◌, ◌≤◌, List, [], ◌++◌, length, map, flat_map, sym, ap, ◌∙◌, subst, arith, append_assoc}
 use Rattle.bb_bits.specs.Truth.{Truth}
 use Rattle.bb_net.specs.Netlists.{Netlist}
-use Rattle.bb_net.specs.Values.{bit_of, flat, output_pins}
+use Rattle.bb_net.specs.Values.{bit_of}
 use Rattle.bb_net.specs.Pairs.{NetPair, IsPair}
 use Rattle.bb_uniq.specs.declared.store.Ref.{Ref}
 use Rattle.bb_uniq.specs.Nodes.{NodeStore}
-use Rattle.bb_sym.specs.Functions.{table, tables, variables, places, imp_bit, spec_bit, known_tables, high, low, mismatches, outputs, symbolic_functions}
+use Rattle.bb_sym.specs.Functions.{spec_bit, known_tables, high, low, mismatches, symbolic_functions}
+use Rattle.bb_sym.specs.Plain.{Reading, AreVariables, IsReadSo, cell_bit, table, tables, variables, places, outputs}
 use Rattle.bb_sym.specs.Made.{Makes, AreTooMany, StandForAll, HaveKnown}
-use Rattle.bb_sym.proofs.FunctionTables.{table_same}
 use Rattle.bb_sym.proofs.MadeLemmas.{within_append_left, too_many_within, too_many_then, Makes-then, StandForAll-kept}
-use Rattle.bb_sym.proofs.PlainCells.{map_same}
+use Rattle.bb_sym.proofs.PlainCells.{no_pin}
 
--- over the inputs alone, the bits of a net are those of a specification
-input_bits : (net : Netlist) (place : ℕ) (x : List Bool) → length x ≡ net.inputs → imp_bit net place x ≡ spec_bit net place x
-input_bits net place x e =
-    ap₂ (λ y z. bit_of (flat net y z) place) (take_all net.inputs x (omega (arith, e))) (drop_of_length-le x (omega (arith, e)))
+-- a point is the bits of the inputs
+abbrev pub inputs_only : Reading
+inputs_only = record { inputs = λ x. x; pins = λ x. [] }
 
-pub input_table : (spec : Netlist) (n place : ℕ) → n ≡ spec.inputs → table n (imp_bit spec place) ≡ table n (spec_bit spec place)
-input_table spec n place e = table_same n (imp_bit spec place) (spec_bit spec place) (λ x l. input_bits spec place x (l ∙ e))
-
-pub input_tables : (spec : Netlist) (n : ℕ) (ks : List ℕ) → n ≡ spec.inputs → tables n (map (imp_bit spec) ks) ≡ tables n (map (spec_bit spec) ks)
-input_tables spec n ks e =
-    map-map (table n) (imp_bit spec) ks ∙ (map_same (λ k. table n (imp_bit spec k)) (λ k. table n (spec_bit spec k)) ks (λ k. input_table spec n k e)
-    ∙ sym (map-map (table n) (spec_bit spec) ks))
+pub inputs_read : (p : NetPair) → IsPair p → (n : ℕ) → IsReadSo n 0 [] p.spec inputs_only
+inputs_read p pair n = record { inputs = λ i l x e. ap (bit_of x) (let h : i ≡ 0 + i = omega arith in h); pins = λ b pin l. absurd (no_pin p.spec.boxes b pin pair.beside.no_box l) }
 
 -- the variables and the cells of both nets
 abbrev pub input_functions : Netlist → Netlist → List Truth
@@ -50,19 +43,17 @@ module _ (p : NetPair) (pair : IsPair p) (a : NodeStore) (v : p.imp.inputs ≡ a
     pub b_vars : b.vars ≡ p.imp.inputs
     b_vars = first.kept.vars ∙ sym v
 
-    pub spec_fits : p.spec.inputs + output_pins p.spec.boxes ≤ b.vars
-    spec_fits =
-        let pins : output_pins p.spec.boxes ≡ 0 = ap output_pins pair.beside.no_box in
-        omega (arith, pins, pair.beside.inputs, b_vars)
+    pub spec_fits : a.vars ≤ 2048 → AreVariables b.vars 0 [] p.spec
+    spec_fits few = record { few = omega (arith, few, first.kept.vars); inputs = omega (arith, pair.beside.inputs, b_vars); pins = λ i pin l. absurd (no_pin p.spec.boxes i pin pair.beside.no_box l) }
 
-    bits_are : tables b.vars (map (imp_bit p.spec) (places p.spec)) ≡ bits
-    bits_are = ap (λ n. tables n (map (imp_bit p.spec) (places p.spec))) b_vars ∙ input_tables p.spec p.imp.inputs (places p.spec) (sym pair.beside.inputs)
+    bits_are : tables b.vars (map (cell_bit inputs_only p.spec) (places p.spec)) ≡ bits
+    bits_are = ap (λ n. tables n (map (cell_bit inputs_only p.spec) (places p.spec))) b_vars
 
-    pub refused_bits : AreTooMany b (tables b.vars (map (imp_bit p.spec) (places p.spec))) → AreTooMany a all_cells
+    pub refused_bits : AreTooMany b (tables b.vars (map (cell_bit inputs_only p.spec) (places p.spec))) → AreTooMany a all_cells
     refused_bits many =
         too_many_then a b (variables p.imp.inputs) (bits ++ known) first_made (too_many_within b bits (bits ++ known) (within_append_left bits known) (subst (AreTooMany b) bits_are many))
 
-    module _ (mid : NodeStore) (second : Makes b mid (tables b.vars (map (imp_bit p.spec) (places p.spec)))) where
+    module _ (mid : NodeStore) (second : Makes b mid (tables b.vars (map (cell_bit inputs_only p.spec) (places p.spec)))) where
       second_made : Makes b mid bits
       second_made = subst (Makes b mid) bits_are second
 
@@ -76,15 +67,15 @@ module _ (p : NetPair) (pair : IsPair p) (a : NodeStore) (v : p.imp.inputs ≡ a
         pub input_cells_made : Makes a last all_cells
         input_cells_made = Makes-then a b last (variables p.imp.inputs) (bits ++ known) first_made (Makes-then b mid last bits known second_made third)
 
-        pub input_cells_stand : (of_spec ones zeros : List Ref) → (length of_spec ≡ length p.spec.cells) × StandForAll mid (λ place. table b.vars (imp_bit p.spec place)) of_spec → (length ones ≡ length p.imp.cells) × StandForAll last (high p.imp) ones →
+        pub input_cells_stand : (of_spec ones zeros : List Ref) → (length of_spec ≡ length p.spec.cells) × StandForAll mid (λ place. table b.vars (cell_bit inputs_only p.spec place)) of_spec → (length ones ≡ length p.imp.cells) × StandForAll last (high p.imp) ones →
             (length zeros ≡ length p.imp.cells) × StandForAll last (low p.imp) zeros → HaveKnown last p.spec p.imp of_spec ones zeros
         input_cells_stand of_spec ones zeros s o z = record {
           spec_whole = s.0;
           ones_whole = o.0;
           zeros_whole = z.0;
           spec_cells = λ place l.
-              let h = StandForAll-kept mid last (λ place. table b.vars (imp_bit p.spec place)) of_spec third.kept s.1 place l in
-              record { ref = h.ref; table = h.table ∙ (ap (λ n. table n (imp_bit p.spec place)) b_vars ∙ input_table p.spec p.imp.inputs place (sym pair.beside.inputs)) };
+              let h = StandForAll-kept mid last (λ place. table b.vars (cell_bit inputs_only p.spec place)) of_spec third.kept s.1 place l in
+              record { ref = h.ref; table = h.table ∙ ap (λ n. table n (cell_bit inputs_only p.spec place)) b_vars };
           imp_ones = o.1;
           imp_zeros = z.1;
         }

@@ -9,7 +9,8 @@ use Rattle.bb_net.specs.Ternary.{tern, tern_of, gate3}
 use Rattle.bb_uniq.specs.declared.store.Ref.{Ref}
 use Rattle.bb_uniq.specs.Nodes.{NodeStore}
 use Rattle.bb_uniq.specs.Meaning.{truth_of}
-use Rattle.bb_sym.specs.Functions.{is_one, is_zero, known_one, known_zero, high, low, known_tables, cell_tables, places}
+use Rattle.bb_sym.specs.Functions.{is_one, is_zero, known_one, known_zero, high, low, known_tables, cell_tables}
+use Rattle.bb_sym.specs.Plain.{places}
 use Rattle.bb_sym.specs.Made.{Makes, AreTooMany, StandsFor, StandForAll, one_table, zero_table, ref_at}
 use Rattle.bb_sym.proofs.FunctionTables.{table_same}
 use Rattle.bb_sym.proofs.MadeLemmas.{StandForAll-push}

@@ -6,7 +6,8 @@ use Rattle.bb_net.specs.declared.cell.Cell.TheVariants.{Const, Input, Not, And, 
 use Rattle.bb_net.specs.Netlists.{Netlist, Pins, IsNetlist, IsOrdered, ReadsBefore, cell_at}
 use Rattle.bb_net.specs.Values.{bit_of}
 use Rattle.bb_net.specs.Ternary.{tern, tern_of, gate3, IsTern, not3, and3, or3, xor3, mux3}
-use Rattle.bb_sym.specs.Functions.{Function, table, is_one, is_zero, both, either, sum_table, sum_tables, choice_table, choice_tables, cell_tables}
+use Rattle.bb_sym.specs.Functions.{is_one, is_zero, both, either, sum_table, sum_tables, choice_table, choice_tables, cell_tables}
+use Rattle.bb_sym.specs.Plain.{Function, table}
 use Rattle.bb_sym.specs.Made.{one_table, zero_table}
 use Rattle.bb_sym.proofs.FunctionTables.{table_same, combined-table, constant-table, variable-table}
 use Rattle.bb_sym.proofs.PairLemmas.{same_four}

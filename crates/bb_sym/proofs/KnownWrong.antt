@@ -9,7 +9,8 @@ use Rattle.bb_uniq.specs.declared.store.Ref.{Ref}
 use Rattle.bb_uniq.specs.Nodes.{NodeStore}
 use Rattle.bb_uniq.specs.Meaning.{truth_of}
 use Rattle.bb_quant.specs.LeastPoints.{IsLeastPoint}
-use Rattle.bb_sym.specs.Functions.{Function, table, is_one, is_zero, known_one, known_zero, spec_bit, high, low, sum_table, mismatch}
+use Rattle.bb_sym.specs.Functions.{is_one, is_zero, known_one, known_zero, spec_bit, high, low, sum_table, mismatch}
+use Rattle.bb_sym.specs.Plain.{Function, table}
 use Rattle.bb_sym.specs.Finds.{IsLeastVector, IsFirstFound}
 use Rattle.bb_sym.specs.Made.{IsNowhereTrue, StandForAll, ref_at}
 use Rattle.bb_sym.proofs.FunctionTables.{truth_at-table, combined-table}

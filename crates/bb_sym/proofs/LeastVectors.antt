@@ -6,7 +6,7 @@ use Rattle.bb_bits.specs.Truth.{Truth, IsTruthTable, truth_at, quantified_block}
 use Rattle.bb_bits.specs.TruthLaws.{QuantifierLaws}
 use Rattle.bb_net.specs.Netlists.{Netlist}
 use Rattle.bb_quant.specs.LeastPoints.{IsLeastPoint}
-use Rattle.bb_sym.specs.Functions.{Function, table}
+use Rattle.bb_sym.specs.Plain.{Function, table}
 use Rattle.bb_sym.specs.Finds.{IsLeastVector}
 use Rattle.bb_sym.proofs.FunctionTables.{truth_at-table, table_size}
 
@@ -19,7 +19,7 @@ never_both true e f = let g : true ≡ false = f in cc
 never_both false e f = let g : false ≡ true = e in cc
 
 -- bits behind others: the first ones count more
-number_of-append : (x w : List Bool) → number_of (x ++ w) ≡ number_of x * 2 ^ length w + number_of w
+pub number_of-append : (x w : List Bool) → number_of (x ++ w) ≡ number_of x * 2 ^ length w + number_of w
 number_of-append [] w = omega (arith, zero-mul (2 ^ length w))
 number_of-append (false ∷ x) w = number_of-append x w
 number_of-append (true ∷ x) w =
@@ -27,12 +27,12 @@ number_of-append (true ∷ x) w =
     let power : 2 ^ length (x ++ w) ≡ 2 ^ length x * 2 ^ length w = ap (λ k. 2 ^ k) (length-append x w) ∙ pow-add 2 (length x) (length w) in
     rw (rest, power) grind (arith)
 
-number_of-zeros : (k : ℕ) → number_of (replicate k false) ≡ 0
+pub number_of-zeros : (k : ℕ) → number_of (replicate k false) ≡ 0
 number_of-zeros zero = refl
 number_of-zeros (suc k) = number_of-zeros k
 
 -- with zeros behind the other, the first bits of a smaller number are no greater
-first_is_least : (x w y : List Bool) (k : ℕ) → length w ≡ k → number_of (x ++ w) ≤ number_of (y ++ replicate k false) → number_of x ≤ number_of y
+pub first_is_least : (x w y : List Bool) (k : ℕ) → length w ≡ k → number_of (x ++ w) ≤ number_of (y ++ replicate k false) → number_of x ≤ number_of y
 first_is_least x w y k e l =
     let first = number_of-append x w in
     let second = number_of-append y (replicate k false) in

@@ -1,8 +1,13 @@
+pub mod AllLaws
 pub mod AlwaysWrong
+pub mod BlockLemmas
 pub mod Budget
 pub mod CellTables
+pub mod DifferenceLoop
+pub mod FoldLoop
 pub mod FunctionTables
 pub mod InputCells
+pub mod InputsFirst
 pub mod KnownBits
 pub mod KnownLoop
 pub mod KnownTables
@@ -14,7 +19,7 @@ pub mod NetLoop
 pub mod OutputLoop
 pub mod OutputParts
 pub mod PairLemmas
-pub mod PinLemmas
+pub mod PickedRefs
 pub mod PlainCells
 pub mod SomeWrong
 pub mod SumLemmas

@@ -10,9 +10,9 @@ use Rattle.bb_bits.specs.Truth.{Truth, IsBeadOf, IsBeadOfAny, constant}
 use Rattle.bb_bits.specs.TruthSets.{HasMoreThan}
 use Rattle.bb_uniq.specs.declared.store.Ref.{Ref}
 use Rattle.bb_uniq.specs.Laws.{StoreLaws, GrowthLaws}
-use Rattle.bb_uniq.specs.Nodes.{NodeStore, IsStore}
+use Rattle.bb_uniq.specs.Nodes.{NodeStore, IsStore, IsRef}
 use Rattle.bb_uniq.specs.Meaning.{IsHeld, IsHeldWith, Keeps, Adds, IsTooMany}
-use Rattle.bb_sym.specs.Made.{IsHeldWithAny, Makes, AreTooMany, StandsFor, StandForAll, ref_at}
+use Rattle.bb_sym.specs.Made.{IsHeldWithAny, Makes, AreTooMany, StandsFor, StandForAll, AreRefs, ref_at}
 
 -- every bead of the first list is one of the second
 abbrev pub AreWithin : List Truth → List Truth → Type 0
@@ -24,7 +24,7 @@ within_append_left ts us b h = (h.0, Contains-append_left ts us h.0 h.1, h.2)
 pub within_append_right : (ts us : List Truth) → AreWithin us (ts ++ us)
 within_append_right ts us b h = (h.0, Contains-append_right ts us h.0 h.1, h.2)
 
-any_cases : (ts us : List Truth) (b : Truth) → IsBeadOfAny (ts ++ us) b → IsBeadOfAny ts b ⊎ IsBeadOfAny us b
+pub any_cases : (ts us : List Truth) (b : Truth) → IsBeadOfAny (ts ++ us) b → IsBeadOfAny ts b ⊎ IsBeadOfAny us b
 any_cases ts us b h = elim (Contains-append_cases ts us h.0 h.1) [ inl c ↦ inl (h.0, c, h.2) | inr c ↦ inr (h.0, c, h.2) ]
 
 pub within_append : (ts us vs : List Truth) → AreWithin ts vs → AreWithin us vs → AreWithin (ts ++ us) vs
@@ -171,3 +171,21 @@ pub Adds-leaf : StoreLaws → GrowthLaws → (s : NodeStore) → IsStore s → (
 Adds-leaf stores growth s sound bit r e =
     let leaf = leaf_bit bit r e in
     growth.adds_nothing s sound (constant s.vars bit) r (omega (arith, leaf.0)) (stores.leaf_table s r leaf.0 ∙ ap (constant s.vars) leaf.1)
+
+-- Refs of a store are of each that keeps it, and so is a further one
+pub AreRefs-kept : (a b : NodeStore) (refs : List Ref) → Keeps a b → AreRefs a refs → AreRefs b refs
+AreRefs-kept a b refs kept h place l = kept.refs (ref_at refs place).0 (h place l)
+
+pub AreRefs-push : (old new : NodeStore) (refs : List Ref) (r : Ref) → Keeps old new → IsRef new r.0 → AreRefs old refs → AreRefs new (refs ++ r ∷ [])
+AreRefs-push old new refs r kept last h place l =
+    let long = length_push refs r in
+    elim (cases_lt place (length refs)) [
+      | inl before ↦ subst (λ (q : Ref). IsRef new q.0) (sym (get_or_append_left refs (r ∷ []) (record { 0 = 0 }) place before)) (kept.refs (ref_at refs place).0 (h place before))
+      | inr behind ↦
+          let here : place ≡ length refs = omega (arith, long, l, behind) in
+          subst (λ (q : Ref). IsRef new q.0) (sym (get_or_push refs r (record { 0 = 0 }) place (sym here))) last
+    ]
+
+-- Refs that stand for tables are of the store
+pub StandForAll-refs : (s : NodeStore) (t : ℕ → Truth) (refs : List Ref) → StandForAll s t refs → AreRefs s refs
+StandForAll-refs s t refs h place l = (h place l).ref

@@ -1,7 +1,6 @@
 -- the tables of wrong outputs
-use Rattle.std.proofs.Common.{◌≡◌, ◌<◌, ℕ, List, length, map, get_or, slice_index, sym, ap, ap₂, ◌∙◌, arith}
+use Rattle.std.proofs.Common.{◌≡◌, ◌<◌, ℕ, List, length, get_or, slice_index, sym, ap, ap₂, ◌∙◌, arith}
 use Rattle.std.proofs.lemmas.List.{get_or_default}
-use Rattle.std.proofs.lemmas.Simd.{map-map}
 use Rattle.bb_bits.specs.Bits.{xor}
 use Rattle.bb_bits.specs.Truth.{Truth, joined}
 use Rattle.bb_net.specs.Netlists.{Netlist, IsNetlist}
@@ -9,7 +8,7 @@ use Rattle.bb_net.specs.Pairs.{NetPair, IsPair}
 use Rattle.bb_uniq.specs.declared.store.Ref.{Ref}
 use Rattle.bb_uniq.specs.Nodes.{NodeStore}
 use Rattle.bb_uniq.specs.Meaning.{truth_of, Keeps}
-use Rattle.bb_sym.specs.Functions.{table, tables, imp_bit, spec_bit_at, is_wrong, outputs}
+use Rattle.bb_sym.specs.Plain.{Reading, table, cell_bit, without_pins, is_wrong_at}
 use Rattle.bb_sym.specs.Made.{StandForAll, HaveCells}
 use Rattle.bb_sym.proofs.FunctionTables.{combined-table}
 use Rattle.bb_sym.proofs.MadeLemmas.{StandForAll-kept}
@@ -22,29 +21,26 @@ read_table s t refs place x stand l e =
 pub out_there : (net : Netlist) → IsNetlist net → (j : ℕ) → j < length net.outs → slice_index net.outs j < length net.cells
 out_there net kept j l = kept.outs_there j 0 l
 
-pub wrong_table : (s : NodeStore) (p : NetPair) → IsPair p → (of_spec of_imp : List Ref) → HaveCells s p.spec p.imp of_spec of_imp → (j : ℕ) → j < length p.imp.outs → (spec_outs imp_outs : List ℕ) → spec_outs ≡ p.spec.outs → imp_outs ≡ p.imp.outs →
-    (x y : Ref) → x ≡ get_or of_spec (slice_index spec_outs j) x → y ≡ get_or of_imp (slice_index imp_outs j) y → joined xor (truth_of s x.0) (truth_of s y.0) ≡ table s.vars (is_wrong p.spec p.imp j)
-wrong_table s p pair of_spec of_imp have j l spec_outs imp_outs e h x y read also =
+pub wrong_table : (s : NodeStore) (r : Reading) (p : NetPair) → IsPair p → (of_spec of_imp : List Ref) → HaveCells s r p.spec p.imp of_spec of_imp → (j : ℕ) → j < length p.imp.outs → (spec_outs imp_outs : List ℕ) → spec_outs ≡ p.spec.outs → imp_outs ≡ p.imp.outs →
+    (x y : Ref) → x ≡ get_or of_spec (slice_index spec_outs j) x → y ≡ get_or of_imp (slice_index imp_outs j) y → joined xor (truth_of s x.0) (truth_of s y.0) ≡ table s.vars (is_wrong_at r p.spec p.imp j)
+wrong_table s r p pair of_spec of_imp have j l spec_outs imp_outs e h x y read also =
     let spec_at = out_there p.spec pair.spec j (omega (arith, l, pair.beside.outputs)) in
     let imp_at = out_there p.imp pair.imp j l in
-    let wanted : truth_of s x.0 ≡ table s.vars (spec_bit_at p.spec p.imp.inputs (slice_index p.spec.outs j)) =
-    read_table s (λ place. table s.vars (spec_bit_at p.spec p.imp.inputs place)) of_spec (slice_index p.spec.outs j) x have.spec_cells (omega (arith, spec_at, have.spec_whole)) (read ∙ ap (λ (k : List ℕ). get_or of_spec (slice_index k j) x) e) in
-    let given : truth_of s y.0 ≡ table s.vars (imp_bit p.imp (slice_index p.imp.outs j)) =
-    read_table s (λ place. table s.vars (imp_bit p.imp place)) of_imp (slice_index p.imp.outs j) y have.imp_cells (omega (arith, imp_at, have.imp_whole)) (also ∙ ap (λ (k : List ℕ). get_or of_imp (slice_index k j) y) h) in
-    ap₂ (joined xor) wanted given ∙ combined-table s.vars (λ a b c. xor a b) (spec_bit_at p.spec p.imp.inputs (slice_index p.spec.outs j)) (imp_bit p.imp (slice_index p.imp.outs j)) (spec_bit_at p.spec p.imp.inputs (slice_index p.spec.outs j))
+    let wanted : truth_of s x.0 ≡ table s.vars (cell_bit (without_pins r) p.spec (slice_index p.spec.outs j)) =
+    read_table s (λ place. table s.vars (cell_bit (without_pins r) p.spec place)) of_spec (slice_index p.spec.outs j) x have.spec_cells (omega (arith, spec_at, have.spec_whole)) (read ∙ ap (λ (k : List ℕ). get_or of_spec (slice_index k j) x) e) in
+    let given : truth_of s y.0 ≡ table s.vars (cell_bit r p.imp (slice_index p.imp.outs j)) =
+    read_table s (λ place. table s.vars (cell_bit r p.imp place)) of_imp (slice_index p.imp.outs j) y have.imp_cells (omega (arith, imp_at, have.imp_whole)) (also ∙ ap (λ (k : List ℕ). get_or of_imp (slice_index k j) y) h) in
+    ap₂ (joined xor) wanted given ∙ combined-table s.vars (λ a b c. xor a b) (cell_bit (without_pins r) p.spec (slice_index p.spec.outs j)) (cell_bit r p.imp (slice_index p.imp.outs j)) (cell_bit (without_pins r) p.spec (slice_index p.spec.outs j))
 
 -- the Refs of the cells stay
-pub HaveCells-kept : (a b : NodeStore) (spec imp : Netlist) (of_spec of_imp : List Ref) → Keeps a b → HaveCells a spec imp of_spec of_imp → HaveCells b spec imp of_spec of_imp
-HaveCells-kept a b spec imp of_spec of_imp kept have = record {
+pub HaveCells-kept : (a b : NodeStore) (r : Reading) (spec imp : Netlist) (of_spec of_imp : List Ref) → Keeps a b → HaveCells a r spec imp of_spec of_imp → HaveCells b r spec imp of_spec of_imp
+HaveCells-kept a b r spec imp of_spec of_imp kept have = record {
   spec_whole = have.spec_whole;
   imp_whole = have.imp_whole;
   spec_cells = λ place l.
-      let h = StandForAll-kept a b (λ place. table a.vars (spec_bit_at spec imp.inputs place)) of_spec kept have.spec_cells place l in
-      record { ref = h.ref; table = h.table ∙ ap (λ n. table n (spec_bit_at spec imp.inputs place)) (sym kept.vars) };
+      let h = StandForAll-kept a b (λ place. table a.vars (cell_bit (without_pins r) spec place)) of_spec kept have.spec_cells place l in
+      record { ref = h.ref; table = h.table ∙ ap (λ n. table n (cell_bit (without_pins r) spec place)) (sym kept.vars) };
   imp_cells = λ place l.
-      let h = StandForAll-kept a b (λ place. table a.vars (imp_bit imp place)) of_imp kept have.imp_cells place l in
-      record { ref = h.ref; table = h.table ∙ ap (λ n. table n (imp_bit imp place)) (sym kept.vars) };
+      let h = StandForAll-kept a b (λ place. table a.vars (cell_bit r imp place)) of_imp kept have.imp_cells place l in
+      record { ref = h.ref; table = h.table ∙ ap (λ n. table n (cell_bit r imp place)) (sym kept.vars) };
 }
-
-pub wrong_tables : (n : ℕ) (spec imp : Netlist) → map (λ j. table n (is_wrong spec imp j)) (outputs imp) ≡ tables n (map (is_wrong spec imp) (outputs imp))
-wrong_tables n spec imp = sym (map-map (table n) (is_wrong spec imp) (outputs imp))

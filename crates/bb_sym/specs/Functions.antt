@@ -1,40 +1,15 @@
 -- The Boolean functions that a check by diagrams makes, as truth tables; a check holds exactly their beads (Knuth, The Art of
 -- Computer Programming, volume 4A, 7.1.4). Each variable is one of them. Where functions are folded by an operation, the first is
 -- joined with the second, that with the third, and so on, and each result is one of the list.
-use Rattle.std.specs.Prelude.{ℕ, zero, suc, ◌+◌, ◌-◌, Bool, true, false, not, ◌&&◌, ◌||◌, List, [], ◌∷◌, ◌++◌, length, map, take, drop, slice_index, Option, Some, None}
-use Rattle.std.specs.List.{flat_map, list_any, range_with_len}
-use Rattle.bb_bits.specs.Bits.{xor}
-use Rattle.bb_bits.specs.Truth.{Truth, Bit, Halves, constant, variable, complement, joined, quantified_block}
+use Rattle.std.specs.Prelude.{ℕ, ◌+◌, Bool, false, not, ◌&&◌, ◌||◌, List, ◌∷◌, [], ◌++◌, length, map, take, drop, slice_index, Option, Some, None}
+use Rattle.std.specs.List.{flat_map}
+use Rattle.bb_bits.specs.Truth.{Truth, constant, variable, complement, joined, quantified_block}
 use Rattle.bb_net.specs.declared.cell.Cell.{Cell}
 use Rattle.bb_net.specs.declared.cell.Cell.TheVariants.{Const, Input, Not, And, Or, Xor, Mux, BoxOut}
 use Rattle.bb_net.specs.Netlists.{Netlist, cell_at}
 use Rattle.bb_net.specs.Values.{bit_of, flat, output_pins}
 use Rattle.bb_net.specs.Ternary.{tern, tern_of}
-
--- a function of bits, the first variable first
-abbrev pub Function : Type 0
-Function = List Bool → Bool
-
--- its truth table for so many variables
-abbrev pub table : ℕ → Function → Truth
-table zero f = Bit (f [])
-table (suc n) f = Halves (table n (λ x. f (false ∷ x))) (table n (λ x. f (true ∷ x)))
-
-abbrev pub tables : ℕ → List Function → List Truth
-tables n fs = map (table n) fs
-
-abbrev pub variables : ℕ → List Truth
-variables n = map (variable n) (range_with_len 0 n)
-
-abbrev pub differ : Function → Function → Function
-differ f g = λ x. xor (f x) (g x)
-
--- the places of the cells of a netlist, and the numbers of its outputs
-abbrev pub places : Netlist → List ℕ
-places net = range_with_len 0 (length net.cells)
-
-abbrev pub outputs : Netlist → List ℕ
-outputs net = range_with_len 0 (length net.outs)
+use Rattle.bb_sym.specs.Plain.{Function, Reading, table, tables, variables, places, outputs, is_wrong_at, one_of, first_of, plain_functions_at, block_functions}
 
 -- Where boxes are unknown, the variables are the inputs.
 
@@ -121,27 +96,21 @@ symbolic_functions spec imp =
 abbrev pub variable_count : Netlist → ℕ
 variable_count imp = imp.inputs + output_pins imp.boxes
 
-abbrev pub spec_bit_at : Netlist → ℕ → ℕ → Function
-spec_bit_at spec inputs place = λ p. bit_of (flat spec (take inputs p) []) place
-
-abbrev pub imp_bit : Netlist → ℕ → Function
-imp_bit imp place = λ p. bit_of (flat imp (take imp.inputs p) (drop imp.inputs p)) place
+-- the inputs are the first bits of a point
+abbrev pub inputs_first : Netlist → Reading
+inputs_first imp = record { inputs = take imp.inputs; pins = drop imp.inputs }
 
 -- an output is wrong
 abbrev pub is_wrong : Netlist → Netlist → ℕ → Function
-is_wrong spec imp j = differ (spec_bit_at spec imp.inputs (slice_index spec.outs j)) (imp_bit imp (slice_index imp.outs j))
+is_wrong spec imp j = is_wrong_at (inputs_first imp) spec imp j
 
 -- the variables and the bits of all cells
 abbrev pub plain_functions : Netlist → Netlist → List Truth
-plain_functions spec imp = variables (variable_count imp) ++ tables (variable_count imp) (map (spec_bit_at spec imp.inputs) (places spec) ++ map (imp_bit imp) (places imp))
+plain_functions spec imp = plain_functions_at (variable_count imp) (inputs_first imp) spec imp
 
--- a function, with the variables from each of so many on quantified by "for all"
-abbrev pub quantified_pins : ℕ → ℕ → Truth → List Truth
-quantified_pins inputs pins t = map (λ k. quantified_block ◌&&◌ (inputs + k) (pins - k) t) (range_with_len 0 pins)
-
--- the same for the output pins of all boxes
+-- a function with the output pins of all boxes quantified by "for all"
 abbrev pub for_all_pins : Netlist → Truth → List Truth
-for_all_pins imp t = quantified_pins imp.inputs (output_pins imp.boxes) t
+for_all_pins imp t = block_functions ◌&&◌ imp.inputs (output_pins imp.boxes) t
 
 -- where an output is wrong, and that for all values of the pins
 abbrev pub wrong_for_all_pins : Netlist → Netlist → ℕ → List Truth
@@ -156,11 +125,11 @@ local_functions spec imp = plain_functions spec imp ++ flat_map (wrong_for_all_p
 
 -- one of the first outputs is wrong
 abbrev pub some_wrong : Netlist → Netlist → ℕ → Function
-some_wrong spec imp count = λ p. list_any (λ j. is_wrong spec imp j p) (range_with_len 0 count)
+some_wrong spec imp count = one_of (is_wrong spec imp) count
 
 -- one of those up to an output is wrong
 abbrev pub first_some_wrong : Netlist → Netlist → ℕ → Function
-first_some_wrong spec imp j = some_wrong spec imp (j + 1)
+first_some_wrong spec imp j = first_of (is_wrong spec imp) j
 
 -- some output is wrong for all values of the pins
 abbrev pub all_always_wrong : Netlist → Netlist → Truth

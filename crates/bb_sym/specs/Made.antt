@@ -7,7 +7,8 @@ use Rattle.bb_bits.specs.TruthSets.{HasMoreThan}
 use Rattle.bb_net.specs.declared.cell.Cell.{Cell}
 use Rattle.bb_net.specs.declared.cell.Cell.TheVariants.{Const, Input, Not, And, Or, Xor, Mux, BoxOut}
 use Rattle.bb_net.specs.Netlists.{Netlist}
-use Rattle.bb_sym.specs.Functions.{table, spec_bit, spec_bit_at, imp_bit, high, low, both, either, sum_table, choice_table}
+use Rattle.bb_sym.specs.Functions.{spec_bit, high, low, both, either, sum_table, choice_table}
+use Rattle.bb_sym.specs.Plain.{Reading, table, cell_bit, without_pins}
 use Rattle.bb_uniq.specs.declared.store.Ref.{Ref}
 use Rattle.bb_uniq.specs.Nodes.{NodeStore, IsRef}
 use Rattle.bb_uniq.specs.Meaning.{truth_of, IsHeld, Keeps}
@@ -38,28 +39,39 @@ ref_at refs place = slice_index_or refs place (record { 0 = 0 })
 abbrev pub StandForAll : NodeStore → (ℕ → Truth) → List Ref → Type 0
 StandForAll s t refs = (place : ℕ) → place < length refs → StandsFor s (t place) (ref_at refs place)
 
--- the table of a cell over n variables, by those of the places that it reads; output pin p of box b is the variable at its
--- box's first one and p
-abbrev pub cell_table : ℕ → List ℕ → (ℕ → Truth) → Cell → Truth
-cell_table n starts at (Const b) = constant n b
-cell_table n starts at (Input i) = variable n i
-cell_table n starts at (Not a) = complement (at a)
-cell_table n starts at (And a b) = joined ◌&&◌ (at a) (at b)
-cell_table n starts at (Or a b) = joined ◌||◌ (at a) (at b)
-cell_table n starts at (Xor a b) = joined xor (at a) (at b)
-cell_table n starts at (Mux c t e) = chosen (at c) (at t) (at e)
-cell_table n starts at (BoxOut b p) = variable n (slice_index_or starts b 0 + p)
+-- each of them is of the store
+abbrev pub AreRefs : NodeStore → List Ref → Type 0
+AreRefs s refs = (place : ℕ) → place < length refs → IsRef s (ref_at refs place).0
+
+-- the table of a cell over n variables, by those of the places that it reads; input i is the variable at the first one and i,
+-- output pin p of box b the variable at its box's first one and p
+abbrev pub cell_table : ℕ → ℕ → List ℕ → (ℕ → Truth) → Cell → Truth
+cell_table n first starts at (Const b) = constant n b
+cell_table n first starts at (Input i) = variable n (first + i)
+cell_table n first starts at (Not a) = complement (at a)
+cell_table n first starts at (And a b) = joined ◌&&◌ (at a) (at b)
+cell_table n first starts at (Or a b) = joined ◌||◌ (at a) (at b)
+cell_table n first starts at (Xor a b) = joined xor (at a) (at b)
+cell_table n first starts at (Mux c t e) = chosen (at c) (at t) (at e)
+cell_table n first starts at (BoxOut b p) = variable n (slice_index_or starts b 0 + p)
 
 -- a table of n variables is 1 at no point
 abbrev pub IsNowhereTrue : ℕ → Truth → Type 0
 IsNowhereTrue n t = (point : List Bool) → length point ≡ n → truth_at t point ≡ true → ⊥
 
--- Refs for the cells of both nets, by their places
-pub record HaveCells (s : NodeStore) (spec imp : Netlist) (of_spec of_imp : List Ref) : Type 0 where
+-- a Ref for each cell of both nets
+pub record AreCells (s : NodeStore) (spec imp : Netlist) (of_spec of_imp : List Ref) : Type 0 where
   pub spec_whole : length of_spec ≡ length spec.cells
   pub imp_whole : length of_imp ≡ length imp.cells
-  pub spec_cells : StandForAll s (λ place. table s.vars (spec_bit_at spec imp.inputs place)) of_spec
-  pub imp_cells : StandForAll s (λ place. table s.vars (imp_bit imp place)) of_imp
+  pub spec_refs : AreRefs s of_spec
+  pub imp_refs : AreRefs s of_imp
+
+-- each has the table of its cell, where points are read so
+pub record HaveCells (s : NodeStore) (r : Reading) (spec imp : Netlist) (of_spec of_imp : List Ref) : Type 0 where
+  pub spec_whole : length of_spec ≡ length spec.cells
+  pub imp_whole : length of_imp ≡ length imp.cells
+  pub spec_cells : StandForAll s (λ place. table s.vars (cell_bit (without_pins r) spec place)) of_spec
+  pub imp_cells : StandForAll s (λ place. table s.vars (cell_bit r imp place)) of_imp
 
 -- the table of a cell that is 1 where it is known to be 1, by those of its operands
 abbrev pub one_table : ℕ → (ℕ → Truth) → (ℕ → Truth) → Cell → Truth

@@ -5,13 +5,13 @@ ghost use Rattle.bb_bits.specs.Truth.{IsBeadOfAny};
 ghost use Rattle.bb_bits.specs.TruthSets.{HasMoreThan};
 ghost use Rattle.bb_net.specs.Conditions.{HasAlwaysWrong, AllSometimesRight};
 ghost use Rattle.bb_net.specs.Values.{output_pins};
-ghost use Rattle.bb_sym.specs.Functions.{output_functions, all_always_wrong, is_wrong, some_wrong, first_some_wrong, outputs, table, tables};
+ghost use Rattle.bb_sym.specs.Functions.{output_functions, all_always_wrong};
 ghost use Rattle.bb_sym.specs.Finds.{IsLeastVector};
 ghost use Rattle.bb_sym.specs.Made.{Makes, AreTooMany, StandsFor, StandForAll};
 
-use crate::cells::{count_pins, plain_cells};
-use crate::differences::wrong_outputs;
-use crate::pins::for_all_pins;
+use crate::blocks::quantify_block;
+use crate::differences::some_wrong;
+use crate::inputs_first::{count_pins, ordered_cells};
 use crate::{Found, RungFault};
 use bb_bits::truth;
 use bb_dd::{Diagrams, Ref};
@@ -75,26 +75,8 @@ fn output_diagram(
     ensures makes { OnOk result (Makes d.old.store d.new.store (output_functions pair.now.spec pair.now.imp)) }
     ensures nodes { IsErrOf result RungFault.Nodes → AreTooMany d.old.store (output_functions pair.now.spec pair.now.imp) }
 {
-    let made = plain_cells(alloc, d, pair, inputs + pins)?;
-    let wrong = wrong_outputs(alloc, d, pair, &made)?;
-    let any = fold_or(d, pair, &wrong)?;
-    let r = for_all_pins(d, any, inputs, pins)?;
+    let made = ordered_cells(alloc, d, pair, inputs + pins)?;
+    let any = some_wrong(alloc, d, pair, &made)?;
+    let r = quantify_block(d, true, any, inputs, pins)?;
     Ok(r)
-}
-
-/// The disjunction of the wrong outputs, the first with the second, that with the third, and so on.
-fn fold_or(d: &mut Diagrams, pair: &Pair, wrong: &[Ref]) -> Result<Ref, RungFault>
-    requires count { length wrong.now ≡ length pair.now.imp.outs }
-    requires wrong { StandForAll d.old.store (λ j. table d.old.store.vars (is_wrong pair.now.spec pair.now.imp j)) wrong.now }
-    ensures result { IfOk result (StandsFor d.new.store (table d.old.store.vars (some_wrong pair.now.spec pair.now.imp (length pair.now.imp.outs)))) }
-    ensures makes { OnOk result (Makes d.old.store d.new.store (tables d.old.store.vars (map (first_some_wrong pair.now.spec pair.now.imp) (outputs pair.now.imp)))) }
-    ensures nodes { IsErrOf result RungFault.Nodes → AreTooMany d.old.store (tables d.old.store.vars (map (first_some_wrong pair.now.spec pair.now.imp) (outputs pair.now.imp))) }
-{
-    laws::stores();
-    let _ = pair;
-    let mut any = Ref(0);
-    for f in wrong {
-        any = d.or(any, *f)?;
-    }
-    Ok(any)
 }

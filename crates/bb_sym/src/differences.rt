@@ -1,45 +1,119 @@
-//! Where outputs are wrong: diagrams that are 1 where the bit of the implementation is not that of the specification.
+//! Where bits differ: outputs that are wrong, and the disjunction of differences.
 
-ghost use Rattle.std.specs.Prelude.{◌≡◌, ◌<◌, length, map, IfOk, OnOk, IsErrOf};
+ghost use Rattle.std.specs.Prelude.{◌≡◌, ◌<◌, ◌++◌, ℕ, All, length, map, IfOk, OnOk, IsErrOf};
+ghost use Rattle.std.specs.List.{range_with_len};
+ghost use Rattle.bb_uniq.specs.Nodes.{IsRef};
 ghost use Rattle.bb_uniq.specs.Meaning.{Adds, IsTooMany};
-ghost use Rattle.bb_sym.specs.Functions.{is_wrong, outputs, table, tables};
-ghost use Rattle.bb_sym.specs.Made.{Makes, AreTooMany, StandForAll, HaveCells};
+ghost use Rattle.bb_sym.specs.Plain.{Function, Reading, differ, is_wrong_at, one_of, first_of, outputs, table, tables};
+ghost use Rattle.bb_sym.specs.Functions.{inputs_first, is_wrong};
+ghost use Rattle.bb_sym.specs.Made.{Makes, AreTooMany, AreRefs, StandsFor, StandForAll, AreCells, HaveCells, ref_at};
 
 use crate::RungFault;
 use crate::cells::PlainCells;
+use crate::folds::fold_or;
+use bb_bits::NoMemory;
 use bb_dd::{DdFault, Diagrams, Ref};
 use bb_net::Pair;
 use std::alloc::Global;
 
-/// The diagrams of the wrong outputs, in order.
-pub(crate) fn wrong_outputs(
+/// Makes, output by output, where it is wrong, and then the disjunction of these, which is given: 1 where some output is wrong.
+///
+/// # Errors
+///
+/// `Nodes` exactly where the beads held and those of these functions are more than the limit.
+pub fn some_wrong(
     alloc: Global,
     d: &mut Diagrams,
     pair: &Pair,
     made: &PlainCells,
-) -> Result<Vec<Ref>, RungFault>
-    requires made { HaveCells d.old.store pair.now.spec pair.now.imp made.now.spec.items made.now.imp.items }
-    ensures refs { IfOk result (λ refs. (length refs.items ≡ length pair.now.imp.outs) × StandForAll d.new.store (λ j. table d.old.store.vars (is_wrong pair.now.spec pair.now.imp j)) refs.items) }
-    ensures makes { OnOk result (Makes d.old.store d.new.store (tables d.old.store.vars (map (is_wrong pair.now.spec pair.now.imp) (outputs pair.now.imp)))) }
-    ensures nodes { IsErrOf result RungFault.Nodes → AreTooMany d.old.store (tables d.old.store.vars (map (is_wrong pair.now.spec pair.now.imp) (outputs pair.now.imp))) }
+) -> Result<Ref, RungFault>
+    requires made { AreCells d.old.store pair.now.spec pair.now.imp made.now.spec.items made.now.imp.items }
+    ensures result { (r : Reading) → HaveCells d.old.store r pair.now.spec pair.now.imp made.now.spec.items made.now.imp.items
+        → IfOk result (StandsFor d.new.store (table d.old.store.vars (one_of (is_wrong_at r pair.now.spec pair.now.imp) (length pair.now.imp.outs)))) }
+    ensures makes { (r : Reading) → HaveCells d.old.store r pair.now.spec pair.now.imp made.now.spec.items made.now.imp.items
+        → OnOk result (Makes d.old.store d.new.store (tables d.old.store.vars (map (is_wrong_at r pair.now.spec pair.now.imp) (outputs pair.now.imp)) ++ tables d.old.store.vars (map (first_of (is_wrong_at r pair.now.spec pair.now.imp)) (outputs pair.now.imp)))) }
+    ensures nodes { (r : Reading) → HaveCells d.old.store r pair.now.spec pair.now.imp made.now.spec.items made.now.imp.items
+        → IsErrOf result RungFault.Nodes → AreTooMany d.old.store (tables d.old.store.vars (map (is_wrong_at r pair.now.spec pair.now.imp) (outputs pair.now.imp)) ++ tables d.old.store.vars (map (first_of (is_wrong_at r pair.now.spec pair.now.imp)) (outputs pair.now.imp))) }
 {
-    let count = pair.imp().outs().len();
-    let mut refs = Vec::with_capacity(alloc, count)?;
-    for j in 0..count {
-        let r = wrong_output(d, pair, made, j)?;
+    let wanted = picked(alloc, &made.spec, pair.spec().outs())?;
+    let given = picked(alloc, &made.imp, pair.imp().outs())?;
+    let any = some_differ(alloc, d, &wanted, &given)?;
+    Ok(any)
+}
+
+/// Makes, entry by entry, where the diagrams of two lists differ, and then the disjunction of these, which is given.
+///
+/// # Errors
+///
+/// `Nodes` exactly where the beads held and those of these functions are more than the limit.
+pub fn some_differ(
+    alloc: Global,
+    d: &mut Diagrams,
+    fs: &[Ref],
+    gs: &[Ref],
+) -> Result<Ref, RungFault>
+    requires fs { AreRefs d.old.store fs.now }
+    requires gs { AreRefs d.old.store gs.now }
+    requires count { length fs.now ≡ length gs.now }
+    ensures result { (f g : ℕ → Function) → StandForAll d.old.store (λ j. table d.old.store.vars (f j)) fs.now → StandForAll d.old.store (λ j. table d.old.store.vars (g j)) gs.now
+        → IfOk result (StandsFor d.new.store (table d.old.store.vars (one_of (λ j. differ (f j) (g j)) (length fs.now)))) }
+    ensures makes { (f g : ℕ → Function) → StandForAll d.old.store (λ j. table d.old.store.vars (f j)) fs.now → StandForAll d.old.store (λ j. table d.old.store.vars (g j)) gs.now
+        → OnOk result (Makes d.old.store d.new.store (tables d.old.store.vars (map (λ j. differ (f j) (g j)) (range_with_len 0 (length fs.now))) ++ tables d.old.store.vars (map (first_of (λ j. differ (f j) (g j))) (range_with_len 0 (length fs.now))))) }
+    ensures nodes { (f g : ℕ → Function) → StandForAll d.old.store (λ j. table d.old.store.vars (f j)) fs.now → StandForAll d.old.store (λ j. table d.old.store.vars (g j)) gs.now
+        → IsErrOf result RungFault.Nodes → AreTooMany d.old.store (tables d.old.store.vars (map (λ j. differ (f j) (g j)) (range_with_len 0 (length fs.now))) ++ tables d.old.store.vars (map (first_of (λ j. differ (f j) (g j))) (range_with_len 0 (length fs.now)))) }
+{
+    let different = differences(alloc, d, fs, gs)?;
+    let any = fold_or(d, &different)?;
+    Ok(any)
+}
+
+/// The diagrams that are 1 where those of two lists differ, entry by entry.
+fn differences(
+    alloc: Global,
+    d: &mut Diagrams,
+    fs: &[Ref],
+    gs: &[Ref],
+) -> Result<Vec<Ref>, RungFault>
+    requires fs { AreRefs d.old.store fs.now }
+    requires gs { AreRefs d.old.store gs.now }
+    requires count { length fs.now ≡ length gs.now }
+    ensures count { IfOk result (λ refs. length refs.items ≡ length fs.now) }
+    ensures refs { IfOk result (λ refs. AreRefs d.new.store refs.items) }
+    ensures stand { (f g : ℕ → Function) → StandForAll d.old.store (λ j. table d.old.store.vars (f j)) fs.now → StandForAll d.old.store (λ j. table d.old.store.vars (g j)) gs.now
+        → IfOk result (λ refs. StandForAll d.new.store (λ j. table d.old.store.vars (differ (f j) (g j))) refs.items) }
+    ensures makes { (f g : ℕ → Function) → StandForAll d.old.store (λ j. table d.old.store.vars (f j)) fs.now → StandForAll d.old.store (λ j. table d.old.store.vars (g j)) gs.now
+        → OnOk result (Makes d.old.store d.new.store (tables d.old.store.vars (map (λ j. differ (f j) (g j)) (range_with_len 0 (length fs.now))))) }
+    ensures nodes { (f g : ℕ → Function) → StandForAll d.old.store (λ j. table d.old.store.vars (f j)) fs.now → StandForAll d.old.store (λ j. table d.old.store.vars (g j)) gs.now
+        → IsErrOf result RungFault.Nodes → AreTooMany d.old.store (tables d.old.store.vars (map (λ j. differ (f j) (g j)) (range_with_len 0 (length fs.now)))) }
+{
+    let mut refs = Vec::with_capacity(alloc, fs.len())?;
+    for j in 0..fs.len() {
+        let r = d.xor(fs[j], gs[j])?;
         refs.push(r)?;
     }
     Ok(refs)
 }
 
-/// The diagram that is 1 where an output is wrong.
+/// The entries of a list at places.
+pub fn picked(alloc: Global, refs: &[Ref], places: &[u32]) -> Result<Vec<Ref>, NoMemory>
+    requires { All (λ place. place < length refs.now) places.now }
+    ensures { IfOk result (λ picked. picked.items ≡ map (ref_at refs.now) places.now) }
+{
+    let mut picked = Vec::with_capacity(alloc, places.len())?;
+    for place in places {
+        picked.push(refs[*place as usize])?;
+    }
+    Ok(picked)
+}
+
+/// The diagram that is 1 where an output is wrong, the variables being the inputs and then the output pins.
 pub(crate) fn wrong_output(
     d: &mut Diagrams,
     pair: &Pair,
     made: &PlainCells,
     j: usize,
 ) -> Result<Ref, DdFault>
-    requires made { HaveCells d.old.store pair.now.spec pair.now.imp made.now.spec.items made.now.imp.items }
+    requires made { HaveCells d.old.store (inputs_first pair.now.imp) pair.now.spec pair.now.imp made.now.spec.items made.now.imp.items }
     requires j { j < length pair.now.imp.outs }
     ensures ok { IfOk result (λ r. Adds d.old.store d.new.store (table d.old.store.vars (is_wrong pair.now.spec pair.now.imp j)) r.0) }
     ensures full { IsErrOf result DdFault.Full → IsTooMany d.old.store (table d.old.store.vars (is_wrong pair.now.spec pair.now.imp j)) }

@@ -6,13 +6,15 @@ ghost use Rattle.bb_bits.specs.Truth.{IsBeadOfAny};
 ghost use Rattle.bb_bits.specs.TruthSets.{HasMoreThan};
 ghost use Rattle.bb_net.specs.Conditions.{IsAlwaysWrong, EachSometimesRight};
 ghost use Rattle.bb_net.specs.Values.{output_pins};
-ghost use Rattle.bb_sym.specs.Functions.{local_functions, always_wrong, wrong_for_all_pins, outputs};
+ghost use Rattle.bb_sym.specs.Functions.{inputs_first, local_functions, always_wrong, wrong_for_all_pins};
+ghost use Rattle.bb_sym.specs.Plain.{outputs};
 ghost use Rattle.bb_sym.specs.Finds.{IsFirstFound, IsSometimesRight};
 ghost use Rattle.bb_sym.specs.Made.{Makes, AreTooMany, StandsFor, StandForAll, HaveCells};
 
-use crate::cells::{PlainCells, count_pins, plain_cells};
+use crate::blocks::quantify_block;
+use crate::cells::PlainCells;
 use crate::differences::wrong_output;
-use crate::pins::for_all_pins;
+use crate::inputs_first::{count_pins, ordered_cells};
 use crate::searching::first_true;
 use crate::{Found, RungFault};
 use bb_bits::truth;
@@ -72,7 +74,7 @@ fn local_diagrams(
     ensures makes { OnOk result (Makes d.old.store d.new.store (local_functions pair.now.spec pair.now.imp)) }
     ensures nodes { IsErrOf result RungFault.Nodes → AreTooMany d.old.store (local_functions pair.now.spec pair.now.imp) }
 {
-    let made = plain_cells(alloc, d, pair, inputs + pins)?;
+    let made = ordered_cells(alloc, d, pair, inputs + pins)?;
     let refs = always_wrong_outputs(alloc, d, pair, &made, inputs, pins)?;
     Ok(refs)
 }
@@ -86,7 +88,7 @@ fn always_wrong_outputs(
     inputs: u32,
     pins: u32,
 ) -> Result<Vec<Ref>, RungFault>
-    requires made { HaveCells d.old.store pair.now.spec pair.now.imp made.now.spec.items made.now.imp.items }
+    requires made { HaveCells d.old.store (inputs_first pair.now.imp) pair.now.spec pair.now.imp made.now.spec.items made.now.imp.items }
     requires inputs { inputs ≡ pair.now.imp.inputs }
     requires pins { pins ≡ output_pins pair.now.imp.boxes }
     requires vars { inputs + pins ≡ d.old.store.vars }
@@ -113,7 +115,7 @@ fn always_wrong_output(
     inputs: u32,
     pins: u32,
 ) -> Result<Ref, RungFault>
-    requires made { HaveCells d.old.store pair.now.spec pair.now.imp made.now.spec.items made.now.imp.items }
+    requires made { HaveCells d.old.store (inputs_first pair.now.imp) pair.now.spec pair.now.imp made.now.spec.items made.now.imp.items }
     requires j { j < length pair.now.imp.outs }
     requires inputs { inputs ≡ pair.now.imp.inputs }
     requires pins { pins ≡ output_pins pair.now.imp.boxes }
@@ -124,6 +126,6 @@ fn always_wrong_output(
     ensures nodes { IsErrOf result RungFault.Nodes → AreTooMany d.old.store (wrong_for_all_pins pair.now.spec pair.now.imp j) }
 {
     let f = wrong_output(d, pair, made, j)?;
-    let r = for_all_pins(d, f, inputs, pins)?;
+    let r = quantify_block(d, true, f, inputs, pins)?;
     Ok(r)
 }

@@ -6,7 +6,8 @@ ghost use Rattle.std.specs.List.{flat_map};
 ghost use Rattle.bb_net.specs.Netlists.{ReadsBefore};
 ghost use Rattle.bb_uniq.specs.Nodes.{IsRef};
 ghost use Rattle.bb_uniq.specs.Meaning.{truth_of};
-ghost use Rattle.bb_sym.specs.Functions.{cell_tables, high, low, known_tables, places};
+ghost use Rattle.bb_sym.specs.Functions.{cell_tables, high, low, known_tables};
+ghost use Rattle.bb_sym.specs.Plain.{places};
 ghost use Rattle.bb_sym.specs.Made.{Makes, AreTooMany, StandsFor, StandForAll, one_table, zero_table, ref_at};
 
 use crate::RungFault;

@@ -2,15 +2,19 @@
 #![tactic(auto)]
 
 mod all_outputs;
+mod blocks;
 mod cells;
 mod differences;
 mod each_output;
 mod fault;
+mod folds;
 mod found;
+mod inputs_first;
 mod known_cells;
 mod known_gates;
+pub mod laws;
 mod mismatches;
-mod pins;
+pub mod plain;
 mod searching;
 mod sums;
 mod unknown;

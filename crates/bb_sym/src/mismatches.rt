@@ -5,7 +5,8 @@ ghost use Rattle.std.specs.List.{flat_map};
 ghost use Rattle.bb_bits.specs.Truth.{complement};
 ghost use Rattle.bb_uniq.specs.Nodes.{IsRef};
 ghost use Rattle.bb_uniq.specs.Meaning.{truth_of};
-ghost use Rattle.bb_sym.specs.Functions.{known_tables, mismatch, mismatches, outputs, places, spec_bit, sum_table, sum_tables, tables, variables};
+ghost use Rattle.bb_sym.specs.Functions.{known_tables, mismatch, mismatches, spec_bit, sum_table, sum_tables};
+ghost use Rattle.bb_sym.specs.Plain.{outputs, places, tables, variables};
 ghost use Rattle.bb_sym.specs.Made.{Makes, AreTooMany, StandsFor, StandForAll, HaveKnown};
 
 use crate::RungFault;
@@ -36,8 +37,9 @@ pub(crate) fn input_cells(
 {
     let spec_net = pair.spec();
     let imp_net = pair.imp();
-    make_variables(d, imp_net.inputs())?;
-    let spec = net_cells(alloc, d, spec_net)?;
+    let inputs = imp_net.inputs();
+    let _ = make_variables(alloc, d, inputs)?;
+    let spec = net_cells(alloc, d, spec_net, 0, &[])?;
     let imp = known_cells(alloc, d, imp_net)?;
     Ok(InputCells { spec, imp })
 }

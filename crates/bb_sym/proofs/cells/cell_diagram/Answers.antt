@@ -11,5 +11,5 @@ bounds-starts-b c = (c.requires.pin c.in-BoxOut.b c.in-BoxOut.p c.in-BoxOut.is).
 pub returns-in-Const-clause-ok : goal.returns-in-Const-clause-ok
 returns-in-Const-clause-ok c =
     let s = c.args.d.now.store in
-    subst (λ (cell : Cell). Adds s s (cell_table s.vars c.args.starts.now (λ place. truth_of s (ref_at c.args.made.now place).0) cell) c.leaf.result.0) (sym c.in-Const.is)
+    subst (λ (cell : Cell). Adds s s (cell_table s.vars c.args.first c.args.starts.now (λ place. truth_of s (ref_at c.args.made.now place).0) cell) c.leaf.result.0) (sym c.in-Const.is)
     (Adds-leaf c.stores.ensures c.growth.ensures s c.is_canonical.ensures.sound.store c.in-Const.bit c.leaf.result.0 c.leaf.ensures)

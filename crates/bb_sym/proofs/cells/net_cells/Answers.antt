@@ -1,55 +1,70 @@
-use Rattle.std.proofs.Common.{rules, IsErrOf, subst, sym, ap, ◌∙◌, ◌≡◌, ◌+◌, List, [], ◌∷◌, ◌++◌, length, arith}
+use Rattle.std.proofs.Common.{rules, IsErrOf, subst, subst₂, sym, ap, ◌∙◌, ◌≡◌, ◌<◌, ◌+◌, List, length, arith}
 use Rattle.bb_net.specs.declared.cell.Cell.{Cell}
-use Rattle.bb_net.specs.declared.cell.Cell.TheVariants.{BoxOut}
+use Rattle.bb_net.specs.declared.cell.Cell.TheVariants.{Input, BoxOut}
 use Rattle.bb_net.specs.Netlists.{cell_at}
 use Rattle.bb_uniq.specs.declared.store.Ref.{Ref}
 use Rattle.bb_uniq.specs.Meaning.{truth_of, Adds, IsTooMany}
 use Rattle.bb_sym.specs.declared.fault.RungFault.TheVariants.{Nodes}
-use Rattle.bb_sym.specs.Functions.{table, imp_bit}
-use Rattle.bb_sym.specs.Made.{StandForAll, cell_table, ref_at}
-use Rattle.bb_sym.proofs.CellTables.{pin_variable}
-use Rattle.bb_sym.proofs.NetLoop.{cells_made, next_table, next_refused, next_stands, next_makes, whole_makes}
+use Rattle.bb_sym.specs.Made.{AreRefs, cell_table, ref_at}
+use Rattle.bb_sym.proofs.CellTables.{input_variable, pin_variable}
+use Rattle.bb_sym.proofs.MadeLemmas.{AreRefs-push, keeps_then}
+use Rattle.bb_sym.proofs.NetLoop.{CellsMade, next_table, next_refused, next_made, whole_makes}
 use Rattle.bb_sym.proofs.cells.net_cells.Goals as goal
+
+pub cell_diagram-requires-clause-input : goal.cell_diagram-requires-clause-input
+cell_diagram-requires-clause-input c = λ i e.
+    let net = c.args.net.now in
+    let here : cell_at net.cells c.loop-cell.cell-index ≡ Input i = ap (λ (cells : List Cell). cell_at cells c.loop-cell.cell-index) (sym c.cells-cells.ensures.cells) ∙ e in
+    let v = input_variable net c.cells-cells.ensures.kept c.args.d.now.store.vars c.args.first c.args.starts.now c.requires c.loop-cell.cell-index i (omega (arith, c.loop-cell-test.true, ap length c.cells-cells.ensures.cells)) here in
+    omega (arith, v, c.loop-cell.invariant.2.vars)
 
 pub cell_diagram-requires-clause-pin : goal.cell_diagram-requires-clause-pin
 cell_diagram-requires-clause-pin c = λ b p e.
-    let m = (cells_made c.args.d.now.store c.loop-cell.d.store c.args.net.now c.inputs.result c.loop-cell.cell-index c.boxes.result.now c.in_ok-starts.starts.items c.deref.result.now c.cells-cells.result.now c.loop-cell.made.items c.deref-in-loop-cell.result.now c.inputs.ensures.kept c.requires.vars
-    c.inputs.ensures.inputs c.boxes.ensures.boxes c.deref.ensures.value c.in_ok-starts.ensures.starts c.cells-cells.ensures.cells c.loop-cell-test.true c.deref-in-loop-cell.ensures.value c.loop-cell.invariant) in
     let net = c.args.net.now in
     let here : cell_at net.cells c.loop-cell.cell-index ≡ BoxOut b p = ap (λ (cells : List Cell). cell_at cells c.loop-cell.cell-index) (sym c.cells-cells.ensures.cells) ∙ e in
-    let count : length c.deref.result.now ≡ length net.boxes = ap length c.deref.ensures.value ∙ (c.in_ok-starts.ensures.count ∙ ap length c.boxes.ensures.boxes) in
-    let v = pin_variable net c.inputs.ensures.kept c.args.d.now.store.vars c.deref.result.now c.requires.vars count m.start c.loop-cell.cell-index b p m.there here in (
+    let v = pin_variable net c.cells-cells.ensures.kept c.args.d.now.store.vars c.args.first c.args.starts.now c.requires c.loop-cell.cell-index b p (omega (arith, c.loop-cell-test.true, ap length c.cells-cells.ensures.cells)) here in (
       v.0,
-      omega (arith, v.1, c.loop-cell.invariant.2.kept.vars),
+      omega (arith, v.1, c.loop-cell.invariant.2.vars),
     )
+
+pub cell_diagram-requires-clause-made : goal.cell_diagram-requires-clause-made
+cell_diagram-requires-clause-made c = subst (AreRefs c.loop-cell.d.store) (sym c.deref.ensures.value) c.loop-cell.invariant.1
 
 pub returns-in_err-r-clause-nodes : goal.returns-in_err-r-clause-nodes
 returns-in_err-r-clause-nodes c =
-    let m = (cells_made c.args.d.now.store c.loop-cell.d.store c.args.net.now c.inputs.result c.loop-cell.cell-index c.boxes.result.now c.in_ok-starts.starts.items c.deref.result.now c.cells-cells.result.now c.loop-cell.made.items c.deref-in-loop-cell.result.now c.inputs.ensures.kept c.requires.vars
-    c.inputs.ensures.inputs c.boxes.ensures.boxes c.deref.ensures.value c.in_ok-starts.ensures.starts c.cells-cells.ensures.cells c.loop-cell-test.true c.deref-in-loop-cell.ensures.value c.loop-cell.invariant) in
     let old = c.loop-cell.d.store in
-    let told : IsErrOf c.from_residual-in_err-r.result Nodes →
-    IsTooMany old (cell_table old.vars c.deref.result.now (λ place. truth_of old (ref_at c.deref-in-loop-cell.result.now place).0) (cell_at c.cells-cells.result.now c.loop-cell.cell-index)) = search rules in
-    λ full. next_refused c.value_exists.ensures c.args.d.now.store old c.args.net.now c.deref.result.now c.deref-in-loop-cell.result.now c.loop-cell.cell-index m
-    (subst (λ (cells : List Cell). IsTooMany old (cell_table old.vars c.deref.result.now (λ place. truth_of old (ref_at c.deref-in-loop-cell.result.now place).0) (cell_at cells c.loop-cell.cell-index))) c.cells-cells.ensures.cells (told full))
+    let net = c.args.net.now in
+    let i = c.loop-cell.cell-index in
+    let told : IsErrOf c.from_residual-in_err-r.result Nodes → IsTooMany old (cell_table old.vars c.args.first c.args.starts.now (λ place. truth_of old (ref_at c.deref.result.now place).0) (cell_at c.cells-cells.result.now i)) = search rules in
+    λ r reads full. next_refused c.value_exists.ensures c.args.d.now.store old net c.cells-cells.ensures.kept c.args.first c.args.starts.now c.requires c.loop-cell.made.items i (omega (arith, c.loop-cell-test.true, ap length c.cells-cells.ensures.cells)) c.loop-cell.invariant.0 r reads (c.loop-cell.invariant.3 r reads)
+    (subst₂ (λ (cells : List Cell) (ms : List Ref). IsTooMany old (cell_table old.vars c.args.first c.args.starts.now (λ place. truth_of old (ref_at ms place).0) (cell_at cells i))) c.cells-cells.ensures.cells c.deref.ensures.value (told full))
 
 pub loop-cell-preserved : goal.loop-cell-preserved
 loop-cell-preserved c =
-    let m = (cells_made c.args.d.now.store c.loop-cell.d.store c.args.net.now c.inputs.result c.loop-cell.cell-index c.boxes.result.now c.in_ok-starts.starts.items c.deref.result.now c.cells-cells.result.now c.loop-cell.made.items c.deref-in-loop-cell.result.now c.inputs.ensures.kept c.requires.vars
-    c.inputs.ensures.inputs c.boxes.ensures.boxes c.deref.ensures.value c.in_ok-starts.ensures.starts c.cells-cells.ensures.cells c.loop-cell-test.true c.deref-in-loop-cell.ensures.value c.loop-cell.invariant) in
+    let s = c.args.d.now.store in
     let old = c.loop-cell.d.store in
     let new = c.cell_diagram.new.d.store in
-    let r = c.in_ok-r.r in
-    let added : Adds old new (next_table old c.args.net.now c.deref.result.now c.deref-in-loop-cell.result.now c.loop-cell.cell-index) r.0 =
-    subst (λ (cells : List Cell). Adds old new (cell_table old.vars c.deref.result.now (λ place. truth_of old (ref_at c.deref-in-loop-cell.result.now place).0) (cell_at cells c.loop-cell.cell-index)) r.0) c.cells-cells.ensures.cells c.in_ok-r.ensures.ok in
-    let pushed : c.deref-in-loop-cell.result.now ++ r ∷ [] ≡ c.push.new.self.items = ap (λ (refs : List Ref). refs ++ r ∷ []) c.deref-in-loop-cell.ensures.value ∙ sym c.in_ok-push.ensures.items in (
-      (let count : length c.push.new.self.items ≡ c.loop-cell.cell-index + 1 = search rules in count),
-      subst (StandForAll new (λ place. table c.args.d.now.store.vars (imp_bit c.args.net.now place))) pushed
-          (next_stands c.value_exists.ensures c.args.d.now.store old new c.args.net.now c.deref.result.now c.deref-in-loop-cell.result.now c.loop-cell.cell-index r m added),
-      next_makes c.value_exists.ensures c.args.d.now.store old new c.args.net.now c.deref.result.now c.deref-in-loop-cell.result.now c.loop-cell.cell-index r m added,
+    let net = c.args.net.now in
+    let i = c.loop-cell.cell-index in
+    let made = c.loop-cell.made.items in
+    let q = c.in_ok-r.r in
+    let added : Adds old new (next_table old c.args.first c.args.starts.now made net i) q.0 =
+    subst₂ (λ (cells : List Cell) (ms : List Ref). Adds old new (cell_table old.vars c.args.first c.args.starts.now (λ place. truth_of old (ref_at ms place).0) (cell_at cells i)) q.0) c.cells-cells.ensures.cells c.deref.ensures.value c.in_ok-r.ensures.ok in
+    let there : i < length net.cells = omega (arith, c.loop-cell-test.true, ap length c.cells-cells.ensures.cells) in (
+      (let count : length c.push.new.self.items ≡ i + 1 = search rules in count),
+      subst (AreRefs new) (sym c.in_ok-push.ensures.items) (AreRefs-push old new made q added.kept added.ref c.loop-cell.invariant.1),
+      keeps_then s old new c.loop-cell.invariant.2 added.kept,
+      λ r reads. subst (λ (ms : List Ref). CellsMade s new net ms (i + 1) r) (sym c.in_ok-push.ensures.items)
+          (next_made c.value_exists.ensures s old net c.cells-cells.ensures.kept c.args.first c.args.starts.now c.requires made i there c.loop-cell.invariant.0 r reads (c.loop-cell.invariant.3 r reads) new q added),
     )
 
+pub returns-clause-count : goal.returns-clause-count
+returns-clause-count c = let count : c.loop-cell.cell-index ≡ length c.args.net.now.cells = search rules in c.loop-cell.invariant.0 ∙ count
+
+pub returns-clause-cells : goal.returns-clause-cells
+returns-clause-cells c = λ r reads. (c.loop-cell.invariant.3 r reads).0
+
 pub returns-clause-makes : goal.returns-clause-makes
-returns-clause-makes c =
+returns-clause-makes c = λ r reads.
     let count : c.loop-cell.cell-index ≡ length c.args.net.now.cells = search rules in
-    whole_makes c.args.d.now.store c.loop-cell.d.store c.args.net.now c.loop-cell.cell-index count c.loop-cell.invariant.2
+    whole_makes c.args.d.now.store c.loop-cell.d.store c.args.net.now c.loop-cell.made.items c.loop-cell.cell-index r count (c.loop-cell.invariant.3 r reads)

@@ -1,11 +1,11 @@
-use Rattle.std.proofs.Common.{◌≡◌, map, length}
-use Rattle.std.specs.List.{range_with_len}
-use Rattle.bb_sym.specs.Functions.{table, imp_bit}
-use Rattle.bb_sym.specs.Made.{Makes, StandForAll}
+use Rattle.std.proofs.Common.{◌≡◌, length}
+use Rattle.bb_uniq.specs.Meaning.{Keeps}
+use Rattle.bb_sym.specs.Plain.{Reading, IsReadSo}
+use Rattle.bb_sym.specs.Made.{AreRefs}
+use Rattle.bb_sym.proofs.NetLoop.{CellsMade}
 use Rattle.bb_sym.proofs.cells.net_cells.Given as goal
 
 abbrev pub invariant-loop-cell : goal.invariant-loop-cell
 invariant-loop-cell l =
-    let n = l.fn.d.store.vars in
-    (length l.made.items ≡ l.cell-index) × StandForAll l.d.store (λ place. table n (imp_bit l.net place)) l.made.items
-    × Makes l.fn.d.store l.d.store (map (λ place. table n (imp_bit l.net place)) (range_with_len 0 l.cell-index))
+    (length l.made.items ≡ l.cell-index) × AreRefs l.d.store l.made.items × Keeps l.fn.d.store l.d.store
+    × ((r : Reading) → IsReadSo l.fn.d.store.vars l.first l.starts l.net r → CellsMade l.fn.d.store l.d.store l.net l.made.items l.cell-index r)

@@ -2,7 +2,7 @@ use Rattle.std.proofs.Common.{rules, IsErrOf, subst, sym, ap, ◌∙◌, ◌≡�
 use Rattle.std.specs.List.{range_with_len}
 use Rattle.bb_net.specs.Netlists.{Netlist}
 use Rattle.bb_sym.specs.declared.fault.RungFault.TheVariants.{Nodes}
-use Rattle.bb_sym.specs.Functions.{always_wrong, wrong_for_all_pins}
+use Rattle.bb_sym.specs.Functions.{inputs_first, always_wrong, wrong_for_all_pins}
 use Rattle.bb_sym.specs.Made.{Makes, AreTooMany, StandForAll}
 use Rattle.bb_sym.proofs.MadeLemmas.{StandForAll-push}
 use Rattle.bb_sym.proofs.WrongTables.{HaveCells-kept}
@@ -11,7 +11,7 @@ use Rattle.bb_sym.proofs.each_output.always_wrong_outputs.Goals as goal
 
 pub always_wrong_output-requires-clause-made : goal.always_wrong_output-requires-clause-made
 always_wrong_output-requires-clause-made c =
-    HaveCells-kept c.args.d.now.store c.loop-j.d.store c.args.pair.now.spec c.args.pair.now.imp c.args.made.now.spec.items c.args.made.now.imp.items c.loop-j.invariant.2.kept c.requires.made
+    HaveCells-kept c.args.d.now.store c.loop-j.d.store (inputs_first c.args.pair.now.imp) c.args.pair.now.spec c.args.pair.now.imp c.args.made.now.spec.items c.args.made.now.imp.items c.loop-j.invariant.2.kept c.requires.made
 
 pub always_wrong_output-requires-clause-vars : goal.always_wrong_output-requires-clause-vars
 always_wrong_output-requires-clause-vars c = omega (arith, c.requires.vars, c.loop-j.invariant.2.kept.vars)

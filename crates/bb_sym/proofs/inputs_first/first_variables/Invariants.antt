@@ -1,6 +1,6 @@
 use Rattle.std.proofs.Common.{◌≡◌, ◌+◌, ◌<◌, ℕ, take, length, slice_index_or}
 use Rattle.bb_net.specs.Values.{output_pins}
-use Rattle.bb_sym.proofs.cells.first_variables.Given as goal
+use Rattle.bb_sym.proofs.inputs_first.first_variables.Given as goal
 
 abbrev pub invariant-loop-pins : goal.invariant-loop-pins
 invariant-loop-pins l =

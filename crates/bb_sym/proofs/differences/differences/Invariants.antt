@@ -1,0 +1,12 @@
+use Rattle.std.proofs.Common.{◌≡◌, ℕ, length}
+use Rattle.bb_uniq.specs.Meaning.{Keeps}
+use Rattle.bb_sym.specs.Plain.{Function, table}
+use Rattle.bb_sym.specs.Made.{AreRefs, StandForAll}
+use Rattle.bb_sym.proofs.DifferenceLoop.{AreDifferent}
+use Rattle.bb_sym.proofs.differences.differences.Given as goal
+
+abbrev pub invariant-loop-j : goal.invariant-loop-j
+invariant-loop-j l =
+    let s = l.fn.d.store in
+    (length l.refs.items ≡ l.j) × AreRefs l.d.store l.refs.items × Keeps s l.d.store
+    × ((f g : ℕ → Function) → StandForAll s (λ j. table s.vars (f j)) l.fs → StandForAll s (λ j. table s.vars (g j)) l.gs → AreDifferent s l.d.store f g l.refs.items l.j)

@@ -1,0 +1,56 @@
+//! A block of variables quantified: what is left depends on the others alone.
+
+ghost use Rattle.std.specs.Prelude.{◌≡◌, ◌+◌, ◌<◌, ◌≤◌, IfOk, OnOk, IsErrOf};
+ghost use Rattle.bb_bits.specs.Truth.{quantified, quantified_block};
+ghost use Rattle.bb_dd.specs.Results.{quantifier};
+ghost use Rattle.bb_uniq.specs.Nodes.{IsRef};
+ghost use Rattle.bb_uniq.specs.Meaning.{truth_of, Adds, IsTooMany};
+ghost use Rattle.bb_sym.specs.Plain.{block_functions};
+ghost use Rattle.bb_sym.specs.Made.{Makes, AreTooMany, StandsFor};
+
+use crate::RungFault;
+use bb_dd::{DdFault, Diagrams, Ref};
+use bb_quant::{exists, forall};
+
+/// The diagram that is 1 where `f` is 1 for all values of `count` variables from `first` on, or, where `all` is false, for some
+/// values. The last one is quantified first, and each function on the way is made.
+///
+/// # Errors
+///
+/// `Nodes` exactly where the beads held and those of these functions are more than the limit.
+pub fn quantify_block(
+    d: &mut Diagrams,
+    all: bool,
+    f: Ref,
+    first: u32,
+    count: u32,
+) -> Result<Ref, RungFault>
+    requires f { IsRef d.old.store f.0 }
+    requires vars { first + count ≤ d.old.store.vars }
+    requires few { d.old.store.vars ≤ 2048 }
+    ensures result { IfOk result (StandsFor d.new.store (quantified_block (quantifier all) first count (truth_of d.old.store f.0))) }
+    ensures makes { OnOk result (Makes d.old.store d.new.store (block_functions (quantifier all) first count (truth_of d.old.store f.0))) }
+    ensures nodes { IsErrOf result RungFault.Nodes → AreTooMany d.old.store (block_functions (quantifier all) first count (truth_of d.old.store f.0)) }
+{
+    let mut r = f;
+    let mut left = count;
+    while left > 0 {
+        left -= 1;
+        r = quantify_one(d, all, r, first + left)?;
+    }
+    Ok(r)
+}
+
+/// One variable quantified.
+fn quantify_one(d: &mut Diagrams, all: bool, f: Ref, v: u32) -> Result<Ref, DdFault>
+    requires f { IsRef d.old.store f.0 }
+    requires v { v < d.old.store.vars }
+    ensures ok { IfOk result (λ r. Adds d.old.store d.new.store (quantified (quantifier all) v (truth_of d.old.store f.0)) r.0) }
+    ensures full { IsErrOf result DdFault.Full → IsTooMany d.old.store (quantified (quantifier all) v (truth_of d.old.store f.0)) }
+{
+    if all {
+        forall(d, f, v)
+    } else {
+        exists(d, f, v)
+    }
+}

@@ -1,0 +1,60 @@
+//! The cells of both nets where the variables are the inputs and then the output pins of the boxes, box after box.
+
+ghost use Rattle.std.specs.Prelude.{◌≡◌, ◌+◌, ◌<◌, ◌≤◌, ℕ, length, take, IfOk, OnOk, IsErrOf, slice_index_or};
+ghost use Rattle.bb_net.specs.Values.{output_pins};
+ghost use Rattle.bb_sym.specs.Functions.{inputs_first, plain_functions, variable_count};
+ghost use Rattle.bb_sym.specs.Made.{Makes, AreTooMany, AreCells, HaveCells};
+
+use crate::RungFault;
+use crate::cells::{PlainCells, plain_cells};
+use bb_bits::NoMemory;
+use bb_dd::{Diagrams, Ref};
+use bb_net::{BoxPins, Pair};
+use std::alloc::Global;
+
+/// Makes the variables and the cells of both nets.
+pub(crate) fn ordered_cells(
+    alloc: Global,
+    d: &mut Diagrams,
+    pair: &Pair,
+    vars: u32,
+) -> Result<PlainCells, RungFault>
+    requires vars { vars ≡ variable_count pair.now.imp }
+    requires store { vars ≡ d.old.store.vars }
+    ensures refs { IfOk result (λ made. AreCells d.new.store pair.now.spec pair.now.imp made.spec.items made.imp.items) }
+    ensures cells { IfOk result (λ made. HaveCells d.new.store (inputs_first pair.now.imp) pair.now.spec pair.now.imp made.spec.items made.imp.items) }
+    ensures makes { OnOk result (Makes d.old.store d.new.store (plain_functions pair.now.spec pair.now.imp)) }
+    ensures nodes { IsErrOf result RungFault.Nodes → AreTooMany d.old.store (plain_functions pair.now.spec pair.now.imp) }
+{
+    let imp_net = pair.imp();
+    let starts = first_variables(alloc, imp_net.inputs(), imp_net.boxes())?;
+    let made = plain_cells(alloc, d, pair, vars, 0, &starts)?;
+    Ok(made)
+}
+
+/// How many output pins boxes have.
+pub(crate) fn count_pins(boxes: &[BoxPins]) -> u32
+    requires { output_pins boxes.now ≤ 2048 }
+    ensures { result ≡ output_pins boxes.now }
+{
+    let mut count = 0;
+    for pins in boxes {
+        count += pins.outs().len() as u32;
+    }
+    count
+}
+
+/// The first variable of each box, where its output pins have one variable each, box after box, from `first` on.
+fn first_variables(alloc: Global, first: u32, boxes: &[BoxPins]) -> Result<Vec<u32>, NoMemory>
+    requires { first + output_pins boxes.now ≤ 2048 }
+    ensures count { IfOk result (λ starts. length starts.items ≡ length boxes.now) }
+    ensures starts { IfOk result (λ starts. (b : ℕ) → b < length boxes.now → slice_index_or starts.items b 0 ≡ first + output_pins (take b boxes.now)) }
+{
+    let mut starts = Vec::with_capacity(alloc, boxes.len())?;
+    let mut next = first;
+    for pins in boxes {
+        starts.push(next)?;
+        next += pins.outs().len() as u32;
+    }
+    Ok(starts)
+}
