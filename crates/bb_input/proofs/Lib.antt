@@ -1,0 +1,13 @@
+pub mod ChoiceSteps
+pub mod DiagramParts
+pub mod Game
+pub mod LeastRows
+pub mod MissedParts
+pub mod NumberSteps
+pub mod OneBox
+pub mod OrderLemmas
+pub mod Points
+pub mod Readings
+pub mod RefutingParts
+pub mod RowSteps
+pub mod Suits

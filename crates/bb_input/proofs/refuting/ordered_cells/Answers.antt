@@ -1,0 +1,51 @@
+use Rattle.std.proofs.Common.{rules, IsErrOf, ◌∙◌, sym, subst, arith}
+use Rattle.bb_bits.specs.Truth.{variable}
+use Rattle.bb_sym.specs.declared.fault.RungFault.TheVariants.{Nodes}
+use Rattle.bb_sym.specs.Plain.{AreVariables, IsReadSo, plain_functions_at}
+use Rattle.bb_sym.specs.Made.{Makes, AreTooMany, StandForAll}
+use Rattle.bb_input.specs.InputFunctions.{boxes_first}
+use Rattle.bb_input.proofs.Readings.{order_variables, order_read}
+use Rattle.bb_input.proofs.refuting.ordered_cells.Goals as goal
+
+pub plain_cells-requires-clause-variables : goal.plain_cells-requires-clause-variables
+plain_cells-requires-clause-variables c =
+    let s = c.args.d.now.store in
+    subst (λ k. AreVariables s.vars k c.args.starts.now c.args.pair.now.imp) (sym c.requires.pins) (order_variables c.args.pair.now.imp c.args.d.now.store.vars (omega (arith, c.requires.few, c.requires.store)) (sym c.requires.store ∙ c.requires.vars) c.args.starts.now c.requires.count c.requires.starts)
+
+pub returns-in_err-made-clause-nodes : goal.returns-in_err-made-clause-nodes
+returns-in_err-made-clause-nodes c =
+    let s = c.args.d.now.store in
+    let spec = c.args.pair.now.spec in
+    let imp = c.args.pair.now.imp in
+    let reads = subst (λ k. IsReadSo s.vars k c.args.starts.now imp (boxes_first imp)) (sym c.requires.pins) (order_read c.args.pair.now.imp c.args.d.now.store.vars (omega (arith, c.requires.few, c.requires.store)) (sym c.requires.store ∙ c.requires.vars) c.args.starts.now c.requires.count c.requires.starts) in
+    let more = c.in_err-made.ensures.nodes (boxes_first imp) reads in
+    let told : IsErrOf c.from_residual.result Nodes → AreTooMany s (plain_functions_at s.vars (boxes_first imp) spec imp) = search (rules, more) in
+    λ full. subst (λ n. AreTooMany s (plain_functions_at n (boxes_first imp) spec imp)) (sym c.requires.store ∙ c.requires.vars) (told full)
+
+pub returns-clause-variables : goal.returns-clause-variables
+returns-clause-variables c =
+    let s = c.args.d.now.store in
+    let new = c.plain_cells.new.d.store in
+    let imp = c.args.pair.now.imp in
+    let reads = subst (λ k. IsReadSo s.vars k c.args.starts.now imp (boxes_first imp)) (sym c.requires.pins) (order_read c.args.pair.now.imp c.args.d.now.store.vars (omega (arith, c.requires.few, c.requires.store)) (sym c.requires.store ∙ c.requires.vars) c.args.starts.now c.requires.count c.requires.starts) in
+    let kept = (c.in_ok-made.ensures.makes (boxes_first imp) reads).kept.vars in
+    let h = c.in_ok-made.ensures.variables in (
+      h.0 ∙ sym kept,
+      subst (λ n. StandForAll new (variable n) c.in_ok-made.made.variables.items) (sym kept) h.1,
+    )
+
+pub returns-clause-cells : goal.returns-clause-cells
+returns-clause-cells c =
+    let s = c.args.d.now.store in
+    let imp = c.args.pair.now.imp in
+    let reads = subst (λ k. IsReadSo s.vars k c.args.starts.now imp (boxes_first imp)) (sym c.requires.pins) (order_read c.args.pair.now.imp c.args.d.now.store.vars (omega (arith, c.requires.few, c.requires.store)) (sym c.requires.store ∙ c.requires.vars) c.args.starts.now c.requires.count c.requires.starts) in
+    c.in_ok-made.ensures.cells (boxes_first imp) reads
+
+pub returns-clause-makes : goal.returns-clause-makes
+returns-clause-makes c =
+    let s = c.args.d.now.store in
+    let new = c.plain_cells.new.d.store in
+    let spec = c.args.pair.now.spec in
+    let imp = c.args.pair.now.imp in
+    let reads = subst (λ k. IsReadSo s.vars k c.args.starts.now imp (boxes_first imp)) (sym c.requires.pins) (order_read c.args.pair.now.imp c.args.d.now.store.vars (omega (arith, c.requires.few, c.requires.store)) (sym c.requires.store ∙ c.requires.vars) c.args.starts.now c.requires.count c.requires.starts) in
+    subst (λ n. Makes s new (plain_functions_at n (boxes_first imp) spec imp)) (sym c.requires.store ∙ c.requires.vars) (c.in_ok-made.ensures.makes (boxes_first imp) reads)

@@ -1,0 +1,100 @@
+use Rattle.std.proofs.Common.{rules, IsErrOf, ◌&&◌, sym, ◌∙◌, subst}
+use Rattle.bb_bits.specs.Truth.{variable, complement, joined}
+use Rattle.bb_uniq.specs.Meaning.{truth_of, IsTooMany}
+use Rattle.bb_sym.specs.declared.fault.RungFault.TheVariants.{Nodes}
+use Rattle.bb_sym.specs.Made.{AreTooMany, StandForAll}
+use Rattle.bb_input.specs.InputFunctions.{boxes_first, missed_functions}
+use Rattle.bb_input.proofs.RefutingParts.{wrong_over, refused_wrong, refused_missed, refused_not, refused_and, still_wrong, refuting_made, refuting_stands}
+use Rattle.bb_input.proofs.refuting.refuting.Goals as goal
+
+pub returns-in_err-wrong-clause-nodes : goal.returns-in_err-wrong-clause-nodes
+returns-in_err-wrong-clause-nodes c =
+    let s = c.args.d.now.store in
+    let more = c.in_err-wrong.ensures.nodes (boxes_first c.args.pair.now.imp) c.requires.cells in
+    let told : IsErrOf c.from_residual.result Nodes → AreTooMany s (wrong_over s.vars c.args.pair.now.spec c.args.pair.now.imp) = search (rules, more) in
+    λ full. refused_wrong c.functions.ensures c.making.ensures c.args.pair.now.spec c.args.pair.now.imp c.args.d.now.store c.requires.vars (told full)
+
+pub some_missed-requires-clause-vars : goal.some_missed-requires-clause-vars
+some_missed-requires-clause-vars c =
+    let order = boxes_first c.args.pair.now.imp in
+    let b = c.some_wrong.new.d.store in
+    let wrong = c.in_ok-wrong.ensures.makes order c.requires.cells in
+    c.requires.vars ∙ sym wrong.kept.vars
+
+pub some_missed-requires-clause-variables : goal.some_missed-requires-clause-variables
+some_missed-requires-clause-variables c =
+    let order = boxes_first c.args.pair.now.imp in
+    let b = c.some_wrong.new.d.store in
+    let wrong = c.in_ok-wrong.ensures.makes order c.requires.cells in
+    let s = c.args.d.now.store in
+    subst (λ n. StandForAll b (variable n) c.args.made.now.variables.items) (sym wrong.kept.vars) (c.making.ensures.all_still s b (variable s.vars) c.args.made.now.variables.items wrong.kept c.requires.variables)
+
+pub some_missed-requires-clause-count : goal.some_missed-requires-clause-count
+some_missed-requires-clause-count c =
+    let order = boxes_first c.args.pair.now.imp in
+    let b = c.some_wrong.new.d.store in
+    let wrong = c.in_ok-wrong.ensures.makes order c.requires.cells in
+    c.requires.count ∙ sym wrong.kept.vars
+
+pub some_missed-requires-clause-cells : goal.some_missed-requires-clause-cells
+some_missed-requires-clause-cells c =
+    let order = boxes_first c.args.pair.now.imp in
+    let b = c.some_wrong.new.d.store in
+    let wrong = c.in_ok-wrong.ensures.makes order c.requires.cells in
+    c.making.ensures.cells_still c.args.d.now.store b order c.args.pair.now.spec c.args.pair.now.imp c.args.made.now.spec.items c.args.made.now.imp.items wrong.kept c.requires.cells
+
+pub returns-in_err-missed-clause-nodes : goal.returns-in_err-missed-clause-nodes
+returns-in_err-missed-clause-nodes c =
+    let order = boxes_first c.args.pair.now.imp in
+    let b = c.some_wrong.new.d.store in
+    let wrong = c.in_ok-wrong.ensures.makes order c.requires.cells in
+    let told : IsErrOf c.from_residual-in_err-missed.result Nodes → AreTooMany b (missed_functions c.args.pair.now.imp) = search rules in
+    λ full. refused_missed c.functions.ensures c.making.ensures c.args.pair.now.spec c.args.pair.now.imp c.args.d.now.store c.requires.vars b wrong (told full)
+
+pub returns-in_err-led-clause-nodes : goal.returns-in_err-led-clause-nodes
+returns-in_err-led-clause-nodes c =
+    let order = boxes_first c.args.pair.now.imp in
+    let b = c.some_wrong.new.d.store in
+    let wrong = c.in_ok-wrong.ensures.makes order c.requires.cells in
+    let last = c.some_missed.new.d.store in
+    let wrong_stand = c.in_ok-wrong.ensures.result order c.requires.cells in
+    let told : IsErrOf c.from_residual-in_err-led.result Nodes → IsTooMany last (complement (truth_of last c.in_ok-missed.missed.0)) = search rules in
+    λ full. refused_not c.functions.ensures c.making.ensures c.args.pair.now.spec c.args.pair.now.imp c.args.d.now.store c.requires.vars b wrong last c.in_ok-missed.ensures.makes c.in_ok-missed.missed c.in_ok-missed.ensures.result (told full)
+
+pub and-requires-clause-f : goal.and-requires-clause-f
+and-requires-clause-f c =
+    let order = boxes_first c.args.pair.now.imp in
+    let b = c.some_wrong.new.d.store in
+    let wrong = c.in_ok-wrong.ensures.makes order c.requires.cells in
+    let last = c.some_missed.new.d.store in
+    let wrong_stand = c.in_ok-wrong.ensures.result order c.requires.cells in
+    (still_wrong c.functions.ensures c.making.ensures c.args.pair.now.spec c.args.pair.now.imp c.args.d.now.store c.requires.vars b wrong last c.in_ok-missed.ensures.makes c.in_ok-missed.missed c.in_ok-missed.ensures.result c.not.new.self.store c.in_ok-led.led c.in_ok-led.ensures.ok c.in_ok-wrong.wrong wrong_stand).ref
+
+pub returns-in_err-both-clause-nodes : goal.returns-in_err-both-clause-nodes
+returns-in_err-both-clause-nodes c =
+    let order = boxes_first c.args.pair.now.imp in
+    let b = c.some_wrong.new.d.store in
+    let wrong = c.in_ok-wrong.ensures.makes order c.requires.cells in
+    let last = c.some_missed.new.d.store in
+    let wrong_stand = c.in_ok-wrong.ensures.result order c.requires.cells in
+    let mid = c.not.new.self.store in
+    let told : IsErrOf c.from_residual-in_err-both.result Nodes → IsTooMany mid (joined ◌&&◌ (truth_of mid c.in_ok-wrong.wrong.0) (truth_of mid c.in_ok-led.led.0)) = search rules in
+    λ full. refused_and c.functions.ensures c.making.ensures c.args.pair.now.spec c.args.pair.now.imp c.args.d.now.store c.requires.vars b wrong last c.in_ok-missed.ensures.makes c.in_ok-missed.missed c.in_ok-missed.ensures.result c.not.new.self.store c.in_ok-led.led c.in_ok-led.ensures.ok c.in_ok-wrong.wrong wrong_stand (told full)
+
+pub returns-clause-result : goal.returns-clause-result
+returns-clause-result c =
+    let order = boxes_first c.args.pair.now.imp in
+    let b = c.some_wrong.new.d.store in
+    let wrong = c.in_ok-wrong.ensures.makes order c.requires.cells in
+    let last = c.some_missed.new.d.store in
+    let wrong_stand = c.in_ok-wrong.ensures.result order c.requires.cells in
+    refuting_stands c.functions.ensures c.making.ensures c.args.pair.now.spec c.args.pair.now.imp c.args.d.now.store c.requires.vars b wrong last c.in_ok-missed.ensures.makes c.in_ok-missed.missed c.in_ok-missed.ensures.result c.not.new.self.store c.in_ok-led.led c.in_ok-led.ensures.ok c.in_ok-wrong.wrong wrong_stand c.and.new.self.store c.in_ok-both.both c.in_ok-both.ensures.ok
+
+pub returns-clause-makes : goal.returns-clause-makes
+returns-clause-makes c =
+    let order = boxes_first c.args.pair.now.imp in
+    let b = c.some_wrong.new.d.store in
+    let wrong = c.in_ok-wrong.ensures.makes order c.requires.cells in
+    let last = c.some_missed.new.d.store in
+    let wrong_stand = c.in_ok-wrong.ensures.result order c.requires.cells in
+    refuting_made c.functions.ensures c.making.ensures c.args.pair.now.spec c.args.pair.now.imp c.args.d.now.store c.requires.vars b wrong last c.in_ok-missed.ensures.makes c.in_ok-missed.missed c.in_ok-missed.ensures.result c.not.new.self.store c.in_ok-led.led c.in_ok-led.ensures.ok c.in_ok-wrong.wrong wrong_stand c.and.new.self.store c.in_ok-both.both c.in_ok-both.ensures.ok

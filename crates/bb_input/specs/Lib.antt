@@ -1,0 +1,4 @@
+pub mod Answers
+pub mod InputFunctions
+pub mod Order
+pub mod Rows

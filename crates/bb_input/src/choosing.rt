@@ -1,0 +1,58 @@
+//! The boxes quantified, from the last to the first: for all bits at the output pins, for some bits at the input pins.
+
+ghost use Rattle.std.specs.Prelude.{◌≡◌, ◌+◌, ◌-◌, ◌<◌, ◌≤◌, ℕ, length, take, IfOk, OnOk, IsErrOf, slice_index_or};
+ghost use Rattle.bb_net.specs.Netlists.{box_at};
+ghost use Rattle.bb_net.specs.Pairs.{pin_count};
+ghost use Rattle.bb_uniq.specs.Nodes.{IsRef};
+ghost use Rattle.bb_uniq.specs.Meaning.{truth_of};
+ghost use Rattle.bb_sym.specs.Made.{Makes, AreTooMany, StandsFor};
+ghost use Rattle.bb_input.specs.InputFunctions.{box_quantified, boxes_quantified, box_functions, boxes_functions};
+
+use bb_dd::{Diagrams, Ref};
+use bb_net::BoxPins;
+use bb_sym::plain::quantify_block;
+use bb_sym::{RungFault, laws};
+
+/// The boxes quantified, the last one first. Each has its output pins from its entry of `starts` on, and its input pins before.
+pub(crate) fn quantify_boxes(
+    d: &mut Diagrams,
+    f: Ref,
+    boxes: &[BoxPins],
+    starts: &[u32],
+) -> Result<Ref, RungFault>
+    requires f { IsRef d.old.store f.0 }
+    requires vars { pin_count boxes.now ≤ d.old.store.vars }
+    requires few { d.old.store.vars ≤ 2048 }
+    requires count { length starts.now ≡ length boxes.now }
+    requires starts { (b : ℕ) → b < length boxes.now → slice_index_or starts.now b 0 ≡ pin_count (take b boxes.now) + length (box_at boxes.now b).ins }
+    ensures result { IfOk result (StandsFor d.new.store (boxes_quantified 0 boxes.now (truth_of d.old.store f.0))) }
+    ensures makes { OnOk result (Makes d.old.store d.new.store (boxes_functions 0 boxes.now (truth_of d.old.store f.0))) }
+    ensures nodes { IsErrOf result RungFault.Nodes → AreTooMany d.old.store (boxes_functions 0 boxes.now (truth_of d.old.store f.0)) }
+{
+    laws::making();
+    let mut r = f;
+    let mut left = boxes.len();
+    while left > 0 {
+        left -= 1;
+        r = quantify_box(d, r, starts[left], &boxes[left])?;
+    }
+    Ok(r)
+}
+
+/// A box quantified: its output pins from `start` on, and then its input pins before them.
+fn quantify_box(d: &mut Diagrams, f: Ref, start: u32, pins: &BoxPins) -> Result<Ref, RungFault>
+    requires f { IsRef d.old.store f.0 }
+    requires before { length pins.now.ins ≤ start }
+    requires vars { start + length pins.now.outs ≤ d.old.store.vars }
+    requires few { d.old.store.vars ≤ 2048 }
+    ensures result { IfOk result (StandsFor d.new.store (box_quantified (start - length pins.now.ins) pins.now (truth_of d.old.store f.0))) }
+    ensures makes { OnOk result (Makes d.old.store d.new.store (box_functions (start - length pins.now.ins) pins.now (truth_of d.old.store f.0))) }
+    ensures nodes { IsErrOf result RungFault.Nodes → AreTooMany d.old.store (box_functions (start - length pins.now.ins) pins.now (truth_of d.old.store f.0)) }
+{
+    laws::making();
+    let ins = pins.ins().len() as u32;
+    let outs = pins.outs().len() as u32;
+    let r = quantify_block(d, true, f, start, outs)?;
+    let r = quantify_block(d, false, r, start - ins, ins)?;
+    Ok(r)
+}

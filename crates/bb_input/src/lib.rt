@@ -1,0 +1,26 @@
+//! The check of an implementation with boxes that fills them one after another, each by outputs for its inputs, and for one box
+//! tells its table.
+#![tactic(auto)]
+
+mod checking;
+mod choosing;
+mod counting;
+mod missing;
+mod order;
+mod refuting;
+mod rows;
+
+use bb_bits::Table;
+pub use checking::input;
+
+/// What the check by choices answers.
+#[derive(Debug, Drop)]
+pub enum InputAnswer {
+    /// Boxes cannot be filled so that what they give depends on their inputs alone and every output is right.
+    Error,
+    /// Choices for their inputs suit, one box after another, but there are several boxes or their tables are too large.
+    Clear,
+    /// A table for each box, of which there is at most one, with which every output is right. Each row is the least that suits,
+    /// as a number with the first output pin most significant.
+    Repair(Vec<Table>),
+}

@@ -1,0 +1,81 @@
+//! Where the variables of the pins stand: box after box, each box's input pins and then its output pins.
+
+ghost use Rattle.std.specs.Prelude.{◌≡◌, ◌+◌, ◌++◌, ◌<◌, ◌≤◌, ℕ, length, take, IfOk, OnOk, slice_index_or};
+ghost use Rattle.std.specs.List.{range_with_len};
+ghost use Rattle.bb_net.specs.Netlists.{box_at};
+ghost use Rattle.bb_net.specs.Pairs.{pin_count};
+ghost use Rattle.bb_input.specs.InputFunctions.{in_places};
+ghost use Rattle.bb_input.specs.Order.{in_variables};
+
+use bb_bits::NoMemory;
+use bb_net::BoxPins;
+use std::alloc::Global;
+
+/// How many pins boxes have.
+#[tactic(auto, using(crate::proofs::OrderLemmas::count_more, crate::proofs::OrderLemmas::fits_more))]
+pub(crate) fn count_pins(boxes: &[BoxPins]) -> u32
+    requires { pin_count boxes.now ≤ 2048 }
+    ensures { result ≡ pin_count boxes.now }
+{
+    let mut count = 0;
+    for pins in boxes {
+        count += pins.ins().len() as u32 + pins.outs().len() as u32;
+    }
+    count
+}
+
+/// The variable of the first output pin of each box.
+#[tactic(auto, using(crate::proofs::OrderLemmas::count_more, crate::proofs::OrderLemmas::fits_more))]
+pub(crate) fn first_outputs(alloc: Global, boxes: &[BoxPins]) -> Result<Vec<u32>, NoMemory>
+    requires { pin_count boxes.now ≤ 2048 }
+    ensures count { IfOk result (λ starts. length starts.items ≡ length boxes.now) }
+    ensures starts { IfOk result (λ starts. (b : ℕ) → b < length boxes.now → slice_index_or starts.items b 0 ≡ pin_count (take b boxes.now) + length (box_at boxes.now b).ins) }
+{
+    let mut starts = Vec::with_capacity(alloc, boxes.len())?;
+    let mut next = 0;
+    for pins in boxes {
+        let start = next + pins.ins().len() as u32;
+        starts.push(start)?;
+        next = start + pins.outs().len() as u32;
+    }
+    Ok(starts)
+}
+
+/// The variables of the input pins, box after box.
+#[tactic(auto, using(crate::proofs::OrderLemmas::count_more, crate::proofs::OrderLemmas::fits_more, crate::proofs::OrderLemmas::variables_more))]
+pub(crate) fn input_variables(alloc: Global, boxes: &[BoxPins]) -> Result<Vec<u32>, NoMemory>
+    requires { pin_count boxes.now ≤ 2048 }
+    ensures { IfOk result (λ variables. variables.items ≡ in_variables 0 boxes.now) }
+{
+    let mut variables = Vec::new(alloc);
+    let mut next = 0;
+    for pins in boxes {
+        let count = pins.ins().len() as u32;
+        push_range(&mut variables, next, count)?;
+        next += count + pins.outs().len() as u32;
+    }
+    Ok(variables)
+}
+
+/// Adds so many numbers, from the first on.
+fn push_range(into: &mut Vec<u32>, first: u32, count: u32) -> Result<(), NoMemory>
+    requires { first + count ≤ 2048 }
+    ensures { OnOk result (into.new.items ≡ into.old.items ++ range_with_len first count) }
+{
+    for k in 0..count {
+        into.push(first + k)?;
+    }
+    Ok(())
+}
+
+/// The cells at the input pins, box after box.
+#[tactic(auto, using(crate::proofs::OrderLemmas::places_more))]
+pub(crate) fn input_places(alloc: Global, boxes: &[BoxPins]) -> Result<Vec<u32>, NoMemory>
+    ensures { IfOk result (λ places. places.items ≡ in_places boxes.now) }
+{
+    let mut places = Vec::new(alloc);
+    for pins in boxes {
+        places.extend_from_slice(pins.ins())?;
+    }
+    Ok(places)
+}

@@ -1,0 +1,67 @@
+//! Where bits at the pins of the boxes are refuted: some inputs lead to the bits at the input pins, and some output is wrong.
+
+ghost use Rattle.std.specs.Prelude.{◌≡◌, ◌+◌, ◌<◌, ◌≤◌, ◌++◌, ◌∷◌, [], ℕ, length, take, IfOk, OnOk, IsErrOf, slice_index_or};
+ghost use Rattle.bb_bits.specs.Truth.{variable};
+ghost use Rattle.bb_net.specs.Netlists.{box_at};
+ghost use Rattle.bb_net.specs.Pairs.{pin_count};
+ghost use Rattle.bb_sym.specs.Plain.{table, tables, plain_functions_at};
+ghost use Rattle.bb_sym.specs.Made.{Makes, AreTooMany, StandsFor, StandForAll, AreCells, HaveCells};
+ghost use Rattle.bb_input.specs.InputFunctions.{variable_count, boxes_first, leads, refutes, wrong_functions, missed_functions};
+
+use crate::missing::some_missed;
+use bb_dd::{Diagrams, Ref};
+use bb_net::Pair;
+use bb_sym::plain::{PlainCells, plain_cells, some_wrong};
+use bb_sym::{RungFault, laws};
+use std::alloc::Global;
+
+/// Makes the variables and the cells of both nets.
+pub(crate) fn ordered_cells(
+    alloc: Global,
+    d: &mut Diagrams,
+    pair: &Pair,
+    vars: u32,
+    pins: u32,
+    starts: &[u32],
+) -> Result<PlainCells, RungFault>
+    requires vars { vars ≡ variable_count pair.now.imp }
+    requires store { vars ≡ d.old.store.vars }
+    requires few { vars ≤ 2048 }
+    requires pins { pins ≡ pin_count pair.now.imp.boxes }
+    requires count { length starts.now ≡ length pair.now.imp.boxes }
+    requires starts { (b : ℕ) → b < length pair.now.imp.boxes → slice_index_or starts.now b 0 ≡ pin_count (take b pair.now.imp.boxes) + length (box_at pair.now.imp.boxes b).ins }
+    ensures variables { IfOk result (λ made. (length made.variables.items ≡ d.new.store.vars) × StandForAll d.new.store (variable d.new.store.vars) made.variables.items) }
+    ensures refs { IfOk result (λ made. AreCells d.new.store pair.now.spec pair.now.imp made.spec.items made.imp.items) }
+    ensures cells { IfOk result (λ made. HaveCells d.new.store (boxes_first pair.now.imp) pair.now.spec pair.now.imp made.spec.items made.imp.items) }
+    ensures makes { OnOk result (Makes d.old.store d.new.store (plain_functions_at (variable_count pair.now.imp) (boxes_first pair.now.imp) pair.now.spec pair.now.imp)) }
+    ensures nodes { IsErrOf result RungFault.Nodes → AreTooMany d.old.store (plain_functions_at (variable_count pair.now.imp) (boxes_first pair.now.imp) pair.now.spec pair.now.imp) }
+{
+    let made = plain_cells(alloc, d, pair, vars, pins, starts)?;
+    Ok(made)
+}
+
+/// Makes where outputs are wrong, where input pins have other bits than their cells, and where both do not hold. The diagram is
+/// 1 where some output is wrong and the inputs lead to the bits at the input pins.
+pub(crate) fn refuting(
+    alloc: Global,
+    d: &mut Diagrams,
+    pair: &Pair,
+    made: &PlainCells,
+) -> Result<Ref, RungFault>
+    requires vars { variable_count pair.now.imp ≡ d.old.store.vars }
+    requires variables { StandForAll d.old.store (variable d.old.store.vars) made.now.variables.items }
+    requires count { length made.now.variables.items ≡ d.old.store.vars }
+    requires refs { AreCells d.old.store pair.now.spec pair.now.imp made.now.spec.items made.now.imp.items }
+    requires cells { HaveCells d.old.store (boxes_first pair.now.imp) pair.now.spec pair.now.imp made.now.spec.items made.now.imp.items }
+    ensures result { IfOk result (StandsFor d.new.store (table (variable_count pair.now.imp) (refutes pair.now.spec pair.now.imp))) }
+    ensures makes { OnOk result (Makes d.old.store d.new.store (wrong_functions pair.now.spec pair.now.imp ++ (missed_functions pair.now.imp ++ tables (variable_count pair.now.imp) (leads pair.now.imp ∷ refutes pair.now.spec pair.now.imp ∷ [])))) }
+    ensures nodes { IsErrOf result RungFault.Nodes → AreTooMany d.old.store (wrong_functions pair.now.spec pair.now.imp ++ (missed_functions pair.now.imp ++ tables (variable_count pair.now.imp) (leads pair.now.imp ∷ refutes pair.now.spec pair.now.imp ∷ []))) }
+{
+    laws::functions();
+    laws::making();
+    let wrong = some_wrong(alloc, d, pair, made)?;
+    let missed = some_missed(alloc, d, pair, made)?;
+    let led = d.not(missed)?;
+    let both = d.and(wrong, led)?;
+    Ok(both)
+}
