@@ -1,0 +1,70 @@
+//! The clauses of the implementation's cells, at one vector.
+
+ghost use Rattle.std.specs.Prelude.{◌≡◌, ◌+◌, ◌^◌, ◌<◌, ◌++◌, ℕ, length, slice_index, take, OnOk};
+ghost use Rattle.std.specs.List.{flat_map, range_with_len};
+ghost use Rattle.bb_cnf.specs.Clauses.{lists_of};
+ghost use Rattle.bb_net.specs.Completions.{table_bits, HaveSmallTables};
+ghost use Rattle.bb_net.specs.Netlists.{ReadsBefore, box_at, cell_at};
+ghost use Rattle.bb_expand.specs.TableStarts.{AreStarts};
+ghost use Rattle.bb_expand.specs.Expansions.{cell_clauses};
+
+use crate::clauses::{having, push, push_and, push_mux, push_not, push_xor};
+use crate::rows::push_pin;
+use bb_bits::NoMemory;
+use bb_cnf::Lit;
+use bb_net::{BoxPins, Cell, Net};
+use smallvec::SmallVec;
+
+// The variable of the cell at `place` is the cell's bit, at a vector before whose cells there are `base` variables.
+fn push_cell(
+    clauses: &mut Vec<SmallVec<Lit, 4>>,
+    base: u32,
+    boxes: &[BoxPins],
+    starts: &[u32],
+    x: &[bool],
+    place: u32,
+    cell: Cell,
+) -> Result<(), NoMemory>
+    requires fits { base + place + 1 < 2 ^ 32 }
+    requires small { HaveSmallTables boxes.now }
+    requires starts { AreStarts starts.now boxes.now }
+    requires reads { ReadsBefore (length x.now) boxes.now place cell }
+    requires listed { (b p : ℕ) → cell ≡ Cell.BoxOut b p → p < length (box_at boxes.now b).outs }
+    ensures { OnOk result (lists_of clauses.new.items ≡ lists_of clauses.old.items
+        ++ cell_clauses boxes.now x.now (λ k. base + k + 1) (base + place + 1) cell) }
+{
+    let y = base + place + 1;
+    let first = base + 1;
+    match cell {
+        Cell::Const(bit) => push(clauses, &[having(y, bit)]),
+        Cell::Input(i) => push(clauses, &[having(y, x[i as usize])]),
+        Cell::Not(a) => push_not(clauses, y, first + a),
+        Cell::And(a, b) => push_and(clauses, true, y, first + a, first + b),
+        Cell::Or(a, b) => push_and(clauses, false, y, first + a, first + b),
+        Cell::Xor(a, b) => push_xor(clauses, y, first + a, first + b),
+        Cell::Mux(c, t, e) => push_mux(clauses, y, first + c, first + t, first + e),
+        Cell::BoxOut(b, p) => push_pin(clauses, base, &boxes[b as usize], starts[b as usize], p, y),
+    }
+}
+
+// The clauses of all cells.
+pub(crate) fn push_cells(
+    clauses: &mut Vec<SmallVec<Lit, 4>>,
+    base: u32,
+    imp: &Net,
+    starts: &[u32],
+    x: &[bool],
+) -> Result<(), NoMemory>
+    requires fits { base + length imp.now.cells < 2 ^ 32 }
+    requires small { HaveSmallTables imp.now.boxes }
+    requires starts { AreStarts starts.now imp.now.boxes }
+    requires inputs { length x.now ≡ imp.now.inputs }
+    ensures { OnOk result (lists_of clauses.new.items ≡ lists_of clauses.old.items
+        ++ flat_map (λ place. cell_clauses imp.now.boxes x.now (λ k. base + k + 1) (base + place + 1) (cell_at imp.now.cells place)) (range_with_len 0 (length imp.now.cells))) }
+{
+    let boxes = imp.boxes();
+    for (place, cell) in imp.cells().iter().enumerate() {
+        push_cell(clauses, base, boxes, starts, x, place as u32, *cell)?;
+    }
+    Ok(())
+}

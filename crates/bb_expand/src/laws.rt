@@ -1,0 +1,37 @@
+//! Laws of expansions. The public function has laws as its contract and does nothing.
+
+ghost use Rattle.bb_expand.specs.Laws.{CellClausesSayGate, ModelsAreTables, AllVectorsDecide, ClausesAreCounted, VariablesAreWithin, VectorsRise, VectorsAreAll};
+ghost use Rattle.bb_expand.specs.LawsBelow.{Numbering, ValueExists, ValueIsUnique};
+
+use bb_bits::{number_is_below, number_spelled, number_spelled_once};
+use bb_net::{value_exists, value_is_unique};
+
+/// A cell's clauses say that its variable is the gate's bit; so an expansion has a model exactly where some tables give every
+/// output the wanted bit at each of its vectors, and over all vectors exactly where some tables agree.
+///
+/// Each vector adds as many clauses as are counted, and all variables are in range. The list of all vectors has each of them
+/// at the number that its bits spell.
+pub fn expansions_and_tables()
+    ensures gate { CellClausesSayGate }
+    ensures models { ModelsAreTables }
+    ensures all { AllVectorsDecide }
+    ensures counted { ClausesAreCounted }
+    ensures within { VariablesAreWithin }
+    ensures rise { VectorsRise }
+    ensures each { VectorsAreAll }
+{
+    laws_below();
+}
+
+// The laws of numbers and of values on which these rest.
+pub(crate) fn laws_below()
+    ensures numbering { Numbering }
+    ensures exists { ValueExists }
+    ensures unique { ValueIsUnique }
+{
+    number_is_below();
+    number_spelled();
+    number_spelled_once();
+    value_exists();
+    value_is_unique();
+}

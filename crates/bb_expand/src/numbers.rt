@@ -1,0 +1,20 @@
+//! Numbers spelled in bits.
+
+ghost use Rattle.std.specs.Prelude.{◌≡◌, ◌+◌, ◌^◌, ◌<◌, ◌≤◌, length};
+ghost use Rattle.bb_bits.specs.Numbers.{bits_of};
+
+// Spells a number in bits, the first one most significant.
+pub(crate) fn spell(number: u32, bits: &mut [bool])
+    requires few { length bits.old ≤ 31 }
+    ensures { bits.new ≡ bits_of (length bits.old) number }
+{
+    let mut rest = number;
+    let count = bits.len();
+    for i in 0..count {
+        let power = 1 << (count - 1 - i);
+        bits[i] = power <= rest;
+        if power <= rest {
+            rest -= power;
+        }
+    }
+}

@@ -1,0 +1,111 @@
+//! The clauses of a box's output pin: one row of its table after another.
+
+ghost use Rattle.std.specs.Prelude.{◌≡◌, ◌+◌, ◌*◌, ◌^◌, ◌<◌, ◌≤◌, ◌∷◌, ◌++◌, [], ℕ, All, length, slice_index, take, IfOk, OnOk};
+ghost use Rattle.std.specs.List.{flat_map, range_with_len};
+ghost use Rattle.bb_bits.specs.Numbers.{bits_of};
+ghost use Rattle.bb_cnf.specs.Clauses.{lists_of};
+ghost use Rattle.bb_net.specs.Completions.{table_bits, HaveSmallTables};
+ghost use Rattle.bb_expand.specs.TableStarts.{AreStarts};
+ghost use Rattle.bb_expand.specs.Expansions.{differing, row_clauses};
+
+use crate::clauses::{having, no, yes};
+use crate::numbers::spell;
+use bb_bits::NoMemory;
+use bb_cnf::Lit;
+use bb_net::BoxPins;
+use smallvec::SmallVec;
+use std::alloc::Global;
+
+// How many bits the table of a box has.
+pub(crate) fn box_bits(pins: &BoxPins) -> u32
+    requires small { length pins.now.outs * 2 ^ length pins.now.ins ≤ 2 ^ 24 }
+    ensures bits { result ≡ length pins.now.outs * 2 ^ length pins.now.ins }
+{
+    let outs = pins.outs().len() as u32;
+    if outs == 0 {
+        0
+    } else {
+        outs << pins.ins().len()
+    }
+}
+
+// For each box how many table bits stand before its own.
+pub(crate) fn table_starts(alloc: Global, boxes: &[BoxPins]) -> Result<Vec<u32>, NoMemory>
+    requires small { HaveSmallTables boxes.now }
+    ensures starts { IfOk result (λ starts. AreStarts starts.items boxes.now) }
+{
+    let mut starts = Vec::with_capacity(alloc, boxes.len())?;
+    let mut start = 0;
+    for pins in boxes {
+        starts.push(start)?;
+        start += box_bits(pins);
+    }
+    Ok(starts)
+}
+
+// Some input pin differs from its bit of a row, or one of two more literals is true.
+fn row_clause(
+    alloc: Global,
+    base: u32,
+    ins: &[u32],
+    row: &[bool],
+    y: Lit,
+    t: Lit,
+) -> Result<SmallVec<Lit, 4>, NoMemory>
+    requires bits { length row.now ≡ length ins.now }
+    requires there { All (λ pin. base + pin + 1 < 2 ^ 32) ins.now }
+    ensures clause { IfOk result (λ clause. clause.items ≡ differing (λ pin. base + pin + 1) ins.now row.now ++ y ∷ t ∷ []) }
+{
+    let mut clause = SmallVec::with_capacity(alloc, ins.len() + 2)?;
+    for (i, pin) in ins.iter().enumerate() {
+        clause.push(having(base + *pin + 1, !row[i]))?;
+    }
+    clause.push(y)?;
+    clause.push(t)?;
+    Ok(clause)
+}
+
+// Where the input pins have the bits of a row, the variables y and t are equal.
+fn push_row(
+    clauses: &mut Vec<SmallVec<Lit, 4>>,
+    base: u32,
+    ins: &[u32],
+    row: &[bool],
+    y: u32,
+    t: u32,
+) -> Result<(), NoMemory>
+    requires bits { length row.now ≡ length ins.now }
+    requires there { All (λ pin. base + pin + 1 < 2 ^ 32) ins.now }
+    ensures { OnOk result (lists_of clauses.new.items ≡ lists_of clauses.old.items ++ row_clauses (λ pin. base + pin + 1) ins.now y row.now t) }
+{
+    let alloc = *clauses.allocator();
+    clauses.push(row_clause(alloc, base, ins, row, no(y), yes(t))?)?;
+    clauses.push(row_clause(alloc, base, ins, row, yes(y), no(t))?)?;
+    Ok(())
+}
+
+// In each row the variable y is the table's bit at an output pin, where so many table bits stand before the box's own.
+pub(crate) fn push_pin(
+    clauses: &mut Vec<SmallVec<Lit, 4>>,
+    base: u32,
+    pins: &BoxPins,
+    start: u32,
+    pin: u32,
+    y: u32,
+) -> Result<(), NoMemory>
+    requires small { start + length pins.now.outs * 2 ^ length pins.now.ins ≤ 2 ^ 24 }
+    requires pin { pin < length pins.now.outs }
+    requires there { All (λ place. base + place + 1 < 2 ^ 32) pins.now.ins }
+    ensures { OnOk result (lists_of clauses.new.items ≡ lists_of clauses.old.items
+        ++ flat_map (λ row. row_clauses (λ place. base + place + 1) pins.now.ins y (bits_of (length pins.now.ins) row)
+        (start + row * length pins.now.outs + pin + 1)) (range_with_len 0 (2 ^ length pins.now.ins))) }
+{
+    let ins = pins.ins();
+    let outs = pins.outs().len() as u32;
+    let mut bits = vec![in *clauses.allocator(); false; ins.len()]?;
+    for row in 0..1u32 << ins.len() {
+        spell(row, &mut bits);
+        push_row(clauses, base, ins, &bits, y, start + row * outs + pin + 1)?;
+    }
+    Ok(())
+}

@@ -1,0 +1,94 @@
+//! The clauses of a vector: those of the implementation's cells, and then each output has the specification's bit.
+
+ghost use Rattle.std.specs.Prelude.{◌≡◌, ◌+◌, ◌*◌, ◌^◌, ◌<◌, ◌≤◌, ◌∷◌, ◌++◌, [], ℕ, All, length, slice_index, map, take, OnOk};
+ghost use Rattle.std.specs.List.{flat_map, range_with_len};
+ghost use Rattle.bb_bits.specs.Numbers.{bits_of};
+ghost use Rattle.bb_cnf.specs.Clauses.{lists_of};
+ghost use Rattle.bb_net.specs.Completions.{table_bits, HaveSmallTables};
+ghost use Rattle.bb_net.specs.Values.{bit_of};
+ghost use Rattle.bb_expand.specs.ClauseCounts.{clause_total};
+ghost use Rattle.bb_expand.specs.TableStarts.{AreStarts};
+ghost use Rattle.bb_expand.specs.Expansions.{having, vector_clauses};
+
+use crate::cells::push_cells;
+use crate::clauses::{having, push};
+use crate::numbers::spell;
+use bb_bits::NoMemory;
+use bb_cnf::Lit;
+use bb_net::Pair;
+use smallvec::SmallVec;
+
+// Each output has the bit that stands at its place among the bits of the specification's cells.
+fn push_outputs(
+    clauses: &mut Vec<SmallVec<Lit, 4>>,
+    base: u32,
+    outs: &[u32],
+    wanted: &[u32],
+    bits: &[bool],
+) -> Result<(), NoMemory>
+    requires fits { All (λ place. base + place + 1 < 2 ^ 32) outs.now }
+    requires count { length wanted.now ≡ length outs.now }
+    requires there { All (λ place. place < length bits.now) wanted.now }
+    ensures { OnOk result (lists_of clauses.new.items ≡ lists_of clauses.old.items
+        ++ map (λ j. having (base + slice_index outs.now j + 1) (bit_of bits.now (slice_index wanted.now j)) ∷ []) (range_with_len 0 (length outs.now))) }
+{
+    for (j, place) in outs.iter().enumerate() {
+        push(
+            clauses,
+            &[having(base + *place + 1, bits[wanted[j] as usize])],
+        )?;
+    }
+    Ok(())
+}
+
+// The clauses of the vector x with the number v. The bits of the specification's cells are written into `bits`.
+fn push_vector(
+    clauses: &mut Vec<SmallVec<Lit, 4>>,
+    base: u32,
+    pair: &Pair,
+    starts: &[u32],
+    x: &[bool],
+    bits: &mut [bool],
+) -> Result<(), NoMemory>
+    requires fits { base + length pair.now.imp.cells < 2 ^ 32 }
+    requires small { HaveSmallTables pair.now.imp.boxes }
+    requires starts { AreStarts starts.now pair.now.imp.boxes }
+    requires inputs { length x.now ≡ pair.now.imp.inputs }
+    requires room { length bits.old ≡ length pair.now.spec.cells }
+    ensures pushed { (v : ℕ) → base ≡ table_bits pair.now.imp.boxes + v * length pair.now.imp.cells
+        → OnOk result (lists_of clauses.new.items ≡ lists_of clauses.old.items ++ vector_clauses pair.now.spec pair.now.imp v x.now) }
+    ensures room { OnOk result (length bits.new ≡ length pair.now.spec.cells) }
+{
+    let (spec, imp) = (pair.spec(), pair.imp());
+    spec.value(x, &[], bits);
+    push_cells(clauses, base, imp, starts, x)?;
+    push_outputs(clauses, base, imp.outs(), spec.outs(), bits)
+}
+
+// The clauses of the first vectors, where so many bits of tables stand before all cells.
+pub(crate) fn push_vectors(
+    clauses: &mut Vec<SmallVec<Lit, 4>>,
+    bits: u32,
+    pair: &Pair,
+    starts: &[u32],
+    count: u32,
+) -> Result<(), NoMemory>
+    requires small { HaveSmallTables pair.now.imp.boxes }
+    requires few { clause_total pair.now.imp ≤ 8000000 }
+    requires bits { bits ≡ table_bits pair.now.imp.boxes }
+    requires starts { AreStarts starts.now pair.now.imp.boxes }
+    requires vectors { count ≤ 2 ^ pair.now.imp.inputs }
+    ensures { OnOk result (lists_of clauses.new.items ≡ lists_of clauses.old.items
+        ++ flat_map (λ v. vector_clauses pair.now.spec pair.now.imp v (bits_of pair.now.imp.inputs v)) (range_with_len 0 count)) }
+{
+    let alloc = *clauses.allocator();
+    let (spec, imp) = (pair.spec(), pair.imp());
+    let cells = imp.cells().len() as u32;
+    let mut x = vec![in alloc; false; imp.inputs() as usize]?;
+    let mut values = vec![in alloc; false; spec.cells().len()]?;
+    for v in 0..count {
+        spell(v, &mut x);
+        push_vector(clauses, bits + v * cells, pair, starts, &x, &mut values)?;
+    }
+    Ok(())
+}
