@@ -1,5 +1,5 @@
 -- Tables agree in a pair that stands for two designs exactly where the contents agree whose tables they are.
-use Rattle.std.proofs.Common.{◌≡◌, ◌≢◌, ◌↔◌, ℕ, zero, suc, ◌+◌, ◌⊎◌, ◌<◌, ◌≤◌, Bool, true, false, List, [], ◌∷◌, ◌++◌, map, length, get_or, All, AllPairs, Contains, Option, Some, None, refl, sym, ap, ap₂, subst, ◌∙◌, inl, inr, arith, length-append}
+use Rattle.std.proofs.Common.{◌≡◌, ◌↔◌, ℕ, ◌+◌, ◌⊎◌, ◌<◌, ◌≤◌, Bool, false, List, [], ◌∷◌, map, length, get_or, Contains, Some, refl, sym, ap, ap₂, subst, ◌∙◌, inl, inr, arith, length-append}
 use Rattle.std.specs.Prelude.{slice_get}
 use Rattle.std.specs.List.{AllZip, enumerate_from}
 use Rattle.std.proofs.lemmas.Bool.{cases_lt}
@@ -7,29 +7,29 @@ use Rattle.std.proofs.lemmas.List.{get_or-map, get_or_past, length-map}
 use Rattle.std.proofs.lemmas.List.FromFn.{length-enumerate_from}
 use Rattle.std.proofs.lemmas.Option.{get_or_from_slice_get, slice_get-get_or, slice_get_within}
 use Rattle.bb_bits.specs.Contents.{Contents}
+use Rattle.std.proofs.lemmas.List.Elements.{All-contains}
 use Rattle.bb_bits.specs.Tables.{TableBits}
-use Rattle.bb_net.specs.Agreement.{IsVector, IsOutput, TablesAgree, out_bit, wanted_bit}
+use Rattle.bb_net.specs.Agreement.{IsOutput, TablesAgree, out_bit, wanted_bit}
 use Rattle.bb_net.specs.Conditions.{NoTablesAgree}
-use Rattle.bb_net.specs.Netlists.{Netlist, Pins, box_at, IsNetlist}
+use Rattle.bb_net.specs.Netlists.{Netlist, Pins, box_at}
 use Rattle.bb_net.specs.Orders.{moved_pins}
 use Rattle.bb_net.specs.Pairs.{NetPair, BoxTexts, NamesPins}
 use Rattle.bb_net.specs.Rearrangements.{RearrangedKeepsValues, new_place}
-use Rattle.bb_net.specs.Values.{bit_of, value_of, flat, flat_with, free_bit, tabled_bit, table_at, FitBoxes, ValueGoesByBoxes}
+use Rattle.bb_net.specs.Values.{bit_of, flat, flat_with, free_bit, tabled_bit, FitBoxes, ValueGoesByBoxes}
 use Rattle.bb_elab.specs.ContentTables.{AreTablesOf, TablesGiveOutputs, ContentsHaveTables, TablesHaveContents}
 use Rattle.bb_elab.specs.declared.flat.Reg.{Reg}
 use Rattle.bb_elab.specs.Flats.{FlatNet, IsFlat}
-use Rattle.bb_elab.specs.Hierarchy.{Design, Scope, boxes}
-use Rattle.bb_elab.specs.ListLaws.{IsAllowed, StandingNetsGiveOutputs, vector_bits}
+use Rattle.bb_elab.specs.Hierarchy.{Design, boxes}
+use Rattle.bb_elab.specs.ListLaws.{IsAllowed, StandingNetsGiveOutputs}
 use Rattle.bb_elab.specs.Refusals.{BoxTexts as BoxCause}
 use Rattle.bb_elab.specs.Stands.{StandsFor}
-use Rattle.bb_elab.specs.Worlds.{World, Vector, CutInput, TopInput, State, CutOutput, TopOutput, NextState, HasVector, IsWorld, FitDesign, outputs_in}
+use Rattle.bb_elab.specs.Worlds.{World, Vector, TopInput, State, CutOutput, TopOutput, NextState, HasVector, IsWorld, FitDesign, outputs_in}
 use Rattle.bb_match.specs.CutPoints.{register_texts, cut_inputs, cut_outputs}
 use Rattle.bb_match.specs.DesignAgreement.{HaveSameBits, ContentsAgree, NoContentsAgree, IsPairFor, TablesAgreeAsContents, NoTablesNoContents, DesignsAgreeWithThemselves}
-use Rattle.bb_match.specs.Pairing.{Picks, IsPairOf}
-use Rattle.bb_match.specs.Refusals.{Box}
+use Rattle.bb_match.specs.Pairing.{Picks}
+use Rattle.bb_match.specs.Refusals.{Box, ImpOutput, ImpRegister}
 use Rattle.bb_match.proofs.NamedVectors.{vector_of, vector_is, vector_bits_are, outputs_are}
-use Rattle.bb_match.proofs.PairLaws.{outputs_apart, one_place, picked_at}
-use Rattle.bb_match.proofs.PickLemmas.{picks_length}
+use Rattle.bb_match.proofs.PairLaws.{outputs_apart, outputs_among, one_place, picked_at}
 
 -- the laws of lower crates on which this rests
 pub record Laws : Type 0 where
@@ -145,6 +145,9 @@ module _ (laws : Laws) (spec imp : Design) (p : NetPair) (spec_allowed : IsAllow
   cut_count : length (cut_outputs f) ≡ length f.net.outs
   cut_count = length-append (map TopOutput f.outs) (map NextState (register_texts f)) ∙ ap₂ ◌+◌ (length-map f.outs TopOutput) (length-map (register_texts f) NextState ∙ length-map f.regs (λ (r : Reg). r.text)) ∙ sym pair.spec_flat.named.outputs
 
+  imp_cut_count : length (cut_outputs g) ≡ length g.net.outs
+  imp_cut_count = length-append (map TopOutput g.outs) (map NextState (register_texts g)) ∙ ap₂ ◌+◌ (length-map g.outs TopOutput) (length-map (register_texts g) NextState ∙ length-map g.regs (λ (r : Reg). r.text)) ∙ sym pair.imp_flat.named.outputs
+
   module _ (contents : Contents) (tables : List TableBits) (fit : FitDesign imp contents) (are : AreTablesOf g contents tables) (x : Vector) where
     abbrev xs : List Bool
     xs = map x (cut_inputs f)
@@ -177,15 +180,37 @@ module _ (laws : Laws) (spec imp : Design) (p : NetPair) (spec_allowed : IsAllow
     other_place j o at = picked_at (cut_outputs g) pair.paired.picks (cut_outputs f) j o pair.paired.outputs at
 
     module _ (w v : World) (is_w : IsWorld spec contents w) (has_w : HasVector spec x w) (is_v : IsWorld imp contents v) (has_v : HasVector imp x v) where
+      -- an output of the implementation has its place in the specification
+      named_in_spec : (o : CutOutput) → Contains (cut_outputs g) o → (j : ℕ) × (slice_get (cut_outputs f) j ≡ Some o)
+      named_in_spec o in_g =
+          let among = outputs_among g f (pair.paired.fit ImpOutput) (pair.paired.fit ImpRegister) in
+          let (j, fits, at) = All-contains (Contains (cut_outputs f)) (cut_outputs g) o among in_g in
+          (j, slice_get-get_or (cut_outputs f) j o fits ∙ ap Some at)
+
       agree_here : ((j : ℕ) → IsOutput p.imp j → out_bit p.imp (flat_with p.imp xs tables) j ≡ wanted_bit p.spec xs j) → HaveSameBits (outputs_in spec w) (outputs_in imp v)
       unfolding spec_bit imp_bit
-      agree_here right o a b in_w in_v =
-          let s = output_at laws spec f spec_allowed pair.spec_stands pair.spec_flat contents [] (spec_fit contents) (spec_tables contents) x w is_w has_w o a in_w in
-          let t = output_at laws imp g imp_allowed pair.imp_stands pair.imp_flat contents tables fit are x v is_v has_v o b in_v in
-          let i = other_place s.0 o s.1 in
-          let same : i.0 ≡ t.0 = one_place (cut_outputs g) i.0 t.0 o (outputs_apart g pair.imp_flat) i.2 t.1 in
-          let there : i.0 < length g.net.outs = omega (arith, same, t.2) in
-          sym s.3 ∙ sym (wanted_is s.0) ∙ sym (right s.0 (omega (arith, s.2, out_count))) ∙ out_is s.0 i.0 i.1 there ∙ ap imp_bit same ∙ t.3
+      agree_here right o b = (to_imp, to_spec)
+        where
+          -- at its places in both an output has one bit
+          one_bit : (j i : ℕ) → slice_get (cut_outputs f) j ≡ Some o → slice_get (cut_outputs g) i ≡ Some o → j < length f.net.outs → i < length g.net.outs → spec_bit j ≡ imp_bit i
+          one_bit j i at_j at_i in_f in_g =
+              let other = other_place j o at_j in
+              let same : other.0 ≡ i = one_place (cut_outputs g) other.0 i o (outputs_apart g pair.imp_flat) other.2 at_i in
+              sym (wanted_is j) ∙ sym (right j (omega (arith, in_f, out_count))) ∙ out_is j other.0 other.1 (omega (arith, same, in_g)) ∙ ap imp_bit same
+
+          to_imp : Contains (outputs_in spec w) (o, b) → Contains (outputs_in imp v) (o, b)
+          to_imp in_w =
+              let s = output_at laws spec f spec_allowed pair.spec_stands pair.spec_flat contents [] (spec_fit contents) (spec_tables contents) x w is_w has_w o b in_w in
+              let i = other_place s.0 o s.1 in
+              let in_v = output_there laws imp g imp_allowed pair.imp_stands pair.imp_flat contents tables fit are x v is_v has_v i.0 o i.2 in
+              subst (λ bit. Contains (outputs_in imp v) (o, bit)) (sym (one_bit s.0 i.0 s.1 i.2 s.2 (omega (arith, slice_get_within (cut_outputs g) i.0 o i.2, imp_cut_count))) ∙ s.3) in_v
+
+          to_spec : Contains (outputs_in imp v) (o, b) → Contains (outputs_in spec w) (o, b)
+          to_spec in_v =
+              let t = output_at laws imp g imp_allowed pair.imp_stands pair.imp_flat contents tables fit are x v is_v has_v o b in_v in
+              let j = named_in_spec o (t.0, omega (arith, slice_get_within (cut_outputs g) t.0 o t.1), get_or_from_slice_get (cut_outputs g) t.0 o o t.1) in
+              let in_w = output_there laws spec f spec_allowed pair.spec_stands pair.spec_flat contents [] (spec_fit contents) (spec_tables contents) x w is_w has_w j.0 o j.1 in
+              subst (λ bit. Contains (outputs_in spec w) (o, bit)) (one_bit j.0 t.0 j.1 t.1 (omega (arith, slice_get_within (cut_outputs f) j.0 o j.1, cut_count)) t.2 ∙ t.3) in_w
 
       right_here : HaveSameBits (outputs_in spec w) (outputs_in imp v) → (j : ℕ) → IsOutput p.imp j → out_bit p.imp (flat_with p.imp xs tables) j ≡ wanted_bit p.spec xs j
       unfolding spec_bit imp_bit
@@ -197,7 +222,10 @@ module _ (laws : Laws) (spec imp : Design) (p : NetPair) (spec_allowed : IsAllow
           let in_v = output_there laws imp g imp_allowed pair.imp_stands pair.imp_flat contents tables fit are x v is_v has_v i.0 o i.2 in
           let there = output_at laws imp g imp_allowed pair.imp_stands pair.imp_flat contents tables fit are x v is_v has_v o (imp_bit i.0) in_v in
           let own : there.0 ≡ i.0 = one_place (cut_outputs g) there.0 i.0 o (outputs_apart g pair.imp_flat) there.1 i.2 in
-          out_is j i.0 i.1 (omega (arith, own, there.2)) ∙ sym (same o (spec_bit j) (imp_bit i.0) in_w in_v) ∙ sym (wanted_is j)
+          -- the implementation has the specification's bit too, at the same place
+          let also = output_at laws imp g imp_allowed pair.imp_stands pair.imp_flat contents tables fit are x v is_v has_v o (spec_bit j) ((same o (spec_bit j)).0 in_w) in
+          let at_once : also.0 ≡ i.0 = one_place (cut_outputs g) also.0 i.0 o (outputs_apart g pair.imp_flat) also.1 i.2 in
+          out_is j i.0 i.1 (omega (arith, own, there.2)) ∙ ap imp_bit (sym at_once) ∙ also.3 ∙ sym (wanted_is j)
 
   module _ (contents : Contents) (tables : List TableBits) (fit : FitDesign imp contents) (are : AreTablesOf g contents tables) where
     pub tables_to_contents : TablesAgree p.spec p.imp tables → ContentsAgree spec imp contents
@@ -227,7 +255,7 @@ module _ (laws : Laws) (spec imp : Design) (p : NetPair) (spec_allowed : IsAllow
       by (inr h) = get_or_past (map (moved_pins (new_place pair.paired.numbers)) g.net.boxes) b (record { ins = []; outs = [] }) (omega (arith, h, length-map g.net.boxes (moved_pins (new_place pair.paired.numbers))))
           ∙ ap (moved_pins (new_place pair.paired.numbers)) (sym (get_or_past g.net.boxes b (record { ins = []; outs = [] }) h))
 
-  box_count : length p.imp.boxes ≡ length g.net.boxes
+  pub box_count : length p.imp.boxes ≡ length g.net.boxes
   box_count = ap length pair.paired.rearranged.boxes ∙ length-map g.net.boxes (moved_pins (new_place pair.paired.numbers))
 
   ins_same : (b : ℕ) → length (box_at p.imp.boxes b).ins ≡ length (box_at g.net.boxes b).ins
@@ -244,7 +272,7 @@ module _ (laws : Laws) (spec imp : Design) (p : NetPair) (spec_allowed : IsAllow
     whole = λ b lt. fit.whole b (omega (arith, lt, box_count));
   }
 
-  from_pair : (tables : List TableBits) → FitBoxes tables p.imp.boxes → FitBoxes tables g.net.boxes
+  pub from_pair : (tables : List TableBits) → FitBoxes tables p.imp.boxes → FitBoxes tables g.net.boxes
   from_pair tables fit = record {
     count = fit.count ∙ box_count;
     inputs = λ b lt. fit.inputs b (omega (arith, lt, box_count)) ∙ ins_same b;
@@ -271,9 +299,10 @@ no_tables_exactly laws spec imp p spec_allowed imp_allowed pair = no_tables_no_c
 
 -- both worlds have the bits of the netlist at an output's place
 pub agree_with_themselves : Laws → DesignsAgreeWithThemselves
-agree_with_themselves laws d f allowed stands flat_net contents fit x w v is_w has_w is_v has_v o a b in_w in_v =
-    let t = laws.tables d f stands contents fit in
-    let here = output_at laws d f allowed stands flat_net contents t.0 fit t.1 x w is_w has_w o a in_w in
-    let there = output_at laws d f allowed stands flat_net contents t.0 fit t.1 x v is_v has_v o b in_v in
-    let same : here.0 ≡ there.0 = one_place (cut_outputs f) here.0 there.0 o (outputs_apart f flat_net) here.1 there.1 in
-    sym here.3 ∙ ap (bit_out laws d f allowed stands flat_net contents t.0 fit t.1 x) same ∙ there.3
+agree_with_themselves laws d f allowed stands flat_net contents fit x w v is_w has_w is_v has_v o b = (other w v is_w has_w is_v has_v, other v w is_v has_v is_w has_w)
+  where
+    other : (w v : World) → IsWorld d contents w → HasVector d x w → IsWorld d contents v → HasVector d x v → Contains (outputs_in d w) (o, b) → Contains (outputs_in d v) (o, b)
+    other w v is_w has_w is_v has_v in_w =
+        let t = laws.tables d f stands contents fit in
+        let here = output_at laws d f allowed stands flat_net contents t.0 fit t.1 x w is_w has_w o b in_w in
+        subst (λ bit. Contains (outputs_in d v) (o, bit)) here.3 (output_there laws d f allowed stands flat_net contents t.0 fit t.1 x v is_v has_v here.0 o here.1)

@@ -11,4 +11,5 @@ pub mod PairLemmas
 pub mod PickLemmas
 pub mod PlaceLemmas
 pub mod RefusalLaws
+pub mod SpelledContents
 pub mod TakenAlike

@@ -1,6 +1,6 @@
 -- Vectors by names and by places: a list with a bit for each input is that of a vector, where no two inputs have one name; and
 -- the outputs of a design are called as those of a flat netlist that stands for it.
-use Rattle.std.proofs.Common.{◌≡◌, ◌≢◌, ℕ, zero, suc, ◌+◌, ◌-◌, ◌⊎◌, ◌<◌, ◌≤◌, Bool, true, false, if◌then◌else◌, List, [], ◌∷◌, ◌++◌, map, length, get_or, All, AllPairs, Contains, Option, Some, None, refl, sym, ap, ap₂, subst, ◌∙◌, inl, inr, arith, length-append}
+use Rattle.std.proofs.Common.{◌≡◌, ◌≢◌, ℕ, zero, suc, ◌+◌, ◌-◌, ◌⊎◌, ◌<◌, ◌≤◌, Bool, true, false, if◌then◌else◌, List, [], ◌∷◌, ◌++◌, map, length, get_or, AllPairs, Some, refl, sym, ap, ap₂, ◌∙◌, inl, inr, arith, length-append}
 use Rattle.std.specs.Prelude.{slice_get}
 use Rattle.std.specs.List.{AllZip}
 use Rattle.std.proofs.lemmas.List.{get_or-map, get_or_default, get_or_append_left, get_or-append-add, length-map, same_lists, map-append}
@@ -14,7 +14,7 @@ use Rattle.bb_elab.specs.declared.flat.Reg.{Reg}
 use Rattle.bb_elab.specs.Flats.{FlatNet, IsFlat}
 use Rattle.bb_elab.specs.Hierarchy.{Design}
 use Rattle.bb_elab.specs.ListLaws.{vector_bits}
-use Rattle.bb_elab.specs.NetBits.{Bit, top_inputs, top_outputs}
+use Rattle.bb_elab.specs.NetBits.{top_inputs, top_outputs}
 use Rattle.bb_elab.specs.Registers.{RegisterBit, registers}
 use Rattle.bb_elab.specs.Stands.{IsRegister, StandsFor}
 use Rattle.bb_elab.specs.Texts.{bit_text}

@@ -1,12 +1,12 @@
 -- Netlists that stand for the same designs are refused alike: the causes speak of texts, registers, boxes and numbers of pins alone.
-use Rattle.std.proofs.Common.{◌≡◌, ℕ, ◌+◌, ◌≤◌, List, [], ◌∷◌, fold, length, refl, sym, ap, ap₂, subst, ◌∙◌, arith}
+use Rattle.std.proofs.Common.{◌≡◌, ℕ, ◌+◌, List, [], ◌∷◌, fold, length, refl, ap₂, subst, arith}
 use Rattle.std.specs.List.{AllZip}
 use Rattle.bb_net.specs.Netlists.{Pins}
-use Rattle.bb_net.specs.Pairs.{NetPair, BoxTexts, NamesPins, pin_count}
+use Rattle.bb_net.specs.Pairs.{BoxTexts, NamesPins, pin_count}
 use Rattle.bb_elab.specs.Flats.{FlatNet, AreNamed}
 use Rattle.bb_elab.specs.NamingLaws.{AreNamedAlike, StandingNetsAreNamed, StandingNetsAreNamedAlike}
 use Rattle.bb_match.specs.DesignRefusals.{AreNetsFor, AreTakenAlike, StandingNetsAreTakenAlike, DesignRefusalsAreOne, NotPairAndRefusal}
-use Rattle.bb_match.specs.Refusals.{Cause, Box, SpecInput, SpecOutput, ImpInput, ImpOutput, SpecRegister, ImpRegister, SpecClock, ImpClock, Clocks, Pins as PinCause, IsTold, IsAbsent, IsFirstRefusal, Fit, input_and_pin_count}
+use Rattle.bb_match.specs.Refusals.{Cause, Box, SpecInput, SpecOutput, ImpInput, ImpOutput, SpecRegister, ImpRegister, SpecClock, ImpClock, Clocks, Pins as PinCause, IsTold, IsAbsent, input_and_pin_count}
 use Rattle.bb_match.proofs.RefusalLaws.{not_fit_and_refused, first_refusals_are_one}
 
 -- boxes with the same texts have as many pins

@@ -2,11 +2,13 @@
 -- present state counts as an input and its next state as an output, and inputs and outputs of the two go by kind and text, so
 -- that they agree in every state, in what they give and in the state that comes next.
 use Rattle.std.specs.Prelude.{◌≡◌, ◌↔◌, Bool, List, Contains}
+use Rattle.std.specs.List.{AllZip}
 use Rattle.bb_bits.specs.Contents.{Contents}
-use Rattle.bb_bits.specs.Tables.{TableBits}
+use Rattle.bb_bits.specs.Tables.{TableBits, rows_of}
 use Rattle.bb_net.specs.Agreement.{TablesAgree}
 use Rattle.bb_net.specs.Conditions.{NoTablesAgree}
-use Rattle.bb_net.specs.Pairs.{NetPair, IsPair}
+use Rattle.bb_net.specs.Pairs.{NetPair, BoxTexts, IsPair}
+use Rattle.bb_net.specs.Values.{FitBoxes}
 use Rattle.bb_elab.specs.ContentTables.{AreTablesOf}
 use Rattle.bb_elab.specs.Flats.{FlatNet, IsFlat}
 use Rattle.bb_elab.specs.Hierarchy.{Design}
@@ -15,9 +17,9 @@ use Rattle.bb_elab.specs.Stands.{StandsFor}
 use Rattle.bb_elab.specs.Worlds.{World, Vector, CutOutput, HasVector, IsWorld, FitDesign, outputs_in}
 use Rattle.bb_match.specs.Pairing.{IsPairOf}
 
--- an output of both has the same bit in both
+-- each output of the one is an output of the other, with the same bit
 abbrev pub HaveSameBits : List (CutOutput × Bool) → List (CutOutput × Bool) → Type 0
-HaveSameBits os ps = (o : CutOutput) (a b : Bool) → Contains os (o, a) → Contains ps (o, b) → a ≡ b
+HaveSameBits os ps = (o : CutOutput) (b : Bool) → Contains os (o, b) ↔ Contains ps (o, b)
 
 -- for every vector, every world of the specification and every world of the implementation have the same bits at all outputs; a
 -- specification without boxes has the same worlds for all contents
@@ -49,6 +51,20 @@ TablesAgreeAsContents = (spec imp : Design) (p : NetPair) → IsAllowed spec →
 -- and no tables agree exactly where no contents do
 abbrev pub NoTablesNoContents : Type 0
 NoTablesNoContents = (spec imp : Design) (p : NetPair) → IsAllowed spec → IsAllowed imp → IsPairFor spec imp p → NoTablesAgree p.spec p.imp ↔ NoContentsAgree spec imp
+
+-- tables spell contents: at the path of each box these have the rows of its table
+abbrev pub AreSpelled : List BoxTexts → List TableBits → Contents → Type 0
+AreSpelled boxes tables contents = AllZip (λ box t. contents box.path ≡ rows_of t) boxes tables
+
+-- tables that fit the boxes of a pair that stands for two sound designs spell contents that fit the implementation
+abbrev pub TablesSpellContents : Type 0
+TablesSpellContents = (spec imp : Design) (p : NetPair) → IsAllowed spec → IsAllowed imp → IsPairFor spec imp p → (tables : List TableBits) → FitBoxes tables p.imp.boxes
+    → (contents : Contents) × FitDesign imp contents × AreSpelled p.boxes tables contents
+
+-- and where the tables agree, so do all contents that they spell
+abbrev pub SpelledContentsAgree : Type 0
+SpelledContentsAgree = (spec imp : Design) (p : NetPair) → IsAllowed spec → IsAllowed imp → IsPairFor spec imp p → (tables : List TableBits) → FitBoxes tables p.imp.boxes → TablesAgree p.spec p.imp tables
+    → (contents : Contents) → FitDesign imp contents → AreSpelled p.boxes tables contents → ContentsAgree spec imp contents
 
 -- a design agrees with itself, whatever fits its boxes
 abbrev pub DesignsAgreeWithThemselves : Type 0

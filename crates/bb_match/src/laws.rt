@@ -1,6 +1,6 @@
 //! Laws of these definitions. Each function has a law as its contract and does nothing.
 
-ghost use Rattle.bb_match.specs.DesignAgreement.{DesignsAgreeWithThemselves, NoTablesNoContents, TablesAgreeAsContents};
+ghost use Rattle.bb_match.specs.DesignAgreement.{DesignsAgreeWithThemselves, NoTablesNoContents, SpelledContentsAgree, TablesAgreeAsContents, TablesSpellContents};
 ghost use Rattle.bb_match.specs.DesignRefusals.{StandingNetsAreTakenAlike, DesignRefusalsAreOne, NotPairAndRefusal};
 ghost use Rattle.bb_match.specs.Laws.{NotFitAndRefused, FirstRefusalsAreOne, FitOrRefused, PairsAreOne, FittingHavePair};
 
@@ -49,6 +49,30 @@ pub fn tables_agree_as_contents()
 /// No tables agree in such a pair exactly where no contents do.
 pub fn no_tables_no_contents()
     ensures { NoTablesNoContents }
+{
+    value_goes_by_boxes();
+    rearranged_keeps_values();
+    standing_nets_give_outputs();
+    tables_give_outputs();
+    contents_have_tables();
+    tables_have_contents();
+}
+
+/// Tables that fit the boxes of such a pair spell contents that fit the design.
+pub fn tables_spell_contents()
+    ensures { TablesSpellContents }
+{
+    value_goes_by_boxes();
+    rearranged_keeps_values();
+    standing_nets_give_outputs();
+    tables_give_outputs();
+    contents_have_tables();
+    tables_have_contents();
+}
+
+/// Where they agree, so do all contents that they spell.
+pub fn spelled_contents_agree()
+    ensures { SpelledContentsAgree }
 {
     value_goes_by_boxes();
     rearranged_keeps_values();
