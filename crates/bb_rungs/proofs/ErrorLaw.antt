@@ -1,5 +1,6 @@
--- Where a check says that there is an error, no tables agree.
-use Rattle.std.proofs.Common.{◌≡◌, ◌||◌, Bool, true, false, List, [], ◌∷◌, ◌++◌, All, Contains, true≢false, refl, sym, ap, subst, ◌∙◌, arith}
+-- What an error shows: the condition of its check, and with it those of all checks behind it, the last of which is that no tables
+-- agree.
+use Rattle.std.proofs.Common.{◌≡◌, ◌||◌, Bool, true, false, ℕ, zero, suc, ◌+◌, List, [], ◌∷◌, ◌++◌, All, Contains, true≢false, refl, sym, ap, subst, ◌∙◌, arith}
 use Rattle.std.specs.List.{list_any}
 use Rattle.std.proofs.lemmas.List.Elements.{Contains-append_right}
 use Rattle.bb_net.specs.Agreement.{IsVector}
@@ -7,13 +8,15 @@ use Rattle.bb_net.specs.Conditions.{KnownWrongAmong, KnownWrongSomewhere, OneAlw
 use Rattle.bb_net.specs.Netlists.{Netlist, IsNetlist}
 use Rattle.bb_net.specs.Pairs.{NetPair, IsPair}
 use Rattle.bb_tern.specs.Patterns.{PatternsAreVectors}
+use Rattle.bb_expand.specs.declared.expanded.Expanded.TheVariants as expanded
+use Rattle.bb_input.specs.declared.InputAnswer.TheVariants as choices
 use Rattle.bb_rungs.specs.declared.line.Line.{Line}
 use Rattle.bb_rungs.specs.declared.line.Said.{Said}
 use Rattle.bb_rungs.specs.declared.options.Options.{Options}
 use Rattle.bb_rungs.specs.declared.rung.Rung.{Rung}
-use Rattle.bb_rungs.specs.declared.rung.Rung.TheVariants.{Ternary, Symbolic, Local, Output}
+use Rattle.bb_rungs.specs.declared.rung.Rung.TheVariants.{Ternary, Symbolic, Local, Output, Input, Expand}
 use Rattle.bb_rungs.specs.Laws.{ErrorsExcludeTables}
-use Rattle.bb_rungs.specs.Rungs.{MaySay, MayHit, Hit, NoHit, MayFind, TooMany, Finding, Without, Climbs, Top, End, Step, says_error, is_error, tried}
+use Rattle.bb_rungs.specs.Rungs.{MaySay, Hit, NoHit, TooMany, Finding, Without, ChoicesTooMany, Answered, TooWide, ClausesTooMany, Decided, Climbs, Top, End, Step, rank, says_error, is_error, tried}
 
 -- the laws on which this rests
 pub record Weakens : Type 0 where
@@ -23,15 +26,41 @@ pub record Weakens : Type 0 where
   pub some : (spec imp : Netlist) → IsNetlist imp → SomeAlwaysWrong spec imp → NoChoicesSuit spec imp
   pub choices : (spec imp : Netlist) → IsNetlist imp → NoChoicesSuit spec imp → NoTablesAgree spec imp
 
+-- the condition of the check of a rank
+abbrev pub Condition : NetPair → Options → ℕ → Type 0
+Condition p o zero = KnownWrongAmong p.spec p.imp (tried p o)
+Condition p o (suc zero) = KnownWrongSomewhere p.spec p.imp
+Condition p o (suc (suc zero)) = OneAlwaysWrong p.spec p.imp
+Condition p o (suc (suc (suc zero))) = SomeAlwaysWrong p.spec p.imp
+Condition p o (suc (suc (suc (suc zero)))) = NoChoicesSuit p.spec p.imp
+Condition p o (suc (suc (suc (suc (suc n))))) = NoTablesAgree p.spec p.imp
+
+abbrev pub Holds : NetPair → Options → Rung → Type 0
+Holds p o r = Condition p o (rank r)
+
 module _ (weakens : Weakens) (vectors : PatternsAreVectors) (p : NetPair) (o : Options) (kept : IsPair p) where
-  from_some : SomeAlwaysWrong p.spec p.imp → NoTablesAgree p.spec p.imp
-  from_some h = weakens.choices p.spec p.imp kept.imp (weakens.some p.spec p.imp kept.imp h)
+  -- where it holds, so does the one behind it
+  one_up : (n : ℕ) → Condition p o n → Condition p o (suc n)
+  one_up zero h = weakens.patterns p.spec p.imp (tried p o) (vectors p.imp.inputs o.patterns o.seed) h
+  one_up (suc zero) h = weakens.known p.spec p.imp h
+  one_up (suc (suc zero)) h = weakens.one p.spec p.imp h
+  one_up (suc (suc (suc zero))) h = weakens.some p.spec p.imp kept.imp h
+  one_up (suc (suc (suc (suc zero)))) h = weakens.choices p.spec p.imp kept.imp h
+  one_up (suc (suc (suc (suc (suc n))))) h = h
 
-  from_one : OneAlwaysWrong p.spec p.imp → NoTablesAgree p.spec p.imp
-  from_one h = from_some (weakens.one p.spec p.imp h)
+  pub up : (k n m : ℕ) → m ≡ k + n → Condition p o n → Condition p o m
+  up zero n m e h = subst (Condition p o) (omega (arith, e)) h
+  up (suc k) n zero e h = absurd (omega (arith, e))
+  up (suc k) n (suc m) e h = one_up m (up k n m (omega (arith, e)) h)
 
-  from_known : KnownWrongSomewhere p.spec p.imp → NoTablesAgree p.spec p.imp
-  from_known h = from_one (weakens.known p.spec p.imp h)
+  -- no tables agree
+  pub no_tables : (r : Rung) → Holds p o r → NoTablesAgree p.spec p.imp
+  no_tables Ternary h = up 5 0 5 refl h
+  no_tables Symbolic h = up 4 1 5 refl h
+  no_tables Local h = up 3 2 5 refl h
+  no_tables Output h = up 2 3 5 refl h
+  no_tables Input h = up 1 4 5 refl h
+  no_tables Expand h = h
 
   contained : (before : List (List Bool)) (x : List Bool) (after : List (List Bool)) → Contains (before ++ x ∷ after) x
   contained before x after = Contains-append_right before (x ∷ after) x (0, omega arith, refl)
@@ -39,19 +68,30 @@ module _ (weakens : Weakens) (vectors : PatternsAreVectors) (p : NetPair) (o : O
   not_said : {T : Type 0} (said other : Said) → said ≡ other → says_error other ≡ false → says_error said ≡ true → T
   not_said said other same off on = absurd (true≢false (sym on ∙ ap says_error same ∙ off))
 
-  said_excludes : (r : Rung) (said : Said) → MaySay p o r said → says_error said ≡ true → NoTablesAgree p.spec p.imp
-  said_excludes Ternary said (Hit found j is hit same) on =
-      from_known (weakens.patterns p.spec p.imp (tried p o) (vectors p.imp.inputs o.patterns o.seed) (found.input.items, subst (λ all. Contains all found.input.items) (sym hit.stands) (contained hit.before found.input.items hit.after), j, hit.there, hit.wrong))
-  said_excludes Ternary said (NoHit right same) on = not_said said _ same refl on
-  said_excludes Symbolic said (TooMany many same) on = not_said said _ same refl on
-  said_excludes Symbolic said (Finding few found (j, is, first) same) on = from_known (found.input.items, first.at.vector, j, first.there, first.at.holds)
-  said_excludes Symbolic said (Without few right same) on = not_said said _ same refl on
-  said_excludes Local said (TooMany many same) on = not_said said _ same refl on
-  said_excludes Local said (Finding few found (j, is, first) same) on = from_one (found.input.items, first.at.vector, j, first.there, first.at.holds)
-  said_excludes Local said (Without few right same) on = not_said said _ same refl on
-  said_excludes Output said (TooMany many same) on = not_said said _ same refl on
-  said_excludes Output said (Finding few found (is, least) same) on = from_some (found.input.items, least.vector, least.holds)
-  said_excludes Output said (Without few right same) on = not_said said _ same refl on
+  -- an error shows the condition of its check
+  pub shows : (r : Rung) (said : Said) → MaySay p o r said → says_error said ≡ true → Holds p o r
+  shows Ternary said (Hit found j is hit same) on = (found.input.items, subst (λ all. Contains all found.input.items) (sym hit.stands) (contained hit.before found.input.items hit.after), j, hit.there, hit.wrong)
+  shows Ternary said (NoHit right same) on = not_said said _ same refl on
+  shows Symbolic said (TooMany many same) on = not_said said _ same refl on
+  shows Symbolic said (Finding few found (j, is, first) same) on = (found.input.items, first.at.vector, j, first.there, first.at.holds)
+  shows Symbolic said (Without few right same) on = not_said said _ same refl on
+  shows Local said (TooMany many same) on = not_said said _ same refl on
+  shows Local said (Finding few found (j, is, first) same) on = (found.input.items, first.at.vector, j, first.there, first.at.holds)
+  shows Local said (Without few right same) on = not_said said _ same refl on
+  shows Output said (TooMany many same) on = not_said said _ same refl on
+  shows Output said (Finding few found (is, least) same) on = (found.input.items, least.vector, least.holds)
+  shows Output said (Without few right same) on = not_said said _ same refl on
+  shows Input said (ChoicesTooMany many same) on = not_said said _ same refl on
+  shows Input said (Answered few choices.Error is same) on = is
+  shows Input said (Answered few choices.Clear is same) on = not_said said _ same refl on
+  shows Input said (Answered few (choices.Repair tables) is same) on = not_said said _ same refl on
+  shows Expand said (TooWide wide same) on = not_said said _ same refl on
+  shows Expand said (ClausesTooMany small many same) on = not_said said _ same refl on
+  shows Expand said (Decided small few (expanded.Error vectors cnf refutation) is same) on = is.none
+  shows Expand said (Decided small few (expanded.Repair tables) is same) on = not_said said _ same refl on
+
+  pub said_excludes : (r : Rung) (said : Said) → MaySay p o r said → says_error said ≡ true → NoTablesAgree p.spec p.imp
+  said_excludes r said says on = no_tables r (shows r said says on)
 
   climb_excludes : (rungs : List Rung) (lines : List Line) → Climbs p o rungs lines → list_any is_error lines ≡ true → NoTablesAgree p.spec p.imp
   climb_excludes [] [] Top any = absurd (true≢false (sym any))

@@ -1,19 +1,27 @@
 -- What the checks say, from what they answer.
-use Rattle.std.proofs.Common.{◌≡◌, ℕ, zero, suc, ◌<◌, Bool, List, map, length, get_or, All, true, false, [], ◌∷◌, ◌++◌, ◌+◌, append_assoc, Option, None, Some, Vec, Global, refl, sym, ap, subst, ◌∙◌, arith}
+use Rattle.std.proofs.Common.{◌≡◌, ℕ, ◌<◌, ◌≤◌, ◌^◌, Bool, List, map, length, get_or, All, true, false, [], ◌∷◌, ◌++◌, ◌+◌, append_assoc, Option, None, Some, Vec, Global, refl, sym, ap, subst, ◌∙◌, arith, inl, inr}
 use Rattle.std.proofs.lemmas.List.{get_or-map, length-map, drop_more}
 use Rattle.std.specs.Prelude.{drop, vec_items, Result, Ok, Err, IfOk, IfSome, IfNone, OnOk, IsErrOf}
 use Rattle.bb_bits.specs.Truth.{Truth}
 use Rattle.bb_net.specs.Conditions.{IsFirstHit}
+use Rattle.std.proofs.lemmas.Bool.{cases_lt}
+use Rattle.bb_expand.specs.ClauseCounts.{clause_total}
+use Rattle.bb_expand.specs.declared.expanded.Expanded.{Expanded}
+use Rattle.bb_expand.specs.declared.expanded.ExpandFault.{ExpandFault}
+use Rattle.bb_expand.specs.declared.expanded.ExpandFault.TheVariants as expand
+use Rattle.bb_expand.specs.Expanded.{IsExpanded}
+use Rattle.bb_net.specs.Completions.{HaveSmallTables, table_bits}
 use Rattle.bb_net.specs.Pairs.{NetPair}
 use Rattle.bb_sym.specs.declared.fault.RungFault.{RungFault}
 use Rattle.bb_sym.specs.declared.fault.RungFault.TheVariants as faults
 use Rattle.bb_sym.specs.declared.found.Found.{Found}
 use Rattle.bb_rungs.specs.declared.line.Line.{Line}
 use Rattle.bb_rungs.specs.declared.line.Said.{Said}
+use Rattle.bb_rungs.specs.declared.line.Evidence.TheVariants.{Vector}
 use Rattle.bb_rungs.specs.declared.line.Said.TheVariants.{Error}
 use Rattle.bb_rungs.specs.declared.options.Options.{Options}
 use Rattle.bb_rungs.specs.declared.rung.Rung.{Rung}
-use Rattle.bb_rungs.specs.Rungs.{AreTooMany, MayFind, Finding, TooMany, Without, MayHit, MaySay, Hit, Climbs, End, Step, ends, tried, told}
+use Rattle.bb_rungs.specs.Rungs.{AreTooMany, MayFind, Finding, TooMany, Without, MayHit, MayExpand, Decided, MaySay, Hit, Climbs, End, Step, ends, tried, told, told_expanded}
 
 some_one : {A : Type 0} (a b : A) → Some a ≡ Some b → a ≡ b
 some_one a b e = cc e
@@ -28,6 +36,19 @@ finds o functions Finds none (Err faults.NoMemory) (Ok said) found missing nodes
 finds o functions Finds none (Ok a) (Err x) found missing nodes within e = tt
 finds o functions Finds none (Err f) (Err x) found missing nodes within e = tt
 
+-- what the expansion answers, where its tables are not too wide and its clauses not too many
+pub decides : (p : NetPair) (o : Options) (answer : Expanded) → IsExpanded p.spec p.imp o.clauses answer → (2 ^ 24 < table_bits p.imp.boxes → IsErrOf (Ok answer) expand.Wide) → (HaveSmallTables p.imp.boxes → o.clauses < clause_total p.imp → IsErrOf (Ok answer) expand.Clauses)
+    → MayExpand p o (told_expanded answer)
+decides p o answer is narrow few =
+    let small : HaveSmallTables p.imp.boxes = not_below (2 ^ 24) (table_bits p.imp.boxes) (λ wide. not_err answer expand.Wide (narrow wide)) in
+    Decided small (not_below o.clauses (clause_total p.imp) (λ many. not_err answer expand.Clauses (few small many))) answer is refl
+  where
+    not_err : (answer : Expanded) (fault : ExpandFault) → IsErrOf (Ok answer) fault → ⊥
+    not_err answer fault e = cc e
+
+    not_below : (n m : ℕ) → (n < m → ⊥) → m ≤ n
+    not_below n m h = elim (cases_lt n m) [ inl below ↦ absurd (h below) | inr above ↦ above ]
+
 -- lists of bits with a bit for each input
 pub each_long : (n : ℕ) (tried : List (Vec Bool Global)) (all : List (List Bool)) → map vec_items tried ≡ all → All (λ x. length x ≡ n) all → (k : ℕ) (d : Vec Bool Global) → k < length tried → length (get_or tried k d).items ≡ n
 each_long n tried all same long k d fits =
@@ -38,7 +59,7 @@ pub some_holds : {A : Type 0} (o : Option A) (P : A → Type 0) → IfSome o P �
 some_holds None P all h is = cc is
 some_holds (Some x) P all h is = subst P (some_one x h is) all
 
-pub hits : (p : NetPair) (o : Options) (patterns : List (List Bool)) → patterns ≡ tried p o → (found : Found) (j : ℕ) → found.output ≡ Some j → IsFirstHit p.spec p.imp patterns found.input.items j → MayHit p o (Error found)
+pub hits : (p : NetPair) (o : Options) (patterns : List (List Bool)) → patterns ≡ tried p o → (found : Found) (j : ℕ) → found.output ≡ Some j → IsFirstHit p.spec p.imp patterns found.input.items j → MayHit p o (Error (Vector found))
 hits p o patterns same found j is hit = Hit found j is (subst (λ all. IsFirstHit p.spec p.imp all found.input.items j) same hit) refl
 
 -- the checks so far, and those behind them

@@ -1,4 +1,8 @@
+pub mod AlikeLaw
 pub mod ErrorLaw
 pub mod Findings
-pub mod ToldLaw
 pub mod OpenLaw
+pub mod RepairLaw
+pub mod StayLaw
+pub mod TableTexts
+pub mod ToldLaw

@@ -1,51 +1,94 @@
--- Where no check says that there is an error, each leaves the question open.
-use Rattle.std.proofs.Common.{◌≡◌, ◌⊎◌, ◌&&◌, ◌||◌, Bool, true, false, not, List, [], ◌∷◌, All, true≢false, refl, sym, ap, ◌∙◌, inl, inr}
+-- Where no check says that there is an error, and none gives tables, each leaves the question open; so none of them decides.
+use Rattle.std.proofs.Common.{◌≡◌, ◌&&◌, ◌||◌, Bool, true, false, not, if◌then◌else◌, List, [], ◌∷◌, All, true≢false, refl, sym, ap, ◌∙◌, inl, inr, arith, ◌<◌, ◌≤◌, ◌^◌, ℕ}
 use Rattle.std.specs.List.{list_any}
-use Rattle.std.proofs.lemmas.List.Elements.{All-nil, All-cons}
+use Rattle.std.proofs.lemmas.List.Elements.{All-nil, All-cons, All-contains}
+use Rattle.bb_net.specs.Completions.{table_bits}
 use Rattle.bb_net.specs.Pairs.{NetPair}
+use Rattle.bb_expand.specs.ClauseCounts.{clause_total}
+use Rattle.bb_expand.specs.declared.expanded.Expanded.TheVariants as expanded
+use Rattle.bb_input.specs.declared.InputAnswer.TheVariants as choices
 use Rattle.bb_rungs.specs.declared.line.Line.{Line}
 use Rattle.bb_rungs.specs.declared.line.Said.{Said}
 use Rattle.bb_rungs.specs.declared.options.Options.{Options}
 use Rattle.bb_rungs.specs.declared.rung.Rung.{Rung}
-use Rattle.bb_rungs.specs.declared.rung.Rung.TheVariants.{Ternary, Symbolic, Local, Output}
-use Rattle.bb_rungs.specs.Laws.{ClimbsLeaveOpen}
-use Rattle.bb_rungs.specs.LeftOpen.{LeavesOpen}
-use Rattle.bb_rungs.specs.Rungs.{MaySay, MayHit, Hit, NoHit, MayFind, TooMany, Finding, Without, Climbs, Top, End, Step, says_error, is_error, ends}
+use Rattle.bb_rungs.specs.declared.rung.Rung.TheVariants.{Ternary, Symbolic, Local, Output, Input, Expand}
+use Rattle.bb_rungs.specs.declared.verdict.Verdict.TheVariants as verdicts
+use Rattle.bb_rungs.specs.Laws.{ClimbsLeaveOpen, DecidersDecide}
+use Rattle.bb_rungs.specs.LeftOpen.{Decides, LeavesOpen}
+use Rattle.bb_rungs.specs.Rungs.{asked_rungs, MaySay, Hit, NoHit, TooMany, Finding, Without, ChoicesTooMany, Answered, TooWide, ClausesTooMany, Decided, Climbs, Top, End, Step, says_error, says_repair, is_error, is_repair}
 
-neither : (a b : Bool) → (a || b) ≡ false → (a ≡ false) × (b ≡ false)
+pub neither : (a b : Bool) → (a || b) ≡ false → (a ≡ false) × (b ≡ false)
 neither false false e = (refl, refl)
 neither true b e = absurd (true≢false e)
 neither false true e = absurd (true≢false e)
 
-no_end : (a b : Bool) → (a && b) ≡ true → a ≡ false → ⊥
-no_end true b e off = true≢false off
-no_end false b e off = true≢false (sym e)
+no_end : (r a b : Bool) → (r || (a && b)) ≡ true → r ≡ false → a ≡ false → ⊥
+no_end false true b e none off = true≢false off
+no_end false false b e none off = true≢false (sym e)
+no_end true a b e none off = true≢false none
+
+-- the verdict that the question is open: no check says that there is an error, and none gives tables
+both_none : (a b : Bool) → (if a then verdicts.Error else (if b then verdicts.Repairable else verdicts.Open)) ≡ verdicts.Open → (a ≡ false) × (b ≡ false)
+both_none false false e = (refl, refl)
+both_none true b e = cc e
+both_none false true e = cc e
+
+above : (n m : ℕ) → n < m → m ≤ n → ⊥
+above n m less more = omega (arith, less, more)
 
 module _ (p : NetPair) (o : Options) where
-  not_said : {T : Type 0} (said other : Said) → said ≡ other → says_error other ≡ true → says_error said ≡ false → T
-  not_said said other same on off = absurd (true≢false (sym on ∙ ap says_error (sym same) ∙ off))
+  no_error : {T : Type 0} (said other : Said) → said ≡ other → says_error other ≡ true → says_error said ≡ false → T
+  no_error said other same on off = absurd (true≢false (sym on ∙ ap says_error (sym same) ∙ off))
 
-  said_open : (r : Rung) (said : Said) → MaySay p o r said → says_error said ≡ false → LeavesOpen p o r
-  said_open Ternary said (Hit found j is hit same) off = not_said said _ same refl off
-  said_open Ternary said (NoHit right same) off = right
-  said_open Symbolic said (TooMany many same) off = inl many
-  said_open Symbolic said (Finding few found is same) off = not_said said _ same refl off
-  said_open Symbolic said (Without few right same) off = inr right
-  said_open Local said (TooMany many same) off = inl many
-  said_open Local said (Finding few found is same) off = not_said said _ same refl off
-  said_open Local said (Without few right same) off = inr right
-  said_open Output said (TooMany many same) off = inl many
-  said_open Output said (Finding few found is same) off = not_said said _ same refl off
-  said_open Output said (Without few right same) off = inr right
+  no_repair : {T : Type 0} (said other : Said) → said ≡ other → says_repair other ≡ true → says_repair said ≡ false → T
+  no_repair said other same on off = absurd (true≢false (sym on ∙ ap says_repair (sym same) ∙ off))
 
-  climb_open : (rungs : List Rung) (lines : List Line) → Climbs p o rungs lines → list_any is_error lines ≡ false → All (LeavesOpen p o) rungs
-  climb_open [] [] Top none = All-nil _
-  climb_open [] (line ∷ more) climb none = elim climb [ ]
-  climb_open (r ∷ rest) [] climb none = elim climb [ ]
-  climb_open (r ∷ rest) (line ∷ []) (End is says last) none = absurd (no_end (is_error line) (not o.all) last (neither (is_error line) false none).0)
-  climb_open (r ∷ rest) (line ∷ more) (Step is says on behind) none =
-      let off = neither (is_error line) (list_any is_error more) none in
-      All-cons (LeavesOpen p o) r rest (said_open r line.said says off.0) (climb_open rest more behind off.1)
+  said_open : (r : Rung) (said : Said) → MaySay p o r said → says_error said ≡ false → says_repair said ≡ false → LeavesOpen p o r
+  said_open Ternary said (Hit found j is hit same) off none = no_error said _ same refl off
+  said_open Ternary said (NoHit right same) off none = right
+  said_open Symbolic said (TooMany many same) off none = inl many
+  said_open Symbolic said (Finding few found is same) off none = no_error said _ same refl off
+  said_open Symbolic said (Without few right same) off none = inr right
+  said_open Local said (TooMany many same) off none = inl many
+  said_open Local said (Finding few found is same) off none = no_error said _ same refl off
+  said_open Local said (Without few right same) off none = inr right
+  said_open Output said (TooMany many same) off none = inl many
+  said_open Output said (Finding few found is same) off none = no_error said _ same refl off
+  said_open Output said (Without few right same) off none = inr right
+  said_open Input said (ChoicesTooMany many same) off none = inl many
+  said_open Input said (Answered few choices.Error is same) off none = no_error said _ same refl off
+  said_open Input said (Answered few choices.Clear is same) off none = inr is
+  said_open Input said (Answered few (choices.Repair tables) is same) off none = no_repair said _ same refl none
+  said_open Expand said (TooWide wide same) off none = inl wide
+  said_open Expand said (ClausesTooMany small many same) off none = inr many
+  said_open Expand said (Decided small few (expanded.Error vectors cnf refutation) is same) off none = no_error said _ same refl off
+  said_open Expand said (Decided small few (expanded.Repair tables) is same) off none = no_repair said _ same refl none
+
+  climb_open : (rungs : List Rung) (lines : List Line) → Climbs p o rungs lines → list_any is_error lines ≡ false → list_any is_repair lines ≡ false → All (LeavesOpen p o) rungs
+  climb_open [] [] Top off none = All-nil _
+  climb_open [] (line ∷ more) climb off none = elim climb [ ]
+  climb_open (r ∷ rest) [] climb off none = elim climb [ ]
+  climb_open (r ∷ rest) (line ∷ []) (End is says last) off none = absurd (no_end (is_repair line) (is_error line) (not o.all) last (neither (is_repair line) false none).0 (neither (is_error line) false off).0)
+  climb_open (r ∷ rest) (line ∷ more) (Step is says on behind) off none =
+      let no_error = neither (is_error line) (list_any is_error more) off in
+      let no_tables = neither (is_repair line) (list_any is_repair more) none in
+      All-cons (LeavesOpen p o) r rest (said_open r line.said says no_error.0 no_tables.0) (climb_open rest more behind no_error.1 no_tables.1)
 
 pub climbs_leave_open : ClimbsLeaveOpen
-climbs_leave_open p o lines climb none = climb_open p o _ lines climb none
+climbs_leave_open p o lines climb verdict =
+    let none = both_none (list_any is_error lines) (list_any is_repair lines) verdict in
+    climb_open p o _ lines climb none.0 none.1
+
+-- a check that decides does not leave the question open
+not_both : (p : NetPair) (o : Options) (r : Rung) → LeavesOpen p o r → Decides p o r → ⊥
+not_both p o Ternary leaves decides = decides
+not_both p o Symbolic leaves decides = decides
+not_both p o Local leaves decides = decides
+not_both p o Output leaves decides = decides
+not_both p o Input (inl many) decides = decides.1 many
+not_both p o Input (inr none) decides = none.1 decides.0
+not_both p o Expand (inl wide) decides = above (2 ^ 24) (table_bits p.imp.boxes) wide decides.0
+not_both p o Expand (inr many) decides = above o.clauses (clause_total p.imp) many decides.1
+
+pub deciders_decide : DecidersDecide
+deciders_decide p o lines climb (r, asked, decides) verdict = not_both p o r (All-contains (LeavesOpen p o) (asked_rungs o) r (climbs_leave_open p o lines climb verdict) asked) decides

@@ -1,16 +1,30 @@
 -- What checks find can be told by the names of the pair.
-use Rattle.std.proofs.Common.{◌≡◌, ℕ, ◌<◌, Bool, List, [], ◌∷◌, length, All, Contains, None, Some, IfSome, refl, sym, ap, subst, ◌∙◌, arith}
+use Rattle.std.proofs.Common.{◌≡◌, ℕ, zero, suc, ◌<◌, List, [], ◌∷◌, length, All, Contains, None, Some, IfSome, refl, sym, subst, ◌∙◌, arith}
 use Rattle.std.proofs.lemmas.List.Elements.{All-nil, All-cons, All-contains, Contains-append_right}
-use Rattle.bb_net.specs.Pairs.{NetPair, IsPair}
+use Rattle.std.specs.List.{AllZip}
+use Rattle.std.proofs.lemmas.Slice.Zip.{AllZip-long}
+use Rattle.bb_bits.specs.Tables.{TableBits}
+use Rattle.bb_net.specs.Completions.{AreCompletion}
+use Rattle.bb_net.specs.Netlists.{Pins, box_at}
+use Rattle.bb_net.specs.Pairs.{NetPair, IsPair, BoxTexts, NamesPins}
 use Rattle.bb_tern.specs.Patterns.{PatternsAreVectors}
 use Rattle.bb_sym.specs.declared.found.Found.{Found}
+use Rattle.bb_expand.specs.declared.expanded.Expanded.TheVariants as expanded
+use Rattle.bb_input.specs.declared.InputAnswer.TheVariants as choices
 use Rattle.bb_rungs.specs.declared.line.Line.{Line}
 use Rattle.bb_rungs.specs.declared.line.Said.{Said}
 use Rattle.bb_rungs.specs.declared.options.Options.{Options}
 use Rattle.bb_rungs.specs.declared.rung.Rung.{Rung}
-use Rattle.bb_rungs.specs.declared.rung.Rung.TheVariants.{Ternary, Symbolic, Local, Output}
+use Rattle.bb_rungs.specs.declared.rung.Rung.TheVariants.{Ternary, Symbolic, Local, Output, Input, Expand}
 use Rattle.bb_rungs.specs.Laws.{ClimbsAreTold}
-use Rattle.bb_rungs.specs.Rungs.{MaySay, MayHit, Hit, NoHit, MayFind, TooMany, Finding, Without, Climbs, Top, End, Step, SaidTells, Tells, tried}
+use Rattle.bb_rungs.specs.Rungs.{MaySay, Hit, NoHit, TooMany, Finding, Without, ChoicesTooMany, Answered, TooWide, ClausesTooMany, Decided, Climbs, Top, End, Step, SaidTells, Tells, TellTables, texts_at, tried}
+
+-- each box has a text for each pin
+pub names_each : (texts : List BoxTexts) (boxes : List Pins) → AllZip NamesPins texts boxes → (b : ℕ) → b < length texts → NamesPins (texts_at texts b) (box_at boxes b)
+names_each [] boxes named b there = absurd (omega (arith, there))
+names_each (t ∷ texts) [] named b there = absurd named
+names_each (t ∷ texts) (q ∷ boxes) named zero there = named.0
+names_each (t ∷ texts) (q ∷ boxes) named (suc b) there = names_each texts boxes named.1 b (omega (arith, there))
 
 module _ (vectors : PatternsAreVectors) (p : NetPair) (o : Options) (kept : IsPair p) where
   with_output : (found : Found) (j : ℕ) → found.output ≡ Some j → j < length p.imp.outs → length found.input.items ≡ p.imp.inputs → Tells p found
@@ -23,6 +37,14 @@ module _ (vectors : PatternsAreVectors) (p : NetPair) (o : Options) (kept : IsPa
   without_output found is long = record {
     output = subst (λ told. IfSome told (λ j. j < length p.outs)) (sym is) tt;
     input = long ∙ sym kept.beside.ins_named;
+  }
+
+  tables_told : (tables : List TableBits) → AreCompletion p.spec p.imp tables → TellTables p tables
+  tables_told tables complete = record {
+    count = complete.fit.count ∙ AllZip-long NamesPins p.boxes p.imp.boxes kept.beside.boxes_named;
+    outputs = λ b there.
+        let within : b < length p.imp.boxes = omega (arith, there, AllZip-long NamesPins p.boxes p.imp.boxes kept.beside.boxes_named) in
+        complete.fit.outputs b within ∙ sym (names_each p.boxes p.imp.boxes kept.beside.boxes_named b there).outs;
   }
 
   said_told : (r : Rung) (said : Said) → MaySay p o r said → SaidTells p said
@@ -39,6 +61,14 @@ module _ (vectors : PatternsAreVectors) (p : NetPair) (o : Options) (kept : IsPa
   said_told Output said (TooMany many same) = subst (SaidTells p) (sym same) tt
   said_told Output said (Finding few found (is, least) same) = subst (SaidTells p) (sym same) (without_output found is least.vector)
   said_told Output said (Without few right same) = subst (SaidTells p) (sym same) tt
+  said_told Input said (ChoicesTooMany many same) = subst (SaidTells p) (sym same) tt
+  said_told Input said (Answered few choices.Error is same) = subst (SaidTells p) (sym same) tt
+  said_told Input said (Answered few choices.Clear is same) = subst (SaidTells p) (sym same) tt
+  said_told Input said (Answered few (choices.Repair tables) is same) = subst (SaidTells p) (sym same) (tables_told tables.items is.1.completion)
+  said_told Expand said (TooWide wide same) = subst (SaidTells p) (sym same) tt
+  said_told Expand said (ClausesTooMany small many same) = subst (SaidTells p) (sym same) tt
+  said_told Expand said (Decided small few (expanded.Error vectors cnf refutation) is same) = subst (SaidTells p) (sym same) tt
+  said_told Expand said (Decided small few (expanded.Repair tables) is same) = subst (SaidTells p) (sym same) (tables_told tables.items is)
 
   climb_told : (rungs : List Rung) (lines : List Line) → Climbs p o rungs lines → All (λ (line : Line). SaidTells p line.said) lines
   climb_told [] [] Top = All-nil _

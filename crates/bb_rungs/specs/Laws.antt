@@ -1,21 +1,56 @@
 -- Laws of what checks say.
-use Rattle.std.specs.Prelude.{◌≡◌, true, false, List, All}
+use Rattle.std.specs.Prelude.{map, ◌≡◌, true, false, List, ◌∷◌, ◌++◌, All, ℕ}
 use Rattle.std.specs.List.{list_any}
+use Rattle.bb_bits.specs.Tables.{TableBits}
+use Rattle.bb_net.specs.Completions.{AreCompletion}
 use Rattle.bb_net.specs.Conditions.{NoTablesAgree}
 use Rattle.bb_net.specs.Pairs.{NetPair, IsPair}
+use Rattle.bb_net.specs.Values.{FitBoxes}
 use Rattle.bb_rungs.specs.declared.line.Line.{Line}
+use Rattle.bb_rungs.specs.declared.line.Said.TheVariants.{Nothing}
 use Rattle.bb_rungs.specs.declared.options.Options.{Options}
-use Rattle.bb_rungs.specs.LeftOpen.{AllLeaveOpen}
-use Rattle.bb_rungs.specs.Rungs.{IsClimb, SaidTells, is_error}
+use Rattle.bb_rungs.specs.declared.verdict.Verdict.TheVariants as verdicts
+use Rattle.bb_rungs.specs.LeftOpen.{AllLeaveOpen, SomeDecides}
+use Rattle.bb_rungs.specs.Reports.{EndsWithTables, report_text, rung_line, verdict_of}
+use Rattle.bb_rungs.specs.Rungs.{IsClimb, SaidTells, is_error, is_repair}
+use Rattle.bb_rungs.specs.TableLines.{table_lines}
 
 -- where a check says that there is an error, no tables agree
 abbrev pub ErrorsExcludeTables : Type 0
 ErrorsExcludeTables = (p : NetPair) (o : Options) (lines : List Line) → IsPair p → IsClimb p o lines → list_any is_error lines ≡ true → NoTablesAgree p.spec p.imp
 
+-- where the verdict is that the design can be finished, the report ends with tables that agree
+abbrev pub RepairsAgree : Type 0
+RepairsAgree = (p : NetPair) (o : Options) (lines : List Line) → IsPair p → IsClimb p o lines → verdict_of lines ≡ verdicts.Repairable
+    → (tables : List TableBits) × AreCompletion p.spec p.imp tables × EndsWithTables p (report_text p o lines) tables
+
+-- the lines of a table give back its bits: tables of the same boxes with the same lines are the same
+abbrev pub LinesFixTables : Type 0
+LinesFixTables = (p : NetPair) (tables others : List TableBits) → IsPair p → FitBoxes tables p.imp.boxes → FitBoxes others p.imp.boxes
+    → table_lines p.boxes tables ≡ table_lines p.boxes others → tables ≡ others
+
+-- so a report ends with the lines of one list of tables
+abbrev pub TextsFixTables : Type 0
+TextsFixTables = (p : NetPair) (text : List ℕ) (tables others : List TableBits) → IsPair p → FitBoxes tables p.imp.boxes → FitBoxes others p.imp.boxes
+    → EndsWithTables p text tables → EndsWithTables p text others → tables ≡ others
+
 -- what checks find can be told by the names of the pair
 abbrev pub ClimbsAreTold : Type 0
 ClimbsAreTold = (p : NetPair) (o : Options) (lines : List Line) → IsPair p → IsClimb p o lines → All (λ line. SaidTells p line.said) lines
 
--- where none says so, each leaves the question open
+-- where none says that there is an error, and none gives tables, each leaves the question open
 abbrev pub ClimbsLeaveOpen : Type 0
-ClimbsLeaveOpen = (p : NetPair) (o : Options) (lines : List Line) → IsClimb p o lines → list_any is_error lines ≡ false → AllLeaveOpen p o
+ClimbsLeaveOpen = (p : NetPair) (o : Options) (lines : List Line) → IsClimb p o lines → verdict_of lines ≡ verdicts.Open → AllLeaveOpen p o
+
+-- where a check that is asked for decides, the question is not left open
+abbrev pub DecidersDecide : Type 0
+DecidersDecide = (p : NetPair) (o : Options) (lines : List Line) → IsClimb p o lines → SomeDecides p o → verdict_of lines ≡ verdicts.Open → ⊥
+
+-- behind an error no check says that there is none, and none gives tables
+abbrev pub ErrorsStay : Type 0
+ErrorsStay = (p : NetPair) (o : Options) (before after : List Line) (line : Line) → IsPair p → IsClimb p o (before ++ line ∷ after) → is_error line ≡ true
+    → All (λ later. (later.said ≡ Nothing → ⊥) × (is_repair later ≡ false)) after
+
+-- all climbs of a pair have the same lines, but for what stands behind them
+abbrev pub ClimbsSayAlike : Type 0
+ClimbsSayAlike = (p : NetPair) (o : Options) (lines others : List Line) → IsPair p → IsClimb p o lines → IsClimb p o others → map rung_line lines ≡ map rung_line others

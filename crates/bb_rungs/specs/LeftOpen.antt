@@ -1,11 +1,16 @@
--- When checks leave the question open: each that is asked for finds no mistake, or would need more nodes than it may hold.
-use Rattle.std.specs.Prelude.{◌⊎◌, All}
-use Rattle.bb_net.specs.Conditions.{MayBeRightAmong, MayBeRightEverywhere, EachSometimesRight, AllSometimesRight}
+-- When checks leave the question open: each that is asked for finds no mistake and no tables, or would need more nodes or clauses
+-- than it may have, or its tables would have too many bits to be written down; and when a check decides.
+use Rattle.std.specs.Prelude.{◌⊎◌, ◌<◌, ◌≤◌, ◌^◌, All, Contains}
+use Rattle.bb_net.specs.Completions.{HaveSmallTables, table_bits}
+use Rattle.bb_net.specs.Conditions.{MayBeRightAmong, MayBeRightEverywhere, EachSometimesRight, AllSometimesRight, SomeChoicesSuit}
 use Rattle.bb_net.specs.Pairs.{NetPair}
 use Rattle.bb_sym.specs.Functions.{symbolic_functions, local_functions, output_functions}
+use Rattle.bb_input.specs.Answers.{IsFinishable}
+use Rattle.bb_input.specs.InputFunctions.{input_functions}
+use Rattle.bb_expand.specs.ClauseCounts.{clause_total}
 use Rattle.bb_rungs.specs.declared.options.Options.{Options}
 use Rattle.bb_rungs.specs.declared.rung.Rung.{Rung}
-use Rattle.bb_rungs.specs.declared.rung.Rung.TheVariants.{Ternary, Symbolic, Local, Output}
+use Rattle.bb_rungs.specs.declared.rung.Rung.TheVariants.{Ternary, Symbolic, Local, Output, Input, Expand}
 use Rattle.bb_rungs.specs.Rungs.{AreTooMany, asked_rungs, tried}
 
 abbrev pub LeavesOpen : NetPair → Options → Rung → Type 0
@@ -13,6 +18,22 @@ LeavesOpen p o Ternary = MayBeRightAmong p.spec p.imp (tried p o)
 LeavesOpen p o Symbolic = AreTooMany o (symbolic_functions p.spec p.imp) ⊎ MayBeRightEverywhere p.spec p.imp
 LeavesOpen p o Local = AreTooMany o (local_functions p.spec p.imp) ⊎ EachSometimesRight p.spec p.imp
 LeavesOpen p o Output = AreTooMany o (output_functions p.spec p.imp) ⊎ AllSometimesRight p.spec p.imp
+LeavesOpen p o Input = AreTooMany o (input_functions p.spec p.imp) ⊎ (SomeChoicesSuit p.spec p.imp × (IsFinishable p.imp → ⊥))
+LeavesOpen p o Expand = (2 ^ 24 < table_bits p.imp.boxes) ⊎ (o.clauses < clause_total p.imp)
 
 abbrev pub AllLeaveOpen : NetPair → Options → Type 0
 AllLeaveOpen p o = All (LeavesOpen p o) (asked_rungs o)
+
+-- a check decides: the choices where there is at most one box, its table may be written down and the nodes suffice; the expansion
+-- where its tables may be written down and the clauses suffice
+abbrev pub Decides : NetPair → Options → Rung → Type 0
+Decides p o Ternary = ⊥
+Decides p o Symbolic = ⊥
+Decides p o Local = ⊥
+Decides p o Output = ⊥
+Decides p o Input = IsFinishable p.imp × (AreTooMany o (input_functions p.spec p.imp) → ⊥)
+Decides p o Expand = HaveSmallTables p.imp.boxes × (clause_total p.imp ≤ o.clauses)
+
+-- one that is asked for does
+abbrev pub SomeDecides : NetPair → Options → Type 0
+SomeDecides p o = (r : Rung) × Contains (asked_rungs o) r × Decides p o r

@@ -2,3 +2,4 @@ pub mod Laws
 pub mod LeftOpen
 pub mod Reports
 pub mod Rungs
+pub mod TableLines

@@ -1,21 +1,30 @@
 -- The report of the checks that were run: a line for each, behind it what it found, and last the verdict.
-use Rattle.std.specs.Prelude.{◌≡◌, ℕ, Bool, true, false, if◌then◌else◌, List, [], ◌∷◌, ◌++◌, zip, Option, Some, None, codes}
+use Rattle.std.specs.Prelude.{◌≡◌, ℕ, Bool, false, if◌then◌else◌, List, [], ◌∷◌, ◌++◌, map, vec_items, zip, Option, Some, None, codes}
 use Rattle.std.specs.List.{flat_map, list_any, slice_index_or}
+use Rattle.bb_bits.specs.Tables.{TableBits}
+use Rattle.bb_cnf.specs.Lines.{proof_lines}
 use Rattle.bb_net.specs.declared.pair.OutName.{OutName}
 use Rattle.bb_net.specs.Pairs.{NetPair}
-use Rattle.bb_sym.specs.declared.found.Found.{Found}
+use Rattle.bb_rungs.specs.declared.line.Evidence.{Evidence}
+use Rattle.bb_rungs.specs.declared.line.Evidence.TheVariants.{Vector, NoChoices, Refutation}
 use Rattle.bb_rungs.specs.declared.line.Line.{Line}
+use Rattle.bb_rungs.specs.declared.line.Proof.{Proof}
 use Rattle.bb_rungs.specs.declared.line.Said.{Said}
-use Rattle.bb_rungs.specs.declared.line.Said.TheVariants.{Error, Nothing, Nodes}
+use Rattle.bb_rungs.specs.declared.line.Said.TheVariants.{Error, Nothing, Repair, Nodes, Clauses, Wide}
+use Rattle.bb_rungs.specs.declared.options.Options.{Options}
 use Rattle.bb_rungs.specs.declared.verdict.Verdict.{Verdict}
 use Rattle.bb_rungs.specs.declared.verdict.Verdict.TheVariants as verdicts
-pub use Rattle.bb_rungs.specs.Rungs.{is_error}
+pub use Rattle.bb_rungs.specs.Rungs.{is_error, is_repair}
 use Rattle.bb_rungs.specs.Rungs.{rung_name}
+use Rattle.bb_rungs.specs.TableLines.{bit_text, table_lines}
 
 abbrev pub result_name : Said → List ℕ
-result_name (Error found) = codes "error"
+result_name (Error evidence) = codes "error"
 result_name Nothing = codes "none"
+result_name (Repair tables) = codes "repair"
 result_name Nodes = codes "nodes"
+result_name Clauses = codes "clauses"
+result_name Wide = codes "wide"
 
 -- an output bit of the top, or the next state of a register
 abbrev pub output_line : OutName → List ℕ
@@ -26,9 +35,6 @@ abbrev pub told_output : List OutName → Option ℕ → List ℕ
 told_output names None = []
 told_output names (Some j) = output_line (slice_index_or names j (record { next = false; text = [] }))
 
-abbrev pub bit_text : Bool → List ℕ
-bit_text b = if b then codes "1" else codes "0"
-
 -- the name and the bit of an input, as ` a=0`
 abbrev pub input_text : List ℕ × Bool → List ℕ
 input_text x = codes " " ++ x.0 ++ codes "=" ++ bit_text x.1
@@ -36,29 +42,58 @@ input_text x = codes " " ++ x.0 ++ codes "=" ++ bit_text x.1
 abbrev pub input_line : List (List ℕ) → List Bool → List ℕ
 input_line names bits = codes "input" ++ flat_map input_text (zip names bits) ++ codes "\n"
 
+-- a vector, the bit of the first input first
+abbrev pub vector_line : List Bool → List ℕ
+vector_line [] = codes "vector\n"
+vector_line (b ∷ bits) = codes "vector " ++ flat_map bit_text (b ∷ bits) ++ codes "\n"
+
+-- the vectors of an expansion, its clauses, and the steps that refute them
+abbrev pub proof_text : Proof → List ℕ
+proof_text proof = flat_map vector_line (map vec_items proof.vectors.items) ++ proof_lines proof.cnf.clauses proof.refutation.steps.items
+
+-- what shows an error; a proof is shown where it is asked for
+abbrev pub evidence_text : NetPair → Options → Evidence → List ℕ
+evidence_text p o (Vector found) = told_output p.outs found.output ++ input_line p.ins found.input.items
+evidence_text p o NoChoices = []
+evidence_text p o (Refutation proof) = if o.proof then proof_text proof else []
+
 -- what stands behind the line of a check
-abbrev pub details : NetPair → Said → List ℕ
-details p (Error found) = told_output p.outs found.output ++ input_line p.ins found.input.items
-details p Nothing = []
-details p Nodes = []
+abbrev pub details : NetPair → Options → Said → List ℕ
+details p o (Error evidence) = evidence_text p o evidence
+details p o Nothing = []
+details p o (Repair tables) = table_lines p.boxes tables.items
+details p o Nodes = []
+details p o Clauses = []
+details p o Wide = []
 
-abbrev pub line_text : NetPair → Line → List ℕ
-line_text p line = codes "rung " ++ rung_name line.rung ++ codes " " ++ result_name line.said ++ codes "\n" ++ details p line.said
+-- the line of a check
+abbrev pub rung_line : Line → List ℕ
+rung_line line = codes "rung " ++ rung_name line.rung ++ codes " " ++ result_name line.said ++ codes "\n"
 
--- an error, where a check says so
+abbrev pub line_text : NetPair → Options → Line → List ℕ
+line_text p o line = rung_line line ++ details p o line.said
+
+-- an error, where a check says so; else tables, where one gives them
 abbrev pub verdict_of : List Line → Verdict
-verdict_of lines = if list_any is_error lines then verdicts.Error else verdicts.Open
+verdict_of lines = if list_any is_error lines then verdicts.Error else (if list_any is_repair lines then verdicts.Repairable else verdicts.Open)
 
 abbrev pub verdict_name : Verdict → List ℕ
 verdict_name verdicts.Error = codes "error"
+verdict_name verdicts.Repairable = codes "repairable"
 verdict_name verdicts.Open = codes "open"
 
 abbrev pub status_of : Verdict → ℕ
+status_of verdicts.Repairable = 0
 status_of verdicts.Error = 1
 status_of verdicts.Open = 3
 
 abbrev pub verdict_line : Verdict → List ℕ
 verdict_line v = codes "verdict " ++ verdict_name v ++ codes "\n"
 
-abbrev pub report_text : NetPair → List Line → List ℕ
-report_text p lines = flat_map (line_text p) lines ++ verdict_line (verdict_of lines)
+abbrev pub report_text : NetPair → Options → List Line → List ℕ
+report_text p o lines = flat_map (line_text p o) lines ++ verdict_line (verdict_of lines)
+
+-- a report with the verdict that the design can be finished: lines of checks, and behind them those of the tables
+pub record EndsWithTables (p : NetPair) (text : List ℕ) (tables : List TableBits) : Type 0 where
+  pub lines : List Line
+  pub whole : text ≡ flat_map rung_line lines ++ table_lines p.boxes tables ++ verdict_line verdicts.Repairable

@@ -4,10 +4,13 @@ ghost use Rattle.std.specs.Prelude.{◌≡◌, [], ◌∷◌, ◌++◌, if◌the
 ghost use Rattle.bb_rungs.specs.declared.rung.Rung.TheVariants as rungs;
 ghost use Rattle.bb_rungs.specs.Rungs.{AreBounds, IsClimb, MayHit, MaySay, asked_rungs, ends, is_asked, told};
 
-use crate::line::{Line, Said};
+use crate::line::{Evidence, Line, Proof, Said};
 use crate::options::Options;
 use crate::rung::Rung;
+use crate::verdict::{is_error, is_repair};
 use bb_bits::NoMemory;
+use bb_expand::{ExpandFault, Expanded, expand};
+use bb_input::{InputAnswer, input};
 use bb_net::Pair;
 use bb_sym::{Found, RungFault, local, output, symbolic};
 use bb_tern::laws::patterns_are_vectors;
@@ -22,10 +25,10 @@ fn ternary(alloc: Global, pair: &Pair, options: &Options) -> Result<Said, NoMemo
     patterns_are_vectors();
     let tried = patterns(alloc, pair.imp().inputs(), options.patterns, options.seed)?;
     match simulate(alloc, pair, &tried)? {
-        Some(hit) => Ok(Said::Error(Found {
+        Some(hit) => Ok(Said::Error(Evidence::Vector(Found {
             output: Some(hit.output),
             input: hit.pattern,
-        })),
+        }))),
         None => Ok(Said::Nothing),
     }
 }
@@ -35,7 +38,7 @@ fn said(answer: Result<Option<Found>, RungFault>) -> Result<Said, NoMemory>
     ensures said { IfOk result (λ said. told answer ≡ Some said) }
 {
     match answer {
-        Ok(Some(found)) => Ok(Said::Error(found)),
+        Ok(Some(found)) => Ok(Said::Error(Evidence::Vector(found))),
         Ok(None) => Ok(Said::Nothing),
         Err(RungFault::Nodes) => Ok(Said::Nodes),
         Err(RungFault::NoMemory) => Err(NoMemory),
@@ -63,6 +66,42 @@ fn output_says(alloc: Global, pair: &Pair, options: &Options) -> Result<Said, No
     said(output(alloc, pair, options.nodes, options.cache))
 }
 
+fn input_says(alloc: Global, pair: &Pair, options: &Options) -> Result<Said, NoMemory>
+    requires bounds { AreBounds options.now }
+    ensures said { IfOk result (MaySay pair.now options.now rungs.Input) }
+{
+    match input(alloc, pair, options.nodes, options.cache) {
+        Ok(InputAnswer::Error) => Ok(Said::Error(Evidence::NoChoices)),
+        Ok(InputAnswer::Clear) => Ok(Said::Nothing),
+        Ok(InputAnswer::Repair(tables)) => Ok(Said::Repair(tables)),
+        Err(RungFault::Nodes) => Ok(Said::Nodes),
+        Err(RungFault::NoMemory) => Err(NoMemory),
+    }
+}
+
+fn expand_says(alloc: Global, pair: &Pair, options: &Options) -> Result<Said, NoMemory>
+    requires bounds { AreBounds options.now }
+    ensures said { IfOk result (MaySay pair.now options.now rungs.Expand) }
+{
+    match expand(alloc, pair, options.clauses) {
+        Ok(
+            Expanded::Error {
+                vectors,
+                cnf,
+                refutation,
+            },
+        ) => Ok(Said::Error(Evidence::Refutation(Proof {
+            vectors,
+            cnf,
+            refutation,
+        }))),
+        Ok(Expanded::Repair(tables)) => Ok(Said::Repair(tables)),
+        Err(ExpandFault::Clauses) => Ok(Said::Clauses),
+        Err(ExpandFault::Wide) => Ok(Said::Wide),
+        Err(ExpandFault::NoMemory) => Err(NoMemory),
+    }
+}
+
 // What a check says.
 fn say(alloc: Global, pair: &Pair, options: &Options, rung: Rung) -> Result<Said, NoMemory>
     requires bounds { AreBounds options.now }
@@ -73,6 +112,8 @@ fn say(alloc: Global, pair: &Pair, options: &Options, rung: Rung) -> Result<Said
         Rung::Symbolic => symbolic_says(alloc, pair, options),
         Rung::Local => local_says(alloc, pair, options),
         Rung::Output => output_says(alloc, pair, options),
+        Rung::Input => input_says(alloc, pair, options),
+        Rung::Expand => expand_says(alloc, pair, options),
     }
 }
 
@@ -102,6 +143,8 @@ fn asked(alloc: Global, options: &Options) -> Result<Vec<Rung>, NoMemory>
     push_asked(options, Rung::Symbolic, &mut list)?;
     push_asked(options, Rung::Local, &mut list)?;
     push_asked(options, Rung::Output, &mut list)?;
+    push_asked(options, Rung::Input, &mut list)?;
+    push_asked(options, Rung::Expand, &mut list)?;
     Ok(list)
 }
 
@@ -109,11 +152,11 @@ fn asked(alloc: Global, options: &Options) -> Result<Vec<Rung>, NoMemory>
 fn ends(options: &Options, line: &Line) -> bool
     ensures ends { result ≡ ends options.now line.now }
 {
-    matches!(line.said, Said::Error(_)) && !options.all
+    is_repair(line) || (is_error(line) && !options.all)
 }
 
-/// Runs the checks that are asked for, one after another, and tells what each says. They end after the first error, unless
-/// all are asked for.
+/// Runs the checks that are asked for, one after another, and tells what each says. They end behind the first that gives tables,
+/// and behind the first error, unless all are asked for.
 pub fn climb(alloc: Global, pair: &Pair, options: &Options) -> Result<Vec<Line>, NoMemory>
     requires bounds { AreBounds options.now }
     ensures lines { IfOk result (λ lines. IsClimb pair.now options.now lines.items) }

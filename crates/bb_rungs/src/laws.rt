@@ -1,6 +1,6 @@
 //! Laws of what checks say. Each function has a law as its contract and does nothing.
 
-ghost use Rattle.bb_rungs.specs.Laws.{ErrorsExcludeTables, ClimbsAreTold, ClimbsLeaveOpen};
+ghost use Rattle.bb_rungs.specs.Laws.{ErrorsExcludeTables, RepairsAgree, LinesFixTables, TextsFixTables, ClimbsAreTold, ClimbsLeaveOpen, DecidersDecide, ErrorsStay, ClimbsSayAlike};
 
 use bb_net::conditions_weaken;
 use bb_tern::laws::patterns_are_vectors;
@@ -13,6 +13,21 @@ pub fn errors_exclude_tables()
     patterns_are_vectors();
 }
 
+/// Where the verdict is that the design can be finished, the report ends with tables that agree.
+pub fn repairs_agree()
+    ensures { RepairsAgree }
+{}
+
+/// Tables of the same boxes with the same lines are the same.
+pub fn lines_fix_tables()
+    ensures { LinesFixTables }
+{}
+
+/// A report ends with the lines of one list of tables.
+pub fn texts_fix_tables()
+    ensures { TextsFixTables }
+{}
+
 /// What checks find can be told by the names of the pair.
 pub fn climbs_are_told()
     ensures { ClimbsAreTold }
@@ -20,7 +35,28 @@ pub fn climbs_are_told()
     patterns_are_vectors();
 }
 
-/// Where no check says so, each that is asked for leaves the question open.
+/// Where no check says that there is an error, and none gives tables, each that is asked for leaves the question open.
 pub fn climbs_leave_open()
     ensures { ClimbsLeaveOpen }
 {}
+
+/// Where a check that is asked for decides, the question is not left open.
+pub fn deciders_decide()
+    ensures { DecidersDecide }
+{}
+
+/// Behind an error no check says that there is none, and none gives tables.
+pub fn errors_stay()
+    ensures { ErrorsStay }
+{
+    conditions_weaken();
+    patterns_are_vectors();
+}
+
+/// All climbs of a pair have the same lines, but for what stands behind them.
+pub fn climbs_say_alike()
+    ensures { ClimbsSayAlike }
+{
+    conditions_weaken();
+    patterns_are_vectors();
+}

@@ -1,17 +1,23 @@
 //! The ladder of checks on a pair: which are run, what each says, and the report of what they said.
 #![tactic(auto)]
 
+mod bits;
 mod climbing;
 mod laws;
 mod line;
 mod options;
+mod proof_lines;
 mod reporting;
 mod rung;
+mod table_lines;
 mod verdict;
 
 pub use climbing::climb;
-pub use laws::{climbs_are_told, climbs_leave_open, errors_exclude_tables};
-pub use line::{Line, Said};
+pub use laws::{
+    climbs_are_told, climbs_leave_open, climbs_say_alike, deciders_decide, errors_exclude_tables,
+    errors_stay, lines_fix_tables, repairs_agree, texts_fix_tables,
+};
+pub use line::{Evidence, Line, Proof, Said};
 pub use options::Options;
 pub use reporting::report;
 pub use rung::Rung;

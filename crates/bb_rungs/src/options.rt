@@ -9,7 +9,7 @@ pub struct Options {
     pub from: Rung,
     /// The last one, which does not stand before the first.
     pub to: Rung,
-    /// Whether the checks go on after an error.
+    /// Whether the checks go on behind an error.
     pub all: bool,
     /// How many patterns are drawn beside those that are always tried: at most 4,096.
     pub patterns: u32,
@@ -19,4 +19,8 @@ pub struct Options {
     pub nodes: u32,
     /// How many results it may remember: 1 to 1,048,576.
     pub cache: u32,
+    /// How many clauses an expansion may have: at most 8,000,000.
+    pub clauses: u32,
+    /// Whether the report shows the proof of a mistake that an expansion finds.
+    pub proof: bool,
 }

@@ -14,6 +14,10 @@ pub enum Rung {
     Local,
     /// The outputs together are wrong at some vector, whatever the boxes give.
     Output,
+    /// Whatever the boxes give for their inputs alone, box by box, some output is wrong at some vector. With one box this is exact.
+    Input,
+    /// Whatever tables the boxes hold, some output is wrong at some vector, by clauses over all vectors. This is exact.
+    Expand,
 }
 
 impl Rung {
@@ -26,6 +30,8 @@ impl Rung {
             Rung::Symbolic => 1,
             Rung::Local => 2,
             Rung::Output => 3,
+            Rung::Input => 4,
+            Rung::Expand => 5,
         }
     }
 
@@ -38,6 +44,8 @@ impl Rung {
             Rung::Symbolic => "symbolic",
             Rung::Local => "local",
             Rung::Output => "output",
+            Rung::Input => "input",
+            Rung::Expand => "expand",
         }
     }
 }

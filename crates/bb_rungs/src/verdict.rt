@@ -2,7 +2,7 @@
 
 ghost use Rattle.std.specs.Prelude.{◌≡◌};
 ghost use Rattle.std.specs.List.{list_any};
-ghost use Rattle.bb_rungs.specs.Reports.{is_error, verdict_of, verdict_name, status_of};
+ghost use Rattle.bb_rungs.specs.Reports.{is_error, is_repair, verdict_of, verdict_name, status_of};
 
 use crate::line::{Line, Said};
 
@@ -11,6 +11,8 @@ use crate::line::{Line, Said};
 pub enum Verdict {
     /// No contents of the boxes agree.
     Error,
+    /// The tables that were told agree.
+    Repairable,
     /// The question is open.
     Open,
 }
@@ -22,6 +24,7 @@ impl Verdict {
     {
         match self {
             Verdict::Error => "error",
+            Verdict::Repairable => "repairable",
             Verdict::Open => "open",
         }
     }
@@ -31,32 +34,49 @@ impl Verdict {
         ensures status { result ≡ status_of self }
     {
         match self {
+            Verdict::Repairable => 0,
             Verdict::Error => 1,
             Verdict::Open => 3,
         }
     }
 }
 
-// Whether a check says that there is a mistake.
-fn is_error(line: &Line) -> bool
+/// Whether a check says that there is a mistake.
+pub(crate) fn is_error(line: &Line) -> bool
     ensures error { result ≡ is_error line.now }
 {
     matches!(line.said, Said::Error(_))
 }
 
-// Whether one of them does.
+/// Whether a check gives tables.
+pub(crate) fn is_repair(line: &Line) -> bool
+    ensures repair { result ≡ is_repair line.now }
+{
+    matches!(line.said, Said::Repair(_))
+}
+
+// Whether one of them says that there is a mistake.
 fn any_error(lines: &[Line]) -> bool
     ensures any { result ≡ list_any is_error lines.now }
 {
     lines.iter().any(|line| is_error(line))
 }
 
-/// The verdict of the checks that were run: an error where one says so.
+// Whether one of them gives tables.
+fn any_repair(lines: &[Line]) -> bool
+    ensures any { result ≡ list_any is_repair lines.now }
+{
+    lines.iter().any(|line| is_repair(line))
+}
+
+/// The verdict of the checks that were run: an error where one says so, else tables where one gives them.
 pub fn verdict_of(lines: &[Line]) -> Verdict
     ensures verdict { result ≡ verdict_of lines.now }
 {
     if any_error(lines) {
         Verdict::Error
+    } else if any_repair(lines) {
+        Verdict::Repairable
     } else {
         Verdict::Open
     }

@@ -3,7 +3,7 @@ use Rattle.std.proofs.Common.{◌≡◌, ◌≢◌, ℕ, ◌≤◌, Bool, true, 
 use Rattle.std.specs.Prelude.{IfOk, Result, Ok, Err, nat_le}
 use Rattle.clap.specs.Words.{Row, first_of}
 use Rattle.bb_rungs.specs.declared.options.Options.{Options}
-use Rattle.bb_rungs.specs.declared.rung.Rung.TheVariants.{Ternary, Output}
+use Rattle.bb_rungs.specs.declared.rung.Rung.TheVariants.{Ternary, Expand}
 use Rattle.bb_rungs.specs.Rungs.{AreBounds, rank}
 use Rattle.bb_words.specs.Asked.{Request, asked, asked_options, asked_request, file, given, name, request_of, rung_named, top, value_or}
 use Rattle.bb_words.specs.Commands.{found_in, is_taken}
@@ -47,17 +47,19 @@ file-some (Some text) given e = name-some text given e
 options-within : (found : List Row) (o : Options) → asked_options found ≡ Some o → AreBounds o
 options-within found o e =
     let from = given-some (value_or Ternary rung_named (first_of (codes "from") found)) _ o e in
-    let to = given-some (value_or Output rung_named (first_of (codes "to") found)) _ o from.2 in
+    let to = given-some (value_or Expand rung_named (first_of (codes "to") found)) _ o from.2 in
     let patterns = given-some (value_or 32 (number_within 0 4096) (first_of (codes "patterns") found)) _ o to.2 in
     let seed = given-some (value_or 1 (number_within 1 18446744073709551615) (first_of (codes "seed") found)) _ o patterns.2 in
     let nodes = given-some (value_or 1000000 (number_within 0 50000000) (first_of (codes "nodes") found)) _ o seed.2 in
     let cache = given-some (value_or 65536 (number_within 1 1048576) (first_of (codes "cache") found)) _ o nodes.2 in
-    let end = if-some (nat_le (rank from.0) (rank to.0)) _ o cache.2 in
+    let clauses = given-some (value_or 2000000 (number_within 0 8000000) (first_of (codes "clauses") found)) _ o cache.2 in
+    let end = if-some (nat_le (rank from.0) (rank to.0)) _ o clauses.2 in
     let p = bounded 32 0 4096 (first_of (codes "patterns") found) patterns.0 (omega arith) (omega arith) patterns.1 in
     let s = bounded 1 1 18446744073709551615 (first_of (codes "seed") found) seed.0 (omega arith) (omega arith) seed.1 in
     let n = bounded 1000000 0 50000000 (first_of (codes "nodes") found) nodes.0 (omega arith) (omega arith) nodes.1 in
     let c = bounded 65536 1 1048576 (first_of (codes "cache") found) cache.0 (omega arith) (omega arith) cache.1 in
-    subst AreBounds end.1 (record { order = le-true (rank from.0) (rank to.0) end.0; seed = s.0; patterns = p.1; nodes = n.1; cache_least = c.0; cache_most = c.1 })
+    let l = bounded 2000000 0 8000000 (first_of (codes "clauses") found) clauses.0 (omega arith) (omega arith) clauses.1 in
+    subst AreBounds end.1 (record { order = le-true (rank from.0) (rank to.0) end.0; seed = s.0; patterns = p.1; nodes = n.1; cache_least = c.0; cache_most = c.1; clauses = l.1 })
 
 request-within : (found : List Row) (r : Request) → asked_request found ≡ Some r → IsWithin r
 request-within found r e =
@@ -66,13 +68,10 @@ request-within found r e =
     let top_spec = given-some (top (first_of (codes "top-spec") found)) _ r imp.2 in
     let top_imp = given-some (top (first_of (codes "top-impl") found)) _ r top_spec.2 in
     let options = given-some (asked_options found) _ r top_imp.2 in
-    let clauses = given-some (value_or 2000000 (number_within 0 8000000) (first_of (codes "clauses") found)) _ r options.2 in
-    let c = bounded 2000000 0 8000000 (first_of (codes "clauses") found) clauses.0 (omega arith) (omega arith) clauses.1 in
-    subst IsWithin (some-same _ r clauses.2) (record {
+    subst IsWithin (some-same _ r options.2) (record {
       spec = file-some (first_of (codes "SPEC") found) spec.0 spec.1;
       imp = file-some (first_of (codes "IMPL") found) imp.0 imp.1;
       bounds = options-within found options.0 options.1;
-      clauses = c.1;
     })
 
 pub requests_within : RequestsAreWithin

@@ -5,7 +5,7 @@ use Rattle.std.specs.Str.{bytes_eq}
 use Rattle.clap.specs.Words.{Row, first_of}
 use Rattle.bb_rungs.specs.declared.options.Options.{Options}
 use Rattle.bb_rungs.specs.declared.rung.Rung.{Rung}
-use Rattle.bb_rungs.specs.declared.rung.Rung.TheVariants.{Ternary, Output}
+use Rattle.bb_rungs.specs.declared.rung.Rung.TheVariants.{Ternary, Expand}
 use Rattle.bb_rungs.specs.Rungs.{all_rungs, rank, rung_name}
 use Rattle.bb_words.specs.Commands.{found_in, is_taken}
 use Rattle.bb_words.specs.Numbers.{number_within}
@@ -19,9 +19,6 @@ pub record Request : Type 0 where
   pub top_spec : Option (List ℕ)
   pub top_imp : Option (List ℕ)
   pub options : Options
-  -- how many clauses an expansion may have, and whether it prints a proof
-  pub clauses : ℕ
-  pub proof : Bool
 
 -- a name is not empty
 abbrev pub name : List ℕ → Option (List ℕ)
@@ -58,11 +55,12 @@ given value next = option_and_then next value
 abbrev pub asked_options : List Row → Option Options
 asked_options found =
     given (value_or Ternary rung_named (first_of (codes "from") found)) (λ from.
-    given (value_or Output rung_named (first_of (codes "to") found)) (λ to.
+    given (value_or Expand rung_named (first_of (codes "to") found)) (λ to.
     given (value_or 32 (number_within 0 4096) (first_of (codes "patterns") found)) (λ patterns.
     given (value_or 1 (number_within 1 18446744073709551615) (first_of (codes "seed") found)) (λ seed.
     given (value_or 1000000 (number_within 0 50000000) (first_of (codes "nodes") found)) (λ nodes.
     given (value_or 65536 (number_within 1 1048576) (first_of (codes "cache") found)) (λ cache.
+    given (value_or 2000000 (number_within 0 8000000) (first_of (codes "clauses") found)) (λ clauses.
     if nat_le (rank from) (rank to) then Some (record {
       from = from;
       to = to;
@@ -71,7 +69,9 @@ asked_options found =
       seed = seed;
       nodes = nodes;
       cache = cache;
-    }) else None))))))
+      clauses = clauses;
+      proof = is_true (first_of (codes "proof") found);
+    }) else None)))))))
 
 -- all that is asked, by what was found
 abbrev pub asked_request : List Row → Option Request
@@ -81,16 +81,13 @@ asked_request found =
     given (top (first_of (codes "top-spec") found)) (λ top_spec.
     given (top (first_of (codes "top-impl") found)) (λ top_imp.
     given (asked_options found) (λ options.
-    given (value_or 2000000 (number_within 0 8000000) (first_of (codes "clauses") found)) (λ clauses.
     Some (record {
       spec = spec;
       imp = imp;
       top_spec = top_spec;
       top_imp = top_imp;
       options = options;
-      clauses = clauses;
-      proof = is_true (first_of (codes "proof") found);
-    })))))))
+    }))))))
 
 abbrev pub asked : List (List ℕ) → Option Request
 asked words = if is_taken words then asked_request (found_in words) else None
@@ -103,6 +100,4 @@ request_of a = record {
   top_spec = option_copied a.top_spec;
   top_imp = option_copied a.top_imp;
   options = a.options;
-  clauses = a.clauses;
-  proof = a.proof;
 }

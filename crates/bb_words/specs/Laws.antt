@@ -1,6 +1,6 @@
 -- Laws of what words ask for.
 use Rattle.std.specs.Prelude.{◌≡◌, ◌≢◌, ◌==◌, ℕ, ◌≤◌, Bool, true, false, not, List, [], ◌∷◌, None, Some}
-use Rattle.bb_rungs.specs.declared.rung.Rung.TheVariants.{Ternary, Output}
+use Rattle.bb_rungs.specs.declared.rung.Rung.TheVariants.{Ternary, Expand}
 use Rattle.bb_rungs.specs.Rungs.{AreBounds}
 use Rattle.bb_words.specs.Asked.{Request, asked}
 
@@ -9,7 +9,6 @@ pub record IsWithin (r : Request) : Type 0 where
   pub spec : r.spec ≢ []
   pub imp : r.imp ≢ []
   pub bounds : AreBounds r.options
-  pub clauses : r.clauses ≤ 8000000
 
 -- whatever words ask for is within the table of the options
 abbrev pub RequestsAreWithin : Type 0
@@ -27,9 +26,7 @@ files_alone spec imp = record {
   imp = imp;
   top_spec = None;
   top_imp = None;
-  options = record { from = Ternary; to = Output; all = false; patterns = 32; seed = 1; nodes = 1000000; cache = 65536 };
-  clauses = 2000000;
-  proof = false;
+  options = record { from = Ternary; to = Expand; all = false; patterns = 32; seed = 1; nodes = 1000000; cache = 65536; clauses = 2000000; proof = false };
 }
 
 -- two plain words behind the program's own name are two files, and ask for nothing else

@@ -16,10 +16,6 @@ pub struct Asked<'a> {
     pub top_imp: Option<&'a str>,
     /// Which checks are run, and their bounds.
     pub options: Options,
-    /// How many clauses an expansion may have: at most 8,000,000. No check reads it yet.
-    pub clauses: u32,
-    /// Whether an expansion prints its proof. No check reads it yet.
-    pub proof: bool,
 }
 
 /// Why words ask for nothing.

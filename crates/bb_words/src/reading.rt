@@ -18,11 +18,12 @@ fn options(matches: &ArgMatches<'_>) -> Option<Options>
     ensures options { result ≡ asked_options (rows_of (found_of matches.now)) }
 {
     let from = rung_or(value(matches, "from"), Rung::Ternary)?;
-    let to = rung_or(value(matches, "to"), Rung::Output)?;
+    let to = rung_or(value(matches, "to"), Rung::Expand)?;
     let patterns = small_or(value(matches, "patterns"), 32, 0, 4_096)?;
     let seed = number_or(value(matches, "seed"), 1, 1, u64::MAX)?;
     let nodes = small_or(value(matches, "nodes"), 1_000_000, 0, 50_000_000)?;
     let cache = small_or(value(matches, "cache"), 65_536, 1, 1_048_576)?;
+    let clauses = small_or(value(matches, "clauses"), 2_000_000, 0, 8_000_000)?;
     if to.rank() < from.rank() {
         return None;
     }
@@ -34,6 +35,8 @@ fn options(matches: &ArgMatches<'_>) -> Option<Options>
         seed,
         nodes,
         cache,
+        clauses,
+        proof: is_true(value(matches, "proof")),
     })
 }
 
@@ -46,15 +49,12 @@ fn request<'a>(matches: &ArgMatches<'a>) -> Option<Asked<'a>>
     let top_spec = top(value(matches, "top-spec"))?;
     let top_imp = top(value(matches, "top-impl"))?;
     let options = options(matches)?;
-    let clauses = small_or(value(matches, "clauses"), 2_000_000, 0, 8_000_000)?;
     Some(Asked {
         spec,
         imp,
         top_spec,
         top_imp,
         options,
-        clauses,
-        proof: is_true(value(matches, "proof")),
     })
 }
 
@@ -64,7 +64,7 @@ fn request<'a>(matches: &ArgMatches<'a>) -> Option<Asked<'a>>
 /// | Words | Value | Without it |
 /// |---|---|---|
 /// | `--top-spec`, `--top-impl` | the name of a module | the one that no module instantiates |
-/// | `--from`, `--to` | `ternary`, `symbolic`, `local`, `output`, the last no earlier than the first | `ternary`, `output` |
+/// | `--from`, `--to` | `ternary`, `symbolic`, `local`, `output`, `input`, `expand`, the last no earlier than the first | `ternary`, `expand` |
 /// | `--patterns` | 0 to 4,096 | 32 |
 /// | `--seed` | 1 to 18,446,744,073,709,551,615 | 1 |
 /// | `--nodes` | 0 to 50,000,000 | 1,000,000 |

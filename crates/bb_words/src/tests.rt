@@ -13,7 +13,7 @@ fn words(alloc: Global, line: &str) -> Result<Vec<String>, AllocError> {
     Ok(words)
 }
 
-static REFUSED: [&str; 48] = [
+static REFUSED: [&str; 47] = [
     // two files, and no more
     "bbeq",
     "bbeq a",
@@ -61,10 +61,9 @@ static REFUSED: [&str; 48] = [
     "bbeq a b --cache 0",
     "bbeq a b --cache 1048577",
     // no check, or none in this order
-    "bbeq a b --from input",
-    "bbeq a b --to input",
-    "bbeq a b --to expand",
     "bbeq a b --from Ternary",
+    "bbeq a b --to inputs",
+    "bbeq a b --from expand --to input",
     "bbeq a b --to none",
     "bbeq a b --from output --to local",
     "bbeq a b --to ternary --from symbolic",
@@ -105,58 +104,58 @@ fn told(alloc: Global, asked: &Asked<'_>) -> Result<String, AllocError> {
         options.patterns,
         options.seed,
         options.nodes,
-        asked.clauses,
+        options.clauses,
         options.cache,
-        asked.proof
+        options.proof
     )
 }
 
-static READ: [(&str, &str); 35] = [
+static READ: [(&str, &str); 37] = [
     // what stands for options that are not given
     (
         "bbeq a b",
-        "a b none none ternary output false 32 1 1000000 2000000 65536 false",
+        "a b none none ternary expand false 32 1 1000000 2000000 65536 false",
     ),
     (
         "--all a b",
-        "a b none none ternary output false 32 1 1000000 2000000 65536 false",
+        "a b none none ternary expand false 32 1 1000000 2000000 65536 false",
     ),
     (
         " a a",
-        "a a none none ternary output false 32 1 1000000 2000000 65536 false",
+        "a a none none ternary expand false 32 1 1000000 2000000 65536 false",
     ),
     // each of them alone, in both forms
     (
         "bbeq a b --all",
-        "a b none none ternary output true 32 1 1000000 2000000 65536 false",
+        "a b none none ternary expand true 32 1 1000000 2000000 65536 false",
     ),
     (
         "bbeq a b --proof",
-        "a b none none ternary output false 32 1 1000000 2000000 65536 true",
+        "a b none none ternary expand false 32 1 1000000 2000000 65536 true",
     ),
     (
         "bbeq a b --top-spec m",
-        "a b m none ternary output false 32 1 1000000 2000000 65536 false",
+        "a b m none ternary expand false 32 1 1000000 2000000 65536 false",
     ),
     (
         "bbeq a b --top-spec=m",
-        "a b m none ternary output false 32 1 1000000 2000000 65536 false",
+        "a b m none ternary expand false 32 1 1000000 2000000 65536 false",
     ),
     (
         "bbeq a b --top-impl m",
-        "a b none m ternary output false 32 1 1000000 2000000 65536 false",
+        "a b none m ternary expand false 32 1 1000000 2000000 65536 false",
     ),
     (
         "bbeq a b --top-impl=m",
-        "a b none m ternary output false 32 1 1000000 2000000 65536 false",
+        "a b none m ternary expand false 32 1 1000000 2000000 65536 false",
     ),
     (
         "bbeq a b --from local",
-        "a b none none local output false 32 1 1000000 2000000 65536 false",
+        "a b none none local expand false 32 1 1000000 2000000 65536 false",
     ),
     (
         "bbeq a b --from=output",
-        "a b none none output output false 32 1 1000000 2000000 65536 false",
+        "a b none none output expand false 32 1 1000000 2000000 65536 false",
     ),
     (
         "bbeq a b --to ternary",
@@ -168,43 +167,51 @@ static READ: [(&str, &str); 35] = [
     ),
     (
         "bbeq a b --patterns 0",
-        "a b none none ternary output false 0 1 1000000 2000000 65536 false",
+        "a b none none ternary expand false 0 1 1000000 2000000 65536 false",
     ),
     (
         "bbeq a b --patterns=4096",
-        "a b none none ternary output false 4096 1 1000000 2000000 65536 false",
+        "a b none none ternary expand false 4096 1 1000000 2000000 65536 false",
     ),
     (
         "bbeq a b --seed 2",
-        "a b none none ternary output false 32 2 1000000 2000000 65536 false",
+        "a b none none ternary expand false 32 2 1000000 2000000 65536 false",
     ),
     (
         "bbeq a b --seed=18446744073709551615",
-        "a b none none ternary output false 32 18446744073709551615 1000000 2000000 65536 false",
+        "a b none none ternary expand false 32 18446744073709551615 1000000 2000000 65536 false",
     ),
     (
         "bbeq a b --nodes 0",
-        "a b none none ternary output false 32 1 0 2000000 65536 false",
+        "a b none none ternary expand false 32 1 0 2000000 65536 false",
     ),
     (
         "bbeq a b --nodes=50000000",
-        "a b none none ternary output false 32 1 50000000 2000000 65536 false",
+        "a b none none ternary expand false 32 1 50000000 2000000 65536 false",
     ),
     (
         "bbeq a b --clauses 0",
-        "a b none none ternary output false 32 1 1000000 0 65536 false",
+        "a b none none ternary expand false 32 1 1000000 0 65536 false",
     ),
     (
         "bbeq a b --clauses=8000000",
-        "a b none none ternary output false 32 1 1000000 8000000 65536 false",
+        "a b none none ternary expand false 32 1 1000000 8000000 65536 false",
     ),
     (
         "bbeq a b --cache 1",
-        "a b none none ternary output false 32 1 1000000 2000000 1 false",
+        "a b none none ternary expand false 32 1 1000000 2000000 1 false",
     ),
     (
         "bbeq a b --cache=1048576",
-        "a b none none ternary output false 32 1 1000000 2000000 1048576 false",
+        "a b none none ternary expand false 32 1 1000000 2000000 1048576 false",
+    ),
+    (
+        "bbeq a b --from input --to expand",
+        "a b none none input expand false 32 1 1000000 2000000 65536 false",
+    ),
+    (
+        "bbeq a b --from expand",
+        "a b none none expand expand false 32 1 1000000 2000000 65536 false",
     ),
     // in any order
     (
@@ -217,46 +224,46 @@ static READ: [(&str, &str); 35] = [
     ),
     (
         "bbeq --cache=7 --proof b --clauses 6 --nodes=5 --seed 4 --top-impl n --patterns=3 a --top-spec m --all",
-        "b a m n ternary output true 3 4 5 6 7 true",
+        "b a m n ternary expand true 3 4 5 6 7 true",
     ),
     // after two minus signs every word is a file
     (
         "bbeq -- a b",
-        "a b none none ternary output false 32 1 1000000 2000000 65536 false",
+        "a b none none ternary expand false 32 1 1000000 2000000 65536 false",
     ),
     (
         "bbeq a b --",
-        "a b none none ternary output false 32 1 1000000 2000000 65536 false",
+        "a b none none ternary expand false 32 1 1000000 2000000 65536 false",
     ),
     (
         "bbeq --all a -- --all",
-        "a --all none none ternary output true 32 1 1000000 2000000 65536 false",
+        "a --all none none ternary expand true 32 1 1000000 2000000 65536 false",
     ),
     (
         "bbeq -- -s.v --",
-        "-s.v -- none none ternary output false 32 1 1000000 2000000 65536 false",
+        "-s.v -- none none ternary expand false 32 1 1000000 2000000 65536 false",
     ),
     // a value that begins with a minus sign, or holds other signs
     (
         "bbeq a b --top-spec=-m",
-        "a b -m none ternary output false 32 1 1000000 2000000 65536 false",
+        "a b -m none ternary expand false 32 1 1000000 2000000 65536 false",
     ),
     (
         "bbeq a b --top-impl=m=n",
-        "a b none m=n ternary output false 32 1 1000000 2000000 65536 false",
+        "a b none m=n ternary expand false 32 1 1000000 2000000 65536 false",
     ),
     (
         "bbeq a b --seed 00000000000000000009",
-        "a b none none ternary output false 32 9 1000000 2000000 65536 false",
+        "a b none none ternary expand false 32 9 1000000 2000000 65536 false",
     ),
     // one minus sign alone is a word, and may be a value
     (
         "bbeq a b --top-spec -",
-        "a b - none ternary output false 32 1 1000000 2000000 65536 false",
+        "a b - none ternary expand false 32 1 1000000 2000000 65536 false",
     ),
     (
         "bbeq - a=b",
-        "- a=b none none ternary output false 32 1 1000000 2000000 65536 false",
+        "- a=b none none ternary expand false 32 1 1000000 2000000 65536 false",
     ),
 ];
 

@@ -50,6 +50,8 @@ fn rung_named(text: &str) -> Option<Rung>
         "symbolic" => Some(Rung::Symbolic),
         "local" => Some(Rung::Local),
         "output" => Some(Rung::Output),
+        "input" => Some(Rung::Input),
+        "expand" => Some(Rung::Expand),
         _ => None,
     }
 }

@@ -1,5 +1,4 @@
-use Rattle.std.proofs.Common.{◌≡◌, [], ◌++◌, sym, ap, ◌∙◌, subst, arith, refl}
-use Rattle.std.specs.Prelude.{drop}
+use Rattle.std.proofs.Common.{[], ◌++◌, sym, ◌∙◌, subst}
 use Rattle.std.proofs.lemmas.List.{append-nil, drop_all, get_or_default}
 use Rattle.bb_rungs.specs.declared.rung.Rung.TheVariants.{Ternary}
 use Rattle.bb_rungs.specs.Rungs.{Climbs, Top}

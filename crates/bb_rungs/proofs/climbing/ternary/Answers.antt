@@ -1,4 +1,4 @@
-use Rattle.std.proofs.Common.{◌≡◌, map, sym, ap, ◌∙◌, refl, subst, All, length}
+use Rattle.std.proofs.Common.{◌≡◌, map, ap, ◌∙◌, refl, subst, All, length}
 use Rattle.std.specs.Prelude.{vec_items}
 use Rattle.bb_net.specs.Netlists.{Netlist}
 use Rattle.bb_tern.specs.Patterns.{patterns}

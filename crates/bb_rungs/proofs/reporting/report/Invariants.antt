@@ -4,4 +4,4 @@ use Rattle.bb_rungs.specs.Reports.{line_text}
 use Rattle.bb_rungs.proofs.reporting.report.Given as goal
 
 abbrev pub invariant-loop-line : goal.invariant-loop-line
-invariant-loop-line l = l.text.items ≡ flat_map (line_text l.pair) (take l.line-index l.lines)
+invariant-loop-line l = l.text.items ≡ flat_map (line_text l.pair l.options) (take l.line-index l.lines)

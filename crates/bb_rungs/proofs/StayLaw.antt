@@ -1,0 +1,94 @@
+-- Behind an error no check says that there is none, and none gives tables: its condition would hold, and it does not.
+use Rattle.std.proofs.Common.{◌≡◌, ◌<◌, ◌-◌, ℕ, suc, Bool, true, false, List, [], ◌∷◌, ◌++◌, All, AllPairs, refl, sym, subst, arith, rules}
+use Rattle.std.specs.Prelude.{IfSome}
+use Rattle.std.proofs.lemmas.List.Elements.{All-nil, All-cons, All-head, All-tail}
+use Rattle.std.proofs.lemmas.List.Kept.{AllPairs-filter}
+use Rattle.bb_net.specs.Agreement.{wanted_bit}
+use Rattle.bb_net.specs.Conditions.{MayBeRight, IsKnownWrong}
+use Rattle.bb_net.specs.Netlists.{Netlist}
+use Rattle.bb_net.specs.Pairs.{NetPair, IsPair}
+use Rattle.bb_tern.specs.Patterns.{PatternsAreVectors}
+use Rattle.bb_expand.specs.declared.expanded.Expanded.TheVariants as expanded
+use Rattle.bb_input.specs.declared.InputAnswer.TheVariants as choices
+use Rattle.bb_rungs.specs.declared.line.Line.{Line}
+use Rattle.bb_rungs.specs.declared.line.Said.{Said}
+use Rattle.bb_rungs.specs.declared.line.Said.TheVariants.{Nothing}
+use Rattle.bb_rungs.specs.declared.options.Options.{Options}
+use Rattle.bb_rungs.specs.declared.rung.Rung.{Rung}
+use Rattle.bb_rungs.specs.declared.rung.Rung.TheVariants.{Ternary, Symbolic, Local, Output, Input, Expand}
+use Rattle.bb_rungs.specs.Laws.{ErrorsStay}
+use Rattle.bb_rungs.specs.Rungs.{MaySay, Hit, NoHit, TooMany, Finding, Without, ChoicesTooMany, Answered, TooWide, ClausesTooMany, Decided, Climbs, Top, End, Step, rank, all_rungs, asked_rungs, is_asked, says_repair, is_error}
+use Rattle.bb_rungs.proofs.ErrorLaw.{Weakens, Holds, shows, no_tables, up}
+
+-- a known bit that is wrong is not right
+not_both : (spec imp : Netlist) (x : List Bool) (j : ℕ) → IsKnownWrong spec imp x j → MayBeRight spec imp x j → ⊥
+not_both spec imp x j (bit, known, wrong) right = wrong (subst (λ v. IfSome v (λ b. wanted_bit spec x j ≡ b)) known right)
+
+first_rises : {X : Type 0} (R : X → X → Type 0) (x : X) (xs : List X) → AllPairs R (x ∷ xs) → All (R x) xs
+first_rises R x xs pairs k d within = pairs 0 (suc k) d (omega arith) (omega (arith, within))
+
+rest_rises : {X : Type 0} (R : X → X → Type 0) (x : X) (xs : List X) → AllPairs R (x ∷ xs) → AllPairs R xs
+rest_rises R x xs pairs i j d before within = pairs (suc i) (suc j) d (omega (arith, before)) (omega (arith, within))
+
+-- what a check says where its condition holds: neither that there is none, nor tables
+abbrev pub Stays : Said → Type 0
+Stays said = (said ≡ Nothing → ⊥) × (says_repair said ≡ false)
+
+other : (said told : Said) → said ≡ told → Stays told → Stays said
+other said told same h = subst Stays (sym same) h
+
+module _ (weakens : Weakens) (vectors : PatternsAreVectors) (p : NetPair) (o : Options) (kept : IsPair p) where
+  pub stays : (r : Rung) (said : Said) → MaySay p o r said → Holds p o r → Stays said
+  stays Ternary said (Hit found j is hit same) h = other said _ same ((λ e. cc e), refl)
+  stays Ternary said (NoHit right same) (x, has, j, there, wrong) = absurd (not_both p.spec p.imp x j wrong (right x has j there))
+  stays Symbolic said (TooMany many same) h = other said _ same ((λ e. cc e), refl)
+  stays Symbolic said (Finding few found is same) h = other said _ same ((λ e. cc e), refl)
+  stays Symbolic said (Without few right same) (x, vector, j, there, wrong) = absurd (not_both p.spec p.imp x j wrong (right x vector j there))
+  stays Local said (TooMany many same) h = other said _ same ((λ e. cc e), refl)
+  stays Local said (Finding few found is same) h = other said _ same ((λ e. cc e), refl)
+  stays Local said (Without few right same) (x, vector, j, there, wrong) = let found = right x vector j there in absurd (wrong found.0 found.1 found.2)
+  stays Output said (TooMany many same) h = other said _ same ((λ e. cc e), refl)
+  stays Output said (Finding few found is same) h = other said _ same ((λ e. cc e), refl)
+  stays Output said (Without few right same) (x, vector, wrong) =
+      let found = right x vector in
+      let at = wrong found.0 found.1 in
+      absurd (at.2 (found.2 at.0 at.1))
+  stays Input said (ChoicesTooMany many same) h = other said _ same ((λ e. cc e), refl)
+  stays Input said (Answered few choices.Error is same) h = other said _ same ((λ e. cc e), refl)
+  stays Input said (Answered few choices.Clear is same) h = absurd (h is.0)
+  stays Input said (Answered few (choices.Repair tables) is same) h =
+      absurd (no_tables weakens vectors p o kept Input h tables.items is.1.completion.fit is.1.completion.agree)
+  stays Expand said (TooWide wide same) h = other said _ same ((λ e. cc e), refl)
+  stays Expand said (ClausesTooMany small many same) h = other said _ same ((λ e. cc e), refl)
+  stays Expand said (Decided small few (expanded.Error vectors cnf refutation) is same) h = other said _ same ((λ e. cc e), refl)
+  stays Expand said (Decided small few (expanded.Repair tables) is same) h = absurd (h tables.items is.fit is.agree)
+
+  later : (r s : Rung) → rank r < rank s → Holds p o r → Holds p o s
+  later r s l h = up weakens vectors p o kept (rank s - rank r) (rank r) (rank s) (omega (arith, l)) h
+
+  -- what all further lines say
+  all_stay : (r : Rung) (rest : List Rung) (more : List Line) → All (λ s. rank r < rank s) rest → Climbs p o rest more → Holds p o r → All (λ (l : Line). Stays l.said) more
+  all_stay r [] [] above Top h = All-nil _
+  all_stay r [] (line ∷ more) above climb h = elim climb [ ]
+  all_stay r (s ∷ rest) [] above climb h = elim climb [ ]
+  all_stay r (s ∷ rest) (line ∷ []) above (End is says last) h =
+      All-cons (λ (l : Line). Stays l.said) line [] (stays s line.said says (later r s (All-head (λ x. rank r < rank x) s rest above) h)) (All-nil _)
+  all_stay r (s ∷ rest) (line ∷ more) above (Step is says on behind) h =
+      All-cons (λ (l : Line). Stays l.said) line more (stays s line.said says (later r s (All-head (λ x. rank r < rank x) s rest above) h)) (all_stay r rest more (All-tail (λ x. rank r < rank x) s rest above) behind h)
+
+  stay : (rungs : List Rung) (before : List Line) (line : Line) (after : List Line) → AllPairs (λ r s. rank r < rank s) rungs → Climbs p o rungs (before ++ line ∷ after) → is_error line ≡ true
+      → All (λ (l : Line). Stays l.said) after
+  stay [] [] line after rise climb on = elim climb [ ]
+  stay [] (first ∷ before) line after rise climb on = elim climb [ ]
+  stay (r ∷ rest) [] line [] rise climb on = All-nil (λ (l : Line). Stays l.said)
+  stay (r ∷ rest) [] line (next ∷ after) rise (Step is says goes behind) on =
+      all_stay r rest (next ∷ after) (first_rises (λ r s. rank r < rank s) r rest rise) behind (shows weakens vectors p o kept r line.said says on)
+  stay (r ∷ rest) (first ∷ []) line after rise (Step is says goes behind) on = stay rest [] line after (rest_rises (λ r s. rank r < rank s) r rest rise) behind on
+  stay (r ∷ rest) (first ∷ second ∷ before) line after rise (Step is says goes behind) on = stay rest (second ∷ before) line after (rest_rises (λ r s. rank r < rank s) r rest rise) behind on
+
+rungs_rise : AllPairs (λ r s. rank r < rank s) all_rungs
+rungs_rise = search rules
+
+pub errors_stay : Weakens → PatternsAreVectors → ErrorsStay
+errors_stay weakens vectors p o before after line kept climb on =
+    stay weakens vectors p o kept (asked_rungs o) before line after (AllPairs-filter (λ r s. rank r < rank s) (is_asked o) all_rungs rungs_rise) climb on
