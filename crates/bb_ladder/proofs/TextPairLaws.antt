@@ -1,25 +1,26 @@
 -- Two texts have one first refusal at most, and none where a pair stands for them; and what an answer says of the texts.
-use Rattle.std.proofs.Common.{◌≡◌, ◌⊎◌, ℕ, Bool, true, false, if◌then◌else◌, List, Option, refl, sym, ap, subst, ◌∙◌, arith, inl, inr}
-use Rattle.std.specs.List.{AllByRecursion, list_any}
+use Rattle.std.proofs.Common.{◌≡◌, ◌⊎◌, ℕ, Bool, true, false, if◌then◌else◌, List, refl, sym, ap, subst, ◌∙◌, arith, inl, inr}
+use Rattle.std.specs.List.{list_any}
 use Rattle.std.specs.Prelude.{Result, Ok, Err, IfOk, IfErr, MatchResult}
 use Rattle.std.proofs.lemmas.Result.{IfErr-weaker}
 use Rattle.bb_elab.specs.Flats.{FlatNet}
 use Rattle.bb_elab.specs.Hierarchy.{Design}
-use Rattle.bb_elab.specs.ListLaws.{IsAllowed, SoundTextsAreAllowed}
+use Rattle.bb_elab.specs.ListLaws.{SoundTextsAreAllowed}
 use Rattle.bb_elab.specs.Stands.{StandsFor}
 use Rattle.bb_match.specs.declared.fault.MatchFault.{MatchFault}
 use Rattle.bb_match.specs.declared.fault.MatchFault.TheVariants as pair
-use Rattle.bb_match.specs.DesignAgreement.{IsPairFor, NoTablesNoContents}
+use Rattle.bb_match.specs.DesignAgreement.{IsPairFor, NoTablesNoContents, SpelledContentsAgree, TablesSpellContents}
 use Rattle.bb_match.specs.DesignRefusals.{IsRefusalFor, DesignRefusalsAreOne}
 use Rattle.bb_match.specs.DesignRefusals as designs
 use Rattle.bb_match.specs.Refusals.{IsFirstRefusal}
 use Rattle.bb_net.specs.Pairs.{NetPair}
 use Rattle.bb_parse.specs.Laws.{SourcesAreFormed}
 use Rattle.bb_rungs.specs.declared.line.Line.{Line}
+use Rattle.bb_rungs.specs.declared.verdict.Verdict.{Verdict}
 use Rattle.bb_rungs.specs.declared.verdict.Verdict.TheVariants as verdicts
-use Rattle.bb_rungs.specs.Laws.{ErrorsExcludeTables, ClimbsLeaveOpen}
-use Rattle.bb_rungs.specs.Reports.{report_text, status_of, verdict_of}
-use Rattle.bb_rungs.specs.Rungs.{IsClimb, is_error}
+use Rattle.bb_rungs.specs.Laws.{ErrorsExcludeTables, RepairsAgree, ClimbsLeaveOpen, DecidersDecide}
+use Rattle.bb_rungs.specs.Reports.{EndsWithTables, report_text, status_of, verdict_of}
+use Rattle.bb_rungs.specs.Rungs.{IsClimb, is_error, is_repair}
 use Rattle.bb_ladder.specs.declared.answer.Answer.{Answer}
 use Rattle.bb_ladder.specs.declared.asked.Asked.{Asked}
 use Rattle.bb_ladder.specs.declared.refusal.Refusal.{Refusal}
@@ -27,7 +28,7 @@ use Rattle.bb_ladder.specs.declared.refusal.Refusal.TheVariants.{Spec, Imp, Pair
 use Rattle.bb_ladder.specs.declared.side_fault.SideFault.{SideFault}
 use Rattle.bb_ladder.specs.declared.side_fault.SideFault.TheVariants as side
 use Rattle.bb_ladder.specs.RefusalLines.{refusal_line}
-use Rattle.bb_ladder.specs.TextAnswers.{Judges, Refused, Judged, ErrorsRefute, OpenAnswersLeaveOpen, RefusedAreAnsweredOnce}
+use Rattle.bb_ladder.specs.TextAnswers.{Judges, Refused, Judged, ErrorsRefute, RepairsFinish, OpenAnswersLeaveOpen, DecidedAreAnswered, RefusedAreAnsweredOnce}
 use Rattle.bb_ladder.specs.TextDesigns.{IsDesignOf, IsSideFault, TextDesignsAreOne, SideFaultsAreOne, NotDesignAndFault}
 use Rattle.bb_ladder.specs.TextPairs.{AreDesignsOf, IsRefusal, StandsForTexts, DesignsAreAllowed, RefusalsAreOne, NotPairAndRefusal}
 use Rattle.bb_ladder.specs.TextRefusals.{of_spec, of_imp, of_pair}
@@ -147,7 +148,7 @@ pub stands_for_texts : (asked : Asked) (spec imp : List ℕ) (s i : Design) → 
 stands_for_texts asked spec imp s i x y p for = (s, i, record { spec_design = x; imp_design = y }, for)
 
 pub judged : {E : Type 0} (asked : Asked) (spec imp : List ℕ) (p : NetPair) → StandsForTexts asked spec imp p → (result : Result Answer E)
-    → IfOk result (λ a. (lines : List Line) × IsClimb p asked.options lines × (a.status ≡ status_of (verdict_of lines)) × (a.report.items ≡ report_text p lines)) → IfOk result (λ a. Judges asked spec imp a.status a.report.items)
+    → IfOk result (λ a. (lines : List Line) × IsClimb p asked.options lines × (a.status ≡ status_of (verdict_of lines)) × (a.report.items ≡ report_text p asked.options lines)) → IfOk result (λ a. Judges asked spec imp a.status a.report.items)
 judged asked spec imp p stands (Ok a) (lines, climb, s, t) = Judged p lines stands climb s t
 judged asked spec imp p stands (Err e) h = h
 
@@ -159,26 +160,51 @@ refuses asked spec imp r may (Err e) s t never = s
 
 -- what an answer says
 
+no_fourth : (v : Verdict) → status_of v ≡ 4 → ⊥
+no_fourth verdicts.Error e = omega (arith, e)
+no_fourth verdicts.Repairable e = omega (arith, e)
+no_fourth verdicts.Open e = omega (arith, e)
+
 pub report_status : (lines : List Line) → status_of (verdict_of lines) ≡ 4 → ⊥
-report_status lines e = by (list_any is_error lines) e
-  where
-    by : (b : Bool) → status_of (if b then verdicts.Error else verdicts.Open) ≡ 4 → ⊥
-    by true e = omega (arith, e)
-    by false e = omega (arith, e)
+report_status lines = no_fourth (verdict_of lines)
+
+-- the verdict by its status
+is_repairable : (v : Verdict) → status_of v ≡ 0 → v ≡ verdicts.Repairable
+is_repairable verdicts.Error e = absurd (omega (arith, e))
+is_repairable verdicts.Repairable e = refl
+is_repairable verdicts.Open e = absurd (omega (arith, e))
+
+is_open : (v : Verdict) → status_of v ≡ 3 → v ≡ verdicts.Open
+is_open verdicts.Error e = absurd (omega (arith, e))
+is_open verdicts.Repairable e = absurd (omega (arith, e))
+is_open verdicts.Open e = refl
 
 status_error : (lines : List Line) → status_of (verdict_of lines) ≡ 1 → list_any is_error lines ≡ true
-status_error lines e = by (list_any is_error lines) e
+status_error lines e = by (list_any is_error lines) (list_any is_repair lines) e
   where
-    by : (b : Bool) → status_of (if b then verdicts.Error else verdicts.Open) ≡ 1 → b ≡ true
-    by true e = refl
-    by false e = absurd (omega (arith, e))
+    by : (a b : Bool) → status_of (if a then verdicts.Error else (if b then verdicts.Repairable else verdicts.Open)) ≡ 1 → a ≡ true
+    by true b e = refl
+    by false true e = absurd (omega (arith, e))
+    by false false e = absurd (omega (arith, e))
 
-status_open : (lines : List Line) → status_of (verdict_of lines) ≡ 3 → list_any is_error lines ≡ false
-status_open lines e = by (list_any is_error lines) e
-  where
-    by : (b : Bool) → status_of (if b then verdicts.Error else verdicts.Open) ≡ 3 → b ≡ false
-    by true e = absurd (omega (arith, e))
-    by false e = refl
+pub repairs_finish : DesignsAreAllowed → RepairsAgree → TablesSpellContents → SpelledContentsAgree → RepairsFinish
+repairs_finish allowed repairs spell agree asked spec imp status text (Refused r is s t) zero = absurd (omega (arith, s, zero))
+repairs_finish allowed repairs spell agree asked spec imp status text (Judged p lines (s, i, are, for) climb same t) zero =
+    let (tables, complete, ends) = repairs p asked.options lines for.kept climb (is_repairable (verdict_of lines) (sym same ∙ zero)) in
+    let s_allowed = allowed asked.spec_top spec s are.spec_design in
+    let i_allowed = allowed asked.imp_top imp i are.imp_design in
+    record {
+      s = s;
+      i = i;
+      designs = are;
+      p = p;
+      pair = for;
+      tables = tables;
+      fit = complete.fit;
+      lines = subst (λ z. EndsWithTables p z tables) (sym t) ends;
+      contents = spell s i p s_allowed i_allowed for tables complete.fit;
+      agree = agree s i p s_allowed i_allowed for tables complete.fit complete.agree;
+    }
 
 pub errors_refute : DesignsAreAllowed → ErrorsExcludeTables → NoTablesNoContents → ErrorsRefute
 errors_refute allowed excludes exactly asked spec imp status text (Refused r is s t) one = absurd (omega (arith, s, one))
@@ -188,7 +214,18 @@ errors_refute allowed excludes exactly asked spec imp status text (Judged p line
 
 pub open_answers_leave_open : ClimbsLeaveOpen → OpenAnswersLeaveOpen
 open_answers_leave_open leave asked spec imp status text (Refused r is s t) three = absurd (omega (arith, s, three))
-open_answers_leave_open leave asked spec imp status text (Judged p lines stands climb same t) three = (p, stands, leave p asked.options lines climb (status_open lines (sym same ∙ three)))
+open_answers_leave_open leave asked spec imp status text (Judged p lines stands climb same t) three = (p, stands, leave p asked.options lines climb (is_open (verdict_of lines) (sym same ∙ three)))
+
+-- the verdict of a status that is not open
+decided_status : (v : Verdict) → (v ≡ verdicts.Open → ⊥) → (status_of v ≡ 0) ⊎ (status_of v ≡ 1)
+decided_status verdicts.Error not_open = inr refl
+decided_status verdicts.Repairable not_open = inl refl
+decided_status verdicts.Open not_open = absurd (not_open refl)
+
+pub decided_are_answered : NotPairAndRefusal → DecidersDecide → DecidedAreAnswered
+decided_are_answered apart decide asked spec imp status text (Refused r is s t) decided = absurd (apart asked spec imp decided.pair.0 r decided.pair.1 is)
+decided_are_answered apart decide asked spec imp status text (Judged p lines stands climb same t) decided =
+    subst (λ n. (n ≡ 0) ⊎ (n ≡ 1)) (sym same) (decided_status (verdict_of lines) (decide p asked.options lines climb (decided.decided p stands)))
 
 pub refused_are_answered_once : RefusalsAreOne → NotPairAndRefusal → RefusedAreAnsweredOnce
 refused_are_answered_once one apart asked spec imp r status text is (Refused q also s t) = (s, t ∙ ap refusal_line (one asked spec imp q r also is))

@@ -1,5 +1,5 @@
 -- The line that refuses two texts: which side is refused, or that the pair is, then what is wrong.
-use Rattle.std.specs.Prelude.{ℕ, List, [], ◌++◌, codes}
+use Rattle.std.specs.Prelude.{ℕ, List, [], codes}
 use Rattle.bb_match.specs.declared.fault.MatchFault.{MatchFault}
 use Rattle.bb_match.specs.declared.fault.MatchFault.TheVariants as pair
 use Rattle.bb_ladder.specs.declared.refusal.Refusal.{Refusal}

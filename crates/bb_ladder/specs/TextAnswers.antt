@@ -1,5 +1,5 @@
 -- What may be answered to two texts: the line of their first refusal, or the report of the checks of a pair that stands for them.
-use Rattle.std.specs.Prelude.{◌≡◌, ℕ, List}
+use Rattle.std.specs.Prelude.{◌≡◌, ◌⊎◌, ℕ, List}
 use Rattle.bb_net.specs.Pairs.{NetPair}
 use Rattle.bb_rungs.specs.declared.line.Line.{Line}
 use Rattle.bb_rungs.specs.Reports.{report_text, status_of, verdict_of}
@@ -7,11 +7,11 @@ use Rattle.bb_rungs.specs.Rungs.{IsClimb}
 use Rattle.bb_ladder.specs.declared.asked.Asked.{Asked}
 use Rattle.bb_ladder.specs.declared.refusal.Refusal.{Refusal}
 use Rattle.bb_ladder.specs.RefusalLines.{refusal_line}
-use Rattle.bb_ladder.specs.TextPairs.{IsRefusal, StandsForTexts, AreRefuted, AreLeftOpen}
+use Rattle.bb_ladder.specs.TextPairs.{IsRefusal, StandsForTexts, AreRefuted, AreFinished, AreLeftOpen, AreDecided}
 
 pub data Judges (asked : Asked) (spec imp : List ℕ) (status : ℕ) (text : List ℕ) : Type 0 where
   Refused : (refusal : Refusal) → IsRefusal asked spec imp refusal → status ≡ 2 → text ≡ refusal_line refusal → Judges asked spec imp status text
-  Judged : (p : NetPair) (lines : List Line) → StandsForTexts asked spec imp p → IsClimb p asked.options lines → status ≡ status_of (verdict_of lines) → text ≡ report_text p lines → Judges asked spec imp status text
+  Judged : (p : NetPair) (lines : List Line) → StandsForTexts asked spec imp p → IsClimb p asked.options lines → status ≡ status_of (verdict_of lines) → text ≡ report_text p asked.options lines → Judges asked spec imp status text
 
 -- laws that a reader expects
 
@@ -19,9 +19,17 @@ pub data Judges (asked : Asked) (spec imp : List ℕ) (status : ℕ) (text : Lis
 abbrev pub ErrorsRefute : Type 0
 ErrorsRefute = (asked : Asked) (spec imp : List ℕ) (status : ℕ) (text : List ℕ) → Judges asked spec imp status text → status ≡ 1 → AreRefuted asked spec imp
 
+-- a design is finished only with tables whose contents make the two agree
+abbrev pub RepairsFinish : Type 0
+RepairsFinish = (asked : Asked) (spec imp : List ℕ) (status : ℕ) (text : List ℕ) → Judges asked spec imp status text → status ≡ 0 → AreFinished asked spec imp text
+
 -- the question is left open only where each check that is asked for leaves it open
 abbrev pub OpenAnswersLeaveOpen : Type 0
 OpenAnswersLeaveOpen = (asked : Asked) (spec imp : List ℕ) (status : ℕ) (text : List ℕ) → Judges asked spec imp status text → status ≡ 3 → AreLeftOpen asked spec imp
+
+-- where a check decides, the answer is an error or tables
+abbrev pub DecidedAreAnswered : Type 0
+DecidedAreAnswered = (asked : Asked) (spec imp : List ℕ) (status : ℕ) (text : List ℕ) → Judges asked spec imp status text → AreDecided asked spec imp → (status ≡ 0) ⊎ (status ≡ 1)
 
 -- where two texts have a refusal, its line is the only answer
 abbrev pub RefusedAreAnsweredOnce : Type 0

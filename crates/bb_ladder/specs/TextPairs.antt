@@ -2,12 +2,17 @@
 -- thing for which they are refused; the pair that stands for them; and whether contents of the boxes agree. What is wrong with the
 -- specification comes before what is wrong with the implementation, and that before what is wrong with the two as a pair.
 use Rattle.std.specs.Prelude.{◌≡◌, ℕ, List, Option}
+use Rattle.bb_bits.specs.Contents.{Contents}
+use Rattle.bb_bits.specs.Tables.{TableBits}
 use Rattle.bb_elab.specs.Hierarchy.{Design}
 use Rattle.bb_elab.specs.ListLaws.{IsAllowed}
-use Rattle.bb_match.specs.DesignAgreement.{IsPairFor, NoContentsAgree}
+use Rattle.bb_elab.specs.Worlds.{FitDesign}
+use Rattle.bb_match.specs.DesignAgreement.{AreSpelled, ContentsAgree, IsPairFor, NoContentsAgree}
 use Rattle.bb_match.specs.DesignRefusals.{IsRefusalFor}
 use Rattle.bb_net.specs.Pairs.{NetPair}
-use Rattle.bb_rungs.specs.LeftOpen.{AllLeaveOpen}
+use Rattle.bb_net.specs.Values.{FitBoxes}
+use Rattle.bb_rungs.specs.LeftOpen.{AllLeaveOpen, SomeDecides}
+use Rattle.bb_rungs.specs.Reports.{EndsWithTables}
 use Rattle.bb_ladder.specs.declared.asked.Asked.{Asked}
 use Rattle.bb_ladder.specs.declared.refusal.Refusal.{Refusal}
 use Rattle.bb_ladder.specs.declared.refusal.Refusal.TheVariants.{Spec, Imp, Pair, NoMemory}
@@ -36,6 +41,25 @@ AreRefuted asked spec imp = (s i : Design) × AreDesignsOf asked spec imp s i ×
 -- a pair stands for the two, and each check that is asked for leaves the question open for it
 abbrev pub AreLeftOpen : Asked → List ℕ → List ℕ → Type 0
 AreLeftOpen asked spec imp = (p : NetPair) × StandsForTexts asked spec imp p × AllLeaveOpen p asked.options
+
+-- a pair stands for the two, and the text ends with lines of tables that spell contents of its boxes: there are such contents, and with
+-- all of them the two agree
+pub record AreFinished (asked : Asked) (spec imp text : List ℕ) : Type 0 where
+  pub s : Design
+  pub i : Design
+  pub designs : AreDesignsOf asked spec imp s i
+  pub p : NetPair
+  pub pair : IsPairFor s i p
+  pub tables : List TableBits
+  pub fit : FitBoxes tables p.imp.boxes
+  pub lines : EndsWithTables p text tables
+  pub contents : (contents : Contents) × FitDesign i contents × AreSpelled p.boxes tables contents
+  pub agree : (contents : Contents) → FitDesign i contents → AreSpelled p.boxes tables contents → ContentsAgree s i contents
+
+-- a pair stands for the two, and for each such pair a check that is asked for decides
+pub record AreDecided (asked : Asked) (spec imp : List ℕ) : Type 0 where
+  pub pair : (p : NetPair) × StandsForTexts asked spec imp p
+  pub decided : (p : NetPair) → StandsForTexts asked spec imp p → SomeDecides p asked.options
 
 -- laws that a reader expects
 

@@ -1,6 +1,6 @@
 //! The verdict on two texts: they are made into a pair, and the checks that are asked for are run on it.
 
-ghost use Rattle.std.specs.Prelude.{◌≡◌, ◌<◌, List, length, IfOk};
+ghost use Rattle.std.specs.Prelude.{◌≡◌, ◌<◌, ◌⊎◌, List, length, IfOk};
 ghost use Rattle.bb_rungs.specs.declared.line.Line.{Line};
 ghost use Rattle.bb_rungs.specs.Reports.{report_text, status_of, verdict_of};
 ghost use Rattle.bb_rungs.specs.Rungs.{AreBounds, IsClimb};
@@ -8,14 +8,16 @@ ghost use Rattle.bb_ladder.specs.declared.answer.TheConstants.{READ_LIMIT};
 ghost use Rattle.bb_ladder.specs.declared.refusal.Refusal.{Refusal};
 ghost use Rattle.bb_ladder.specs.RefusalLines.{refusal_line};
 ghost use Rattle.bb_ladder.specs.TextAnswers.{Judges};
-ghost use Rattle.bb_ladder.specs.TextPairs.{AreLeftOpen, AreRefuted};
+ghost use Rattle.bb_ladder.specs.TextPairs.{AreDecided, AreFinished, AreLeftOpen, AreRefuted};
 
 use crate::answer::Answer;
 use crate::asked::Asked;
 use crate::pair_texts::{keeps, pair_of};
 use crate::refusal::Refusal;
 use crate::refusal_words::push_refusal;
-use crate::text_laws::{errors_refute, open_answers_leave_open};
+use crate::text_laws::{
+    decided_are_answered, errors_refute, open_answers_leave_open, repairs_finish,
+};
 use bb_bits::NoMemory;
 use bb_net::Pair;
 use bb_rungs::{Options, climb, climbs_are_told, report, verdict_of};
@@ -36,12 +38,12 @@ fn refuse(alloc: Global, refusal: &Refusal) -> Result<Answer, NoMemory>
 fn check(alloc: Global, pair: &Pair, options: &Options) -> Result<Answer, NoMemory>
     requires bounds { AreBounds options.now }
     ensures answer { IfOk result (λ answer. (lines : List Line) × IsClimb pair.now options.now lines
-        × (answer.status ≡ status_of (verdict_of lines)) × (answer.report.items ≡ report_text pair.now lines)) }
+        × (answer.status ≡ status_of (verdict_of lines)) × (answer.report.items ≡ report_text pair.now options.now lines)) }
 {
     climbs_are_told();
     keeps(pair);
     let lines = climb(alloc, pair, options)?;
-    let text = report(alloc, pair, &lines)?;
+    let text = report(alloc, pair, options, &lines)?;
     Ok(Answer {
         status: verdict_of(&lines).status(),
         report: text,
@@ -63,8 +65,9 @@ fn answer(alloc: Global, spec: &[u8], imp: &[u8], asked: &Asked) -> Result<Answe
 
 /// What is answered to the text of the specification and that of the implementation, whoever read them.
 ///
-/// Status 1 says that no contents of the boxes make the two agree, status 3 that each check that is asked for leaves the question
-/// open, and status 2 that the line is their first refusal.
+/// Status 0 says that the tables at the end of the report make the two agree, status 1 that no contents of the boxes do, status 3 that
+/// each check that is asked for leaves the question open, and status 2 that the line is their first refusal. Where a check that is asked
+/// for decides, the status is 0 or 1.
 ///
 /// # Errors
 ///
@@ -74,10 +77,14 @@ pub fn judge_pair(alloc: Global, spec: &[u8], imp: &[u8], asked: &Asked) -> Resu
     requires imp { length imp.now < READ_LIMIT }
     requires bounds { AreBounds asked.now.options }
     ensures answer { IfOk result (λ answer. Judges asked.now spec.now imp.now answer.status answer.report.items) }
+    ensures repairable { IfOk result (λ answer. answer.status ≡ 0 → AreFinished asked.now spec.now imp.now answer.report.items) }
     ensures error { IfOk result (λ answer. answer.status ≡ 1 → AreRefuted asked.now spec.now imp.now) }
     ensures left_open { IfOk result (λ answer. answer.status ≡ 3 → AreLeftOpen asked.now spec.now imp.now) }
+    ensures decided { IfOk result (λ answer. AreDecided asked.now spec.now imp.now → (answer.status ≡ 0) ⊎ (answer.status ≡ 1)) }
 {
+    repairs_finish();
     errors_refute();
     open_answers_leave_open();
+    decided_are_answered();
     answer(alloc, spec, imp, asked)
 }

@@ -1,15 +1,17 @@
 //! The top call: the words are read, then the two files, and the report is made whole before its first byte is written.
-ghost use Rattle.std.specs.Prelude.{◌≡◌, ◌≤◌, ◌<◌, ◌≢◌, ℕ, List, length, map, take, string_bytes, IfOk};
+ghost use Rattle.std.specs.Prelude.{◌≡◌, ◌≤◌, ◌<◌, ◌≢◌, ◌⊎◌, ℕ, List, length, map, take, string_bytes, IfOk};
 ghost use Rattle.std.specs.Io.KnownBytes.{append_known};
 ghost use Rattle.bb_outside.specs.Counts.{Rose};
 ghost use Rattle.bb_rungs.specs.Rungs.{AreBounds};
 ghost use Rattle.bb_ladder.specs.declared.answer.TheConstants.{READ_LIMIT};
 ghost use Rattle.bb_ladder.specs.Answers.{AfterSpec, AreTexts, MayAnswer, OfFiles, Question as TextQuestion};
-ghost use Rattle.bb_ladder.specs.TextPairs.{AreLeftOpen, AreRefuted};
+ghost use Rattle.bb_ladder.specs.TextPairs.{AreDecided, AreFinished, AreLeftOpen, AreRefuted};
 
 use crate::answer::{Answer, READ_LIMIT, say};
 use crate::judging::judge_pair;
-use crate::text_laws::{errors_refute, open_answers_leave_open};
+use crate::text_laws::{
+    decided_are_answered, errors_refute, open_answers_leave_open, repairs_finish,
+};
 use crate::words::{Question, question_of};
 use bb_bits::NoMemory;
 use bb_outside::{FileFault, Files, Sink, put_all};
@@ -74,6 +76,7 @@ fn answer<F: Files>(alloc: Global, words: &[String], files: &mut F) -> Result<An
 
 /// Compares the implementation with the specification and writes a report. It answers a status:
 ///
+/// - 0: the report is written and ends with tables and `verdict repairable`;
 /// - 1: the report is written and ends with `verdict error`;
 /// - 2: the report is the line of a refusal;
 /// - 3: the report is written and ends with `verdict open`;
@@ -92,11 +95,22 @@ pub fn run<F: Files, K: Sink>(alloc: Global, words: &[String], files: &mut F, ou
     ensures front { result ≡ 6 → (status : ℕ) × (text : List ℕ) × (n : ℕ) × (n < length text) × (K.written out.new ≡ append_known (K.written out.old) (take n text))
         × MayAnswer (map string_bytes words.now) (F.holds files.old) (F.reads files.old) (F.reads files.new) status text }
 
+    // The design is reported as repairable only with tables whose contents make every output and every next state agree on every vector.
+    ensures repairable { result ≡ 0 → (q : TextQuestion) (spec imp : List ℕ) → AreTexts (map string_bytes words.now) (F.holds files.old) q spec imp
+        → (text : List ℕ) × (K.written out.new ≡ append_known (K.written out.old) text) × AreFinished q.asked spec imp text }
+
     // An error is reported only where no contents of the boxes make every output and every next state agree on every vector.
     ensures error { result ≡ 1 → (q : TextQuestion) (spec imp : List ℕ) → AreTexts (map string_bytes words.now) (F.holds files.old) q spec imp → AreRefuted q.asked spec imp }
 
-    // The question is left open only where each check that is asked for finds no mistake, or would need too many nodes.
+    // The question is left open only where each check that is asked for finds neither a mistake nor tables, or would need more nodes or
+    // clauses than it may have, or wider tables.
     ensures left_open { result ≡ 3 → (q : TextQuestion) (spec imp : List ℕ) → AreTexts (map string_bytes words.now) (F.holds files.old) q spec imp → AreLeftOpen q.asked spec imp }
+
+    // Where the files hold texts within the limit, no failure was counted, the texts fit and a check that is asked for decides, the answer
+    // is an error or tables, unless memory runs out.
+    ensures decided { (q : TextQuestion) (spec imp : List ℕ) → AreTexts (map string_bytes words.now) (F.holds files.old) q spec imp → length spec < READ_LIMIT → length imp < READ_LIMIT
+        → AreDecided q.asked spec imp → (Rose (F.reads files.old).faults (F.reads files.new).faults → ⊥) → (Rose (K.faults out.old) (K.faults out.new) → ⊥)
+        → ((result ≡ 0) ⊎ (result ≡ 1)) ⊎ (result ≡ 5) }
 
     // What the files hold stays, and a file or the sink is blamed only where a failure was counted in this call.
     ensures kept { (n : List ℕ) → F.holds files.new n ≡ F.holds files.old n }
@@ -105,8 +119,10 @@ pub fn run<F: Files, K: Sink>(alloc: Global, words: &[String], files: &mut F, ou
     ensures reads_never_fall { (F.reads files.old).faults ≤ (F.reads files.new).faults }
     ensures faults_never_fall { K.faults out.old ≤ K.faults out.new }
 {
+    repairs_finish();
     errors_refute();
     open_answers_leave_open();
+    decided_are_answered();
     let Ok(answer) = answer(alloc, words, files) else {
         return 5;
     };

@@ -1,14 +1,17 @@
 //! Laws of two texts: refusals are one, a refusal and a pair exclude each other, and what an answer says of the texts. Each function has
 //! a law as its contract and does nothing.
 
-ghost use Rattle.bb_ladder.specs.TextAnswers.{ErrorsRefute, OpenAnswersLeaveOpen, RefusedAreAnsweredOnce};
+ghost use Rattle.bb_ladder.specs.TextAnswers.{ErrorsRefute, RepairsFinish, OpenAnswersLeaveOpen, DecidedAreAnswered, RefusedAreAnsweredOnce};
 ghost use Rattle.bb_ladder.specs.TextPairs.{DesignsAreAllowed, NotPairAndRefusal, RefusalsAreOne};
 
 use crate::side::{not_design_and_fault, side_faults_are_one, text_designs_are_one};
 use bb_elab::list_laws::sound_texts_are_allowed;
-use bb_match::laws::{design_refusals_are_one, no_tables_no_contents, not_pair_and_refusal};
+use bb_match::laws::{
+    design_refusals_are_one, no_tables_no_contents, not_pair_and_refusal, spelled_contents_agree,
+    tables_spell_contents,
+};
 use bb_parse::laws::sources_are_formed;
-use bb_rungs::{climbs_leave_open, errors_exclude_tables};
+use bb_rungs::{climbs_leave_open, deciders_decide, errors_exclude_tables, repairs_agree};
 
 /// The design of a text is one of which the laws of designs speak.
 pub fn designs_are_allowed()
@@ -48,11 +51,29 @@ pub fn errors_refute()
     no_tables_no_contents();
 }
 
+/// A design is told as finished only with tables whose contents make the two agree.
+pub fn repairs_finish()
+    ensures { RepairsFinish }
+{
+    designs_are_allowed();
+    repairs_agree();
+    tables_spell_contents();
+    spelled_contents_agree();
+}
+
 /// The question is left open only where each check that is asked for leaves it open.
 pub fn open_answers_leave_open()
     ensures { OpenAnswersLeaveOpen }
 {
     climbs_leave_open();
+}
+
+/// Where a check that is asked for decides, the answer is an error or tables.
+pub fn decided_are_answered()
+    ensures { DecidedAreAnswered }
+{
+    no_pair_and_refusal();
+    deciders_decide();
 }
 
 /// Where two texts have a refusal, its line is the only answer.

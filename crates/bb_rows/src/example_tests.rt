@@ -1,5 +1,5 @@
 //! The pairs under examples/, by equal bytes.
-use crate::tests::{OPEN, expect};
+use crate::tests::expect;
 use std::test::Fail;
 
 const ADDER_SPEC: &str = r#"// A full adder.
@@ -83,6 +83,38 @@ module carry(a, b, c, co);
 endmodule
 "#;
 
+const LANES_SPEC: &str =
+    r#"// Two lanes of a link. The left lane sends the parity of its word; the right lane sends the parity of both words.
+module link(left, right, left_parity, parity);
+  input [1:0] left, right;
+  output left_parity, parity;
+  wire right_parity;
+  xor (left_parity, left[1], left[0]);
+  xor (right_parity, right[1], right[0]);
+  xor (parity, left_parity, right_parity);
+endmodule
+"#;
+
+const LANES_IMPL: &str =
+    r#"// Each lane is to be finished by itself, with its own word alone at hand.
+module link(left, right, left_parity, parity);
+  input [1:0] left, right;
+  output left_parity, parity;
+  left_lane l(.word(left), .parity(left_parity));
+  right_lane r(.word(right), .parity(parity));
+endmodule
+
+module left_lane(word, parity);
+  input [1:0] word;
+  output parity;
+endmodule
+
+module right_lane(word, parity);
+  input [1:0] word;
+  output parity;
+endmodule
+"#;
+
 const NOR_SPEC: &str = r#"module s(a,b,y); input a,b; output y; nor g(y,a,b); endmodule
 "#;
 
@@ -121,7 +153,18 @@ fn examples_have_their_reports(rt: HostRuntime) -> Result<(), Fail> {
             1,
             "rung ternary error\noutput y\ninput a=0\nverdict error\n",
         ),
-        (CARRY_SPEC, CARRY_IMPL, 3, OPEN),
+        (
+            CARRY_SPEC,
+            CARRY_IMPL,
+            0,
+            "rung ternary none\nrung symbolic none\nrung local none\nrung output none\nrung input repair\ntable u co 00010111\nverdict repairable\n",
+        ),
+        (
+            LANES_SPEC,
+            LANES_IMPL,
+            1,
+            "rung ternary none\nrung symbolic none\nrung local none\nrung output none\nrung input none\nrung expand error\nverdict error\n",
+        ),
         (
             NOR_SPEC,
             NOR_IMPL,

@@ -1,6 +1,6 @@
 //! First faults of a text, and texts that are close to one.
 use crate::row_tests::MAPPED as CUT_OFF;
-use crate::tests::{OPEN, expect};
+use crate::tests::{EQUAL, expect};
 use std::alloc::Global;
 use std::test::Fail;
 
@@ -84,7 +84,7 @@ fn statements_nest_up_to_200_deep(rt: HostRuntime) -> Result<(), Fail> {
     expect(&rt, alloc, &deep, BUFFER, 2, "refused spec deep line 2\n")?;
     expect(&rt, alloc, BUFFER, &deep, 2, "refused impl deep line 2\n")?;
     let good = in_brackets(alloc, 200)?;
-    expect(&rt, alloc, &good, BUFFER, 3, OPEN)
+    expect(&rt, alloc, &good, BUFFER, 0, EQUAL)
 }
 
 // A full adder, and one that a tool wrote: the sum is inverted, the carry is left to a box.
@@ -105,7 +105,7 @@ fn texts_are_read_as_tools_write_them(rt: HostRuntime) -> Result<(), Fail> {
     let alloc = rt.alloc();
     let escaped =
         "module t(a,y); input a; output y; wire \\w;x ; buf(\\w;x ,a); buf(y,\\w;x ); endmodule";
-    expect(&rt, alloc, BUFFER, escaped, 3, OPEN)?;
+    expect(&rt, alloc, BUFFER, escaped, 0, EQUAL)?;
     expect(
         &rt,
         alloc,

@@ -4,7 +4,11 @@
 #[cfg(test)]
 mod example_tests;
 #[cfg(test)]
+mod expansion_tests;
+#[cfg(test)]
 mod fault_tests;
+#[cfg(test)]
+mod finish_tests;
 mod memory;
 #[cfg(test)]
 mod option_tests;

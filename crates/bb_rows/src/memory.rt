@@ -1,7 +1,7 @@
 //! One run of the top call over two texts in memory.
 ghost use Rattle.std.specs.Prelude.{◌≡◌, ◌<◌, ◌≤◌, ◌∷◌, [], ℕ, List, length, take, map, codes, string_bytes, IfOk};
 ghost use Rattle.bb_ladder.specs.Answers.{AreTexts, Question, question};
-ghost use Rattle.bb_ladder.specs.TextPairs.{AreLeftOpen, AreRefuted};
+ghost use Rattle.bb_ladder.specs.TextPairs.{AreFinished, AreLeftOpen, AreRefuted};
 ghost use Rattle.bb_rows.specs.Memory.{MayTell, holds};
 ghost use Rattle.bb_words.specs.Laws.{files_alone};
 
@@ -80,8 +80,10 @@ pub fn run_in_memory(
         × (outcome.report.items ≡ take n text) × MayTell (map (λ text. text.now) texts.now) spec.now imp.now status text) }
     ensures silent { IfOk result (λ outcome. outcome.status ≡ 5 → outcome.report.items ≡ []) }
 
-    // An error is reported only where no contents of the boxes make the two agree, and the question is left open only where
-    // each check that the words ask for leaves it open.
+    // The design is reported as repairable only with tables whose contents make the two agree, an error only where no contents of the boxes
+    // do, and the question is left open only where each check that the words ask for leaves it open.
+    ensures repairable { IfOk result (λ outcome. outcome.status ≡ 0 → (q : Question) (s i : List ℕ)
+        → AreTexts (map (λ text. text.now) texts.now) (holds spec.now imp.now) q s i → AreFinished q.asked s i outcome.report.items) }
     ensures error { IfOk result (λ outcome. outcome.status ≡ 1 → (q : Question) (s i : List ℕ)
         → AreTexts (map (λ text. text.now) texts.now) (holds spec.now imp.now) q s i → AreRefuted q.asked s i) }
     ensures left_open { IfOk result (λ outcome. outcome.status ≡ 3 → (q : Question) (s i : List ℕ)

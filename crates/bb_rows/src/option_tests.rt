@@ -9,8 +9,8 @@ const INVERTER: &str = "module s(a,y); input a; output y; not g(y,a); endmodule"
 const BOX: &str =
     "module t(a,y); input a; output y; bx u(a,y); endmodule module bx(i,o); input i; output o; endmodule";
 
-// Words with a blank between two.
-fn expect_asked<R: Abort>(
+/// Compares the status and the report for words with a blank between two.
+pub fn expect_asked<R: Abort>(
     rt: &R,
     alloc: Global,
     line: &str,
@@ -78,7 +78,7 @@ fn checks_are_those_asked_for(rt: HostRuntime) -> Result<(), Fail> {
         (
             "bbeq s.v i.v --all",
             1,
-            "rung ternary none\nrung symbolic none\nrung local none\nrung output error\ninput a=0\nverdict error\n",
+            "rung ternary none\nrung symbolic none\nrung local none\nrung output error\ninput a=0\nrung input error\nrung expand error\nverdict error\n",
         ),
         (
             "bbeq --to=local s.v --from symbolic i.v",
@@ -98,35 +98,51 @@ fn checks_are_those_asked_for(rt: HostRuntime) -> Result<(), Fail> {
 
 #[test]
 fn nodes_are_bounded(rt: HostRuntime) -> Result<(), Fail> {
-    for (options, report) in [
+    for (options, status, report) in [
         (
             "--from symbolic --to symbolic --nodes 2",
+            3,
             "rung symbolic none\nverdict open\n",
         ),
         (
             "--from symbolic --to symbolic --nodes 1",
+            3,
             "rung symbolic nodes\nverdict open\n",
         ),
         (
             "--from local --to local --nodes 5",
+            3,
             "rung local none\nverdict open\n",
         ),
         (
             "--from local --to local --nodes 4",
+            3,
             "rung local nodes\nverdict open\n",
         ),
         (
             "--from output --to output --nodes 5",
+            3,
             "rung output none\nverdict open\n",
         ),
         (
             "--from output --to output --nodes 4",
+            3,
             "rung output nodes\nverdict open\n",
+        ),
+        (
+            "--from input --to input --nodes 12",
+            0,
+            "rung input repair\ntable u o 10\nverdict repairable\n",
+        ),
+        (
+            "--from input --to input --nodes 11",
+            3,
+            "rung input nodes\nverdict open\n",
         ),
     ] {
         let mut line = String::from_str(rt.alloc(), "bbeq s.v i.v ")?;
         line.push_str(options)?;
-        expect_asked(&rt, rt.alloc(), &line, (INVERTER, BOX), 3, report)?;
+        expect_asked(&rt, rt.alloc(), &line, (INVERTER, BOX), status, report)?;
     }
     Ok(())
 }

@@ -16,9 +16,9 @@ const BUFFER: &str = "module s(a,y); input a; output y; buf(y,a); endmodule";
 
 const INVERTER: &str = "module t(a,y); input a; output y; not(y,a); endmodule";
 
-/// The report of a pair for which no check finds a mistake.
-pub const OPEN: &str =
-    "rung ternary none\nrung symbolic none\nrung local none\nrung output none\nverdict open\n";
+/// The report of a pair without boxes that agrees.
+pub const EQUAL: &str =
+    "rung ternary none\nrung symbolic none\nrung local none\nrung output none\nrung input repair\nverdict repairable\n";
 
 /// Compares the status and the report of a pair, read with good words and ample memory.
 pub fn expect<R: Abort>(

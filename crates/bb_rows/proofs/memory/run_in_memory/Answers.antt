@@ -24,6 +24,12 @@ returns-clause-front c = λ six.
           (fresh c.in_ok-files.files c.in_ok-files.ensures.reads.0 c.in_ok-files.ensures.reads.1) answer.5,
     )
 
+pub returns-clause-repairable : goal.returns-clause-repairable
+returns-clause-repairable c = λ zero q s i texts.
+    let found = c.run-status.ensures.repairable zero q s i (asked _ _ _ _ _ q s i (ap (map string_bytes) c.deref.ensures.value ∙ c.in_ok-words.ensures) c.in_ok-files.ensures.files texts) in
+    let is_text = c.in_ok-report.ensures.items ∙ c.bytes.ensures ∙ grown _ _ found.0 c.in_ok-sink.ensures found.1 in
+    rw is_text found.2
+
 pub returns-clause-error : goal.returns-clause-error
 returns-clause-error c = λ one q s i texts. c.run-status.ensures.error one q s i
     (asked _ _ _ _ _ q s i (ap (map string_bytes) c.deref.ensures.value ∙ c.in_ok-words.ensures) c.in_ok-files.ensures.files texts)
