@@ -1,0 +1,488 @@
+"""What the scripts of this folder know of the language that bbeq reads (docs/LANGUAGE.md): its tokens, its modules with their
+nets, gates and instances, and how a name is written. It takes every text that bbeq takes, and some that bbeq refuses: whether
+a text is right is for bbeq to say."""
+import argparse
+import re
+import sys
+
+RESERVED = frozenset("""always and assign automatic begin buf bufif0 bufif1 case casex casez cell cmos config deassign default
+defparam design disable edge else end endcase endconfig endfunction endgenerate endmodule endprimitive endspecify endtable endtask
+event for force forever fork function generate genvar highz0 highz1 if ifnone incdir include initial inout input instance integer
+join large liblist library localparam macromodule medium module nand negedge nmos nor noshowcancelled not notif0 notif1 or output
+parameter pmos posedge primitive pull0 pull1 pulldown pullup pulsestyle_ondetect pulsestyle_onevent rcmos real realtime reg release
+repeat rnmos rpmos rtran rtranif0 rtranif1 scalared showcancelled signed small specify specparam strong0 strong1 supply0 supply1
+table task time tran tranif0 tranif1 tri tri0 tri1 triand trior trireg unsigned use uwire vectored wait wand weak0 weak1 while wire
+wor xnor xor""".split())
+GATES = frozenset("and nand or nor xor xnor buf not".split())
+DIRECTIVES = ("`timescale", "`celldefine", "`endcelldefine")
+
+
+class Fault(Exception):
+    """A text or a report that a script cannot work with; the message is one line."""
+
+
+class Words(argparse.ArgumentParser):
+    """The words of a script; wrong ones are told in one line."""
+
+    def error(self, message):
+        print(f"{self.prog}: {message} ({self.prog} --help lists the words)", file=sys.stderr)
+        sys.exit(1)
+
+
+def run_script(name, main):
+    """Runs a script; what it cannot work with is told on standard error, and the status is 1."""
+    try:
+        main()
+        sys.stdout.flush()
+    except BrokenPipeError:
+        sys.stderr.close()
+        sys.exit(1)
+    except (Fault, OSError) as fault:
+        text = f"{fault.filename}: {fault.strerror}" if isinstance(fault, OSError) else str(fault)
+        for line in text.splitlines():
+            print(f"{name}: {line}", file=sys.stderr)
+        sys.exit(1)
+
+
+class Token:
+    """One token: kind is 'name', 'word', 'sized', 'plain' or 'mark'; start and end are its place in the text."""
+
+    def __init__(self, kind, text, start, end, line):
+        self.kind, self.text, self.start, self.end, self.line = kind, text, start, end, line
+
+    def __repr__(self):
+        return f"{self.text!r} on line {self.line}"
+
+
+PIECES = re.compile(r"""
+    (?P<skip>\s+|//[^\n]*|/\*.*?\*/|`(?:timescale|celldefine|endcelldefine)\b[^\n]*)
+  | (?P<attribute>\(\*(?!\)))
+  | (?P<sized>[0-9][0-9_]*\s*'\s*[bodhBODH]\s*[0-9a-fA-FxXzZ_?]+)
+  | (?P<plain>[0-9][0-9_]*)
+  | (?P<simple>[A-Za-z_][A-Za-z0-9_$]*)
+  | (?P<escaped>\\[!-~]+)
+  | (?P<mark><=|~\^|\^~|[()\[\]{},;:.=@&|^~?])
+""", re.VERBOSE | re.DOTALL)
+ATTRIBUTE_PARTS = re.compile(r'"(?:\\.|[^"\\])*"|//[^\n]*|/\*.*?\*/|\*\)|.', re.DOTALL)
+
+
+def attribute_end(text, start):
+    """The place behind the attribute that begins at `start`, or None."""
+    place = start + 2
+    while place < len(text):
+        part = ATTRIBUTE_PARTS.match(text, place)
+        place = part.end()
+        if part.group() == "*)":
+            return place
+    return None
+
+
+def tokens(text, attributes=None):
+    """The tokens of a text; comments, attributes and the three directives are passed over. The places of the attributes go to the
+    list that is given for them."""
+    found, place, line = [], 0, 1
+    while place < len(text):
+        piece = PIECES.match(text, place)
+        end = piece.end() if piece else None
+        kind = piece.lastgroup if piece else None
+        if kind == "attribute":
+            end = attribute_end(text, place)
+            if attributes is not None:
+                attributes.append((place, end))
+        if end is None:
+            raise Fault(f"line {line}: no token of the language begins here")
+        if kind == "simple":
+            word = piece.group()
+            found.append(Token("word" if word in RESERVED else "name", word, place, end, line))
+        elif kind == "escaped":
+            found.append(Token("name", piece.group()[1:], place, end, line))
+        elif kind in ("sized", "plain", "mark"):
+            found.append(Token(kind, piece.group(), place, end, line))
+        line += text.count("\n", place, end)
+        place = end
+    return found
+
+
+def written(name):
+    """A name as it stands in a text: escaped, with the blank that ends it, where it is no simple identifier."""
+    if re.fullmatch(r"[A-Za-z_][A-Za-z0-9_$]*", name) and name not in RESERVED:
+        return name
+    return f"\\{name} "
+
+
+class Net:
+    """A net of a module: its range as (left, right) or None, its direction and its kind ('wire', 'reg', 'supply0', 'supply1').
+    It stands alone where a declaration of its kind does, besides that of its direction."""
+
+    def __init__(self, name):
+        self.name, self.range, self.direction, self.kind, self.stands_alone = name, None, None, "wire", False
+
+    def indices(self):
+        """The indices of its bits, leftmost first; one None where it has no range."""
+        if self.range is None:
+            return [None]
+        left, right = self.range
+        return list(range(left, right - 1, -1)) if left >= right else list(range(left, right + 1))
+
+
+class Instance:
+    """An instance: the module's token and name, its own name, and its connections as a list of expressions or of (port,
+    expression). `comma` is the place of the comma before it where it is not the first of its statement."""
+
+    def __init__(self, token, name, connections, named, comma):
+        self.token, self.module, self.name, self.connections, self.named, self.comma = (
+            token, token.text, name, connections, named, comma)
+
+
+class Register:
+    """A clocked assignment; `value_place` is the place of its right side and `place` that of the whole."""
+
+    def __init__(self, edge, clock, left, value, value_place, place):
+        self.edge, self.clock, self.left, self.value, self.value_place, self.place = (
+            edge, clock, left, value, value_place, place)
+
+
+class Module:
+    """A module as it stands in a text. `start` and `end` are its place, `header_end` is behind the `;` of its header, and
+    `port_items` and `reg_items` have the places of the declarations of its ports and of its registers."""
+
+    def __init__(self, token, start):
+        self.token, self.name, self.start = token, token.text, start
+        self.end = self.header_end = None
+        self.ports, self.nets, self.port_items, self.reg_items = [], {}, [], []
+        self.assigns, self.gates, self.instances, self.registers = [], [], [], []
+        self.bare = True
+
+    def net(self, name):
+        return self.nets.setdefault(name, Net(name))
+
+    def left_bits(self, left):
+        """The bits of what stands on the left of an assignment, leftmost first, as (net, index)."""
+        if left[0] == "concatenation":
+            return [bit for part in left[1] for bit in self.left_bits(part)]
+        if left[0] != "net":
+            raise Fault(f"module {self.name} assigns to something that is no net")
+        return [(left[1], index) for index in self.selected(left[1], left[2])]
+
+    def selected(self, name, select):
+        """The indices that a select takes, leftmost first."""
+        indices = self.net(name).indices()
+        if select is None:
+            return indices
+        if not set(select) <= set(indices):
+            raise Fault(f"module {self.name} selects bits that {name} does not have")
+        return indices[indices.index(select[0]):indices.index(select[1]) + 1]
+
+    def is_box(self):
+        """It declares its ports and nothing else."""
+        return self.bare and all(net.direction for net in self.nets.values())
+
+    def pins(self, direction):
+        """The pins of one direction as (net, index), in header order, each port's leftmost bit first."""
+        nets = [self.nets[port] for port in self.ports if port in self.nets]
+        return [(net, index) for net in nets if net.direction == direction for index in net.indices()]
+
+
+def bit_text(name, index):
+    """The text of a bit as a report prints it."""
+    return name if index is None else f"{name}[{index}]"
+
+
+class Reader:
+    """Reads modules from tokens, one statement after another."""
+
+    def __init__(self, text):
+        self.text, self.tokens, self.at = text, tokens(text), 0
+
+    def look(self, ahead=0):
+        place = self.at + ahead
+        return self.tokens[place] if place < len(self.tokens) else None
+
+    def sees(self, *texts):
+        token = self.look()
+        return token is not None and token.kind in ("mark", "word") and token.text in texts
+
+    def take(self, *texts):
+        token = self.look()
+        if token is None:
+            raise Fault("the text ends within a module")
+        if texts and not self.sees(*texts):
+            raise Fault(f"line {token.line}: `{token.text}` is not of the language here")
+        self.at += 1
+        return token
+
+    def take_name(self):
+        token = self.take()
+        if token.kind != "name":
+            raise Fault(f"line {token.line}: `{token.text}` stands where a name is due")
+        return token
+
+    def take_number(self):
+        token = self.take()
+        if token.kind != "plain":
+            raise Fault(f"line {token.line}: `{token.text}` stands where a plain number is due")
+        return int(token.text.replace("_", ""))
+
+    def modules(self):
+        found = []
+        while self.look():
+            found.append(self.module())
+        return found
+
+    def module(self):
+        first = self.take("module")
+        module = Module(self.take_name(), first.start)
+        if self.sees("("):
+            self.header(module)
+        module.header_end = self.take(";").end
+        while not self.sees("endmodule"):
+            self.item(module)
+        module.end = self.take("endmodule").end
+        return module
+
+    def header(self, module):
+        self.take("(")
+        shape = None
+        while not self.sees(")"):
+            if self.sees("input", "output"):
+                shape = (self.take().text, self.kind(), self.range())
+            name = self.take_name().text
+            module.ports.append(name)
+            if shape:
+                self.declare_port(module, name, shape)
+            if not self.sees(")"):
+                self.take(",")
+        self.take(")")
+
+    def declare_port(self, module, name, shape):
+        net = module.net(name)
+        net.direction, kind, net.range = shape
+        if kind:
+            net.kind = kind
+
+    def kind(self):
+        return self.take().text if self.sees("wire", "reg") else None
+
+    def range(self):
+        if not self.sees("["):
+            return None
+        self.take("[")
+        left = self.take_number()
+        self.take(":")
+        right = self.take_number()
+        self.take("]")
+        return left, right
+
+    def item(self, module):
+        first = self.look()
+        if first is None:
+            raise Fault("the text ends within a module")
+        if first.kind == "name":
+            self.calls(module)
+        elif first.kind == "word" and first.text in GATES:
+            self.gate_item(module)
+        elif self.sees("input", "output"):
+            self.port_item(module)
+        elif self.sees("wire", "reg", "supply0", "supply1"):
+            self.net_item(module)
+        elif self.sees("assign"):
+            self.assign_item(module)
+        elif self.sees("always"):
+            self.register_item(module)
+        else:
+            raise Fault(f"line {first.line}: `{first.text}` begins no statement of the language")
+
+    def port_item(self, module):
+        start = self.look().start
+        shape = (self.take().text, self.kind(), self.range())
+        while True:
+            self.declare_port(module, self.take_name().text, shape)
+            if self.take(",", ";").text == ";":
+                break
+        module.port_items.append((start, self.look(-1).end))
+
+    def net_item(self, module):
+        start = self.look().start
+        kind, bounds = self.take().text, self.range()
+        while True:
+            name = self.take_name().text
+            net = module.net(name)
+            net.kind, net.stands_alone = kind, True
+            if bounds:
+                net.range = bounds
+            if self.sees("="):
+                self.take()
+                module.bare = False
+                module.assigns.append((("net", name, None), self.expression()))
+            if kind.startswith("supply"):
+                module.bare = False
+            if self.take(",", ";").text == ";":
+                break
+        if kind == "reg":
+            module.reg_items.append((start, self.look(-1).end))
+
+    def assign_item(self, module):
+        module.bare = False
+        self.take("assign")
+        while True:
+            left = self.primary()
+            self.take("=")
+            module.assigns.append((left, self.expression()))
+            if self.take(",", ";").text == ";":
+                return
+
+    def gate_item(self, module):
+        module.bare = False
+        word = self.take().text
+        while True:
+            if not self.sees("("):
+                self.take_name()
+            self.take("(")
+            terminals = [self.expression()]
+            while self.take(",", ")").text == ",":
+                terminals.append(self.expression())
+            module.gates.append((word, terminals))
+            if self.take(",", ";").text == ";":
+                return
+
+    def calls(self, module):
+        module.bare = False
+        token, comma = self.take_name(), None
+        while True:
+            name = self.take_name().text
+            connections, named = self.connections()
+            module.instances.append(Instance(token, name, connections, named, comma))
+            end = self.take(",", ";")
+            if end.text == ";":
+                return
+            comma = end
+
+    def connections(self):
+        self.take("(")
+        found, named = [], self.sees(".")
+        while not self.sees(")"):
+            if named:
+                self.take(".")
+                port = self.take_name().text
+                self.take("(")
+                value = None if self.sees(")") else self.expression()
+                self.take(")")
+                found.append((port, value))
+            else:
+                found.append(None if self.sees(",", ")") else self.expression())
+            if self.sees(","):
+                self.take()
+                if self.sees(")") and not named:
+                    found.append(None)
+        self.take(")")
+        return found, named
+
+    def register_item(self, module):
+        module.bare = False
+        start = self.take("always").start
+        self.take("@")
+        self.take("(")
+        edge = self.take("posedge", "negedge").text
+        clock = self.primary()
+        self.take(")")
+        left = self.primary()
+        self.take("<=")
+        value_start = self.look().start if self.look() else 0
+        value = self.expression()
+        value_end = self.look(-1).end
+        module.registers.append(Register(edge, clock, left, value, (value_start, value_end), (start, self.take(";").end)))
+
+    def expression(self):
+        first = self.level(0)
+        if not self.sees("?"):
+            return first
+        self.take()
+        then = self.expression()
+        self.take(":")
+        return "conditional", first, then, self.expression()
+
+    LEVELS = (("|",), ("^", "~^", "^~"), ("&",))
+
+    def level(self, depth):
+        if depth == len(self.LEVELS):
+            return self.unary()
+        parts = [self.level(depth + 1)]
+        while self.sees(*self.LEVELS[depth]):
+            self.take()
+            parts.append(self.level(depth + 1))
+        return parts[0] if len(parts) == 1 else ("chain", parts)
+
+    def unary(self):
+        if not self.sees("~"):
+            return self.primary()
+        while self.sees("~"):
+            self.take()
+        return "not", self.primary()
+
+    def primary(self):
+        token = self.take()
+        if token.kind == "name":
+            return "net", token.text, self.select()
+        if token.kind == "sized":
+            return "bits", int(token.text.split("'")[0].replace("_", ""))
+        if token.kind == "plain":
+            return "bits", 32
+        if token.text == "(":
+            inner = self.expression()
+            self.take(")")
+            return inner
+        if token.text == "{":
+            return self.braces()
+        raise Fault(f"line {token.line}: `{token.text}` begins no expression of the language")
+
+    def select(self):
+        if not self.sees("["):
+            return None
+        self.take("[")
+        left = right = self.take_number()
+        if self.take(":", "]").text == ":":
+            right = self.take_number()
+            self.take("]")
+        return left, right
+
+    def braces(self):
+        ahead = self.look(1)
+        if self.look() and self.look().kind == "plain" and ahead and ahead.text == "{" and ahead.kind == "mark":
+            count = self.take_number()
+            self.take("{")
+            inner = self.braces()
+            self.take("}")
+            return "repeat", count, inner
+        parts = [self.expression()]
+        while self.take(",", "}").text == ",":
+            parts.append(self.expression())
+        return "concatenation", parts
+
+
+def read_modules(path):
+    """The text of a file and its modules by name; a fault names the file."""
+    try:
+        with open(path, encoding="latin-1") as file:
+            text = file.read()
+    except OSError as error:
+        raise Fault(f"{path}: {error.strerror}") from None
+    try:
+        modules = Reader(text).modules()
+    except Fault as fault:
+        raise Fault(f"{path}: {fault}") from None
+    if not modules:
+        raise Fault(f"{path}: no module stands in it")
+    return text, {module.name: module for module in modules}
+
+
+def top_of(path, modules, name):
+    """The module of that name, else the one that no module instantiates."""
+    if name is not None:
+        if name not in modules:
+            raise Fault(f"{path}: there is no module {name}")
+        return modules[name]
+    used = {instance.module for module in modules.values() for instance in module.instances}
+    tops = [module for module in modules.values() if module.name not in used]
+    if len(tops) != 1:
+        raise Fault(f"{path}: {len(tops)} modules are instantiated nowhere; name the top by --top")
+    return tops[0]

@@ -1,0 +1,58 @@
+"""What the scripts of this folder read from a report of bbeq (docs/REPORT.md): its lines, its tables and its vectors."""
+import sys
+
+from language import Fault
+
+
+def read_report(path):
+    """The lines of a report; `-` is standard input. A report that is empty, cut or refused is a fault."""
+    try:
+        if path == "-":
+            text = sys.stdin.read()
+        else:
+            with open(path, encoding="latin-1") as file:
+                text = file.read()
+    except OSError as error:
+        raise Fault(f"{path}: {error.strerror}") from None
+    lines = text.splitlines()
+    if not lines:
+        raise Fault(f"{path}: the report is empty")
+    if lines[0].startswith(("refused ", "unread ")):
+        raise Fault(f"{path}: the run was refused, so there is nothing to show: {lines[0]}")
+    if not any(line.startswith("verdict ") for line in lines):
+        raise Fault(f"{path}: the report has no verdict; is it one of bbeq, and whole?")
+    return lines
+
+
+def verdict(lines):
+    return next(line.split()[1] for line in lines if line.startswith("verdict "))
+
+
+def tables(lines):
+    """The tables by the path of their box: a list of (pin, bits), in the order of the report."""
+    found = {}
+    for line in lines:
+        words = line.split()
+        if words[:1] == ["table"]:
+            if len(words) != 4 or set(words[3]) - {"0", "1"}:
+                raise Fault(f"`{line[:60]}` is no table line")
+            found.setdefault(words[1], []).append((words[2], words[3]))
+    return found
+
+
+def vectors(lines):
+    """The vectors: for each `input` line what is said before it (the check, and the output or register that is wrong) and the
+    bit of each input."""
+    found, check, wrong = [], None, None
+    for line in lines:
+        words = line.split(" ")
+        if words[0] == "rung":
+            check, wrong = words[1], None
+        elif words[0] in ("output", "next"):
+            wrong = (words[0], words[1])
+        elif words[0] == "input":
+            pairs = [word.rsplit("=", 1) for word in words[1:]]
+            if any(len(pair) != 2 or pair[1] not in ("0", "1") for pair in pairs):
+                raise Fault(f"`{line[:60]}` is no line of inputs")
+            found.append((check, wrong, dict(pairs)))
+    return found
