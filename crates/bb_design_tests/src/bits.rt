@@ -1,4 +1,4 @@
-//! Lists of bits, and the outputs of a netlist for one.
+//! The outputs of a netlist for a list of bits.
 
 use crate::fitting::fit;
 use bb_bits::Table;
@@ -6,17 +6,6 @@ use bb_net::Net;
 use std::alloc::Global;
 use std::process::Abort;
 use std::test::Fail;
-
-/// The next list of bits, the last bit as the least; after all 1 there is none.
-pub(crate) fn advance(bits: &mut [bool]) -> bool {
-    for bit in bits.iter_mut().rev() {
-        *bit = !*bit;
-        if *bit {
-            return true;
-        }
-    }
-    false
-}
 
 /// The outputs of a netlist for its inputs and the tables of its boxes.
 pub(crate) fn net_bits<R: Abort>(

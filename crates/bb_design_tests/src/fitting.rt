@@ -8,14 +8,6 @@ use bb_net::BoxPins;
 use std::alloc::Global;
 use std::test::Fail;
 
-/// How many bits the contents of a box have; boxes of small designs have few pins.
-pub(crate) fn box_bits(ins: usize, outs: usize) -> Result<usize, Fail> {
-    if ins > 4 || outs > 4 {
-        return Err(Fail::new("too many pins"));
-    }
-    Ok(outs << ins)
-}
-
 /// The table with these rows, one behind the other.
 pub(crate) fn table_of(
     alloc: Global,

@@ -10,13 +10,7 @@ mod fitting;
 #[cfg(test)]
 mod pair_tests;
 #[cfg(test)]
-mod reference;
-#[cfg(test)]
 mod refusal_tests;
-#[cfg(test)]
-mod run_pairs;
-#[cfg(test)]
-mod run_tests;
 #[cfg(test)]
 mod size_tests;
 #[cfg(test)]
@@ -25,5 +19,3 @@ mod sound_tests;
 mod telling;
 #[cfg(test)]
 mod value_tests;
-#[cfg(test)]
-mod values;

@@ -1,10 +1,11 @@
 //! Two designs laid beside each other, or why they are refused: words and names are worked out by hand.
 
-use crate::bits::{advance, net_bits};
+use crate::bits::net_bits;
 use crate::designs::{CHAINED, SYNTHESIZED, WRITTEN};
 use crate::telling::{flat_of, tell_name, tell_named};
 use bb_match::{MatchFault, pair};
 use bb_net::Pair;
+use bb_reference::advance;
 use std::alloc::{AllocError, Global};
 use std::process::Abort;
 use std::test::Fail;

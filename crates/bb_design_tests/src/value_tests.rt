@@ -1,14 +1,14 @@
 //! Small designs: the names of their inputs, registers, outputs and boxes by hand, and the values of all outputs for all vectors and
 //! all contents of the boxes against the plain reference.
 
-use crate::bits::{advance, net_bits};
+use crate::bits::net_bits;
 use crate::designs::{DESIGNS, TRUTHS};
-use crate::fitting::{box_bits, table_of};
-use crate::reference::{Spot, World};
+use crate::fitting::table_of;
 use crate::telling::{flat_of, tell_name};
 use bb_ast::Source;
 use bb_bits::{Name, Table};
 use bb_elab::Flat;
+use bb_reference::{Circuit, advance, content_bits, read};
 use std::alloc::{AllocError, Global};
 use std::process::Abort;
 use std::test::Fail;
@@ -47,43 +47,39 @@ fn names(alloc: Global, flat: &Flat) -> Result<String, AllocError> {
     Ok(out)
 }
 
-// A flat netlist beside the plain reference: where the bits of its inputs and outputs stand there.
+// A flat netlist beside the plain reference, which has its inputs and outputs in the same order.
 #[derive(Drop)]
 struct Compared<'a> {
     flat: Flat,
-    world: World<'a>,
-    ins: Vec<Spot>,
-    outs: Vec<(Spot, bool)>,
+    circuit: Circuit<'a>,
+}
+
+// Adds the inputs and the outputs of ports.
+fn add_ports(alloc: Global, circuit: &mut Circuit<'_>, flat: &Flat) -> Result<(), Fail> {
+    for name in flat.ins() {
+        circuit.add_input(alloc, name.bytes())?;
+    }
+    for name in flat.outs() {
+        circuit.add_output(alloc, name.bytes(), false)?;
+    }
+    Ok(())
 }
 
 fn beside<'a>(alloc: Global, flat: Flat, source: &'a Source) -> Result<Compared<'a>, Fail> {
-    let world = World::of(alloc, source, b"t")?;
-    let mut ins = Vec::new(alloc);
-    for name in flat.ins() {
-        ins.push(world.find(alloc, name.bytes())?)?;
-    }
-    let mut outs = Vec::new(alloc);
-    for name in flat.outs() {
-        outs.push((world.find(alloc, name.bytes())?, false))?;
-    }
+    let mut circuit = Circuit::new(alloc, source, b"t")?;
+    add_ports(alloc, &mut circuit, &flat)?;
     for reg in flat.regs() {
-        let spot = world.find(alloc, reg.text.bytes())?;
-        ins.push(spot)?;
-        outs.push((spot, true))?;
+        circuit.add_input(alloc, reg.text.bytes())?;
+        circuit.add_output(alloc, reg.text.bytes(), true)?;
     }
-    Ok(Compared {
-        flat,
-        world,
-        ins,
-        outs,
-    })
+    Ok(Compared { flat, circuit })
 }
 
 // How many bits the contents of all boxes have.
-fn content_bits(flat: &Flat) -> Result<usize, Fail> {
+fn all_bits(flat: &Flat) -> Result<usize, Fail> {
     let mut bits = 0usize;
     for of in flat.boxes() {
-        bits = bits.saturating_add(box_bits(of.ins().len(), of.outs().len())?);
+        bits = bits.saturating_add(content_bits(of.ins().len(), of.outs().len())?);
     }
     Ok(bits)
 }
@@ -93,32 +89,13 @@ fn fill(alloc: Global, on: &mut Compared<'_>, contents: &[bool]) -> Result<Vec<T
     let mut tables = Vec::new(alloc);
     let mut rest = contents;
     for of in on.flat.boxes() {
-        let bits = box_bits(of.ins().len(), of.outs().len())?;
+        let bits = content_bits(of.ins().len(), of.outs().len())?;
         let (rows, more) = rest.split_at_checked(bits).ok_or("too few contents")?;
-        on.world.fill(alloc, of.path().bytes(), rows)?;
+        on.circuit.fill(alloc, of.path().bytes(), rows)?;
         tables.push(table_of(alloc, of.ins().len(), of.outs().len(), rows)?)?;
         rest = more;
     }
     Ok(tables)
-}
-
-// The outputs and next states by the reference, for a vector.
-fn world_bits(
-    alloc: Global,
-    world: &mut World<'_>,
-    ins: &[Spot],
-    outs: &[(Spot, bool)],
-    x: &[bool],
-) -> Result<Vec<bool>, Fail> {
-    for (spot, bit) in ins.iter().zip(x) {
-        world.set(*spot, *bit)?;
-    }
-    world.settle(alloc)?;
-    let mut bits = Vec::new(alloc);
-    for (spot, next) in outs {
-        bits.push(world.bit(*spot, *next)?)?;
-    }
-    Ok(bits)
 }
 
 // Compares all outputs for all vectors.
@@ -129,10 +106,10 @@ fn compare_vectors<R: Abort>(
     tables: &[Table],
     text: &str,
 ) -> Result<(), Fail> {
-    let mut x = vec![in alloc; false; on.ins.len()]?;
+    let mut x = vec![in alloc; false; on.circuit.inputs()]?;
     for _ in 0..4096 {
         let found = net_bits(rt, alloc, on.flat.net(), tables, &x)?;
-        let expected = world_bits(alloc, &mut on.world, &on.ins, &on.outs, &x)?;
+        let expected = on.circuit.bits(alloc, &x)?;
         assert_eq!(rt; found, expected, "{text}");
         if !advance(&mut x) {
             break;
@@ -144,10 +121,8 @@ fn compare_vectors<R: Abort>(
 // Compares all outputs for all contents and all vectors.
 fn compare<R: Abort>(rt: &R, alloc: Global, text: &str) -> Result<(), Fail> {
     let flat = flat_of(rt, alloc, text.as_bytes(), Some(b"t"))?;
-    assert!(rt; text.len() <= 33_554_432);
-    let tokens = bb_lex::tokens(alloc, text.as_bytes())?;
-    let source = bb_parse::source(alloc, &tokens, text.as_bytes())?;
-    let mut contents = vec![in alloc; false; content_bits(&flat)?]?;
+    let source = read(alloc, text.as_bytes())?;
+    let mut contents = vec![in alloc; false; all_bits(&flat)?]?;
     let mut on = beside(alloc, flat, &source)?;
     for _ in 0..4096 {
         let tables = fill(alloc, &mut on, &contents)?;
@@ -179,23 +154,13 @@ fn values_are_those_of_the_reference(rt: HostRuntime) -> Result<(), Fail> {
 
 // The outputs and next states by the reference, vector after vector in rising order. A next state is written with a quote.
 fn truth(alloc: Global, source: &Source, ins: &str, outs: &str) -> Result<String, Fail> {
-    let mut world = World::of(alloc, source, b"t")?;
-    let mut from = Vec::new(alloc);
-    for name in ins.split(' ') {
-        from.push(world.find(alloc, name.as_bytes())?)?;
-    }
-    let mut to = Vec::new(alloc);
-    for name in outs.split(' ') {
-        let next = name.strip_suffix("'");
-        to.push((
-            world.find(alloc, next.unwrap_or(name).as_bytes())?,
-            next.is_some(),
-        ))?;
-    }
+    let mut circuit = Circuit::new(alloc, source, b"t")?;
+    circuit.add_inputs(alloc, ins)?;
+    circuit.add_outputs(alloc, outs)?;
     let mut text = String::new(alloc);
-    let mut x = vec![in alloc; false; from.len()]?;
+    let mut x = vec![in alloc; false; circuit.inputs()]?;
     for _ in 0..4096 {
-        for bit in world_bits(alloc, &mut world, &from, &to, &x)? {
+        for bit in circuit.bits(alloc, &x)? {
             text.push(if bit { '1' } else { '0' })?;
         }
         if !advance(&mut x) {
@@ -210,9 +175,7 @@ fn truth(alloc: Global, source: &Source, ins: &str, outs: &str) -> Result<String
 fn the_reference_has_the_values_by_hand(rt: HostRuntime) -> Result<(), Fail> {
     let alloc = rt.alloc();
     for (text, ins, outs, expected) in TRUTHS {
-        assert!(rt; text.len() <= 33_554_432);
-        let tokens = bb_lex::tokens(alloc, text.as_bytes())?;
-        let source = bb_parse::source(alloc, &tokens, text.as_bytes())?;
+        let source = read(alloc, text.as_bytes())?;
         let found = truth(alloc, &source, ins, outs)?;
         assert_eq!(&rt; found.as_str(), expected, "{text}");
     }

@@ -1,0 +1,19 @@
+//! Whole reports of small pairs of texts against the plain evaluator: pairs by hand and pairs that are drawn.
+#![tactic(auto)]
+
+#[cfg(test)]
+mod both;
+#[cfg(test)]
+mod comparing;
+#[cfg(test)]
+mod drawing;
+#[cfg(test)]
+mod lines;
+#[cfg(test)]
+mod pairs;
+#[cfg(test)]
+mod random_tests;
+#[cfg(test)]
+mod report_tests;
+#[cfg(test)]
+mod writing;
