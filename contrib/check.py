@@ -13,8 +13,9 @@ TOP = os.path.dirname(HERE)
 BBEQ = os.environ["BBEQ"]
 DESIGNS = os.path.join(HERE, "designs")
 REFUSED = os.path.join(DESIGNS, "refused")
+WARNED = os.path.join(DESIGNS, "warned")
 SCRIPTS = ("gates", "fill", "wave", "order", "drat", "lrat", "check")
-LIMIT = 300  # Seconds for one command.
+LIMIT = int(os.environ.get("CHECK_SECONDS", "300"))  # Seconds for one command.
 MADE_BY = "0.23"  # The yosys that made the examples.
 
 
@@ -150,10 +151,22 @@ def gates_part(tally, folder):
         tally.note(f"gates refuses {os.path.basename(source)}: {lines[0] if lines else ''}",
                    done.status == 1 and not done.out and lines and all(line in expected for line in lines), done.why())
     tally.note("gates tells all that is expected of the refused designs", sorted(told) == sorted(expected))
+    warned_designs(tally)
     for bit in "01":
         done = run([script("gates"), "--undef", bit, "undefined.v"], REFUSED)
         tally.note(f"gates --undef {bit} takes an undefined value", done.status == 0 and "boxes" in done.out, done.why())
     yosys_tests(tally, folder)
+
+
+def warned_designs(tally):
+    """What yosys warns of is told with its line, and the design is translated."""
+    wanted = [line for line in read(os.path.join(WARNED, "EXPECTED")).splitlines() if not line.startswith("#")]
+    for source in designs_in(WARNED):
+        name = os.path.basename(source)
+        done = run([script("gates"), name], WARNED)
+        lines = [line.removeprefix("gates: ") for line in done.err.splitlines()]
+        right = done.status == 0 and done.out and lines == [line for line in wanted if line.startswith(name)]
+        tally.note(f"gates warns of {lines[0] if lines else name}", right, done.why())
 
 
 def yosys_tests(tally, folder):
@@ -266,8 +279,14 @@ def wave_part(tally, folder):
         waves = os.path.join(folder, f"{name}.vcd")
         done = run([script("wave"), report, spec, implementation, "--vcd", waves])
         marked = [line for line in done.out.splitlines() if "named by the report" in line]
+        vector = [line for line in read(report).splitlines() if line.startswith("input ")]
         right = done.status == 0 and os.path.getsize(waves) > 100 and (not wrong or len(marked) == 1 and "wrong" in marked[0])
         tally.note(f"wave {name}: the wrong output is seen", right, done.why())
+        tally.note(f"wave {name}: the vector stands above the table", vector == done.out.splitlines()[1:2], done.why())
+    open_bit = run([script("wave"), write(folder, "adder", bbeq(example("adder", "spec.v"), example("adder", "impl.v")).out),
+                    example("adder", "spec.v"), example("adder", "impl.v")], folder)
+    tally.note("wave adder: what the box leaves open is x", re.search(r"^output cout +0 +x$", open_bit.out, re.MULTILINE),
+               open_bit.why())
     spec = write(folder, "s.v", REGISTERED.format("q <= d ^ q", "q[1] & ~q[0]"))
     implementation = write(folder, "i.v", REGISTERED.format("q <= d ^ {q[0], q[0]}", "q[1] & ~q[0]"))
     report = write(folder, "report", bbeq(spec, implementation).out)
@@ -382,6 +401,7 @@ def bad_part(tally, folder):
         for report in ("nowhere", empty, refused, cut, noise, opened):
             done = run([script(name), report, *words], folder)
             tally.note(f"{name} with the report `{os.path.basename(report)}`", is_told(done, name), done.why())
+    bad_pairs(tally, folder)
     report = write(folder, "report", "rung input repair\ntable u co 00010111\nverdict repairable\n")
     vector = write(folder, "vector", "rung ternary error\noutput sum\ninput a=0 b=0 cin=0\nverdict error\n")
     for name, words in (
@@ -396,6 +416,34 @@ def bad_part(tally, folder):
         done = run([script(name), *words], folder)
         shown = " ".join(os.path.basename(word) for word in words)
         tally.note(f"{name} {shown}: {done.err.strip().replace(folder + '/', '')}", is_told(done, name), done.why())
+
+
+GATES, OTHER = "which `gates` makes of RTL", "the report is of other texts"
+
+
+def bad_pairs(tally, folder):
+    """RTL in the place of a text that bbeq read, a report of other texts, and one that shows no vector: what to do is told."""
+    spec, implementation, rtl = example("carry", "spec.v"), example("carry", "impl.v"), example("counter", "unfinished.v")
+    tables = write(folder, "tables", "rung input repair\ntable u co 00010111\nverdict repairable\n")
+    short = write(folder, "short", "rung input repair\ntable u co 0001\nverdict repairable\n")
+    vector = write(folder, "wrong", "rung ternary error\noutput sum\ninput a=0 b=0 cin=0\nverdict error\n")
+    other = write(folder, "other", "rung ternary error\noutput y\ninput a=0 b=0\nverdict error\n")
+    longer = write(folder, "longer", "rung ternary error\noutput y\ninput a=0 b=0 cin=0 d=1\nverdict error\n")
+    nameless = write(folder, "nameless", "rung ternary error\noutput y\ninput a=0 b=0 cin=0\nverdict error\n")
+    without = write(folder, "without", "rung input error\nverdict error\n")
+    whole = write(folder, "whole", "rung output error\ninput a=0 b=0 cin=0\nverdict error\n")
+    for name, words, wanted in (
+            ("fill", [tables, rtl], GATES), ("wave", [vector, rtl, implementation], GATES), ("wave", [vector, spec, rtl], GATES),
+            ("order", [rtl], GATES), ("fill", [short, implementation], OTHER), ("fill", [tables, spec], OTHER),
+            ("fill", [tables, example("lanes", "impl.v")], OTHER), ("wave", [vector, spec, implementation], OTHER),
+            ("wave", [other, spec, implementation], OTHER), ("wave", [longer, spec, implementation], OTHER),
+            ("wave", [nameless, spec, implementation], OTHER), ("wave", [without, spec, implementation], "shows no vector"),
+            ("wave", [tables, spec, implementation], "no wrong vector"), ("wave", [whole, spec, spec], OTHER),
+            ("fill", [vector, implementation], "no tables")):
+        done = run([script(name), *words], folder)
+        shown = " ".join(os.path.basename(word) for word in words)
+        tally.note(f"{name} {shown} says what to do: {done.err.strip().replace(folder + '/', '')}",
+                   is_told(done, name) and wanted in done.err, done.why())
 
 
 # The manual page and the installation

@@ -469,7 +469,7 @@ def read_modules(path):
     try:
         modules = Reader(text).modules()
     except Fault as fault:
-        raise Fault(f"{path}: {fault}") from None
+        raise Fault(f"{path}: {fault}; give the text that bbeq read, which `gates` makes of RTL") from None
     if not modules:
         raise Fault(f"{path}: no module stands in it")
     return text, {module.name: module for module in modules}

@@ -3,6 +3,8 @@ import sys
 
 from language import Fault
 
+OTHER = "the report is of other texts: run bbeq on these and give its report"
+
 
 def read_report(path):
     """The lines of a report; `-` is standard input. A report that is empty, cut or refused is a fault."""
@@ -20,7 +22,7 @@ def read_report(path):
     if lines[0].startswith(("refused ", "unread ")):
         raise Fault(f"{path}: the run was refused, so there is nothing to show: {lines[0]}")
     if not any(line.startswith("verdict ") for line in lines):
-        raise Fault(f"{path}: the report has no verdict; is it one of bbeq, and whole?")
+        raise Fault(f"{path}: the report has no verdict: give what bbeq printed, the whole of it")
     return lines
 
 
