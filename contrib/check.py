@@ -45,10 +45,10 @@ class Done:
         return f"status {self.status}; {(self.err + self.out).strip()[:300]}"
 
 
-def run(words, folder=None, text=None):
+def run(words, folder=None, text=None, env=None):
     try:
         done = subprocess.run(words, cwd=folder, input=text, capture_output=True, text=True, errors="replace", timeout=LIMIT,
-                              check=False, stdin=subprocess.DEVNULL if text is None else None)
+                              check=False, env=env, stdin=subprocess.DEVNULL if text is None else None)
     except subprocess.TimeoutExpired:
         return Done("none in time", "", "")
     return Done(done.returncode, done.stdout, done.stderr)
@@ -473,7 +473,63 @@ def install_part(tally, folder):
     done = run([install, "--remove", prefix])
     tally.note("install --remove where nothing is", is_told(done, "install"), done.why())
     tally.note("install --help", run([install, "--help"]).status == 0)
-    tally.note("install without words", run([install]).status != 0)
+    for words in ([], ["--remove"], ["--no-such-word"], [prefix, prefix], ["/dev/null/below"]):
+        done = run([install, *words])
+        shown = " ".join(words).replace(folder + "/", "") or "without words"
+        tally.note(f"install {shown}", is_told(done, "install"), done.why())
+    done = run([install, prefix], env={**os.environ, "BBEQ": os.path.join(folder, "nowhere")})
+    tally.note("install where $BBEQ is no program", is_told(done, "install"), done.why())
+    build_part(tally, folder)
+
+
+STANDS_FOR_RT = """#!/bin/sh
+# A check passes unless it is of the crate $NOT_PROVED, and a run leaves the program.
+case $1 in
+check) [ "$(basename "$PWD")" != "${NOT_PROVED-}" ] || { echo "it is not proved"; exit 1; } ;;
+run) mkdir -p out && cp "$BUILT" out/bbeq ;;
+esac
+"""
+TOOLS = "awk basename cat chmod cp date dirname env find head mkdir mv readlink rm sh sleep tail wc".split()
+
+
+def sources(folder):
+    """A copy of what ./bbeq and install read, with crates that are empty, and a folder of tools with rt and one without."""
+    top = os.path.join(folder, "sources")
+    for line in read(os.path.join(TOP, "crates.txt")).splitlines():
+        if line and not line.startswith("#"):
+            os.makedirs(os.path.join(top, "crates", line.split(":")[0], "src"))
+    os.makedirs(os.path.join(top, "docs"))
+    for name in ("bbeq", "install", "crates.txt", "docs/bbeq.1"):
+        shutil.copy(os.path.join(TOP, name), os.path.join(top, name))
+    for name in ("with", "without"):
+        os.makedirs(os.path.join(folder, name))
+        for tool in TOOLS:
+            os.symlink(shutil.which(tool), os.path.join(folder, name, tool))
+    os.chmod(write(os.path.join(folder, "with"), "rt", STANDS_FOR_RT), 0o755)
+    return top
+
+
+def build_part(tally, folder):
+    """Installs from sources where nothing is built, with a script in the place of rt, so that nothing is proved."""
+    top, prefix = sources(folder), os.path.join(folder, "built")
+    program, install = os.path.join(prefix, "bin", "bbeq"), os.path.join(top, "install")
+    env = {"PATH": os.path.join(folder, "without"), "BUILT": BBEQ}
+    done = run([install, prefix], env=env)
+    tally.note("install without rt", done.status == 1 and not os.path.exists(program) and "PATH" in done.err, done.why())
+    env["PATH"] = os.path.join(folder, "with")
+    done = run([install, prefix], env={**env, "NOT_PROVED": "bb_net"})
+    tally.note("install where a crate is not proved",
+               done.status == 1 and not os.path.exists(program) and "bb_net is not proved" in done.err, done.why())
+    done = run([install, prefix], env=env)
+    tally.note("install builds what is not built", done.status == 0 and done.out.split("\n")[0] == program
+               and "building the program" in done.err, done.why())
+    done = run([install, prefix], env=env)
+    tally.note("install takes what is built", done.status == 0 and os.path.exists(program) and not done.err, done.why())
+    write(os.path.join(top, "crates", "bb_net", "src"), "lib.rt", "")
+    done = run([install, prefix], env=env)
+    tally.note("install builds again where a source is newer", done.status == 0 and "building the program" in done.err, done.why())
+    done = run([os.path.join(top, "bbeq"), "spec.v", "impl.v"], example("nor"), env=env)
+    tally.note("./bbeq runs in the caller's folder", done.status == 1 and done.out.endswith("verdict error\n"), done.why())
 
 
 # Documents: in a block of the kind `console` each line behind `$ ` is run, and what it prints stands below it. In other blocks a
