@@ -404,8 +404,18 @@ def bad_part(tally, folder):
     bad_pairs(tally, folder)
     report = write(folder, "report", "rung input repair\ntable u co 00010111\nverdict repairable\n")
     vector = write(folder, "vector", "rung ternary error\noutput sum\ninput a=0 b=0 cin=0\nverdict error\n")
+    endless = write(folder, "endless.v", "module a(input x, output y); b u(x, y); endmodule\n"
+                    "module b(input x, output y); a u(x, y); endmodule\n")
+    hole = write(folder, "hole.v", "module hole(input a, output y);\nendmodule\n")
+    adders = example("adder", "spec.v"), example("adder", "impl.v")
+    adder, proof = write(folder, "adder", bbeq(*adders).out), write(folder, "proof", SMALL_PROOF)
     for name, words in (
             ("gates", ["nowhere.v"]), ("gates", [empty]), ("gates", [broken]), ("gates", ["--top", "other", rtl]),
+            ("gates", ["--top", "", rtl]), ("gates", ["--top", "counter", "--parameter", "WIDTH", rtl]),
+            ("gates", ["--top", "counter", "--parameter", "OTHER=1", rtl]), ("gates", [endless]), ("gates", [hole]),
+            ("wave", [adder, *adders, "--vcd", "no/such/folder.vcd"]), ("wave", [adder, *adders, "--vcd", folder]),
+            ("fill", [report, implementation, "-o", "no/such/folder.v"]), ("order", [spec, "-o", "no/such/folder.v"]),
+            ("drat", [proof, "-o", "no/such/folder"]), ("fill", [folder, implementation]), ("lrat", [BBEQ, BBEQ]),
             ("gates", [os.path.join(REFUSED, "no_clock.v")]), ("gates", [folder]), ("gates", [rtl, "-o", "no/such/folder.v"]),
             ("fill", [report, "nowhere.v"]), ("fill", [report, empty]), ("fill", [report, broken]), ("fill", [report, rtl]),
             ("fill", [report, spec]), ("wave", [vector, "nowhere.v", implementation]), ("wave", [vector, spec, broken]),

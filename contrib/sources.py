@@ -47,6 +47,11 @@ def run_yosys(script, folder):
         missing = re.search(r"Module `\\\\?(\S+)' referenced in module", lines[0] if lines else "")
         if missing:
             raise Fault(f"module {missing.group(1)} is not in the sources; an empty module with its ports makes it a box")
+        parameter = re.search(r"Can't find object for defparam `(.*)`", lines[0] if lines else "")
+        if parameter:
+            raise Fault(f"the top has no parameter {parameter.group(1)}")
+        if done.returncode < 0:
+            raise Fault(f"yosys was ended by signal {-done.returncode}, as where modules instantiate each other without end")
         raise Fault(re.sub(r"\s*ERROR:\s*", " ", lines[0]).strip() if lines else f"yosys ended with {done.returncode}")
     return done.stdout + done.stderr
 
