@@ -14,7 +14,7 @@ pub take_entry : (entries : List Entry) (i : ℕ) (e : Entry) → slice_get entr
 take_entry entries i e stands =
     take_more entries i e (slice_get_within entries i e stands) ∙ ap (λ x. take i entries ++ x ∷ []) (get_or_from_slice_get entries i e e stands)
 
-falsified_more : (entries : List Entry) (i : ℕ) (e : Entry) (m : Lit) → slice_get entries i ≡ Some e → falsified (take (i + 1) entries) m ≡ (falsified (take i entries) m || same_literal (opposite e.lit) m)
+pub falsified_more : (entries : List Entry) (i : ℕ) (e : Entry) (m : Lit) → slice_get entries i ≡ Some e → falsified (take (i + 1) entries) m ≡ (falsified (take i entries) m || same_literal (opposite e.lit) m)
 falsified_more entries i e m stands = ap (λ es. falsified es m) (take_entry entries i e stands) ∙ falsified-push (take i entries) e m
 
 swapped : (a b : Bool) → (a || b) ≡ true → (b || a) ≡ true

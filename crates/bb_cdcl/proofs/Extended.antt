@@ -88,7 +88,7 @@ more_reasons clauses c entries before i d stands = more_reason clauses c (take i
 pub lists_of-push : (clauses : List (SmallVec Lit)) (c : SmallVec Lit) → lists_of (clauses ++ c ∷ []) ≡ lists_of clauses ++ c.items ∷ []
 lists_of-push clauses c = map-append (λ (k : SmallVec Lit). k.items) clauses (c ∷ [])
 
-any_front : {A : Type 0} (p : A → Bool) (xs : List A) (n : ℕ) → list_any p xs ≡ false → list_any p (take n xs) ≡ false
+pub any_front : {A : Type 0} (p : A → Bool) (xs : List A) (n : ℕ) → list_any p xs ≡ false → list_any p (take n xs) ≡ false
 any_front p [] zero none = refl
 any_front p [] (suc n) none = refl
 any_front p (x ∷ xs) zero none = refl

@@ -7,4 +7,5 @@ pub mod Happens
 pub mod Literals
 pub mod Measured
 pub mod Resolved
+pub mod Shortened
 pub mod Started

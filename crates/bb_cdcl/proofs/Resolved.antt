@@ -24,15 +24,15 @@ first_taken : {A : Type 0} (a : Bool) (e : A) (o : Option A) → a ≡ true → 
 first_taken true e o h n = absurd (let clash : Some e ≡ None = n in cc)
 first_taken false e o h n = no_clash h
 
-which : {A : Type 0} (a b : Bool) (e f g : A) → (if a then Some e else (if b then Some f else None)) ≡ Some g → ((a ≡ true) × (e ≡ g)) ⊎ ((a ≡ false) × (f ≡ g))
+pub which : {A : Type 0} (a b : Bool) (e f g : A) → (if a then Some e else (if b then Some f else None)) ≡ Some g → ((a ≡ true) × (e ≡ g)) ⊎ ((a ≡ false) × (f ≡ g))
 which true b e f g is = inl (refl, let s : Some e ≡ Some g = is in cc)
 which false true e f g is = inr (refl, let s : Some f ≡ Some g = is in cc)
 which false false e f g is = absurd (let s : None ≡ Some g = is in cc)
 
-abbrev lit_of : ℕ → Bool → Lit
+abbrev pub lit_of : ℕ → Bool → Lit
 lit_of x s = record { var = x; neg = s }
 
-both_true : (a b : Bool) → a ≡ true → b ≡ true → (a && b) ≡ true
+pub both_true : (a b : Bool) → a ≡ true → b ≡ true → (a && b) ≡ true
 both_true a b x y = ap (λ t. t && b) x ∙ y
 
 -- the one clause has the negation of the literal, the other has the literal: they can be resolved
@@ -46,7 +46,7 @@ resolves l c d e true mine yours some none = some refl
 resolves l c d e false mine yours some none = absurd (resolves_by l.var l.neg c d mine yours (none refl))
 
 -- what is left after the literal and its negation are resolved away
-own_resolvent : (f c d : Literals) (l : Lit) → ((m : Lit) → c m ≡ true → (f m || same_literal (opposite l) m) ≡ true)
+pub own_resolvent : (f c d : Literals) (l : Lit) → ((m : Lit) → c m ≡ true → (f m || same_literal (opposite l) m) ≡ true)
     → ((m : Lit) → d m ≡ true → (same_literal l m || f m) ≡ true) → (m : Lit) → resolvent c d (opposite l) l m ≡ true → f m ≡ true
 own_resolvent f c d l mine yours m is =
     elim (or_true (c m && not (same_literal (opposite l) m)) (d m && not (same_literal l m)) is) as (λ _. f m ≡ true) [
@@ -78,7 +78,7 @@ resolved_by x true f c d e new apart mine yours has_own has_other is m member =
       | inr second ↦ no_clash (sym second.0 ∙ both_true (c (positive x)) (d (negated x)) has_own has_other)
     ]
 
-not_opposite : (x : ℕ) (s : Bool) → same_literal (opposite (lit_of x s)) (lit_of x s) ≡ false
+pub not_opposite : (x : ℕ) (s : Bool) → same_literal (opposite (lit_of x s)) (lit_of x s) ≡ false
 not_opposite x true = none (x == x) where
   none : (b : Bool) → (b && false) ≡ false
   none true = refl

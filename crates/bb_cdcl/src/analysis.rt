@@ -12,9 +12,11 @@ ghost use Rattle.bb_cdcl.specs.Analysis.{AreFalsified, IsCovered, IsJump, IsReso
 use crate::NoMemory;
 use crate::events::clause_at;
 use crate::guide::Guide;
+use crate::shortening::shorten;
 use crate::trail::{Entry, negation};
 use bb_cnf::{Lit, PartialResolvent, laws};
 use smallvec::SmallVec;
+use std::alloc::Global;
 
 /// The trail is taken back to the decision at the place `back`. Then the learned clause implies the negation of the
 /// literal at `place`.
@@ -102,8 +104,37 @@ fn resolve_at(
     Ok(())
 }
 
+// Where at most one literal of the conflict's level is left, resolves others away and looks for a decision to go back
+// to.
+fn stop(
+    alloc: Global,
+    resolvent: &mut PartialResolvent,
+    clauses: &[SmallVec<Lit, 4>],
+    entries: &[Entry],
+    place: usize,
+    pairs: &mut Vec<(u64, u32)>,
+    guide: &Guide,
+) -> Result<Option<usize>, NoMemory>
+    requires within { place < length entries.now }
+    requires new { AreNew entries.now }
+    requires reasons { HaveReasons (lists_of clauses.now) entries.now }
+    requires covered { IsCovered entries.now (held resolvent.old) place place }
+    requires listed { AreListed resolvent.old }
+    ensures covered { OnOk result (IsCovered entries.now (held resolvent.new) place place) }
+    ensures jump { IfOk result (λ back. IfSome back (IsJump entries.now (held resolvent.new) place)) }
+    ensures resolved { OnOk result ((first : Literals) → IsResolved (lists_of clauses.now) first pairs.old.items resolvent.old → IsResolved (lists_of clauses.now) first pairs.new.items resolvent.new) }
+    ensures listed { OnOk result (AreListed resolvent.new) }
+{
+    if entry_at(entries, place).reason.is_some() && !guide.is_asserting() {
+        return Ok(None);
+    }
+    shorten(alloc, resolvent, clauses, entries, place, pairs, guide)?;
+    Ok(jump_back(resolvent, entries, place))
+}
+
 // Looks at the literal at a place: resolves with its reason, or stops there, where the resolvent has its negation.
 fn step(
+    alloc: Global,
     resolvent: &mut PartialResolvent,
     clauses: &[SmallVec<Lit, 4>],
     entries: &[Entry],
@@ -124,12 +155,10 @@ fn step(
     if !has_at(resolvent, entries, place) {
         return Ok(None);
     }
-    let entry = entry_at(entries, place);
-    if entry.reason.is_none() || guide.is_asserting() {
-        if let Some(back) = jump_back(resolvent, entries, place) {
-            return Ok(Some(back));
-        }
+    if let Some(back) = stop(alloc, resolvent, clauses, entries, place, pairs, guide)? {
+        return Ok(Some(back));
     }
+    let entry = entry_at(entries, place);
     match entry.reason {
         None => Ok(Some(place)),
         Some(reason) => {
@@ -143,6 +172,7 @@ fn step(
 
 /// Resolves along the trail. Where no literal is left, the answer is none.
 pub(crate) fn analyze(
+    alloc: Global,
     resolvent: &mut PartialResolvent,
     clauses: &[SmallVec<Lit, 4>],
     entries: &[Entry],
@@ -161,7 +191,7 @@ pub(crate) fn analyze(
     let mut place = entries.len();
     while place > 0 {
         place -= 1;
-        if let Some(back) = step(resolvent, clauses, entries, place, pairs, guide)? {
+        if let Some(back) = step(alloc, resolvent, clauses, entries, place, pairs, guide)? {
             return Ok(Some(Jump { place, back }));
         }
     }

@@ -5,16 +5,20 @@ use crate::scores::{Scores, read, write};
 use bb_cnf::{Lit, PartialResolvent};
 use std::alloc::Global;
 
-/// Scores, the last bit of each variable, and the level of each that has a value; and for the analysis of a conflict
-/// its level and how many literals of that level the resolvent has.
+/// Scores, the last bit of each variable, and the level of each that has a value with its place on the trail; and for
+/// the analysis of a conflict its level, how many literals of that level the resolvent has, and the variables of the
+/// other literals that it got: the first `count` ones of a list.
 #[derive(Drop)]
 pub(crate) struct Guide {
     scores: Scores,
     bits: Vec<bool>,
     levels: Vec<u32>,
+    places: Vec<usize>,
     level: u32,
     top: u32,
     open: usize,
+    found: Vec<u32>,
+    count: usize,
 }
 
 impl Guide {
@@ -25,9 +29,12 @@ impl Guide {
             scores: Scores::new(alloc, vars)?,
             bits: vec![in alloc; false; size]?,
             levels: vec![in alloc; 0; size]?,
+            places: vec![in alloc; 0; size]?,
             level: 0,
             top: 0,
             open: 0,
+            found: vec![in alloc; 0; size]?,
+            count: 0,
         })
     }
 
@@ -46,15 +53,26 @@ impl Guide {
         None
     }
 
-    /// A literal was decided.
-    pub(crate) fn decided(&mut self, lit: Lit) {
+    /// A literal was decided, and comes to this place.
+    pub(crate) fn decided(&mut self, lit: Lit, place: usize) {
         self.level = self.level.saturating_add(1);
-        self.implied(lit);
+        self.implied(lit, place);
     }
 
-    /// A literal was implied.
-    pub(crate) fn implied(&mut self, lit: Lit) {
+    /// A literal was implied, and comes to this place.
+    pub(crate) fn implied(&mut self, lit: Lit, place: usize) {
         write(&mut self.levels, lit.var, self.level);
+        if (lit.var as usize) < self.places.len() {
+            self.places[lit.var as usize] = place;
+        }
+    }
+
+    /// The place of a variable.
+    pub(crate) fn place(&self, var: u32) -> usize {
+        match self.places.get(var as usize) {
+            Some(place) => *place,
+            None => 0,
+        }
     }
 
     /// A literal was taken back.
@@ -94,14 +112,28 @@ impl Guide {
         (first, second)
     }
 
+    // The resolvent gets a literal of this variable.
+    fn finds(&mut self, var: u32) {
+        self.scores.reward(var);
+        if read(&self.levels, var) == self.top {
+            self.open = self.open.saturating_add(1);
+        } else if self.count < self.found.len() {
+            self.found[self.count] = var;
+            self.count += 1;
+        }
+    }
+
+    /// The variables of the literals of other levels than the conflict's that the resolvent got.
+    pub(crate) fn found(&self) -> &[u32] {
+        let count = self.count.min(self.found.len());
+        &self.found[..count]
+    }
+
     /// Rewards the variables that a clause adds to the resolvent, and counts those of the conflict's level.
     pub(crate) fn adds(&mut self, resolvent: &PartialResolvent, clause: &[Lit]) {
         for lit in clause {
             if !resolvent.has(*lit) {
-                self.scores.reward(lit.var);
-                if read(&self.levels, lit.var) == self.top {
-                    self.open = self.open.saturating_add(1);
-                }
+                self.finds(lit.var);
             }
         }
     }
@@ -110,6 +142,7 @@ impl Guide {
     pub(crate) fn begin(&mut self, resolvent: &PartialResolvent, clause: &[Lit]) {
         self.top = self.highest(clause);
         self.open = 0;
+        self.count = 0;
         self.scores.age();
         self.adds(resolvent, clause);
     }

@@ -9,6 +9,7 @@ mod guide;
 mod outcome;
 mod scores;
 mod search;
+mod shortening;
 mod solver;
 mod start;
 mod state;

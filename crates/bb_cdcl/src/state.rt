@@ -78,7 +78,7 @@ fn conflict_step(
     let clause = clause_at(clauses, number);
     guide.begin(resolvent, clause);
     resolvent.put_all(clause)?;
-    let jump = analyze(resolvent, clauses, &trail.entries, &mut rest, guide)?;
+    let jump = analyze(alloc, resolvent, clauses, &trail.entries, &mut rest, guide)?;
     Ok((
         jump,
         Step {
@@ -134,7 +134,7 @@ pub(crate) fn go_back(
     let entry = entry_at(&s.trail.entries, jump.place);
     pop_to(&mut s.trail, guide, jump.back);
     let lit = negation(entry.lit);
-    guide.implied(lit);
+    guide.implied(lit, jump.back);
     extend(s, lit, Some(reason))?;
     Ok(())
 }

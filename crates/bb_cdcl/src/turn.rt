@@ -121,9 +121,10 @@ fn advance(
     requires reason { IfSome reason (IsReason (lists_of s.old.clauses.items) s.old.trail.entries.items lit) }
     ensures { IfOk result (Turns (lists_of given.now) s.old s.new) }
 {
+    let place = s.trail.entries.len();
     match reason {
-        Some(_) => guide.implied(lit),
-        None => guide.decided(lit),
+        Some(_) => guide.implied(lit, place),
+        None => guide.decided(lit, place),
     }
     extend(s, lit, reason)?;
     Ok(Turn::Going)
