@@ -4,7 +4,7 @@ ghost use Rattle.std.specs.Prelude.{◌≡◌, ◌+◌, ◌<◌, ◌≤◌, IfOk
 ghost use Rattle.bb_bits.specs.Truth.{quantified, quantified_block};
 ghost use Rattle.bb_dd.specs.Results.{quantifier};
 ghost use Rattle.bb_uniq.specs.Nodes.{IsRef};
-ghost use Rattle.bb_uniq.specs.Meaning.{truth_of, Adds, IsTooMany};
+ghost use Rattle.bb_uniq.specs.Meaning.{truth_of, Adds, Keeps, IsTooMany};
 ghost use Rattle.bb_sym.specs.Plain.{block_functions};
 ghost use Rattle.bb_sym.specs.Made.{Makes, AreTooMany, StandsFor};
 
@@ -28,6 +28,7 @@ pub fn quantify_block(
     requires f { IsRef d.old.store f.0 }
     requires vars { first + count ≤ d.old.store.vars }
     requires few { d.old.store.vars ≤ 2048 }
+    ensures kept { Keeps d.old.store d.new.store }
     ensures result { IfOk result (StandsFor d.new.store (quantified_block (quantifier all) first count (truth_of d.old.store f.0))) }
     ensures makes { OnOk result (Makes d.old.store d.new.store (block_functions (quantifier all) first count (truth_of d.old.store f.0))) }
     ensures nodes { IsErrOf result RungFault.Nodes → AreTooMany d.old.store (block_functions (quantifier all) first count (truth_of d.old.store f.0)) }
@@ -45,6 +46,7 @@ pub fn quantify_block(
 fn quantify_one(d: &mut Diagrams, all: bool, f: Ref, v: u32) -> Result<Ref, DdFault>
     requires f { IsRef d.old.store f.0 }
     requires v { v < d.old.store.vars }
+    ensures kept { Keeps d.old.store d.new.store }
     ensures ok { IfOk result (λ r. Adds d.old.store d.new.store (quantified (quantifier all) v (truth_of d.old.store f.0)) r.0) }
     ensures full { IsErrOf result DdFault.Full → IsTooMany d.old.store (quantified (quantifier all) v (truth_of d.old.store f.0)) }
 {

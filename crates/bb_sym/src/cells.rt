@@ -41,6 +41,7 @@ pub fn plain_cells(
 ) -> Result<PlainCells, RungFault>
     requires vars { vars ≡ d.old.store.vars }
     requires variables { AreVariables d.old.store.vars first starts.now pair.now.imp }
+    ensures kept { Keeps d.old.store d.new.store }
     ensures variables { IfOk result (λ made. (length made.variables.items ≡ d.old.store.vars) × StandForAll d.new.store (variable d.old.store.vars) made.variables.items) }
     ensures refs { IfOk result (λ made. AreCells d.new.store pair.now.spec pair.now.imp made.spec.items made.imp.items) }
     ensures cells { (r : Reading) → IsReadSo d.old.store.vars first starts.now pair.now.imp r → IfOk result (λ made. HaveCells d.new.store r pair.now.spec pair.now.imp made.spec.items made.imp.items) }
@@ -66,6 +67,7 @@ pub(crate) fn make_variables(
     count: u32,
 ) -> Result<Vec<Ref>, RungFault>
     requires { count ≡ d.old.store.vars }
+    ensures kept { Keeps d.old.store d.new.store }
     ensures refs { IfOk result (λ made. (length made.items ≡ d.old.store.vars) × StandForAll d.new.store (variable d.old.store.vars) made.items) }
     ensures makes { OnOk result (Makes d.old.store d.new.store (variables d.old.store.vars)) }
     ensures nodes { IsErrOf result RungFault.Nodes → AreTooMany d.old.store (variables d.old.store.vars) }
@@ -87,7 +89,7 @@ pub(crate) fn net_cells(
     starts: &[u32],
 ) -> Result<Vec<Ref>, RungFault>
     requires { AreVariables d.old.store.vars first starts.now net.now }
-    ensures kept { OnOk result (Keeps d.old.store d.new.store) }
+    ensures kept { Keeps d.old.store d.new.store }
     ensures count { IfOk result (λ made. length made.items ≡ length net.now.cells) }
     ensures refs { IfOk result (λ made. AreRefs d.new.store made.items) }
     ensures cells { (r : Reading) → IsReadSo d.old.store.vars first starts.now net.now r → IfOk result (λ made. StandForAll d.new.store (λ place. table d.old.store.vars (cell_bit r net.now place)) made.items) }

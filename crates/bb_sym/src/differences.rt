@@ -3,7 +3,7 @@
 ghost use Rattle.std.specs.Prelude.{◌≡◌, ◌<◌, ◌++◌, ℕ, All, length, map, IfOk, OnOk, IsErrOf};
 ghost use Rattle.std.specs.List.{range_with_len};
 ghost use Rattle.bb_uniq.specs.Nodes.{IsRef};
-ghost use Rattle.bb_uniq.specs.Meaning.{Adds, IsTooMany};
+ghost use Rattle.bb_uniq.specs.Meaning.{Adds, Keeps, IsTooMany};
 ghost use Rattle.bb_sym.specs.Plain.{Function, Reading, differ, is_wrong_at, one_of, first_of, outputs, table, tables};
 ghost use Rattle.bb_sym.specs.Functions.{inputs_first, is_wrong};
 ghost use Rattle.bb_sym.specs.Made.{Makes, AreTooMany, AreRefs, StandsFor, StandForAll, AreCells, HaveCells, ref_at};
@@ -28,6 +28,7 @@ pub fn some_wrong(
     made: &PlainCells,
 ) -> Result<Ref, RungFault>
     requires made { AreCells d.old.store pair.now.spec pair.now.imp made.now.spec.items made.now.imp.items }
+    ensures kept { Keeps d.old.store d.new.store }
     ensures result { (r : Reading) → HaveCells d.old.store r pair.now.spec pair.now.imp made.now.spec.items made.now.imp.items
         → IfOk result (StandsFor d.new.store (table d.old.store.vars (one_of (is_wrong_at r pair.now.spec pair.now.imp) (length pair.now.imp.outs)))) }
     ensures makes { (r : Reading) → HaveCells d.old.store r pair.now.spec pair.now.imp made.now.spec.items made.now.imp.items
@@ -55,6 +56,7 @@ pub fn some_differ(
     requires fs { AreRefs d.old.store fs.now }
     requires gs { AreRefs d.old.store gs.now }
     requires count { length fs.now ≡ length gs.now }
+    ensures kept { Keeps d.old.store d.new.store }
     ensures result { (f g : ℕ → Function) → StandForAll d.old.store (λ j. table d.old.store.vars (f j)) fs.now → StandForAll d.old.store (λ j. table d.old.store.vars (g j)) gs.now
         → IfOk result (StandsFor d.new.store (table d.old.store.vars (one_of (λ j. differ (f j) (g j)) (length fs.now)))) }
     ensures makes { (f g : ℕ → Function) → StandForAll d.old.store (λ j. table d.old.store.vars (f j)) fs.now → StandForAll d.old.store (λ j. table d.old.store.vars (g j)) gs.now
@@ -77,6 +79,7 @@ fn differences(
     requires fs { AreRefs d.old.store fs.now }
     requires gs { AreRefs d.old.store gs.now }
     requires count { length fs.now ≡ length gs.now }
+    ensures kept { Keeps d.old.store d.new.store }
     ensures count { IfOk result (λ refs. length refs.items ≡ length fs.now) }
     ensures refs { IfOk result (λ refs. AreRefs d.new.store refs.items) }
     ensures stand { (f g : ℕ → Function) → StandForAll d.old.store (λ j. table d.old.store.vars (f j)) fs.now → StandForAll d.old.store (λ j. table d.old.store.vars (g j)) gs.now

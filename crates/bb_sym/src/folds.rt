@@ -2,6 +2,7 @@
 
 ghost use Rattle.std.specs.Prelude.{◌≡◌, ℕ, length, map, IfOk, OnOk, IsErrOf};
 ghost use Rattle.std.specs.List.{range_with_len};
+ghost use Rattle.bb_uniq.specs.Meaning.{Keeps};
 ghost use Rattle.bb_sym.specs.Plain.{Function, one_of, first_of, table, tables};
 ghost use Rattle.bb_sym.specs.Made.{Makes, AreTooMany, AreRefs, StandsFor, StandForAll};
 
@@ -12,6 +13,7 @@ use bb_uniq::laws;
 /// The disjunction of diagrams: the first with the second, that with the third, and so on. That of none is 0.
 pub(crate) fn fold_or(d: &mut Diagrams, fs: &[Ref]) -> Result<Ref, RungFault>
     requires { AreRefs d.old.store fs.now }
+    ensures kept { Keeps d.old.store d.new.store }
     ensures result { (f : ℕ → Function) → StandForAll d.old.store (λ j. table d.old.store.vars (f j)) fs.now → IfOk result (StandsFor d.new.store (table d.old.store.vars (one_of f (length fs.now)))) }
     ensures makes { (f : ℕ → Function) → StandForAll d.old.store (λ j. table d.old.store.vars (f j)) fs.now → OnOk result (Makes d.old.store d.new.store (tables d.old.store.vars (map (first_of f) (range_with_len 0 (length fs.now))))) }
     ensures nodes { (f : ℕ → Function) → StandForAll d.old.store (λ j. table d.old.store.vars (f j)) fs.now → IsErrOf result RungFault.Nodes → AreTooMany d.old.store (tables d.old.store.vars (map (first_of f) (range_with_len 0 (length fs.now)))) }

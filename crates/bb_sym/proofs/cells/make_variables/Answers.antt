@@ -4,7 +4,7 @@ use Rattle.bb_bits.specs.Truth.{variable}
 use Rattle.bb_uniq.specs.Meaning.{Adds, IsTooMany}
 use Rattle.bb_sym.specs.declared.fault.RungFault.TheVariants.{Nodes}
 use Rattle.bb_sym.specs.Made.{Makes, StandForAll}
-use Rattle.bb_sym.proofs.MadeLemmas.{Makes-more, refused_more, StandForAll-push, StandsFor-added}
+use Rattle.bb_sym.proofs.MadeLemmas.{Makes-more, keeps_then, refused_more, StandForAll-push, StandsFor-added}
 use Rattle.bb_sym.proofs.cells.make_variables.Goals as goal
 
 pub returns-in_err-r-clause-nodes : goal.returns-in_err-r-clause-nodes
@@ -34,3 +34,9 @@ pub returns-clause-makes : goal.returns-clause-makes
 returns-clause-makes c =
     let count : c.loop-v.v ≡ c.args.d.now.store.vars = search rules in
     subst (λ k. Makes c.args.d.now.store c.loop-v.d.store (map (variable c.args.d.now.store.vars) (range_with_len 0 k))) count c.loop-v.invariant.2
+
+pub returns-in_err-r-clause-kept : goal.returns-in_err-r-clause-kept
+returns-in_err-r-clause-kept c = keeps_then c.args.d.now.store c.loop-v.d.store c.var.new.self.store c.loop-v.invariant.2.kept c.var.ensures.kept
+
+pub returns-in_err-push-clause-kept : goal.returns-in_err-push-clause-kept
+returns-in_err-push-clause-kept c = keeps_then c.args.d.now.store c.loop-v.d.store c.var.new.self.store c.loop-v.invariant.2.kept c.var.ensures.kept

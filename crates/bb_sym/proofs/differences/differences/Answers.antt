@@ -55,3 +55,9 @@ returns-clause-makes c = λ f g left right.
     let count : c.loop-j.j ≡ length c.args.fs.now = search rules in
     subst (Makes s c.loop-j.d.store) (different_tables s.vars (length c.args.fs.now) f g)
     (subst (λ i. Makes s c.loop-j.d.store (map (λ j. table s.vars (differ (f j) (g j))) (range_with_len 0 i))) count (c.loop-j.invariant.3 f g left right).1)
+
+pub returns-in_err-r-clause-kept : goal.returns-in_err-r-clause-kept
+returns-in_err-r-clause-kept c = keeps_then c.args.d.now.store c.loop-j.d.store c.xor.new.self.store c.loop-j.invariant.2 c.xor.ensures.kept
+
+pub returns-in_err-push-clause-kept : goal.returns-in_err-push-clause-kept
+returns-in_err-push-clause-kept c = keeps_then c.args.d.now.store c.loop-j.d.store c.xor.new.self.store c.loop-j.invariant.2 c.xor.ensures.kept

@@ -42,3 +42,6 @@ returns-clause-makes c =
     let count : c.loop-f.f-index ≡ length c.args.fs.now = omega (arith, c.loop-f-test.false, c.loop-f.auto.f-index-end) in
     λ f stand. subst (Makes first c.loop-f.d.store) (fold_tables first.vars (length c.args.fs.now) f)
     (subst (λ i. Makes first c.loop-f.d.store (map (λ j. table first.vars (first_of f j)) (range_with_len 0 i))) count (c.loop-f.invariant.2 f stand).1)
+
+pub returns-in_err-any-clause-kept : goal.returns-in_err-any-clause-kept
+returns-in_err-any-clause-kept c = keeps_then c.args.d.now.store c.loop-f.d.store c.or.new.self.store c.loop-f.invariant.1 c.or.ensures.kept
