@@ -4,6 +4,7 @@ pub mod Game
 pub mod LeastRows
 pub mod MissedParts
 pub mod NumberSteps
+pub mod OneAnswer
 pub mod OneBox
 pub mod OrderLemmas
 pub mod Points

@@ -1,4 +1,5 @@
 pub mod Answers
 pub mod InputFunctions
+pub mod Laws
 pub mod Order
 pub mod Rows

@@ -5,6 +5,7 @@
 mod checking;
 mod choosing;
 mod counting;
+mod laws;
 mod missing;
 mod order;
 mod refuting;
@@ -12,6 +13,7 @@ mod rows;
 
 use bb_bits::Table;
 pub use checking::input;
+pub use laws::answers_are_one;
 
 /// What the check by choices answers.
 #[derive(Debug, Drop)]
