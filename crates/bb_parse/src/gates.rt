@@ -64,7 +64,7 @@ fn gate_list(alloc: Global, cursor: &mut Cursor<'_>, depth: u32) -> Result<Vec<G
     ensures { Gives (λ all. map gate_view all.items) result cursor.new (read_list (read_gate depth) cursor.old) }
 {
     let first = gate(alloc, cursor, depth)?;
-    let mut all = Vec::new(alloc);
+    let mut all = Vec::with_capacity(alloc, 1)?;
     all.push(first)?;
     for turn in 0..cursor.len() {
         if !cursor.takes(Mark::Comma) {

@@ -110,7 +110,7 @@ fn call_list(alloc: Global, cursor: &mut Cursor<'_>, depth: u32) -> Result<Vec<C
     ensures { Gives (λ all. map call_view all.items) result cursor.new (read_list (read_call depth) cursor.old) }
 {
     let first = call(alloc, cursor, depth)?;
-    let mut all = Vec::new(alloc);
+    let mut all = Vec::with_capacity(alloc, 1)?;
     all.push(first)?;
     for turn in 0..cursor.len() {
         if !cursor.takes(Mark::Comma) {

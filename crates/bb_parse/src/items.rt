@@ -38,7 +38,7 @@ fn net_list(
     ensures { Gives (λ nets. map named_view nets.items) result cursor.new (read_list (read_net depth) cursor.old) }
 {
     let first = net(alloc, cursor, depth)?;
-    let mut nets = Vec::new(alloc);
+    let mut nets = Vec::with_capacity(alloc, 1)?;
     nets.push(first)?;
     for turn in 0..cursor.len() {
         if !cursor.takes(Mark::Comma) {
@@ -82,7 +82,7 @@ fn assignments(
     ensures { Gives (λ all. map arm_view all.items) result cursor.new (read_list (read_assignment depth) cursor.old) }
 {
     let first = assignment(alloc, cursor, depth)?;
-    let mut all = Vec::new(alloc);
+    let mut all = Vec::with_capacity(alloc, 1)?;
     all.push(first)?;
     for turn in 0..cursor.len() {
         if !cursor.takes(Mark::Comma) {

@@ -13,7 +13,7 @@ pub(crate) fn names(alloc: Global, cursor: &mut Cursor<'_>) -> Result<Vec<Name>,
     ensures { Gives (λ names. names.items) result cursor.new (read_list read_name cursor.old) }
 {
     let first = cursor.name(alloc)?;
-    let mut names = Vec::new(alloc);
+    let mut names = Vec::with_capacity(alloc, 1)?;
     names.push(first)?;
     for turn in 0..cursor.len() {
         if !cursor.takes(Mark::Comma) {
