@@ -98,7 +98,7 @@ fn resolve_at(
 {
     laws::chains();
     let clause = clause_at(clauses, reason);
-    guide.resolves(resolvent, clause);
+    guide.resolves(resolvent, clause, reason);
     resolvent.resolve(clause, lit.var)?;
     pairs.push((reason as u64, lit.var))?;
     Ok(())

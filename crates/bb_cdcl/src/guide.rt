@@ -1,6 +1,7 @@
 //! What guides the search: scores of variables, their last bits, and the levels of the trail. No answer depends on it.
 
 use crate::NoMemory;
+use crate::retention::Retention;
 use crate::scores::{Scores, read, write};
 use bb_cnf::{Lit, PartialResolvent};
 use std::alloc::Global;
@@ -19,11 +20,12 @@ pub(crate) struct Guide {
     open: usize,
     found: Vec<u32>,
     count: usize,
+    pub(crate) retention: Retention,
 }
 
 impl Guide {
     /// No variable has a value.
-    pub(crate) fn new(alloc: Global, vars: u32) -> Result<Guide, NoMemory> {
+    pub(crate) fn new(alloc: Global, vars: u32, given: usize) -> Result<Guide, NoMemory> {
         let size = vars as usize + 1;
         Ok(Guide {
             scores: Scores::new(alloc, vars)?,
@@ -35,6 +37,7 @@ impl Guide {
             open: 0,
             found: vec![in alloc; 0; size]?,
             count: 0,
+            retention: Retention::new(alloc, given),
         })
     }
 
@@ -138,17 +141,20 @@ impl Guide {
         }
     }
 
-    /// A conflict begins with this clause.
-    pub(crate) fn begin(&mut self, resolvent: &PartialResolvent, clause: &[Lit]) {
+    /// A conflict begins with this clause, which has this number.
+    pub(crate) fn begin(&mut self, resolvent: &PartialResolvent, clause: &[Lit], number: usize) {
         self.top = self.highest(clause);
         self.open = 0;
         self.count = 0;
         self.scores.age();
+        self.retention.begin();
+        self.retention.uses(number);
         self.adds(resolvent, clause);
     }
 
-    /// The clause is the reason of a literal whose negation is resolved away.
-    pub(crate) fn resolves(&mut self, resolvent: &PartialResolvent, clause: &[Lit]) {
+    /// The clause of this number is the reason of a literal whose negation is resolved away.
+    pub(crate) fn resolves(&mut self, resolvent: &PartialResolvent, clause: &[Lit], number: usize) {
+        self.retention.uses(number);
         self.adds(resolvent, clause);
         self.open = self.open.saturating_sub(2);
     }

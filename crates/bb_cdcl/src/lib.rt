@@ -7,6 +7,7 @@ mod events;
 mod examination;
 mod guide;
 mod outcome;
+mod retention;
 mod scores;
 mod search;
 mod shortening;
@@ -15,6 +16,7 @@ mod start;
 mod state;
 mod trail;
 mod turn;
+mod watch_lists;
 mod watches;
 
 pub use outcome::Outcome;

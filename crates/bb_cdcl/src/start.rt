@@ -12,7 +12,7 @@ use crate::guide::Guide;
 use crate::state::State;
 use crate::trail::Trail;
 use crate::turn::Helpers;
-use crate::watches::Watches;
+use crate::watch_lists::Watches;
 use bb_cnf::{Lit, PartialResolvent};
 use smallvec::SmallVec;
 use std::alloc::Global;
@@ -66,7 +66,7 @@ pub(crate) fn helpers(
 ) -> Result<Helpers, NoMemory> {
     let mut watches = Watches::new(alloc, vars)?;
     watch_all(&mut watches, given)?;
-    let guide = Guide::new(alloc, vars)?;
+    let guide = Guide::new(alloc, vars, given.len())?;
     Ok(Helpers { watches, guide })
 }
 

@@ -76,7 +76,7 @@ fn conflict_step(
 {
     let mut rest = Vec::new(alloc);
     let clause = clause_at(clauses, number);
-    guide.begin(resolvent, clause);
+    guide.begin(resolvent, clause, number);
     resolvent.put_all(clause)?;
     let jump = analyze(alloc, resolvent, clauses, &trail.entries, &mut rest, guide)?;
     Ok((

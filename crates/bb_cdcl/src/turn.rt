@@ -13,7 +13,8 @@ use crate::events::{Event, unsatisfied};
 use crate::guide::Guide;
 use crate::state::{State, Turn, extend, go_back, learn};
 use crate::trail::{Entry, Trail, pop_to};
-use crate::watches::{Watches, propagated};
+use crate::watch_lists::Watches;
+use crate::watches::propagated;
 use bb_cnf::{Lit, laws};
 use smallvec::SmallVec;
 use std::alloc::Global;
@@ -67,11 +68,14 @@ fn next_event(
 
 // Watches the last clause: the literal that it will imply, and the one that became false last of the others.
 fn watch_last(
+    alloc: Global,
     clauses: &[SmallVec<Lit, 4>],
     helpers: &mut Helpers,
     jump: Jump,
 ) -> Result<(), NoMemory> {
     helpers.watches.taken_back(jump.back);
+    helpers.guide.retention.learned()?;
+    helpers.guide.retention.reduce(alloc, &mut helpers.watches)?;
     match clauses.last() {
         Some(clause) => {
             let (first, second) = helpers.guide.last_two(clause.as_slice());
@@ -99,7 +103,7 @@ fn resolve_conflict(
     match learn(alloc, s, number, &mut helpers.guide)? {
         None => Ok(Turn::Refuted),
         Some(jump) => {
-            watch_last(&s.clauses, helpers, jump)?;
+            watch_last(alloc, &s.clauses, helpers, jump)?;
             go_back(s, jump, learned, &mut helpers.guide)?;
             Ok(Turn::Going)
         }
