@@ -152,6 +152,7 @@ def gates_part(tally, folder):
                    done.status == 1 and not done.out and lines and all(line in expected for line in lines), done.why())
     tally.note("gates tells all that is expected of the refused designs", sorted(told) == sorted(expected))
     warned_designs(tally)
+    netlist_with_cells(tally, folder)
     for bit in "01":
         done = run([script("gates"), "--undef", bit, "undefined.v"], REFUSED)
         tally.note(f"gates --undef {bit} takes an undefined value", done.status == 0 and "boxes" in done.out, done.why())
@@ -167,6 +168,20 @@ def warned_designs(tally):
         lines = [line.removeprefix("gates: ") for line in done.err.splitlines()]
         right = done.status == 0 and done.out and lines == [line for line in wanted if line.startswith(name)]
         tally.note(f"gates warns of {lines[0] if lines else name}", right, done.why())
+
+
+def netlist_with_cells(tally, folder):
+    """A register in a cell goes by the net that the cell drives, and cells that are not used, a latch among them, do not count."""
+    rtl, netlist, cells = (os.path.join(DESIGNS, "netlists", name) for name in ("rtl.v", "netlist.v", "cells.v"))
+    spec, implementation = os.path.join(folder, "rtl.v"), os.path.join(folder, "netlist.v")
+    made = run([script("gates"), rtl, "-o", spec])
+    done = run([script("gates"), "--top", "counter", netlist, "--cells", cells, "-o", implementation])
+    answer = bbeq(spec, implementation)
+    right = made.status == 0 and done.status == 0 and answer.status == 0 and "table u y 0001" in answer.out
+    tally.note("gates --cells: a netlist with cells fits its RTL", right, done.why() + answer.why())
+    done = run([script("gates"), netlist, cells])
+    tally.note("gates without --cells: cells that are not used could be tops", is_told(done, "gates") and "--top" in done.err,
+               done.why())
 
 
 def yosys_tests(tally, folder):
@@ -411,6 +426,7 @@ def bad_part(tally, folder):
     adder, proof = write(folder, "adder", bbeq(*adders).out), write(folder, "proof", SMALL_PROOF)
     for name, words in (
             ("gates", ["nowhere.v"]), ("gates", [empty]), ("gates", [broken]), ("gates", ["--top", "other", rtl]),
+            ("gates", [rtl, "--cells", "nowhere.v"]), ("gates", ["--top", "counter", rtl, "--cells", "nowhere.v"]),
             ("gates", ["--top", "", rtl]), ("gates", ["--top", "counter", "--parameter", "WIDTH", rtl]),
             ("gates", ["--top", "counter", "--parameter", "OTHER=1", rtl]), ("gates", [endless]), ("gates", [hole]),
             ("wave", [adder, *adders, "--vcd", "no/such/folder.vcd"]), ("wave", [adder, *adders, "--vcd", folder]),

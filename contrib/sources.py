@@ -1,4 +1,4 @@
-"""What yosys reads for `gates`: the run that reads the sources, its warnings and errors as lines of one form, and the top module."""
+"""What yosys reads for `gates`: the run over the sources, its warnings and errors as lines of one form, and the top module."""
 import json
 import os
 import re
@@ -61,17 +61,17 @@ def quoted(path):
 
 
 def read_script(words, folder):
-    for path in words.files:
+    for path in words.files + words.cells:
         if not os.path.isfile(path):
             raise Fault(f"{path}: there is no such file")
         if '"' in path or "\n" in path:
             raise Fault(f"{path}: yosys cannot take this file name")
-    options = ["-sv"] if any(path.endswith(".sv") for path in words.files) else []
+    options = ["-sv"] if any(path.endswith(".sv") for path in words.files + words.cells) else []
     options += [f"-D{name}" for name in words.define] + [f"-I{name}" for name in words.include]
     if words.top and not words.parameter:
         options.append("-defer")  # Other modules of a library are not looked at.
     parameters = [f"chparam -set {' '.join(setting.split('=', 1))} {words.top}" for setting in words.parameter]
-    return READ.format(options=" ".join(options), files=" ".join(map(quoted, words.files)), folder=folder,
+    return READ.format(options=" ".join(options), files=" ".join(map(quoted, words.files + words.cells)), folder=folder,
                        parameters="\n".join(parameters), top=f"-top {words.top}" if words.top else "-auto-top",
                        modules="" if words.top else f"write_rtlil {folder}/modules.il")
 
@@ -81,22 +81,30 @@ def load(folder, name):
         return json.load(file)["modules"]
 
 
-def read_sources(words, folder):
-    """Has yosys read the sources; gives the modules, the top's name, and the warnings, a line each."""
-    log = run_yosys(read_script(words, folder), folder)
-    modules = load(folder, "read.json")
-    return modules, find_top(modules, words, folder), warnings(log, modules)
+class Sources:
+    """What yosys read: the modules that the top needs, the top's name, those that are cells, and the warnings, a line each."""
+
+    def __init__(self, words, folder):
+        log = run_yosys(read_script(words, folder), folder)
+        modules = load(folder, "read.json")
+        self.top = find_top(modules)
+        used = reachable(modules, self.top)
+        if not words.top:
+            others = other_tops(used, folder)
+            if others:
+                names = ", ".join([self.top, *others])
+                raise Fault(f"several modules could be the top, since no module instantiates them: {names}; choose one by --top, "
+                            f"as in --top {self.top}")
+        self.modules = {name: module for name, module in modules.items() if name in used}
+        self.cells = {name for name, module in self.modules.items()
+                      if module["attributes"].get("src", "").rsplit(":", 1)[0] in words.cells}
+        self.warnings = warnings(log, modules)
 
 
-def find_top(modules, words, folder):
+def find_top(modules):
     tops = [name for name, module in modules.items() if int(module["attributes"].get("top", "0"), 2)]
     if not tops:
         raise Fault("there is no top module; name one by --top")
-    if not words.top:
-        others = other_tops(modules, tops[0], folder)
-        if others:
-            raise Fault(f"several modules could be the top, since no module instantiates them: {', '.join([tops[0], *others])}; "
-                        f"choose one by --top, as in --top {tops[0]}")
     return tops[0]
 
 
@@ -105,31 +113,36 @@ def base(kind):
     return kind.split("\\")[1] if kind.startswith("$paramod") else kind
 
 
-def other_tops(modules, top, folder):
-    """The modules with content that nothing instantiates, besides the top that yosys chose, unless the source marks the top."""
-    content, below = {}, set()
+def reachable(modules, top):
+    """The top and the modules below it."""
+    found, open_ones = {top}, [top]
+    while open_ones:
+        kinds = {cell["type"] for cell in modules[open_ones.pop()]["cells"].values()}
+        open_ones += [kind for kind in kinds if kind in modules and kind not in found]
+        found |= kinds
+    return found
+
+
+def other_tops(used, folder):
+    """The modules with content that nothing instantiates and the top does not use; none where the source marks its top."""
+    content, instantiated = set(), set()
     with open(os.path.join(folder, "modules.il"), encoding="utf-8", errors="replace") as file:
         name, attributes = None, set()
         for line in file:
-            words = line.split()
+            parts = line.split(None, 2)
             if line.startswith("attribute "):
-                attributes.add(words[1])
-            elif words[:1] == ["module"]:
-                name = words[1].removeprefix("\\")
+                attributes.add(parts[1])
+            elif parts[:1] == ["module"]:
+                name = parts[1].removeprefix("\\")
                 if "\\top" in attributes:
                     return []
-                content[name], attributes = "\\is_interface" in attributes and None, set()
-            elif words[:1] in (["cell"], ["connect"], ["process"], ["memory"]):
-                content[name] = content[name] is not None
-                below.update(word.removeprefix("\\") for word in words[1:2] if words[0] == "cell" and words[1] != "\\" + name)
-    used, open_ones = set(), [top]
-    while open_ones:
-        cells = modules.get(open_ones.pop(), {"cells": {}})["cells"]
-        kinds = {cell["type"] for cell in cells.values()} - used
-        used |= kinds
-        open_ones += kinds
-    used = {base(kind) for kind in [*used, top]}
-    return sorted((name for name, filled in content.items() if filled and name not in below and name not in used), key=natural)
+                is_none, attributes = "\\is_interface" in attributes, set()
+            elif parts[:1] in (["cell"], ["connect"], ["process"], ["memory"]):
+                if not is_none:
+                    content.add(name)
+                if parts[0] == "cell" and parts[1] != "\\" + name:
+                    instantiated.add(parts[1].removeprefix("\\"))
+    return sorted(content - instantiated - {base(kind) for kind in used}, key=natural)
 
 
 def warnings(log, modules):

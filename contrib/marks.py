@@ -1,0 +1,85 @@
+"""What `gates` writes into yosys' text of a design between two runs: undefined values as a net of their own, boxes as black, and the
+nets by which registers are known."""
+import os
+import re
+
+MARK = "\\bbeq.undefined"
+UNDEFINED = re.compile(r"\b(\d+)'([01zm-]*x[01xzm-]*)")
+
+
+def marked_bits(constant):
+    """A constant with undefined bits as a concatenation; the leftmost digit stands for the bits that are not written."""
+    digits = constant.group(2)
+    first = digits[0] if digits[0] in "xz" else "0"
+    bits = digits.rjust(int(constant.group(1)), first)
+    return "{ " + " ".join(MARK if bit == "x" else f"1'{bit}" for bit in bits) + " }"
+
+
+def mark_undefined(folder):
+    """Has each undefined value that the source writes come from a net of its own, which no later step takes for a free choice.
+    Those that yosys itself writes for the ports of memories, comparisons with x, and initial values stay."""
+    kind, is_initial = "", False
+    with open(os.path.join(folder, "raw.il"), encoding="utf-8", errors="replace") as file:
+        lines = file.readlines()
+    with open(os.path.join(folder, "marked.il"), "w", encoding="utf-8") as marked:
+        for at, line in enumerate(lines):
+            first = line.split(None, 1)[0] if line.strip() else ""
+            if first in ("cell", "sync", "process"):
+                kind = line.split()[1] if first == "cell" else ""
+            if first == "process":
+                is_initial = "    sync init\n" in lines[at:lines.index("  end\n", at)]
+            if first in ("assign", "connect", "update") and "$memwr$" not in line and not is_initial \
+                    and kind not in ("$eqx", "$nex") and not kind.startswith("$mem"):
+                line = UNDEFINED.sub(marked_bits, line)
+            if first == "end":
+                kind = ""
+            if line == "  end\n":
+                is_initial = False
+            marked.write(line)
+            if first == "module":
+                marked.write(f"  wire {MARK}\n")
+
+
+def register_ports(modules, cells):
+    """For each cell of a library the output ports that a flip-flop drives."""
+    found = {}
+    for name in cells:
+        stored = {bit for cell in modules[name]["cells"].values() if re.match(r"\$\w*dff", cell["type"])
+                  for bit in cell["connections"]["Q"]}
+        found[name] = {port for port, shape in modules[name]["ports"].items()
+                       if shape["direction"] == "output" and stored & set(shape["bits"])}
+    return found
+
+
+def driven_nets(lines, ports):
+    """The nets that registers of cells drive, as (module, net)."""
+    found, module, kind = set(), None, None
+    for line in lines:
+        parts = line.split()
+        if line.startswith("module "):
+            module = parts[1]
+        elif parts[:1] == ["cell"]:
+            kind = parts[1].removeprefix("\\")
+        elif parts[:1] == ["connect"] and len(parts) > 2 and parts[1].removeprefix("\\") in ports.get(kind, ()):
+            found.add((module, parts[2]))
+        elif parts[:1] == ["end"]:
+            kind = None
+    return found
+
+
+def mark_modules(folder, boxes, ports):
+    """Makes the boxes black for yosys, so that flattening leaves them. A register of a cell is known by the net that the cell
+    drives, and not by its own."""
+    with open(os.path.join(folder, "read.il"), encoding="utf-8", errors="replace") as file:
+        lines = file.readlines()
+    with open(os.path.join(folder, "boxed.il"), "w", encoding="utf-8") as file:
+        name, driven = None, driven_nets(lines, ports)
+        for line in lines:
+            if line.startswith("module "):
+                name = line.split()[1]
+                if name.removeprefix("\\") in boxes:
+                    file.write("attribute \\blackbox 1\n")
+            if line.startswith("  wire ") and (name, line.split()[-1]) in driven:
+                file.write("  attribute \\bbeq_register 1\n")
+            if name is None or name.removeprefix("\\") not in ports or line.split() != ["attribute", "\\bbeq_register", "1"]:
+                file.write(line)

@@ -1,0 +1,243 @@
+"""Writes the netlist of `gates` as text of bbeq's language."""
+import os
+
+from language import Fault, written
+from marks import MARK
+from netlist import EDGES, GATES
+from sources import UNKNOWN, natural, place
+
+
+def counted(number, noun, plural=None):
+    return f"{number} {noun if number == 1 else plural or noun + 's'}"
+
+
+class Writer:
+    """Writes the text of a netlist."""
+
+    def __init__(self, netlist):
+        self.net, self.lines, self.declared, self.fresh = netlist, [], {}, {}
+        self.split = set()
+        self.names = set(netlist.nets) | set(netlist.boxes)
+        self.registers = self.find_registers()
+
+    def find_registers(self):
+        """The registers: for each net that is one throughout its position list; bits of other nets get a net of their own."""
+        groups = {}
+        for key in self.net.live_flops:
+            name, position = self.net.name_of[self.net.driven(self.net.cells[key])]
+            groups.setdefault(name, {})[position] = key
+        groups = dict(sorted(groups.items(), key=lambda group: natural(group[0])))
+        for name, bits in groups.items():
+            if len(bits) < len(self.net.nets[name]["bits"]) or self.net.ports.get(name, {}).get("direction") == "input":
+                self.split.update((name, position) for position in bits)
+        return groups
+
+    def index(self, name, position):
+        """The index of a net's position, the rightmost bit being position 0."""
+        net = self.net.nets[name]
+        width, offset = len(net["bits"]), net.get("offset", 0)
+        return offset + (width - 1 - position if net.get("upto") else position)
+
+    def is_scalar(self, name):
+        net = self.net.nets[name]
+        return len(net["bits"]) == 1 and not net.get("offset") and not net.get("upto")
+
+    def range_of(self, name):
+        if self.is_scalar(name):
+            return ""
+        last = len(self.net.nets[name]["bits"]) - 1
+        return f"[{self.index(name, last)}:{self.index(name, 0)}] "
+
+    def spelt(self, name):
+        """A net's name in the text; one that yosys made up becomes a running number."""
+        if not self.net.nets[name]["hide_name"]:
+            return written(name)
+        if name not in self.fresh:
+            number = len(self.fresh)
+            while f"_{number}_" in self.names:
+                number += 1
+            self.names.add(f"_{number}_")
+            self.fresh[name] = f"_{number}_"
+        return self.fresh[name]
+
+    def bit(self, bit, reader="the design", source=UNKNOWN):
+        """A bit as it is read; the reader, a net's bit or a text, and the source line are for what is told of it."""
+        if bit in ("0", "1"):
+            return f"1'b{bit}"
+        if bit == "z":
+            raise Fault(f"{source}: a tri-state (z) has no gates ({self.told(reader)})")
+        if bit == "x" or (bit not in self.net.driver and bit not in self.net.input_bits):
+            return self.undefined(bit, reader, source)
+        return self.target(bit)
+
+    def told(self, reader):
+        return reader if isinstance(reader, str) else self.net.describe(reader)
+
+    def undefined(self, bit, reader, source):
+        if self.net.undef is not None:
+            return f"1'b{self.net.undef}"
+        reader = self.told(reader)
+        if bit == "x" or self.net.describe(bit).endswith(MARK[1:]):
+            if source == UNKNOWN:
+                raise Fault("a value is undefined (x) somewhere, as where an index can go beyond its range; --undef 0 or --undef 1 "
+                            "chooses a bit for it")
+            what = "" if reader.startswith("$") or " $" in reader else f" ({reader})"
+            raise Fault(f"{source}: a value is undefined (x) here{what}; --undef 0 or --undef 1 chooses a bit for it")
+        name = self.net.describe(bit)
+        source = place(self.net.nets[name]["attributes"], source)
+        raise Fault(f"{source}: {name} is read and has no driver; --undef 0 or --undef 1 chooses a bit for it")
+
+    def target(self, bit):
+        """A bit as it is written or read, once it is known to be driven."""
+        name, position = self.net.name_of[bit]
+        if (name, position) in self.split:
+            return written(f"{name}[{self.index(name, position)}]")
+        self.declared.setdefault(name)
+        return self.spelt(name) if self.is_scalar(name) else f"{self.spelt(name)}[{self.index(name, position)}]"
+
+    def bits(self, bits, reader="the design", source=UNKNOWN):
+        """Several bits, the rightmost of them first in `bits`: a net, a bit, or a concatenation."""
+        name, _ = self.net.name_of.get(bits[0], (None, 0))
+        if len(bits) > 1 and name and bits == self.net.nets[name]["bits"] and all(
+                self.net.name_of[bit] == (name, position) and (bit in self.net.driver or bit in self.net.input_bits)
+                and (name, position) not in self.split for position, bit in enumerate(bits)):
+            self.declared.setdefault(name)
+            return self.spelt(name)
+        parts = [self.bit(bit, reader, source) for bit in reversed(bits)]
+        return parts[0] if len(parts) == 1 else "{" + ", ".join(parts) + "}"
+
+    def gate(self, key):
+        cell = self.net.cells[key]
+        pins, source = cell["connections"], place(cell["attributes"])
+        output = self.target(pins["Y"][0])
+        read = {pin: self.bit(bits[0], pins["Y"][0], source) for pin, bits in pins.items() if pin != "Y"}
+        if cell["type"] in GATES:
+            return f"{GATES[cell['type']]}({output}, {read['A']}, {read['B']});"
+        if cell["type"] == "$_MUX_":
+            return f"assign {output} = {read['S']} ? {read['B']} : {read['A']};"
+        if cell["type"] == "$_NMUX_":
+            return f"assign {output} = ~({read['S']} ? {read['B']} : {read['A']});"
+        if cell["type"] in ("$_ANDNOT_", "$_ORNOT_"):
+            return f"assign {output} = {read['A']} {'&' if cell['type'] == '$_ANDNOT_' else '|'} ~{read['B']};"
+        return f"{'not' if cell['type'] == '$_NOT_' else 'buf'}({output}, {read['A']});"
+
+    def box(self, key, module_names):
+        cell = self.net.cells[key]
+        ports, pins = self.net.modules[cell["type"]]["ports"], []
+        for port, shape in ports.items():
+            bits = cell["connections"].get(port, [])
+            if bits and len(bits) != len(shape["bits"]):
+                raise Fault(f"{place(cell['attributes'])}: port {port} of box {key} has {len(shape['bits'])} bits, and "
+                            f"{len(bits)} are connected")
+            if shape["direction"] == "input":
+                value = self.bits(bits, f"{port} of box {key}", place(cell["attributes"])) if bits else self.open_pin(key, port)
+            else:
+                value = self.pins_out(bits) if bits else ""
+            pins.append(f".{written(port)}({value})")
+        return f"{written(module_names[cell['type']])} {written(key)}({', '.join(pins)});"
+
+    def open_pin(self, key, port):
+        raise Fault(f"{place(self.net.cells[key]['attributes'])}: input {port} of box {key} is open; connect it")
+
+    def pins_out(self, bits):
+        parts = [self.target(bit) for bit in reversed(bits)]
+        return self.bits(bits) if len(parts) > 1 else parts[0]
+
+    def clock(self, key):
+        cell = self.net.cells[key]
+        bit = cell["connections"]["C"][0]
+        if bit not in self.net.input_bits:
+            register = self.net.name_of[self.net.driven(cell)][0]
+            raise Fault(f"{place(cell['attributes'])}: register {register} has the clock {self.net.describe(bit)}, "
+                        "which is no input of the top")
+        return EDGES[cell["type"]], self.target(bit)
+
+    def register_lines(self, name):
+        """The clocked assignments of one net: a single one where all its bits have one clock and no net of their own."""
+        bits = sorted(self.registers[name].items(), reverse=True)
+        clocks = {self.clock(key) for _, key in bits}
+        whole = len(clocks) == 1 and not any((name, position) in self.split for position, _ in bits)
+        for group in ([bits] if whole else [[bit] for bit in bits]):
+            edge, clock = self.clock(group[0][1])
+            cells = [self.net.cells[key] for _, key in group]
+            left = self.spelt(name) if whole else self.target(self.net.driven(cells[0]))
+            self.declared.setdefault(name)
+            data = self.bits([cell["connections"]["D"][0] for cell in reversed(cells)], f"the next {name}",
+                             place(cells[0]["attributes"]))
+            yield f"always @({edge} {clock}) {left} <= {data};"
+
+    def output_lines(self, port):
+        """The assignments of those bits of an output that go by another name."""
+        bits = self.net.ports[port]["bits"]
+        source = place(self.net.nets[port]["attributes"])
+        others = [position for position, bit in enumerate(bits)
+                  if self.net.name_of.get(bit) != (port, position) or bit not in self.net.driver or (port, position) in self.split]
+        if len(others) == len(bits):
+            yield f"assign {written(port)} = {self.bits(bits, port, source)};"
+            return
+        for position in others:
+            yield f"assign {written(port)}[{self.index(port, position)}] = {self.bit(bits[position], port, source)};"
+
+    def body(self, module_names):
+        lines = [self.gate(key) for key in self.net.order]
+        lines += [self.box(key, module_names) for key in self.net.boxes]
+        for name in self.registers:
+            lines += self.register_lines(name)
+        for port, shape in self.net.ports.items():
+            if shape["direction"] == "output":
+                lines += self.output_lines(port)
+        return lines
+
+    def declarations(self):
+        for port, shape in self.net.ports.items():
+            yield f"{shape['direction']} {self.range_of(port)}{written(port)};"
+        for name in self.registers:
+            if any((name, position) in self.split for position in self.registers[name]):
+                texts = [written(f"{name}[{self.index(name, position)}]") for position in sorted(self.registers[name], reverse=True)]
+                yield f"reg {', '.join(texts)};"
+            else:
+                yield f"reg {self.range_of(name)}{self.spelt(name)};"
+        for name in self.declared:
+            kept = self.registers.get(name)
+            if name not in self.net.ports and (not kept or any((name, position) in self.split for position in kept)):
+                yield f"wire {self.range_of(name)}{self.spelt(name)};"
+
+    def text(self, files):
+        module_names = self.box_names()
+        body = self.body(module_names)
+        count = ", ".join((counted(len(self.net.order), "gate"), counted(len(self.net.live_flops), "register bit"),
+                           counted(len(self.net.boxes), "box", "boxes")))
+        yield f"// {self.net.name}, made by gates from {', '.join(os.path.basename(file) for file in files)}: {count}."
+        yield f"module {written(self.net.name)}({', '.join(written(port) for port in self.net.ports)});"
+        for line in [*self.declarations(), *body]:
+            yield "  " + line
+        yield "endmodule"
+        for kind, name in module_names.items():
+            ports = self.net.modules[kind]["ports"]
+            yield ""
+            yield f"module {written(name)}({', '.join(written(port) for port in ports)});"
+            for port, shape in ports.items():
+                yield f"  {shape['direction']} {self.port_range(shape)}{written(port)};"
+            yield "endmodule"
+
+    def port_range(self, shape):
+        width, offset = len(shape["bits"]), shape.get("offset", 0)
+        if width == 1 and not offset and not shape.get("upto"):
+            return ""
+        first, last = offset + width - 1, offset
+        return f"[{last}:{first}] " if shape.get("upto") else f"[{first}:{last}] "
+
+    def box_names(self):
+        """A name for each module of a box: its own, with a number where its parameters make several of it."""
+        names, used = {}, {self.net.name}
+        for cell in self.net.boxes.values():
+            if cell["type"] in names:
+                continue
+            own = self.net.modules[cell["type"]]["attributes"].get("hdlname", cell["type"]).lstrip("\\").split(" ")[-1]
+            name, number = own, 1
+            while name in used:
+                number += 1
+                name = f"{own}_{number}"
+            used.add(name)
+            names[cell["type"]] = name
+        return names
