@@ -1,0 +1,168 @@
+"""The tries of `fill`, `wave`, `order`, `drat` and `lrat`."""
+import os
+import re
+
+from tries import BBEQ, DESIGNS, SMALL_PROOF, bbeq, designs_in, example, is_told, read, run, script, write
+
+# fill
+
+FILLED = """module t(a, b, y1, y2, y3); input a, b; output y1, y2, y3; k u1(a, y1), u2(b, y2), u3(b, y3); endmodule
+module k(a, y); input a; output y; wire w; bx v(a, w), v2(w, y); endmodule
+module bx(i, o); input i; output o; endmodule
+"""
+FILLED_SPEC = "module t(a, b, y1, y2, y3); input a, b; output y1, y2, y3; buf(y1, a); not(y2, b); buf(y3, b); endmodule\n"
+FILLED_REPORT = "rung expand repair\n" + "".join(
+    f"table {path} o {'10' if path == 'u2.v' else '01'}\n"
+    for path in ("u1.v", "u1.v2", "u2.v", "u2.v2", "u3.v", "u3.v2")) + "verdict repairable\n"
+
+
+# Names that have to be escaped, and ranges in both directions.
+ESCAPED = r"""module \top.x (\a[0] , b, \y+z );
+  input \a[0] ; input [0:2] b; output [1:0] \y+z ;
+  \bo-x \u.1 (.\p[0] (\a[0] ), .q(b), .\r$ (\y+z ));
+endmodule
+(* blackbox *)
+module \bo-x (\p[0] , q, \r$ );
+  input \p[0] ; input [0:2] q; output [1:0] \r$ ;
+endmodule
+"""
+ESCAPED_SPEC = r"""module s(\a[0] , b, \y+z ); input \a[0] ; input [0:2] b; output [1:0] \y+z ; assign \y+z = {\a[0] , ~b[2]}; endmodule
+"""
+ESCAPED_REPORT = """rung input repair
+table u.1 r$[1] 0000000011111111
+table u.1 r$[0] 1010101010101010
+verdict repairable
+"""
+
+
+def repaired(report, implementation, spec, folder, style):
+    """The filled implementation agrees with the specification: read by the program, by way of gates where that is due."""
+    filled = os.path.join(folder, "filled.v")
+    done = run([script("fill"), "--style", style, report, implementation, "-o", filled])
+    if done.status:
+        return False, done
+    done = run(["iverilog", "-o", os.devnull, filled])
+    if done.status:
+        return False, done
+    if style == "case":
+        done = run([script("gates"), filled, "-o", filled])
+        if done.status:
+            return False, done
+    done = run([BBEQ, spec, filled])
+    return done.status == 0, done
+
+
+def repairs(folder):
+    """Pairs with a repair, as (name, report, implementation, specification)."""
+    report = write(folder, "several", FILLED_REPORT)
+    yield "several contents of one module", report, write(folder, "k.v", FILLED), write(folder, "ks.v", FILLED_SPEC)
+    report = write(folder, "escaped", ESCAPED_REPORT)
+    yield "escaped names", report, write(folder, "e.v", ESCAPED), write(folder, "es.v", ESCAPED_SPEC)
+    for name in ("carry", "counter", "packet"):
+        done = bbeq(example(name, "spec.v"), example(name, "impl.v"))
+        yield name, write(folder, name, done.out), example(name, "impl.v"), example(name, "spec.v")
+
+
+def fill_part(tally, folder):
+    for name, report, implementation, spec in list(repairs(folder)):
+        for style in ("case", "assign"):
+            right, done = repaired(report, implementation, spec, folder, style)
+            tally.note(f"fill --style {style}: {name}", right, done.why())
+    other = run([script("fill"), os.path.join(folder, "several"), example("carry", "impl.v")])
+    tally.note("fill refuses the report of another implementation", is_told(other, "fill"), other.why())
+
+
+# wave
+
+def wave_part(tally, folder):
+    for name, wrong in (("adder", True), ("alu", True), ("nor", True), ("buffer", True)):
+        spec, implementation = example(name, "spec.v"), example(name, "impl.v")
+        report = write(folder, "report", bbeq(spec, implementation).out)
+        waves = os.path.join(folder, f"{name}.vcd")
+        done = run([script("wave"), report, spec, implementation, "--vcd", waves])
+        marked = [line for line in done.out.splitlines() if "named by the report" in line]
+        vector = [line for line in read(report).splitlines() if line.startswith("input ")]
+        right = done.status == 0 and os.path.getsize(waves) > 100 and (not wrong or len(marked) == 1 and "wrong" in marked[0])
+        tally.note(f"wave {name}: the wrong output is seen", right, done.why())
+        tally.note(f"wave {name}: the vector stands above the table", vector == done.out.splitlines()[1:2], done.why())
+    open_bit = run([script("wave"), write(folder, "adder", bbeq(example("adder", "spec.v"), example("adder", "impl.v")).out),
+                    example("adder", "spec.v"), example("adder", "impl.v")], folder)
+    tally.note("wave adder: what the box leaves open is x", re.search(r"^output cout +0 +x$", open_bit.out, re.MULTILINE),
+               open_bit.why())
+    spec = write(folder, "s.v", REGISTERED.format("q <= d ^ q", "q[1] & ~q[0]"))
+    implementation = write(folder, "i.v", REGISTERED.format("q <= d ^ {q[0], q[0]}", "q[1] & ~q[0]"))
+    report = write(folder, "report", bbeq(spec, implementation).out)
+    done = run([script("wave"), report, spec, implementation, "--vcd", os.path.join(folder, "next.vcd")])
+    right = done.status == 0 and re.search(r"next u1\.q\[1\] .*wrong +\(named by the report\)", done.out)
+    tally.note("wave: a wrong next state is seen", right, done.why())
+
+
+REGISTERED = """module cnt(clk, d, y);
+  input clk; input [1:0] d; output y;
+  stage u1(.clk(clk), .d(d), .y(y));
+endmodule
+module stage(clk, d, y);
+  input clk; input [1:0] d; output y;
+  reg [1:0] q;
+  always @(posedge clk) {};
+  assign y = {};
+endmodule
+"""
+
+
+# order
+
+def ripple(width):
+    """An adder whose two numbers stand one behind the other."""
+    lines = [f"module add(a, b, ci, s, co); input [{width - 1}:0] a, b; input ci; output [{width - 1}:0] s; output co;",
+             f"  wire [{width}:0] c; assign c[0] = ci; assign co = c[{width}];"]
+    lines += [f"  xor(s[{i}], a[{i}], b[{i}], c[{i}]); assign c[{i + 1}] = a[{i}] & b[{i}] | a[{i}] & c[{i}] | b[{i}] & c[{i}];"
+              for i in range(width)]
+    return "\n".join([*lines, "endmodule", ""])
+
+
+def order_part(tally, folder):
+    spec = write(folder, "ripple.v", ripple(8))
+    ordered = os.path.join(folder, "ordered.v")
+    done = run([script("order"), spec, "-o", ordered])
+    counts = re.search(r"(\d+) beads in the old order, (\d+) in the new one", done.err)
+    fell = counts and 4 * int(counts.group(2)) < int(counts.group(1))
+    tally.note(f"order: an adder of 8 bits; {done.err.strip()}", done.status == 0 and fell, done.why())
+    done = bbeq(ordered, spec, "--to", "output")
+    tally.note("order: the ordered text fits the implementation as it is", done.status in (0, 3), done.why())
+    for source in designs_in(DESIGNS):
+        made = os.path.join(folder, "made.v")
+        if run([script("gates"), source, "-o", made]).status or "box" in read(made).splitlines()[0].replace("0 boxes", ""):
+            continue
+        done = run([script("order"), "--no-count", made, "-o", ordered])
+        answer = bbeq(ordered, made, "--to", "local")
+        tally.note(f"order {os.path.basename(source)}: agrees with the old text", done.status == 0 and answer.status in (0, 3),
+                   done.why() + answer.why())
+
+
+# drat and lrat
+
+def accepts(report, folder):
+    names = os.path.join(folder, "proof")
+    done = run([script("drat"), report, "-o", names])
+    return done if done.status else run([script("lrat"), names + ".cnf", names + ".lrat"])
+
+
+def drat_part(tally, folder):
+    done = accepts(write(folder, "report", SMALL_PROOF), folder)
+    tally.note("drat: three clauses", done.status == 0, done.why())
+    names = os.path.join(folder, "proof")
+    lines = read(names + ".cnf").splitlines(True)
+    # Each of the three clauses is needed, so none may be another.
+    one = next((at for at, line in enumerate(lines) if at and len(line.split()) > 1), 0)
+    lines[one] = " ".join(str(-int(word)) for word in lines[one].split()) + "\n"
+    done = run([script("lrat"), write(folder, "other.cnf", "".join(lines)), names + ".lrat"])
+    tally.note("lrat refuses the proof for another formula", is_told(done, "lrat"), done.why())
+    report = bbeq(example("lanes", "spec.v"), example("lanes", "impl.v"), "--proof").out
+    done = accepts(write(folder, "report", report), folder)
+    tally.note(f"drat: the lanes; {done.out.strip()}", done.status == 0, done.why())
+    for wrong, what in ((SMALL_PROOF.replace("1/1 2/2", "2/2 1/1"), "a step that does not resolve"),
+                        (SMALL_PROOF.replace(" 2/2", ""), "a last clause that is not empty"),
+                        (SMALL_PROOF.replace("step 3 0", "step 3 7"), "a clause that does not stand before")):
+        done = accepts(write(folder, "report", wrong), folder)
+        tally.note(f"drat refuses {what}", is_told(done, "drat"), done.why())
