@@ -1,9 +1,8 @@
 //! Comparing what is reported of a pair with what the plain evaluator finds by trying all contents.
 
-use crate::both::Both;
-use crate::lines::{behind, told_contents, told_output, vector_in};
 use bb_reference::read;
 use bb_rows::{Outcome, run_in_memory};
+use bb_samples::{Both, behind, told_contents, told_output, vector_in};
 use std::alloc::Global;
 use std::process::Abort;
 use std::str;

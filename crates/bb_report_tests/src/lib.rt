@@ -2,18 +2,8 @@
 #![tactic(auto)]
 
 #[cfg(test)]
-mod both;
-#[cfg(test)]
 mod comparing;
-#[cfg(test)]
-mod drawing;
-#[cfg(test)]
-mod lines;
-#[cfg(test)]
-mod pairs;
 #[cfg(test)]
 mod random_tests;
 #[cfg(test)]
 mod report_tests;
-#[cfg(test)]
-mod writing;

@@ -1,38 +1,17 @@
-//! Reports of pairs that are drawn. Half the time the specification is the implementation with gates in place of its boxes, which
-//! therefore can be finished; else the gates read other nets than the boxes, or the specification is a circuit of its own.
+//! Reports of pairs that are drawn.
 
 use crate::comparing::{Verdict, compare};
-use crate::drawing::{Draw, Plan, draw_plan};
-use crate::writing::{Filling, boxes, names, written};
+use bb_samples::draw;
 use std::alloc::Global;
 use std::process::Abort;
 use std::test::Fail;
 
-// A specification for an implementation: of four the first two can be met.
-fn draw_spec(draw: &mut Draw, alloc: Global, number: u64, imp: &Plan) -> Result<String, Fail> {
-    match number % 4 {
-        0 | 1 => written(draw, alloc, "s", imp, Filling::Gates),
-        2 => written(draw, alloc, "s", imp, Filling::Others),
-        _ => {
-            let mut plan = draw_plan(draw, alloc, imp.inputs, 0)?;
-            plan.outs = draw.nets(alloc, plan.nets, imp.outs.len())?;
-            written(draw, alloc, "s", &plan, Filling::Open)
-        }
-    }
-}
-
 // Draws a pair from a seed and compares its reports. One that is made to be finished can be.
 fn compare_drawn<R: Abort>(rt: &R, alloc: Global, seed: u64) -> Result<Verdict, Fail> {
-    let mut draw = Draw::new(seed.wrapping_mul(0x9E37_79B9_7F4A_7C15));
-    let inputs = 2 + draw.below(2);
-    let holes = draw.below(4);
-    let plan = draw_plan(&mut draw, alloc, inputs, holes)?;
-    let imp = written(&mut draw, alloc, "t", &plan, Filling::Open)?;
-    let spec = draw_spec(&mut draw, alloc, seed, &plan)?;
-    let ins = names(alloc, 'n', plan.inputs)?;
-    let outs = names(alloc, 'y', plan.outs.len())?;
-    let holes = boxes(alloc, &plan)?;
-    let verdict = compare(rt, alloc, (&spec, &imp), (&ins, &outs, &holes))?;
+    let pair = draw(alloc, seed)?;
+    let (spec, imp) = (pair.spec.as_str(), pair.imp.as_str());
+    let names = (pair.ins.as_str(), pair.outs.as_str(), pair.boxes.as_str());
+    let verdict = compare(rt, alloc, (spec, imp), names)?;
     if seed % 4 < 2 {
         assert_eq!(rt; verdict, Verdict::Repairable, "{spec} {imp}");
     }

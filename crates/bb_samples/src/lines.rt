@@ -6,7 +6,7 @@ use std::alloc::Global;
 use std::test::Fail;
 
 /// What stands in a report behind this word at the head of a line.
-pub(crate) fn behind<'a>(report: &'a str, word: &str) -> Option<&'a str> {
+pub fn behind<'a>(report: &'a str, word: &str) -> Option<&'a str> {
     for line in report.lines() {
         if let Some(rest) = line.strip_prefix(word) {
             return Some(rest);
@@ -16,7 +16,7 @@ pub(crate) fn behind<'a>(report: &'a str, word: &str) -> Option<&'a str> {
 }
 
 /// The bits of inputs that are written like `a=0 b=1`, by these names in this order.
-pub(crate) fn vector_in(alloc: Global, inputs: &str, ins: &str) -> Result<Vec<bool>, Fail> {
+pub fn vector_in(alloc: Global, inputs: &str, ins: &str) -> Result<Vec<bool>, Fail> {
     let mut bits = Vec::new(alloc);
     for (input, name) in inputs.split(' ').zip(ins.split(' ')) {
         match input.strip_prefix(name) {
@@ -29,7 +29,7 @@ pub(crate) fn vector_in(alloc: Global, inputs: &str, ins: &str) -> Result<Vec<bo
 }
 
 /// Which of the outputs a report names; a next state is written with a quote.
-pub(crate) fn told_output(report: &str, outs: &str) -> Result<Option<usize>, Fail> {
+pub fn told_output(report: &str, outs: &str) -> Result<Option<usize>, Fail> {
     for (k, name) in outs.split(' ').enumerate() {
         let told = match name.strip_suffix("'") {
             Some(register) => behind(report, "next ") == Some(register),
@@ -45,32 +45,24 @@ pub(crate) fn told_output(report: &str, outs: &str) -> Result<Option<usize>, Fai
     Ok(None)
 }
 
-// The bits of a line `table PATH PIN BITS` of this pin.
-fn bits_in<'l>(line: &'l str, path: &str, pin: &str) -> Option<&'l str> {
-    let (told_path, rest) = line.strip_prefix("table ")?.split_once(' ')?;
-    let (told_pin, bits) = rest.split_once(' ')?;
-    if told_path == path && told_pin == pin {
-        Some(bits)
-    } else {
-        None
-    }
-}
-
-// The bits of the one line of this pin.
-fn told_bits<'r>(report: &'r str, path: &str, pin: &str) -> Result<&'r str, Fail> {
+// What stands behind this word at the head of the one line that has it.
+fn behind_one<'r>(report: &'r str, word: &str) -> Result<&'r str, Fail> {
     let mut told = None;
     for line in report.lines() {
-        if let Some(bits) = bits_in(line, path, pin) {
+        if let Some(rest) = line.strip_prefix(word) {
             if told.is_some() {
                 return Err(Fail::new("two lines of one pin"));
             }
-            told = Some(bits);
+            told = Some(rest);
         }
     }
-    match told {
-        Some(bits) => Ok(bits),
-        None => Err(Fail::new("no line of a pin")),
-    }
+    Ok(told.ok_or("no line of a pin")?)
+}
+
+// The bits of the one line `table PATH PIN BITS` of this pin.
+fn told_bits<'r>(alloc: Global, report: &'r str, path: &str, pin: &str) -> Result<&'r str, Fail> {
+    let word = format!(in alloc; "table {path} {pin} ")?;
+    behind_one(report, &word)
 }
 
 // The bits that a line spells, row 0 first.
@@ -91,7 +83,7 @@ fn columns(alloc: Global, report: &str, hole: &Hole) -> Result<Vec<Vec<bool>>, F
     let rows = content_bits(hole.pins.ins.len(), 1)?;
     let mut out = Vec::new(alloc);
     for pin in &hole.pins.outs {
-        let bits = spelled(alloc, told_bits(report, &hole.path, pin)?)?;
+        let bits = spelled(alloc, told_bits(alloc, report, &hole.path, pin)?)?;
         if bits.len() != rows {
             return Err(Fail::new("another number of rows"));
         }
@@ -127,11 +119,7 @@ fn count_pins(holes: &[Hole]) -> usize {
 
 /// The contents of the boxes that a report tells, one behind the other. It has one line for each output pin, and no other lines of
 /// tables.
-pub(crate) fn told_contents(
-    alloc: Global,
-    report: &str,
-    holes: &[Hole],
-) -> Result<Vec<bool>, Fail> {
+pub fn told_contents(alloc: Global, report: &str, holes: &[Hole]) -> Result<Vec<bool>, Fail> {
     let lines = report
         .lines()
         .filter(|line| line.starts_with("table "))

@@ -7,9 +7,9 @@ use std::test::Fail;
 
 /// A box: its path and its pins.
 #[derive(Drop)]
-pub(crate) struct Hole {
-    pub(crate) path: String,
-    pub(crate) pins: Pins,
+pub struct Hole {
+    pub path: String,
+    pub pins: Pins,
 }
 
 // A vector, and what the specification gives for it.
@@ -21,10 +21,10 @@ struct Point {
 
 /// A specification and an implementation with its boxes, and all vectors.
 #[derive(Drop)]
-pub(crate) struct Both<'s, 'i> {
-    pub(crate) spec: Circuit<'s>,
-    pub(crate) imp: Circuit<'i>,
-    pub(crate) holes: Vec<Hole>,
+pub struct Both<'s, 'i> {
+    pub spec: Circuit<'s>,
+    pub imp: Circuit<'i>,
+    pub holes: Vec<Hole>,
     points: Vec<Point>,
 }
 
@@ -83,7 +83,7 @@ fn points(alloc: Global, spec: &mut Circuit<'_>) -> Result<Vec<Point>, Fail> {
 
 impl<'s, 'i> Both<'s, 'i> {
     /// The modules s and t of two texts with the names of their inputs and registers, their outputs and next states, and their boxes.
-    pub(crate) fn of(
+    pub fn of(
         alloc: Global,
         spec: &'s Source,
         imp: &'i Source,
@@ -159,7 +159,7 @@ impl<'s, 'i> Both<'s, 'i> {
 
     /// Whether these contents make the two agree at every vector. A vector at which they do not is looked at first the next time, since
     /// other contents often differ there too.
-    pub(crate) fn agree(&mut self, alloc: Global, contents: &[bool]) -> Result<bool, Fail> {
+    pub fn agree(&mut self, alloc: Global, contents: &[bool]) -> Result<bool, Fail> {
         self.fill(alloc, contents)?;
         match self.first_difference(alloc)? {
             Some(k) => {
@@ -173,7 +173,7 @@ impl<'s, 'i> Both<'s, 'i> {
     }
 
     /// Whether some contents do.
-    pub(crate) fn some_contents_agree(&mut self, alloc: Global) -> Result<bool, Fail> {
+    pub fn some_contents_agree(&mut self, alloc: Global) -> Result<bool, Fail> {
         let mut contents = self.first_contents(alloc)?;
         for _ in 0..4096 {
             if self.agree(alloc, &contents)? {
@@ -187,7 +187,7 @@ impl<'s, 'i> Both<'s, 'i> {
     }
 
     /// Whether at a vector this output is wrong for all bits that the boxes may give; without an output, whether always some output is.
-    pub(crate) fn is_wrong(
+    pub fn is_wrong(
         &mut self,
         alloc: Global,
         x: &[bool],
@@ -208,7 +208,7 @@ impl<'s, 'i> Both<'s, 'i> {
     }
 
     /// Whether there is such a vector.
-    pub(crate) fn some_vector_is_wrong(&mut self, alloc: Global) -> Result<bool, Fail> {
+    pub fn some_vector_is_wrong(&mut self, alloc: Global) -> Result<bool, Fail> {
         let mut x = vec![in alloc; false; self.spec.inputs()]?;
         for _ in 0..4096 {
             if self.is_wrong(alloc, &x, None)? {

@@ -19,10 +19,25 @@ const BINARY: [&str; 6] = ["and", "nand", "or", "nor", "xor", "xnor"];
 
 const UNARY: [&str; 2] = ["buf", "not"];
 
-// Names with a number each, parted as they are told.
-fn push_names(
+// A form in which each `#` stands for the next of these numbers.
+fn push_form(text: &mut String, form: &str, numbers: &[usize]) -> Result<(), AllocError> {
+    let mut at = 0usize;
+    for c in form.chars() {
+        if c == '#' {
+            let number = numbers.get(at).copied().unwrap_or(0);
+            write!(text, "{number}")?;
+            at = at.saturating_add(1);
+        } else {
+            text.push(c)?;
+        }
+    }
+    Ok(())
+}
+
+// Forms of one number each, parted as they are told.
+fn push_list(
     text: &mut String,
-    letter: char,
+    form: &str,
     numbers: &[usize],
     between: &str,
 ) -> Result<(), AllocError> {
@@ -30,13 +45,13 @@ fn push_names(
         if k > 0 {
             text.push_str(between)?;
         }
-        write!(text, "{letter}{number}")?;
+        push_form(text, form, &[*number])?;
     }
     Ok(())
 }
 
-/// The numbers from one up to another.
-pub(crate) fn stretch(alloc: Global, from: usize, to: usize) -> Result<Vec<usize>, AllocError> {
+// The numbers from one up to another.
+fn stretch(alloc: Global, from: usize, to: usize) -> Result<Vec<usize>, AllocError> {
     let mut out = Vec::new(alloc);
     for k in from..to {
         out.push(k)?;
@@ -44,10 +59,16 @@ pub(crate) fn stretch(alloc: Global, from: usize, to: usize) -> Result<Vec<usize
     Ok(out)
 }
 
-/// Names with a number each and a blank between two.
-pub(crate) fn names(alloc: Global, letter: char, count: usize) -> Result<String, AllocError> {
+/// The numbers from one up to another, each in this form.
+pub(crate) fn list(
+    alloc: Global,
+    form: &str,
+    from: usize,
+    to: usize,
+    between: &str,
+) -> Result<String, AllocError> {
     let mut text = String::new(alloc);
-    push_names(&mut text, letter, &stretch(alloc, 0, count)?, " ")?;
+    push_list(&mut text, form, &stretch(alloc, from, to)?, between)?;
     Ok(text)
 }
 
@@ -63,8 +84,9 @@ fn push_gate(
     } else {
         BINARY.get(number % 6).copied().unwrap_or("and")
     };
-    write!(text, "{gate}(n{out}, ")?;
-    push_names(text, 'n', ins, ", ")?;
+    text.push_str(gate)?;
+    push_form(text, "(n#, ", &[out])?;
+    push_list(text, "n#", ins, ", ")?;
     text.push_str("); ")
 }
 
@@ -75,45 +97,59 @@ fn push_assign(
     out: usize,
     ins: &[usize],
 ) -> Result<(), AllocError> {
-    let [a, b, c] = ins else {
+    let [a, b, c] = *ins else {
         return Ok(());
     };
     match number {
-        0 => write!(text, "assign n{out} = n{a} & ~n{b} | n{c}; "),
-        1 => write!(text, "assign n{out} = n{a} ? n{b} : n{c}; "),
-        2 => write!(text, "assign n{out} = ~(n{a} ^ n{b}); "),
-        3 => write!(text, "assign n{out} = n{a} ~^ n{b} & n{c}; "),
-        4 => write!(text, "assign n{out} = {{n{a}, n{b}}} ? ~n{c} : n{b}; "),
-        _ => write!(text, "assign n{out} = n{a} | 1'b0 ^ n{c}; "),
+        0 => push_form(text, "assign n# = n# & ~n# | n#; ", &[out, a, b, c]),
+        1 => push_form(text, "assign n# = n# ? n# : n#; ", &[out, a, b, c]),
+        2 => push_form(text, "assign n# = ~(n# ^ n#); ", &[out, a, b]),
+        3 => push_form(text, "assign n# = n# ~^ n# & n#; ", &[out, a, b, c]),
+        4 => push_form(
+            text,
+            "assign n# = {n#, n#} ? ~n# : n#; ",
+            &[out, a, b, c, b],
+        ),
+        _ => push_form(text, "assign n# = n# | 1'b0 ^ n#; ", &[out, a, c]),
     }
 }
 
-// An instance of a box by order or by names.
-fn push_hole(text: &mut String, place: usize, part: &Part) -> Result<(), AllocError> {
-    write!(text, "b{}{} u{place}(", part.ins.len(), part.outs)?;
-    let by_name = part.number == 1;
-    for (k, net) in part.ins.iter().enumerate() {
-        if by_name {
-            write!(text, ".i{k}(n{net}), ")?;
-        } else {
-            write!(text, "n{net}, ")?;
+// The connections of pins that are called by this letter, by order or by names, with nets from a list.
+fn push_pins(
+    text: &mut String,
+    letter: char,
+    nets: &[usize],
+    by_name: bool,
+) -> Result<(), AllocError> {
+    for (k, net) in nets.iter().enumerate() {
+        if k > 0 {
+            text.push_str(", ")?;
         }
-    }
-    push_hole_outs(text, part, by_name)?;
-    text.push_str("); ")
-}
-
-fn push_hole_outs(text: &mut String, part: &Part, by_name: bool) -> Result<(), AllocError> {
-    for k in 0..part.outs {
-        let net = part.first.saturating_add(k);
-        let between = if k > 0 { ", " } else { "" };
         if by_name {
-            write!(text, "{between}.o{k}(n{net})")?;
+            text.push('.')?;
+            text.push(letter)?;
+            push_form(text, "#(n#)", &[k, *net])?;
         } else {
-            write!(text, "{between}n{net}")?;
+            push_form(text, "n#", &[*net])?;
         }
     }
     Ok(())
+}
+
+// An instance of a box by order or by names.
+fn push_hole(
+    alloc: Global,
+    text: &mut String,
+    place: usize,
+    part: &Part,
+) -> Result<(), AllocError> {
+    let by_name = part.number == 1;
+    let outs = stretch(alloc, part.first, part.first.saturating_add(part.outs))?;
+    push_form(text, "b## u#(", &[part.ins.len(), part.outs, place])?;
+    push_pins(text, 'i', &part.ins, by_name)?;
+    text.push_str(", ")?;
+    push_pins(text, 'o', &outs, by_name)?;
+    text.push_str("); ")
 }
 
 // Gates in the place of a box, one for each output.
@@ -149,7 +185,7 @@ fn item(
     match part.kind {
         Kind::Gate => push_gate(&mut text, part.number, part.first, &part.ins)?,
         Kind::Assign => push_assign(&mut text, part.number, part.first, &part.ins)?,
-        Kind::Hole if filling == Filling::Open => push_hole(&mut text, place, part)?,
+        Kind::Hole if filling == Filling::Open => push_hole(alloc, &mut text, place, part)?,
         Kind::Hole => push_filling(draw, alloc, &mut text, part, filling)?,
     }
     Ok(text)
@@ -172,19 +208,13 @@ fn items(draw: &mut Draw, alloc: Global, plan: &Plan, filling: Filling) -> Resul
 
 // The header of a module and the declarations of its nets.
 fn push_head(alloc: Global, text: &mut String, top: &str, plan: &Plan) -> Result<(), AllocError> {
-    let inputs = stretch(alloc, 0, plan.inputs)?;
-    let outs = stretch(alloc, 0, plan.outs.len())?;
-    write!(text, "module {top}(")?;
-    push_names(text, 'n', &inputs, ", ")?;
-    text.push_str(", ")?;
-    push_names(text, 'y', &outs, ", ")?;
-    text.push_str("); input ")?;
-    push_names(text, 'n', &inputs, ", ")?;
-    text.push_str("; output ")?;
-    push_names(text, 'y', &outs, ", ")?;
-    text.push_str("; wire ")?;
-    push_names(text, 'n', &stretch(alloc, plan.inputs, plan.nets)?, ", ")?;
-    text.push_str("; ")
+    let ins = list(alloc, "n#", 0, plan.inputs, ", ")?;
+    let outs = list(alloc, "y#", 0, plan.outs.len(), ", ")?;
+    let nets = list(alloc, "n#", plan.inputs, plan.nets, ", ")?;
+    write!(
+        text,
+        "module {top}({ins}, {outs}); input {ins}; output {outs}; wire {nets}; "
+    )
 }
 
 // The module of boxes with so many pins.
@@ -224,7 +254,7 @@ pub(crate) fn written(
     push_head(alloc, &mut text, top, plan)?;
     text.push_str(&items(draw, alloc, plan, filling)?)?;
     for (k, net) in plan.outs.iter().enumerate() {
-        write!(text, "assign y{k} = n{net}; ")?;
+        push_form(&mut text, "assign y# = n#; ", &[k, *net])?;
     }
     text.push_str("endmodule")?;
     if filling == Filling::Open {
