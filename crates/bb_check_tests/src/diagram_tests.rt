@@ -1,41 +1,54 @@
 //! The checks by diagrams and their budgets, through public calls. The numbers of beads were counted from truth tables.
 
-use bb_bits::Name;
-use bb_net::{BoxName, Cell, Net, OutName, Pair};
-use bb_sym::{RungFault, local, output, symbolic};
+ghost use Rattle.std.specs.Prelude.{◌≤◌};
+
+use bb_building::{net, pair};
+use bb_net::{Cell, Pair};
+use bb_sym::{Found, RungFault};
+use std::alloc::Global;
 use std::test::Fail;
+
+// The checks without their promises, so that no test is proved beside these.
+
+fn symbolic(alloc: Global, pair: &Pair, nodes: u32, cache: u32) -> Result<Option<Found>, RungFault>
+    requires nodes { nodes ≤ 50000000 }
+    requires least { 1 ≤ cache }
+    requires most { cache ≤ 1048576 }
+{
+    bb_sym::symbolic(alloc, pair, nodes, cache)
+}
+
+fn local(alloc: Global, pair: &Pair, nodes: u32, cache: u32) -> Result<Option<Found>, RungFault>
+    requires nodes { nodes ≤ 50000000 }
+    requires least { 1 ≤ cache }
+    requires most { cache ≤ 1048576 }
+{
+    bb_sym::local(alloc, pair, nodes, cache)
+}
+
+fn output(alloc: Global, pair: &Pair, nodes: u32, cache: u32) -> Result<Option<Found>, RungFault>
+    requires nodes { nodes ≤ 50000000 }
+    requires least { 1 ≤ cache }
+    requires most { cache ≤ 1048576 }
+{
+    bb_sym::output(alloc, pair, nodes, cache)
+}
 
 // The output is 1 at a=1 b=1 c=0 d=0 alone, where the implementation gives 0 whatever its box gives.
 #[test]
 fn a_known_output_that_is_wrong_is_found(rt: HostRuntime) -> Result<(), Fail> {
     let alloc = rt.alloc();
-    let mut spec = Net::start(alloc, 4)?;
-    let both = spec.push(Cell::And(2, 3))?;
-    let not_c = spec.push(Cell::Not(4))?;
-    let not_d = spec.push(Cell::Not(5))?;
-    let neither = spec.push(Cell::And(not_c, not_d))?;
-    let place = spec.push(Cell::And(both, neither))?;
-    spec.add_out(place)?;
-    let mut imp = Net::start(alloc, 4)?;
-    let number = imp.add_box(vec![in alloc; 2]?)?;
-    let pin = imp.push(Cell::BoxOut(number, 0))?;
-    let gated = imp.push(Cell::And(pin, 4))?;
-    imp.add_out(gated)?;
-    let pins = BoxName::of(
-        Name::of(alloc, b"u")?,
-        vec![in alloc; Name::of(alloc, b"i")?]?,
-        vec![in alloc; Name::of(alloc, b"o")?]?,
-    );
-    let out = OutName {
-        next: false,
-        text: Name::of(alloc, b"y")?,
-    };
-    let mut ins = Vec::new(alloc);
-    ins.push(Name::of(alloc, b"a")?)?;
-    ins.push(Name::of(alloc, b"b")?)?;
-    ins.push(Name::of(alloc, b"c")?)?;
-    ins.push(Name::of(alloc, b"d")?)?;
-    let pair = Pair::of(spec, imp, ins, vec![in alloc; out]?, vec![in alloc; pins]?);
+    let spec_cells = [
+        Cell::And(2, 3),
+        Cell::Not(4),
+        Cell::Not(5),
+        Cell::And(7, 8),
+        Cell::And(6, 9),
+    ];
+    let spec = net(alloc, 4, &[], &spec_cells, &[10])?;
+    let imp_cells = [Cell::BoxOut(0, 0), Cell::And(6, 4)];
+    let imp = net(alloc, 4, &[&[2]], &imp_cells, &[7])?;
+    let pair = pair(alloc, spec, imp)?;
     match symbolic(alloc, &pair, 100, 16) {
         Ok(Some(found)) => {
             assert_eq!(rt; found.output, Some(0));
@@ -53,29 +66,10 @@ fn a_known_output_that_is_wrong_is_found(rt: HostRuntime) -> Result<(), Fail> {
 #[test]
 fn an_output_that_no_box_can_set_is_found(rt: HostRuntime) -> Result<(), Fail> {
     let alloc = rt.alloc();
-    let mut spec = Net::start(alloc, 1)?;
-    spec.add_out(1)?;
-    let mut imp = Net::start(alloc, 1)?;
-    let number = imp.add_box(vec![in alloc; 2]?)?;
-    let pin = imp.push(Cell::BoxOut(number, 0))?;
-    let place = imp.push(Cell::Xor(pin, pin))?;
-    imp.add_out(place)?;
-    let pins = BoxName::of(
-        Name::of(alloc, b"u")?,
-        vec![in alloc; Name::of(alloc, b"i")?]?,
-        vec![in alloc; Name::of(alloc, b"o")?]?,
-    );
-    let out = OutName {
-        next: false,
-        text: Name::of(alloc, b"y")?,
-    };
-    let pair = Pair::of(
-        spec,
-        imp,
-        vec![in alloc; Name::of(alloc, b"a")?]?,
-        vec![in alloc; out]?,
-        vec![in alloc; pins]?,
-    );
+    let spec = net(alloc, 1, &[], &[], &[1])?;
+    let imp_cells = [Cell::BoxOut(0, 0), Cell::Xor(3, 3)];
+    let imp = net(alloc, 1, &[&[2]], &imp_cells, &[4])?;
+    let pair = pair(alloc, spec, imp)?;
     match local(alloc, &pair, 2, 4) {
         Ok(Some(found)) => {
             assert_eq!(rt; found.output, Some(0));
@@ -89,39 +83,16 @@ fn an_output_that_no_box_can_set_is_found(rt: HostRuntime) -> Result<(), Fail> {
 
 // Both outputs are the one output of a box, where the specification has the input and its complement: each can be right, and
 // not both. The functions have six beads.
+fn one_bit_for_two_outputs(alloc: Global) -> Result<Pair, Fail> {
+    let spec = net(alloc, 1, &[], &[Cell::Not(2)], &[2, 3])?;
+    let imp = net(alloc, 1, &[&[2]], &[Cell::BoxOut(0, 0)], &[3, 3])?;
+    pair(alloc, spec, imp)
+}
+
 #[test]
 fn two_outputs_that_cannot_both_be_right_are_found(rt: HostRuntime) -> Result<(), Fail> {
     let alloc = rt.alloc();
-    let mut spec = Net::start(alloc, 1)?;
-    let other = spec.push(Cell::Not(2))?;
-    spec.add_out(2)?;
-    spec.add_out(other)?;
-    let mut imp = Net::start(alloc, 1)?;
-    let number = imp.add_box(vec![in alloc; 2]?)?;
-    let pin = imp.push(Cell::BoxOut(number, 0))?;
-    imp.add_out(pin)?;
-    imp.add_out(pin)?;
-    let pins = BoxName::of(
-        Name::of(alloc, b"u")?,
-        vec![in alloc; Name::of(alloc, b"i")?]?,
-        vec![in alloc; Name::of(alloc, b"o")?]?,
-    );
-    let mut outs = Vec::new(alloc);
-    outs.push(OutName {
-        next: false,
-        text: Name::of(alloc, b"y1")?,
-    })?;
-    outs.push(OutName {
-        next: false,
-        text: Name::of(alloc, b"y2")?,
-    })?;
-    let pair = Pair::of(
-        spec,
-        imp,
-        vec![in alloc; Name::of(alloc, b"a")?]?,
-        outs,
-        vec![in alloc; pins]?,
-    );
+    let pair = one_bit_for_two_outputs(alloc)?;
     match local(alloc, &pair, 6, 4) {
         Ok(None) => {}
         _ => assert!(rt; false),
@@ -143,29 +114,9 @@ fn two_outputs_that_cannot_both_be_right_are_found(rt: HostRuntime) -> Result<()
 #[test]
 fn budgets_are_exact(rt: HostRuntime) -> Result<(), Fail> {
     let alloc = rt.alloc();
-    let mut spec = Net::start(alloc, 1)?;
-    let other = spec.push(Cell::Not(2))?;
-    spec.add_out(other)?;
-    let mut imp = Net::start(alloc, 1)?;
-    let number = imp.add_box(vec![in alloc; 2]?)?;
-    let pin = imp.push(Cell::BoxOut(number, 0))?;
-    imp.add_out(pin)?;
-    let pins = BoxName::of(
-        Name::of(alloc, b"u")?,
-        vec![in alloc; Name::of(alloc, b"i")?]?,
-        vec![in alloc; Name::of(alloc, b"o")?]?,
-    );
-    let out = OutName {
-        next: false,
-        text: Name::of(alloc, b"y")?,
-    };
-    let pair = Pair::of(
-        spec,
-        imp,
-        vec![in alloc; Name::of(alloc, b"a")?]?,
-        vec![in alloc; out]?,
-        vec![in alloc; pins]?,
-    );
+    let spec = net(alloc, 1, &[], &[Cell::Not(2)], &[3])?;
+    let imp = net(alloc, 1, &[&[2]], &[Cell::BoxOut(0, 0)], &[3])?;
+    let pair = pair(alloc, spec, imp)?;
     assert!(rt; matches!(symbolic(alloc, &pair, 2, 4), Ok(None)));
     assert_eq!(rt; symbolic(alloc, &pair, 1, 4).err(), Some(RungFault::Nodes));
     assert!(rt; matches!(local(alloc, &pair, 5, 4), Ok(None)));
