@@ -1,9 +1,11 @@
-//! Small netlists and pairs from lists of cells, for tests. What such lists have to be is tried when they are built, so that a test owes
-//! no proof of it.
+//! Small netlists and pairs from lists of cells, and tables that fit their boxes, for tests. What lists of cells have to be is tried when
+//! they are built, so that a test owes no proof of it.
 #![tactic(auto)]
 
+mod fitting;
 mod nets;
 mod pairs;
 
+pub use fitting::{fit, table_of};
 pub use nets::net;
 pub use pairs::pair;

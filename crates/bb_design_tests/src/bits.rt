@@ -1,7 +1,7 @@
 //! The outputs of a netlist for a list of bits.
 
-use crate::fitting::fit;
 use bb_bits::Table;
+use bb_building::fit;
 use bb_net::Net;
 use std::alloc::Global;
 use std::process::Abort;

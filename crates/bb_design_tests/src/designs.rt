@@ -102,91 +102,101 @@ endmodule
 (* blackbox *)
 module hole(i, o); input [1:0] i; output o; endmodule";
 
-/// All of them with their names: inputs, registers with edge and number of the clock, outputs, boxes with their pins.
-pub(crate) const DESIGNS: [(&str, &str); 18] = [
-    (ADDER, "in a b c out s o"),
-    (
-        SELECTS,
-        "in a[3] a[2] a[1] a[0] b[0] b[1] b[2] b[3] out y[5] y[4] y[3] y[2] z[0] z[1] z[2] z[3]",
-    ),
-    (
-        REPEATS,
-        "in a b[1] b[0] out y[7] y[6] y[5] y[4] y[3] y[2] y[1] y[0] z[2] z[1] z[0]",
-    ),
-    (
-        REGISTERS,
-        "in clk en d[1] d[0] neg f@0 pos r[1]@0 pos r[0]@0 out q[1] q[0] n",
-    ),
-    (
-        CLOCKS,
-        "in c[1] c[0] d pos r@0 pos u.q@1 pos w.q@0 pos x1.q@? out y",
-    ),
-    (COPIES, "in a[1] a[0] out y[1] y[0]"),
-    (SUPPLIES, "in a out y[2] y[1] y[0] z"),
-    (
-        GATES,
-        "in a b c out y[1] y[2] y[3] z[17] z[16] z[15] z[14] z[13] z[12] z[11] z[10] z[9] z[8] z[7] z[6] z[5] z[4] z[3] z[2] z[1] z[0] w",
-    ),
-    (
-        CONDITIONS,
-        "in s[1] s[0] a[1] a[0] b out y[2] y[1] y[0] z[1] z[0]",
-    ),
-    (
-        WIDTHS,
-        "in a b[1] b[0] out y[3] y[2] y[1] y[0] z[1] z[0] w[2] w[1] w[0] v[2] v[1] v[0]",
-    ),
-    // The box in the instance reads that of the top, which therefore stands first.
-    (
-        BOXES,
-        "in a b out y z box u: i[1] i[0] -> o box v.x: i -> o",
-    ),
-    (
-        PINS,
-        "in a out y[0] y[1] z box u: i -> o p[0] p[1] box v: i j -> o",
-    ),
-    (CHAINED, "in a out y box u2: i -> o box u1: i -> o"),
-    (ENDS, "in a out y box u: -> o box v: i[1] i[0] ->"),
-    (STATES, "in c a pos q[1]@0 pos q[0]@0 out y box u: i -> o"),
-    (ESCAPED, "in a.b neg u[0].r[1]@0 out y"),
-    (
-        WRITTEN,
-        "in clk d[1] d[0] pos u1.q[1]@0 pos u1.q[0]@0 out y",
-    ),
-    (
-        SYNTHESIZED,
-        "in clk d[1] d[0] pos u1.q[1]@0 pos u1.q[0]@0 out y box h: i[1] i[0] -> o",
-    ),
-];
+/// How many designs there are.
+pub(crate) const DESIGNS: usize = 18;
 
-/// The outputs and next states of some, vector after vector in rising order, the first input most significant. A next state is
-/// written with a quote.
-pub(crate) const TRUTHS: [(&str, &str, &str, &str); 8] = [
-    (ADDER, "a b c", "s o", "00 10 10 01 10 01 01 11"),
-    (
-        SELECTS,
-        "a[2] a[1] b[1] b[2]",
-        "y[5] y[4] y[3] y[2]",
-        "0000 0001 0010 0011 0100 0101 0110 0111 1000 1001 1010 1011 1100 1101 1110 1111",
-    ),
-    (
-        REGISTERS,
-        "en d[1] d[0] r[1] r[0]",
-        "r[1]' r[0]' f' q[1]",
-        "0000 0100 1001 1101 0000 0100 1011 1111 0000 0100 1001 1101 0000 0100 1011 1111 0000 0000 0001 0001 0100 0100 0111 0111 1000 1000 1001 1001 1100 1100 1111 1111",
-    ),
-    (COPIES, "a[1] a[0]", "y[1] y[0]", "00 01 10 11"),
-    (SUPPLIES, "a", "y[2] y[1] y[0] z", "1111 1101"),
-    (
-        GATES,
-        "a b c",
-        "y[1] y[2] y[3] z[17] z[16] z[15] z[14] z[13] z[12] z[11] z[10] z[9] z[8] z[7] z[6] z[5] z[4] z[3] z[2] z[1] z[0] w",
-        "0011110001110001110001 0010111000111001110001 0000011100011101110000 0001010100011101110000 1110001110001111100011 1111000110001111100011 1101100010001111000110 1100101010001110001110",
-    ),
-    (
-        WIDTHS,
-        "a b[1] b[0]",
-        "y[3] y[2] y[1] y[0] z[1] z[0] w[2] w[1] w[0] v[2] v[1] v[0]",
-        "111101101101 111100101110 111111111111 111110111100 111001101100 111000101111 111011111110 111010111101",
-    ),
-    (ESCAPED, "a.b u[0].r[1]", "y u[0].r[1]'", "00 10 01 11"),
-];
+/// Each of them with its names: inputs, registers with edge and number of the clock, outputs, boxes with their pins.
+pub(crate) fn design(number: usize) -> (&'static str, &'static str) {
+    match number {
+        0 => (ADDER, "in a b c out s o"),
+        1 => (
+            SELECTS,
+            "in a[3] a[2] a[1] a[0] b[0] b[1] b[2] b[3] out y[5] y[4] y[3] y[2] z[0] z[1] z[2] z[3]",
+        ),
+        2 => (
+            REPEATS,
+            "in a b[1] b[0] out y[7] y[6] y[5] y[4] y[3] y[2] y[1] y[0] z[2] z[1] z[0]",
+        ),
+        3 => (
+            REGISTERS,
+            "in clk en d[1] d[0] neg f@0 pos r[1]@0 pos r[0]@0 out q[1] q[0] n",
+        ),
+        4 => (
+            CLOCKS,
+            "in c[1] c[0] d pos r@0 pos u.q@1 pos w.q@0 pos x1.q@? out y",
+        ),
+        5 => (COPIES, "in a[1] a[0] out y[1] y[0]"),
+        6 => (SUPPLIES, "in a out y[2] y[1] y[0] z"),
+        7 => (
+            GATES,
+            "in a b c out y[1] y[2] y[3] z[17] z[16] z[15] z[14] z[13] z[12] z[11] z[10] z[9] z[8] z[7] z[6] z[5] z[4] z[3] z[2] z[1] z[0] w",
+        ),
+        8 => (
+            CONDITIONS,
+            "in s[1] s[0] a[1] a[0] b out y[2] y[1] y[0] z[1] z[0]",
+        ),
+        9 => (
+            WIDTHS,
+            "in a b[1] b[0] out y[3] y[2] y[1] y[0] z[1] z[0] w[2] w[1] w[0] v[2] v[1] v[0]",
+        ),
+        // The box in the instance reads that of the top, which therefore stands first.
+        10 => (
+            BOXES,
+            "in a b out y z box u: i[1] i[0] -> o box v.x: i -> o",
+        ),
+        11 => (
+            PINS,
+            "in a out y[0] y[1] z box u: i -> o p[0] p[1] box v: i j -> o",
+        ),
+        12 => (CHAINED, "in a out y box u2: i -> o box u1: i -> o"),
+        13 => (ENDS, "in a out y box u: -> o box v: i[1] i[0] ->"),
+        14 => (STATES, "in c a pos q[1]@0 pos q[0]@0 out y box u: i -> o"),
+        15 => (ESCAPED, "in a.b neg u[0].r[1]@0 out y"),
+        16 => (
+            WRITTEN,
+            "in clk d[1] d[0] pos u1.q[1]@0 pos u1.q[0]@0 out y",
+        ),
+        _ => (
+            SYNTHESIZED,
+            "in clk d[1] d[0] pos u1.q[1]@0 pos u1.q[0]@0 out y box h: i[1] i[0] -> o",
+        ),
+    }
+}
+
+/// For how many the outputs are known.
+pub(crate) const TRUTHS: usize = 8;
+
+/// The inputs, the outputs and next states of some, and these vector after vector in rising order, the first input most significant. A
+/// next state is written with a quote.
+pub(crate) fn truth_of(number: usize) -> (&'static str, &'static str, &'static str, &'static str) {
+    match number {
+        0 => (ADDER, "a b c", "s o", "00 10 10 01 10 01 01 11"),
+        1 => (
+            SELECTS,
+            "a[2] a[1] b[1] b[2]",
+            "y[5] y[4] y[3] y[2]",
+            "0000 0001 0010 0011 0100 0101 0110 0111 1000 1001 1010 1011 1100 1101 1110 1111",
+        ),
+        2 => (
+            REGISTERS,
+            "en d[1] d[0] r[1] r[0]",
+            "r[1]' r[0]' f' q[1]",
+            "0000 0100 1001 1101 0000 0100 1011 1111 0000 0100 1001 1101 0000 0100 1011 1111 0000 0000 0001 0001 0100 0100 0111 0111 1000 1000 1001 1001 1100 1100 1111 1111",
+        ),
+        3 => (COPIES, "a[1] a[0]", "y[1] y[0]", "00 01 10 11"),
+        4 => (SUPPLIES, "a", "y[2] y[1] y[0] z", "1111 1101"),
+        5 => (
+            GATES,
+            "a b c",
+            "y[1] y[2] y[3] z[17] z[16] z[15] z[14] z[13] z[12] z[11] z[10] z[9] z[8] z[7] z[6] z[5] z[4] z[3] z[2] z[1] z[0] w",
+            "0011110001110001110001 0010111000111001110001 0000011100011101110000 0001010100011101110000 1110001110001111100011 1111000110001111100011 1101100010001111000110 1100101010001110001110",
+        ),
+        6 => (
+            WIDTHS,
+            "a b[1] b[0]",
+            "y[3] y[2] y[1] y[0] z[1] z[0] w[2] w[1] w[0] v[2] v[1] v[0]",
+            "111101101101 111100101110 111111111111 111110111100 111001101100 111000101111 111011111110 111010111101",
+        ),
+        _ => (ESCAPED, "a.b u[0].r[1]", "y u[0].r[1]'", "00 10 01 11"),
+    }
+}

@@ -6,8 +6,6 @@ mod bits;
 #[cfg(test)]
 mod designs;
 #[cfg(test)]
-mod fitting;
-#[cfg(test)]
 mod pair_tests;
 #[cfg(test)]
 mod refusal_tests;
@@ -15,6 +13,8 @@ mod refusal_tests;
 mod size_tests;
 #[cfg(test)]
 mod sound_tests;
+#[cfg(test)]
+mod tables;
 #[cfg(test)]
 mod telling;
 #[cfg(test)]

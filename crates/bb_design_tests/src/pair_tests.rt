@@ -2,6 +2,7 @@
 
 use crate::bits::net_bits;
 use crate::designs::{CHAINED, SYNTHESIZED, WRITTEN};
+use crate::tables::{halves, is_row};
 use crate::telling::{flat_of, tell_name, tell_named};
 use bb_match::{MatchFault, pair};
 use bb_net::Pair;
@@ -55,14 +56,6 @@ fn told<R: Abort>(rt: &R, alloc: Global, spec: &str, imp: &str) -> Result<String
     Ok(out)
 }
 
-fn rows<R: Abort>(rt: &R, alloc: Global, rows: &[(&str, &str, &str)]) -> Result<(), Fail> {
-    for (spec, imp, expected) in rows {
-        let found = told(rt, alloc, spec, imp)?;
-        assert_eq!(rt; found.as_str(), *expected, "{spec} {imp}");
-    }
-    Ok(())
-}
-
 const COPY: &str = "module s(a, y); input a; output y; buf(y, a); endmodule";
 
 const BOX: &str =
@@ -71,214 +64,103 @@ const BOX: &str =
 const RISING: &str =
     "module s(c, d, y); input c, d; output y; reg q; always @(posedge c) q <= d; buf(y, q); endmodule";
 
+// A text that may stand in a table by its name.
+fn text_of(word: &str) -> &str {
+    match word {
+        "COPY" => COPY,
+        "BOX" => BOX,
+        "RISING" => RISING,
+        "CHAINED" => CHAINED,
+        "WRITTEN" => WRITTEN,
+        "SYNTHESIZED" => SYNTHESIZED,
+        _ => word,
+    }
+}
+
+// Compares rows of a specification, an implementation and what is told.
+fn rows<R: Abort>(rt: &R, alloc: Global, table: &str) -> Result<(), Fail> {
+    for line in table.lines() {
+        if is_row(line) {
+            let (texts, expected) = halves(line);
+            let (spec, imp) = texts.split_once(" / ").unwrap_or((texts, ""));
+            let found = told(rt, alloc, text_of(spec), text_of(imp))?;
+            assert_eq!(rt; found.as_str(), expected, "{texts}");
+        }
+    }
+    Ok(())
+}
+
+const PAIRED: &str = "
+COPY / COPY => in a out y
+COPY / BOX => in a out y box u
+COPY / CHAINED => in a out y box u2 box u1
+RISING / RISING => in c d q out y next q
+WRITTEN / SYNTHESIZED => in clk d[1] d[0] u1.q[1] u1.q[0] out y next u1.q[1] next u1.q[0] box h
+// The order is that of the specification.
+module s(a, y, b, z); input a, b; output y, z; reg p, q; always @(posedge a) p <= b; always @(posedge a) q <= a; and(y, p, q); or(z, a, b); endmodule / module t(z, b, a, y); output z, y; input b, a; reg q; reg p; always @(posedge a) p <= b; always @(posedge a) q <= a; and(y, p, q); or(z, a, b); endmodule => in a b p q out y z next p next q
+// A bus and its bits under escaped names.
+module s(a, y); input [1:0] a; output y; and(y, a[1], a[0]); endmodule / module t(\\a[0] , \\a[1] , y); input \\a[0] , \\a[1] ; output y; and(y, \\a[0] , \\a[1] ); endmodule => in a[1] a[0] out y";
+
 #[test]
 fn pairs(rt: HostRuntime) -> Result<(), Fail> {
-    rows(
-        &rt,
-        rt.alloc(),
-        &[
-            (COPY, COPY, "in a out y"),
-            (COPY, BOX, "in a out y box u"),
-            (COPY, CHAINED, "in a out y box u2 box u1"),
-            (RISING, RISING, "in c d q out y next q"),
-            (
-                WRITTEN,
-                SYNTHESIZED,
-                "in clk d[1] d[0] u1.q[1] u1.q[0] out y next u1.q[1] next u1.q[0] box h",
-            ),
-            // The order is that of the specification.
-            (
-                "module s(a, y, b, z); input a, b; output y, z; reg p, q; always @(posedge a) p <= b; always @(posedge a) q <= a; and(y, p, q); or(z, a, b); endmodule",
-                "module t(z, b, a, y); output z, y; input b, a; reg q; reg p; always @(posedge a) p <= b; always @(posedge a) q <= a; and(y, p, q); or(z, a, b); endmodule",
-                "in a b p q out y z next p next q",
-            ),
-            // A bus and its bits under escaped names.
-            (
-                "module s(a, y); input [1:0] a; output y; and(y, a[1], a[0]); endmodule",
-                "module t(\\a[0] , \\a[1] , y); input \\a[0] , \\a[1] ; output y; and(y, \\a[0] , \\a[1] ); endmodule",
-                "in a[1] a[0] out y",
-            ),
-        ],
-    )
+    rows(&rt, rt.alloc(), PAIRED)
 }
+
+const REFUSED: &str = "
+BOX / COPY => specbox u
+// The first in the order of the boxes, which is not that of the text.
+CHAINED / COPY => specbox u2
+module s(a,y,w); input a; output y,w; buf(y,a); buf(w,a); endmodule / COPY => port w
+COPY / module t(a,b,y); input a,b; output y; buf(y,a); endmodule => port b
+COPY / module t(a,y,w); input a; output y,w; buf(y,a); buf(w,a); endmodule => port w
+COPY / module t(y); output y; supply0 a; buf(y,a); endmodule => port a
+// Inputs before outputs, and the specification before the implementation.
+module s(w,b,y); input b; output y,w; buf(y,b); buf(w,b); endmodule / COPY => port b
+module s(a,y,w); input a; output y,w; buf(y,a); buf(w,a); endmodule / module t(b,a,y); input a,b; output y; buf(y,a); endmodule => port w
+COPY / module t(v,b,a,y); input a,b; output y,v; buf(y,a); buf(v,b); endmodule => port b
+// An input of the one is an output of the other.
+module s(a,b,y); input a,b; output y; buf(y,a); endmodule / module t(a,b,y); input a; output b,y; buf(y,a); buf(b,a); endmodule => port b
+// A bit with an index is another than one without.
+COPY / module t(a,y); input [0:0] a; output y; buf(y,a[0]); endmodule => port a
+module s(a,y); input [1:0] a; output y; buf(y,a[0]); endmodule / module t(a,y); input [2:0] a; output y; buf(y,a[0]); endmodule => port a[2]
+RISING / module t(c,d,y); input c,d; output y; reg r; always @(posedge c) r <= d; buf(y,r); endmodule => register q
+RISING / module t(c,d,y); input c,d; output y; buf(y,c); endmodule => register q
+RISING / module t(c,d,y); input c,d; output y; reg q,r; always @(posedge c) q <= d; always @(posedge c) r <= d; buf(y,r); endmodule => register r
+RISING / module t(c,d,y); input c,d; output y; reg q; and(e,c,d); always @(posedge e) q <= d; buf(y,q); endmodule => clockinput q
+module s(c,d,y); input c,d; output y; reg p,q; not(e,c); always @(posedge c) p <= d; always @(posedge e) q <= d; buf(y,q); endmodule / module t(c,d,y); input c,d; output y; reg p,q; not(e,c); always @(posedge e) p <= d; always @(posedge c) q <= d; buf(y,q); endmodule => clockinput q
+RISING / module t(c,d,y); input c,d; output y; reg q; always @(negedge c) q <= d; buf(y,q); endmodule => clock q
+RISING / module t(c,d,y); input c,d; output y; reg q; always @(posedge d) q <= d; buf(y,q); endmodule => clock q
+// A clock over copies is the same clock.
+RISING / module t(d,c,y); input c,d; output y; reg q; buf(e,c); assign f = ~~e; always @(posedge f) q <= d; buf(y,q); endmodule => in c d q out y next q
+module m(a); input [2048:0] a; endmodule / module m(a); input [2048:0] a; endmodule => pins
+// 2,046 inputs and 3 pins, and one input less.
+module s(a,y); input [2045:0] a; output y; buf(y,a[0]); endmodule / module t(a,y); input [2045:0] a; output y; bx u(a[1:0],y); endmodule module bx(i,o); input [1:0] i; output o; endmodule => pins
+module s(a,y); input [2044:0] a; output y; buf(y,a[0]); endmodule / module t(a,y); input [2044:0] a; output y; bx u(a[1:0],y); endmodule module bx(i,o); input [1:0] i; output o; endmodule => fit
+module m(a); input [2047:0] a; endmodule / module m(a); input [2047:0] a; endmodule => fit
+// A register counts as an input.
+module s(a); input [2047:0] a; reg q; always @(posedge a[0]) q <= a[1]; endmodule / module t(a); input [2047:0] a; reg q; always @(posedge a[0]) q <= a[1]; endmodule => pins";
 
 #[test]
 fn refused_pairs(rt: HostRuntime) -> Result<(), Fail> {
-    rows(
-        &rt,
-        rt.alloc(),
-        &[
-            (BOX, COPY, "specbox u"),
-            // The first in the order of the boxes, which is not that of the text.
-            (CHAINED, COPY, "specbox u2"),
-            (
-                "module s(a,y,w); input a; output y,w; buf(y,a); buf(w,a); endmodule",
-                COPY,
-                "port w",
-            ),
-            (
-                COPY,
-                "module t(a,b,y); input a,b; output y; buf(y,a); endmodule",
-                "port b",
-            ),
-            (
-                COPY,
-                "module t(a,y,w); input a; output y,w; buf(y,a); buf(w,a); endmodule",
-                "port w",
-            ),
-            (
-                COPY,
-                "module t(y); output y; supply0 a; buf(y,a); endmodule",
-                "port a",
-            ),
-            // Inputs before outputs, and the specification before the implementation.
-            (
-                "module s(w,b,y); input b; output y,w; buf(y,b); buf(w,b); endmodule",
-                COPY,
-                "port b",
-            ),
-            (
-                "module s(a,y,w); input a; output y,w; buf(y,a); buf(w,a); endmodule",
-                "module t(b,a,y); input a,b; output y; buf(y,a); endmodule",
-                "port w",
-            ),
-            (
-                COPY,
-                "module t(v,b,a,y); input a,b; output y,v; buf(y,a); buf(v,b); endmodule",
-                "port b",
-            ),
-            // An input of the one is an output of the other.
-            (
-                "module s(a,b,y); input a,b; output y; buf(y,a); endmodule",
-                "module t(a,b,y); input a; output b,y; buf(y,a); buf(b,a); endmodule",
-                "port b",
-            ),
-            // A bit with an index is another than one without.
-            (
-                COPY,
-                "module t(a,y); input [0:0] a; output y; buf(y,a[0]); endmodule",
-                "port a",
-            ),
-            (
-                "module s(a,y); input [1:0] a; output y; buf(y,a[0]); endmodule",
-                "module t(a,y); input [2:0] a; output y; buf(y,a[0]); endmodule",
-                "port a[2]",
-            ),
-            (
-                RISING,
-                "module t(c,d,y); input c,d; output y; reg r; always @(posedge c) r <= d; buf(y,r); endmodule",
-                "register q",
-            ),
-            (
-                RISING,
-                "module t(c,d,y); input c,d; output y; buf(y,c); endmodule",
-                "register q",
-            ),
-            (
-                RISING,
-                "module t(c,d,y); input c,d; output y; reg q,r; always @(posedge c) q <= d; always @(posedge c) r <= d; buf(y,r); endmodule",
-                "register r",
-            ),
-            (
-                RISING,
-                "module t(c,d,y); input c,d; output y; reg q; and(e,c,d); always @(posedge e) q <= d; buf(y,q); endmodule",
-                "clockinput q",
-            ),
-            (
-                "module s(c,d,y); input c,d; output y; reg p,q; not(e,c); always @(posedge c) p <= d; always @(posedge e) q <= d; buf(y,q); endmodule",
-                "module t(c,d,y); input c,d; output y; reg p,q; not(e,c); always @(posedge e) p <= d; always @(posedge c) q <= d; buf(y,q); endmodule",
-                "clockinput q",
-            ),
-            (
-                RISING,
-                "module t(c,d,y); input c,d; output y; reg q; always @(negedge c) q <= d; buf(y,q); endmodule",
-                "clock q",
-            ),
-            (
-                RISING,
-                "module t(c,d,y); input c,d; output y; reg q; always @(posedge d) q <= d; buf(y,q); endmodule",
-                "clock q",
-            ),
-            // A clock over copies is the same clock.
-            (
-                RISING,
-                "module t(d,c,y); input c,d; output y; reg q; buf(e,c); assign f = ~~e; always @(posedge f) q <= d; buf(y,q); endmodule",
-                "in c d q out y next q",
-            ),
-            (
-                "module m(a); input [2048:0] a; endmodule",
-                "module m(a); input [2048:0] a; endmodule",
-                "pins",
-            ),
-            // 2,046 inputs and 3 pins, and one input less.
-            (
-                "module s(a,y); input [2045:0] a; output y; buf(y,a[0]); endmodule",
-                "module t(a,y); input [2045:0] a; output y; bx u(a[1:0],y); endmodule module bx(i,o); input [1:0] i; output o; endmodule",
-                "pins",
-            ),
-            (
-                "module s(a,y); input [2044:0] a; output y; buf(y,a[0]); endmodule",
-                "module t(a,y); input [2044:0] a; output y; bx u(a[1:0],y); endmodule module bx(i,o); input [1:0] i; output o; endmodule",
-                "fit",
-            ),
-            (
-                "module m(a); input [2047:0] a; endmodule",
-                "module m(a); input [2047:0] a; endmodule",
-                "fit",
-            ),
-            // A register counts as an input.
-            (
-                "module s(a); input [2047:0] a; reg q; always @(posedge a[0]) q <= a[1]; endmodule",
-                "module t(a); input [2047:0] a; reg q; always @(posedge a[0]) q <= a[1]; endmodule",
-                "pins",
-            ),
-        ],
-    )
+    rows(&rt, rt.alloc(), REFUSED)
 }
+
+const TWO_CAUSES: &str = "
+BOX / RISING => specbox u
+COPY / RISING => port a
+module s(c,y,w); input c; output y,w; reg p; always @(posedge c) p <= c; buf(y,p); buf(w,p); endmodule / module t(c,y); input c; output y; reg q; always @(posedge c) q <= c; buf(y,q); endmodule => port w
+// The specification's registers before those of the implementation.
+RISING / module t(c,d,y); input c,d; output y; reg a; always @(posedge c) a <= d; buf(y,a); endmodule => register q
+module s(c,d,y); input c,d; output y; reg p,q; and(e,c,d); always @(posedge e) p <= d; always @(posedge c) q <= d; buf(y,q); endmodule / module t(c,d,y); input c,d; output y; reg p; always @(posedge c) p <= d; buf(y,p); endmodule => register q
+// A clock that is no input before one of another edge.
+module s(c,d,y); input c,d; output y; reg p,q; always @(posedge c) p <= d; always @(posedge c) q <= d; buf(y,q); endmodule / module t(c,d,y); input c,d; output y; reg p,q; and(e,c,d); always @(negedge c) p <= d; always @(posedge e) q <= d; buf(y,q); endmodule => clockinput q
+// The first register of the specification.
+module s(c,d,y); input c,d; output y; reg p,q; always @(posedge c) p <= d; always @(posedge c) q <= d; buf(y,q); endmodule / module t(c,d,y); input c,d; output y; reg q,p; always @(negedge c) p <= d; always @(negedge c) q <= d; buf(y,q); endmodule => clock p
+module s(a); input [2047:0] a; reg q; always @(posedge a[0]) q <= a[1]; endmodule / module t(a); input [2047:0] a; reg q; always @(negedge a[0]) q <= a[1]; endmodule => clock q";
 
 #[test]
 fn of_two_causes_the_first_is_told(rt: HostRuntime) -> Result<(), Fail> {
-    rows(
-        &rt,
-        rt.alloc(),
-        &[
-            (BOX, RISING, "specbox u"),
-            (COPY, RISING, "port a"),
-            (
-                "module s(c,y,w); input c; output y,w; reg p; always @(posedge c) p <= c; buf(y,p); buf(w,p); endmodule",
-                "module t(c,y); input c; output y; reg q; always @(posedge c) q <= c; buf(y,q); endmodule",
-                "port w",
-            ),
-            // The specification's registers before those of the implementation.
-            (
-                RISING,
-                "module t(c,d,y); input c,d; output y; reg a; always @(posedge c) a <= d; buf(y,a); endmodule",
-                "register q",
-            ),
-            (
-                "module s(c,d,y); input c,d; output y; reg p,q; and(e,c,d); always @(posedge e) p <= d; always @(posedge c) q <= d; buf(y,q); endmodule",
-                "module t(c,d,y); input c,d; output y; reg p; always @(posedge c) p <= d; buf(y,p); endmodule",
-                "register q",
-            ),
-            // A clock that is no input before one of another edge.
-            (
-                "module s(c,d,y); input c,d; output y; reg p,q; always @(posedge c) p <= d; always @(posedge c) q <= d; buf(y,q); endmodule",
-                "module t(c,d,y); input c,d; output y; reg p,q; and(e,c,d); always @(negedge c) p <= d; always @(posedge e) q <= d; buf(y,q); endmodule",
-                "clockinput q",
-            ),
-            // The first register of the specification.
-            (
-                "module s(c,d,y); input c,d; output y; reg p,q; always @(posedge c) p <= d; always @(posedge c) q <= d; buf(y,q); endmodule",
-                "module t(c,d,y); input c,d; output y; reg q,p; always @(negedge c) p <= d; always @(negedge c) q <= d; buf(y,q); endmodule",
-                "clock p",
-            ),
-            (
-                "module s(a); input [2047:0] a; reg q; always @(posedge a[0]) q <= a[1]; endmodule",
-                "module t(a); input [2047:0] a; reg q; always @(negedge a[0]) q <= a[1]; endmodule",
-                "clock q",
-            ),
-        ],
-    )
+    rows(&rt, rt.alloc(), TWO_CAUSES)
 }
 
 #[test]

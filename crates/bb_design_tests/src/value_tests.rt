@@ -2,11 +2,11 @@
 //! all contents of the boxes against the plain reference.
 
 use crate::bits::net_bits;
-use crate::designs::{DESIGNS, TRUTHS};
-use crate::fitting::table_of;
+use crate::designs::{DESIGNS, TRUTHS, design, truth_of};
 use crate::telling::{flat_of, tell_name};
 use bb_ast::Source;
 use bb_bits::{Name, Table};
+use bb_building::table_of;
 use bb_elab::Flat;
 use bb_reference::{Circuit, advance, content_bits, read};
 use std::alloc::{AllocError, Global};
@@ -136,7 +136,8 @@ fn compare<R: Abort>(rt: &R, alloc: Global, text: &str) -> Result<(), Fail> {
 
 #[test]
 fn names_of_designs(rt: HostRuntime) -> Result<(), Fail> {
-    for (text, expected) in DESIGNS {
+    for number in 0..DESIGNS {
+        let (text, expected) = design(number);
         let flat = flat_of(&rt, rt.alloc(), text.as_bytes(), Some(b"t"))?;
         let found = names(rt.alloc(), &flat)?;
         assert_eq!(&rt; found.as_str(), expected);
@@ -146,7 +147,8 @@ fn names_of_designs(rt: HostRuntime) -> Result<(), Fail> {
 
 #[test]
 fn values_are_those_of_the_reference(rt: HostRuntime) -> Result<(), Fail> {
-    for (text, _) in DESIGNS {
+    for number in 0..DESIGNS {
+        let (text, _) = design(number);
         compare(&rt, rt.alloc(), text)?;
     }
     Ok(())
@@ -174,7 +176,8 @@ fn truth(alloc: Global, source: &Source, ins: &str, outs: &str) -> Result<String
 #[test]
 fn the_reference_has_the_values_by_hand(rt: HostRuntime) -> Result<(), Fail> {
     let alloc = rt.alloc();
-    for (text, ins, outs, expected) in TRUTHS {
+    for number in 0..TRUTHS {
+        let (text, ins, outs, expected) = truth_of(number);
         let source = read(alloc, text.as_bytes())?;
         let found = truth(alloc, &source, ins, outs)?;
         assert_eq!(&rt; found.as_str(), expected, "{text}");

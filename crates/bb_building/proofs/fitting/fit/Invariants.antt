@@ -2,7 +2,7 @@
 use Rattle.std.proofs.Common.{◌≡◌, ◌<◌, ℕ, length}
 use Rattle.bb_net.specs.Netlists.{box_at}
 use Rattle.bb_net.specs.Values.{table_at}
-use Rattle.bb_design_tests.proofs.fitting.fit.Given as goal
+use Rattle.bb_building.proofs.fitting.fit.Given as goal
 
 abbrev pub invariant-loop-b : goal.invariant-loop-b
 invariant-loop-b l = (k : ℕ) → k < l.b → ((table_at l.tables k).inputs ≡ length (box_at l.boxes k).ins) × ((table_at l.tables k).outputs ≡ length (box_at l.boxes k).outs)

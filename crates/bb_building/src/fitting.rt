@@ -9,12 +9,7 @@ use std::alloc::Global;
 use std::test::Fail;
 
 /// The table with these rows, one behind the other.
-pub(crate) fn table_of(
-    alloc: Global,
-    ins: usize,
-    outs: usize,
-    rows: &[bool],
-) -> Result<Table, Fail> {
+pub fn table_of(alloc: Global, ins: usize, outs: usize, rows: &[bool]) -> Result<Table, Fail> {
     if ins > 4 || outs > 4 {
         return Err(Fail::new("too many pins"));
     }
@@ -30,7 +25,7 @@ pub(crate) fn table_of(
 }
 
 /// Whether there is a table for each box, with as many pins.
-pub(crate) fn fit(tables: &[Table], boxes: &[BoxPins]) -> bool
+pub fn fit(tables: &[Table], boxes: &[BoxPins]) -> bool
     ensures { result ≡ true → FitBoxes tables.now boxes.now }
 {
     tables_have_all_bits(tables);
