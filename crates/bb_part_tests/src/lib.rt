@@ -17,3 +17,5 @@ mod quantifier_tests;
 mod solver_tests;
 #[cfg(test)]
 mod table_tests;
+#[cfg(test)]
+mod tried;
