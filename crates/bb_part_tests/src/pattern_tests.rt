@@ -1,7 +1,7 @@
 //! Patterns and their simulation, through public calls.
 
-use bb_bits::Name;
-use bb_net::{BoxName, Cell, Net, OutName, Pair};
+use bb_building::{net, pair};
+use bb_net::Cell;
 use bb_tern::{patterns, simulate};
 use std::test::Fail;
 
@@ -30,28 +30,10 @@ fn patterns_come_in_their_order(rt: HostRuntime) -> Result<(), Fail> {
 #[test]
 fn the_first_wrong_pattern_is_found(rt: HostRuntime) -> Result<(), Fail> {
     let alloc = rt.alloc();
-    let mut spec = Net::start(alloc, 1)?;
-    spec.add_out(2)?;
-    let mut imp = Net::start(alloc, 1)?;
-    let number = imp.add_box(Vec::new(alloc))?;
-    let pin = imp.push(Cell::BoxOut(number, 0))?;
-    let place = imp.push(Cell::And(pin, 0))?;
-    imp.add_out(place)?;
-    let text = Name::of(alloc, b"y")?;
-    let path = Name::of(alloc, b"u")?;
-    let out = OutName { next: false, text };
-    let pins = BoxName::of(
-        path,
-        Vec::new(alloc),
-        vec![in alloc; Name::of(alloc, b"q")?]?,
-    );
-    let pair = Pair::of(
-        spec,
-        imp,
-        vec![in alloc; Name::of(alloc, b"a")?]?,
-        vec![in alloc; out]?,
-        vec![in alloc; pins]?,
-    );
+    let spec = net(alloc, 1, &[], &[], &[2])?;
+    let imp_cells = [Cell::BoxOut(0, 0), Cell::And(3, 0)];
+    let imp = net(alloc, 1, &[&[]], &imp_cells, &[4])?;
+    let pair = pair(alloc, spec, imp)?;
     let zero = vec![in alloc; false]?;
     let one = vec![in alloc; true]?;
     let mut list = Vec::new(alloc);
