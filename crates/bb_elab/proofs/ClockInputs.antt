@@ -69,6 +69,13 @@ module _ (d : Design) (lowering : Lowering) (l : LooseList) (list : IsListOf d l
       front_number ((2 + length (cut_bits d)) + k) (NetBit b) (cell.Copy (list.number (place_in (given d lowering) b)))
       (ap (slice_get front) place ∙ behind ((Constant false, cell.Const false) ∷ (Constant true, cell.Const true) ∷ inputs) nets k ∙ got-map {B = Place × LooseCell} (λ b. (NetBit b, cell.Copy (list.number (place_in (given d lowering) b)))) (net_order d) k b at)
 
+  -- the place of a bit is one of the list
+  pub net_there : (k : ℕ) (b : Bit) → slice_get (net_order d) k ≡ Some b → (2 + length (cut_bits d)) + k < length l.cells
+  net_there k b at =
+      let g = got (net_order d) k b b at in
+      let low = listed_below d lowering l list (NetBit b) _ (net_listed d lowering l list b (k, g.0, g.1)) in
+      omega (arith, low, net_number k b at)
+
   in_front : {A : Type 0} (xs ys : List A) (k : ℕ) (x : A) → slice_get xs k ≡ Some x → slice_get (xs ++ ys) k ≡ Some x
   in_front [] ys k x e = cc
   in_front (y ∷ xs) ys zero x e = e

@@ -1,17 +1,19 @@
 -- Copies that are followed from a place end at the one place that is no copy, after fewer steps than there are cells.
 use Rattle.std.proofs.Common.{◌≡◌, ◌≢◌, ◌⊎◌, ℕ, zero, suc, ◌+◌, ◌<◌, ◌≤◌, Bool, true, false, List, [], ◌∷◌, map, length, take, get_or, set, Contains, Option, Some, None, refl, sym, ap, ◌∙◌, subst, inl, inr, arith}
-use Rattle.std.specs.Prelude.{replicate, slice_index_or, IfNone}
+use Rattle.std.specs.Prelude.{replicate, slice_index_or, IfSome, IfNone}
 use Rattle.std.specs.List.{range_with_len}
 use Rattle.std.proofs.lemmas.List.FromFn.{get_or-map-range_with_len}
 use Rattle.std.proofs.lemmas.List.{get_or_past}
-use Rattle.std.proofs.lemmas.List.{get_or-set_other, length-set}
+use Rattle.std.proofs.lemmas.List.{get_or-set_same, get_or-set_other, length-set}
+use Rattle.std.proofs.lemmas.Option.{same_Some}
 use Rattle.bb_net.specs.declared.loose.LooseCell.{LooseCell}
 use Rattle.bb_net.specs.declared.loose.LooseCell.TheVariants.{Const, Input, Copy}
 use Rattle.bb_net.specs.Loose.{LooseList, loose_at, IsLoose}
 use Rattle.bb_net.specs.Orders.{IsKept, IsSource}
 use Rattle.bb_elab.specs.Closures.{Leads, One, More}
+use Rattle.bb_elab.specs.CopyEnds.{EndsAt, AreEnds}
 use Rattle.bb_elab.specs.ReadPlaces.{copy_steps, FollowsAt}
-use Rattle.bb_elab.proofs.CopyMarks.{leads_on, copy_to, copy_from, copies_one, unmarked, unmarked_less, unmarked_at}
+use Rattle.bb_elab.proofs.CopyMarks.{copy_to, copy_from, copies_one, unmarked, unmarked_less, unmarked_at}
 use Rattle.bb_elab.proofs.Firsts.{less_or_same}
 use Rattle.bb_elab.proofs.ModuleCells.{less_or_past}
 
@@ -87,30 +89,61 @@ module _ (l : LooseList) where
       let few = few_left n k source (replicate (length l.cells) false) (long_replicate (length l.cells)) is there (λ j on. absurd (unmarked_at (length l.cells) j on)) in
       omega (arith, few, none_marked (length l.cells))
 
--- a walk along copies from a place, after so many steps
-pub record IsFollowed (l : LooseList) (place at step : ℕ) : Type 0 where
-  pub follows : FollowsAt l.cells place at
-  pub source : (n source : ℕ) → IsSource n l place source → (m : ℕ) × IsSource m l at source × (m + step ≡ n)
+-- Copies are followed from a place of the list to another, in so many steps: they end where they end from there, with as many
+-- fewer copies between.
+abbrev pub Comes : LooseList → ℕ → ℕ → ℕ → Type 0
+Comes l place at step = place < length l.cells → (n source : ℕ) → IsSource n l place source → (at < length l.cells) × (m : ℕ) × IsSource m l at source × (m + step ≡ n)
 
-pub followed_starts : (l : LooseList) (place : ℕ) → IsFollowed l place place 0
-followed_starts l place = record { follows = inl refl; source = λ n source is. (n, is, plus n) }
+module _ (l : LooseList) (place : ℕ) where
+  pub comes_first : Comes l place place 0
+  comes_first there n source is = (there, n, is, plus)
+    where
+      plus : n + 0 ≡ n
+      plus = omega arith
+
+  pub comes_next : (at of step : ℕ) → Comes l place at step → loose_at l at ≡ Copy of → Comes l place of (step + 1)
+  comes_next at of step comes copy there n source is = by (comes there n source is)
+    where
+      by : (at < length l.cells) × (m : ℕ) × IsSource m l at source × (m + step ≡ n) → (of < length l.cells) × (m : ℕ) × IsSource m l of source × (m + (step + 1) ≡ n)
+      by (low, zero, s, long) = absurd (kept_no_copy l at of s.1 copy)
+      by (low, suc m, s, long) =
+          let same = copies_one s.0 of (sym s.2 ∙ copy) in
+          (subst (λ p. p < length l.cells) same s.1, m, subst (λ p. IsSource m l p source) same s.3, omega (arith, long))
+
+  -- the walk ends at what is no copy, at what is noted, or before as many steps as there are cells
+  pub ends_kept : (at step : ℕ) → Comes l place at step → ((p : ℕ) → loose_at l at ≡ Copy p → ⊥) → EndsAt l place at
+  ends_kept at step comes none there n source is = by (comes there n source is)
+    where
+      by : (at < length l.cells) × (m : ℕ) × IsSource m l at source × (m + step ≡ n) → at ≡ source
+      by (low, zero, s, long) = s.0
+      by (low, suc m, s, long) = absurd (none s.0 s.2)
+
+  pub ends_noted : (at step end : ℕ) → Comes l place at step → EndsAt l at end → EndsAt l place end
+  ends_noted at step end comes ends there n source is = let c = comes there n source is in ends c.0 c.1 source c.2
+
+  pub ends_soon : (at step : ℕ) → Comes l place at step → length l.cells ≤ step → EndsAt l place at
+  ends_soon at step comes past there n source is =
+      let c = comes there n source is in
+      let short = few_copies l n place source is there in
+      absurd (omega (arith, short, c.3, past))
+
+-- where a copy ends, there ends what it is a copy of
+pub ends_copied : (l : LooseList) (at of end : ℕ) → at < length l.cells → loose_at l at ≡ Copy of → EndsAt l at end → EndsAt l of end
+ends_copied l at of end low copy ends there n source is = ends low (suc n) source (of, there, copy, is)
+
+-- one more end is noted
+pub ends_more : (l : LooseList) (ends : List (Option ℕ)) (k end : ℕ) → k < length ends → AreEnds l ends → EndsAt l k end → AreEnds l (set ends k (Some end))
+ends_more l ends k end lt are is place e noted = by (less_or_same place k)
   where
-    plus : (n : ℕ) → n + 0 ≡ n
-    plus n = omega arith
+    other : place ≢ k → EndsAt l place e
+    other differ = are place e (sym (get_or-set_other ends k place (Some end) None differ) ∙ noted)
 
-pub followed_goes : (l : LooseList) (place at of step : ℕ) → IsFollowed l place at step → at < length l.cells → loose_at l at ≡ Copy of → IsFollowed l place of (step + 1)
-followed_goes l place at of step followed there is = record { follows = inr (on followed.follows); source = λ n source s. from n source (followed.source n source s) }
-  where
-    copy : Contains (copy_steps l.cells) (at, of)
-    copy = copy_to l.cells at of (Const false) there is
-
-    on : FollowsAt l.cells place at → Leads (copy_steps l.cells) place of
-    on (inl same) = One (subst (λ j. Contains {X = ℕ × ℕ} (copy_steps l.cells) (j, of)) (sym same) copy)
-    on (inr leads) = leads_on (copy_steps l.cells) place at of leads copy
-
-    from : (n source : ℕ) → (m : ℕ) × IsSource m l at source × (m + step ≡ n) → (m : ℕ) × IsSource m l of source × (m + (step + 1) ≡ n)
-    from n source (zero, s, long) = absurd (kept_no_copy l at of s.1 is)
-    from n source (suc m, s, long) = (m, subst (λ p. IsSource m l p source) (copies_one s.0 of (sym s.2 ∙ is)) s.3, omega (arith, long))
+    by : (place < k) ⊎ ((k < place) ⊎ (place ≡ k)) → EndsAt l place e
+    by (inl h) = other (λ same. omega (arith, h, same))
+    by (inr (inl h)) = other (λ same. omega (arith, h, same))
+    by (inr (inr h)) =
+        let same : Some e ≡ Some end = sym noted ∙ ap (λ i. get_or (set ends k (Some end)) i None) h ∙ get_or-set_same ends k (Some end) None lt in
+        subst (EndsAt l place) (sym (same_Some e end same)) (subst (λ i. EndsAt l i end) (sym h) is)
 
 taken_at : (cells : List LooseCell) (n k : ℕ) (d : LooseCell) → k < n → get_or (take n cells) k d ≡ get_or cells k d
 taken_at [] zero k d lt = refl
@@ -137,30 +170,30 @@ module _ (l : LooseList) (loose : IsLoose l) where
   input_kept : (k : ℕ) → k < l.inputs → IsKept (loose_at l (k + 2))
   input_kept k lt = subst IsKept (sym (input_cell k lt)) tt
 
-  place_there : (place k : ℕ) → FollowsAt l.cells place k → k < length l.cells → place < length l.cells
-  place_there place k (inl same) lt = omega (arith, same, lt)
-  place_there place k (inr leads) lt = starts_there l place k leads
+  -- copies lead to where they end
+  source_follows : (n place source : ℕ) → place < length l.cells → IsSource n l place source → FollowsAt l.cells place source
+  source_follows zero place source there is = inl is.0
+  source_follows (suc n) place source there is = inr (by (source_follows n is.0 source is.1 is.3))
+    where
+      copy : Contains (copy_steps l.cells) (place, is.0)
+      copy = copy_to l.cells place is.0 (Const false) there is.2
 
-  module _ (limit : ℕ) (few : limit ≤ l.inputs) (place at step : ℕ) (followed : IsFollowed l place at step) (n source : ℕ) (is : IsSource n l place source) (k : ℕ) (lt : k < limit) (follows : FollowsAt l.cells place (k + 2)) where
-    input_is : source ≡ k + 2
-    input_is =
+      by : FollowsAt l.cells is.0 source → Leads (copy_steps l.cells) place source
+      by (inl same) = One (subst (λ p. Contains {X = ℕ × ℕ} (copy_steps l.cells) (place, p)) same copy)
+      by (inr leads) = More copy leads
+
+  module _ (limit : ℕ) (few : limit ≤ l.inputs) (place n source : ℕ) (there : place < length l.cells) (is : IsSource n l place source) where
+    -- an input to which copies lead is where they end
+    input_is : (k : ℕ) → k < limit → FollowsAt l.cells place (k + 2) → source ≡ k + 2
+    input_is k lt follows =
         let lt2 : k < l.inputs = omega (arith, lt, few) in
         let s = follow_source l place (k + 2) follows (input_there k lt2) (input_kept k lt2) in (source_unique l n s.0 place source (k + 2) is s.1).1
 
-    -- where the walk ends at what is no copy, it ends at the input
-    pub ends_there : ((p : ℕ) → loose_at l at ≡ Copy p → ⊥) → k + 2 ≡ at
-    ends_there no_copy = by (followed.source n source is)
-      where
-        by : (m : ℕ) × IsSource m l at source × (m + step ≡ n) → k + 2 ≡ at
-        by (zero, s, long) = sym (s.0 ∙ input_is)
-        by (suc m, s, long) = absurd (no_copy s.0 s.2)
+    -- the input at which they end
+    pub input_found : (o : Option ℕ) → IfSome o (λ k. (k < limit) × (k + 2 ≡ source)) → IfSome o (λ k. (k < limit) × FollowsAt l.cells place (k + 2))
+    input_found None found = tt
+    input_found (Some k) found = (found.0, subst (FollowsAt l.cells place) (sym found.1) (source_follows n place source there is))
 
-    pub ends_soon : length l.cells ≤ step → ⊥
-    ends_soon past =
-        let there = place_there place (k + 2) follows (input_there k (omega (arith, lt, few))) in
-        let short = few_copies l n place source is there in
-        let r = followed.source n source is in omega (arith, short, r.2, past)
-
-pub if_none : {A : Type 0} {P Q : Type 0} (o : Option A) → (P → Q) → IfNone o P → IfNone o Q
-if_none None f p = f p
-if_none (Some x) f p = tt
+    pub input_missed : (o : Option ℕ) → IfNone o ((k : ℕ) → k < limit → k + 2 ≡ source → ⊥) → IfNone o ((k : ℕ) → k < limit → FollowsAt l.cells place (k + 2) → ⊥)
+    input_missed None missed = λ k lt follows. missed k lt (sym (input_is k lt follows))
+    input_missed (Some k) missed = tt

@@ -25,6 +25,7 @@ pub mod DrivenWorlds
 pub mod Drivers
 pub mod Reading
 pub mod ReadPlaces
+pub mod CopyEnds
 pub mod Dependence
 pub mod Sizes
 pub mod Places

@@ -11,6 +11,7 @@ mod calling;
 mod cells;
 mod clocks;
 mod connecting;
+mod copy_ends;
 pub mod copy_laws;
 mod depth;
 mod drivers;

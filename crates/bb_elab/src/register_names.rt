@@ -5,6 +5,7 @@ ghost use Rattle.std.specs.List.{AllZip};
 ghost use Rattle.bb_expr.specs.Checked.{syntax};
 ghost use Rattle.bb_net.specs.Netlists.{Netlist};
 ghost use Rattle.bb_elab.specs.declared.fault.ElabFault.TheVariants.{NoMemory as out_of_memory};
+ghost use Rattle.bb_elab.specs.CopyEnds.{AreEnds};
 ghost use Rattle.bb_elab.specs.Hierarchy.{Design};
 ghost use Rattle.bb_elab.specs.ListLaws.{IsBounded};
 ghost use Rattle.bb_elab.specs.NetBits.{top_inputs};
@@ -16,6 +17,7 @@ ghost use Rattle.bb_elab.specs.Stands.{IsRegister};
 ghost use Rattle.bb_elab.specs.Texts.{bit_text};
 
 use crate::clocks::clock_input;
+use crate::copy_ends::no_ends;
 use crate::fault::ElabFault;
 use crate::flat::Reg;
 use crate::growing::Grown;
@@ -60,15 +62,24 @@ pub(crate) fn registers_apart(
 
 // The register with a text, where the bits of nets stand in the list from a place on, and the inputs of the top are the first so
 // many.
-fn register(list: &Loose, first: u32, limit: u32, stored: &Stored, text: Name) -> Reg
+fn register(
+    list: &Loose,
+    ends: &mut [Option<u32>],
+    first: u32,
+    limit: u32,
+    stored: &Stored,
+    text: Name,
+) -> Reg
     requires fits { first + stored.now.clock < 2 ^ 32 }
+    requires ends { AreEnds list.now ends.old }
+    ensures ends { AreEnds list.now ends.new }
     ensures register { (d : Design) (net : Netlist) (numbers : List ℕ) → IsBounded d → AreDrivenOnce d → AreArranged d list.now net numbers
         → first ≡ 2 + length (cut_bits d) → limit ≡ length (top_inputs d) → (r : RegisterBit) → IsStoredAt d stored.now r → text ≡ bit_text d r.bit → IsRegister d r result }
 {
     Reg {
         text,
         falling: stored.falling,
-        clock: clock_input(list, first, stored.clock, limit),
+        clock: clock_input(list, ends, first, stored.clock, limit),
     }
 }
 
@@ -86,9 +97,10 @@ fn registers(
     ensures registers { IfOk result (λ regs. (d : Design) (net : Netlist) (numbers : List ℕ) → IsBounded d → AreDrivenOnce d → AreArranged d list.now net numbers
         → first ≡ 2 + length (cut_bits d) → limit ≡ length (top_inputs d) → AreStored d stored.now → texts.items ≡ register_texts d → AllZip (IsRegister d) (registers d) regs.items) }
 {
+    let mut ends = no_ends(alloc, list)?;
     let mut regs = Vec::with_capacity(alloc, stored.len())?;
     for text in texts {
-        let register = register(list, first, limit, &stored[regs.len()], text);
+        let register = register(list, &mut ends, first, limit, &stored[regs.len()], text);
         regs.push(register)?;
     }
     Ok(regs)

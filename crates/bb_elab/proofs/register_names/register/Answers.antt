@@ -3,6 +3,7 @@ use Rattle.bb_elab.proofs.register_names.register.Goals as goal
 
 pub returns : goal.returns
 returns c = record {
+  ends = c.clock_input.ensures.ends;
   register = λ d net numbers bounded once are first limit r stored text.
       let b = stored.clock in
       let source = clock_source d c.args.list.now net numbers are c.args.first first c.args.stored.now.clock b.0 b.2 in
