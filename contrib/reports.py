@@ -56,5 +56,8 @@ def vectors(lines):
             pairs = [word.rsplit("=", 1) for word in words[1:]]
             if any(len(pair) != 2 or pair[1] not in ("0", "1") for pair in pairs):
                 raise Fault(f"`{line[:60]}` is no line of inputs")
-            found.append((check, wrong, dict(pairs)))
+            bits = dict(pairs)
+            if len(bits) < len(pairs):
+                raise Fault(f"`{line[:60]}` has one name twice, for an input and for a register; rename one")
+            found.append((check, wrong, bits))
     return found

@@ -31,7 +31,7 @@ pub record IsAllowed (d : Design) : Type 0 where
   pub bounded : IsBounded d
   pub sound : IsSoundDesign d
 
--- the list of cells of a design can be put in order: its places are there, and the pins of boxes are cells
+-- the list of cells of a design may be given to `order`: its places are there, and the pins of boxes are cells
 abbrev pub ListsAreLoose : Type 0
 ListsAreLoose = (d : Design) (lowering : Lowering) (l : LooseList) → IsBounded d → IsLowering d lowering → IsListOf d lowering l → IsLoose l
 

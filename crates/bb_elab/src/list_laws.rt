@@ -12,7 +12,7 @@ pub fn sound_texts_are_allowed()
     ensures { SoundTextsAreAllowed }
 {}
 
-/// The list of cells of a design can be put in order.
+/// The list of cells of a design may be given to `order`.
 pub fn lists_are_loose()
     ensures { ListsAreLoose }
 {}

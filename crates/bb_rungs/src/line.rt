@@ -21,7 +21,7 @@ pub struct Proof {
 pub enum Evidence {
     /// A vector at which they cannot.
     Vector(Found),
-    /// That no choices of the boxes by their inputs suit, which no single vector shows.
+    /// That no choices of the boxes by their inputs suit; no vector is shown.
     NoChoices,
     /// A refutation by clauses.
     Refutation(Proof),
