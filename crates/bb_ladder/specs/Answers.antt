@@ -4,6 +4,7 @@ use Rattle.bb_outside.specs.Counts.{IsRead, Reads, Rose}
 use Rattle.bb_ladder.specs.declared.answer.TheConstants.{READ_LIMIT}
 use Rattle.bb_ladder.specs.declared.asked.Asked.{Asked as TextsAsked}
 use Rattle.bb_ladder.specs.TextAnswers.{Judges}
+use Rattle.bb_ladder.specs.TextPairs.{AreFinished, AreLeftOpen, AreRefuted}
 use Rattle.bb_words.specs.Asked.{Request, asked}
 
 -- what words ask: the names of the files of the specification and of the implementation, and what is asked of their texts
@@ -45,3 +46,9 @@ pub record AreTexts (words : List (List ℕ)) (holds : List ℕ → Option (List
   pub asks : question_of words ≡ Some q
   pub spec_held : holds q.spec ≡ Some spec
   pub imp_held : holds q.imp ≡ Some imp
+
+-- The law of it: an answer speaks of the texts that the files hold as its status says, also where a front of it alone is written.
+abbrev pub AnswersSpeakOfTexts : Type 0
+AnswersSpeakOfTexts = (words : List (List ℕ)) (holds : List ℕ → Option (List ℕ)) (before after : Reads) (status : ℕ) (text : List ℕ) (q : Question) (spec imp : List ℕ)
+    → MayAnswer words holds before after status text → AreTexts words holds q spec imp
+    → (status ≡ 0 → AreFinished q.asked spec imp text) × ((status ≡ 1 → AreRefuted q.asked spec imp) × (status ≡ 3 → AreLeftOpen q.asked spec imp))

@@ -1,6 +1,7 @@
 //! Laws of two texts: refusals are one, a refusal and a pair exclude each other, and what an answer says of the texts. Each function has
 //! a law as its contract and does nothing.
 
+ghost use Rattle.bb_ladder.specs.Answers.{AnswersSpeakOfTexts};
 ghost use Rattle.bb_ladder.specs.TextAnswers.{ErrorsRefute, RepairsFinish, OpenAnswersLeaveOpen, DecidedAreAnswered, RefusedAreAnsweredOnce};
 ghost use Rattle.bb_ladder.specs.TextPairs.{DesignsAreAllowed, NotPairAndRefusal, RefusalsAreOne};
 
@@ -82,4 +83,13 @@ pub fn refused_are_answered_once()
 {
     refusals_are_one();
     no_pair_and_refusal();
+}
+
+/// An answer speaks of the texts that the files hold as its status says, also where a front of it alone is written.
+pub fn answers_speak_of_texts()
+    ensures { AnswersSpeakOfTexts }
+{
+    repairs_finish();
+    errors_refute();
+    open_answers_leave_open();
 }
