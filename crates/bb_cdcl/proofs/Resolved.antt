@@ -1,11 +1,9 @@
 -- A resolution with the reason of a literal.
-use Rattle.std.proofs.Common.{◌≡◌, ◌<◌, ℕ, length, Bool, true, false, not, ◌&&◌, ◌||◌, ◌==◌, if◌then◌else◌, Option, Some, None, option_map, option_and_then, List, [], ◌∷◌, ◌++◌, map, slice_get, refl, sym, ◌∙◌, ap, subst, ◌⊎◌, inl, inr}
+use Rattle.std.proofs.Common.{◌≡◌, ◌<◌, ℕ, length, Bool, true, false, not, ◌&&◌, ◌||◌, ◌==◌, if◌then◌else◌, Option, Some, None, option_map, option_and_then, List, [], ◌∷◌, ◌++◌, map, slice_get, refl, sym, ◌∙◌, ap, ◌⊎◌, inl, inr}
 use Rattle.std.proofs.lemmas.Option.{slice_get-map, slice_get_within}
-use Rattle.std.proofs.lemmas.List.{length-map}
-use Rattle.smallvec.specs.SmallVec.{SmallVec}
 use Rattle.bb_cnf.specs.declared.clauses.Lit.{Lit}
 use Rattle.bb_cnf.specs.declared.partial_resolvent.PartialResolvent.{PartialResolvent}
-use Rattle.bb_cnf.specs.Clauses.{Literals, literals_of, lists_of, same_literal, positive, negated}
+use Rattle.bb_cnf.specs.Clauses.{Literals, literals_of, same_literal, positive, negated}
 use Rattle.bb_cnf.specs.Chains.{resolvent, resolution, chain}
 use Rattle.bb_cnf.specs.Laws.{ChainLaws}
 use Rattle.bb_cnf.specs.PartialResolvent.{held, AreListed}
@@ -118,6 +116,5 @@ resolved_more laws clauses first pairs old new r x clause before stands resolved
   listed = listed;
 }
 
-pub reason_below : (clauses : List (SmallVec Lit)) (front : List Entry) (l : Lit) (r : ℕ) → IsReason (lists_of clauses) front l r → r < length clauses
-reason_below clauses front l r reason =
-    subst (λ n. r < n) (length-map clauses (λ (c : SmallVec Lit). c.items)) (slice_get_within (lists_of clauses) r reason.clause reason.stands)
+pub reason_below : (clauses : List (List Lit)) (front : List Entry) (l : Lit) (r : ℕ) → IsReason clauses front l r → r < length clauses
+reason_below clauses front l r reason = slice_get_within clauses r reason.clause reason.stands

@@ -1,5 +1,5 @@
 -- What stays true of a solver.
-use Rattle.std.specs.Prelude.{ℕ, ◌≡◌, ◌<◌, Bool, false, true, Some, IfSome, IfNone, Option, List, [], ◌∷◌, ◌++◌, map, length, slice_get, All}
+use Rattle.std.specs.Prelude.{ℕ, ◌≡◌, ◌<◌, Bool, false, true, Some, IfSome, IfNone, Option, List, [], ◌∷◌, ◌++◌, map, length, All}
 use Rattle.smallvec.specs.SmallVec.{SmallVec}
 use Rattle.bb_cnf.specs.declared.clauses.Lit.{Lit}
 use Rattle.bb_cnf.specs.declared.refutation.Step.{Step}
@@ -15,27 +15,30 @@ use Rattle.bb_cdcl.specs.Analysis.{IsJump}
 use Rattle.bb_cdcl.specs.Events.{IsSatisfied}
 use Rattle.bb_cdcl.specs.Measure.{left}
 
--- The clauses are the given ones, and what the steps derive from them.
+-- all clauses by their numbers: the learned ones stand behind the given ones
+abbrev pub all_clauses : List (List Lit) → State → List (List Lit)
+all_clauses given s = given ++ lists_of s.learned.items
+
+-- The steps derive what was learned, and each implied literal has a reason among all clauses.
 pub record IsDerived (given : List (List Lit)) (s : State) : Type 0 where
-  pub begins : (k : ℕ) (c : List Lit) → slice_get given k ≡ Some c → slice_get (lists_of s.clauses.items) k ≡ Some c
-  pub derives : derived (map literals_of given) s.steps.items ≡ Some (map literals_of (lists_of s.clauses.items))
+  pub derives : derived (map literals_of given) s.steps.items ≡ Some (map literals_of (all_clauses given s))
+  pub reasons : HaveReasons (all_clauses given s) s.trail.entries.items
 
 -- The trail is in order, and between two analyses the resolvent is empty.
 pub record IsReady (s : State) : Type 0 where
   pub new : AreNew s.trail.entries.items
-  pub reasons : HaveReasons (lists_of s.clauses.items) s.trail.entries.items
   pub values : AreValues s.trail.entries.items s.trail.values.items
   pub room : HasRoom s.trail.entries.items s.trail.values.items
   pub empty : (l : Lit) → held s.resolvent l ≡ false
   pub listed : AreListed s.resolvent
 
 -- A clause was learned, by a step. The trail is as before.
-pub record Learns (old new : State) (jump : Option Jump) : Type 0 where
+pub record Learns (given : List (List Lit)) (old new : State) (jump : Option Jump) : Type 0 where
   pub clause : SmallVec Lit
   pub step : Step
-  pub clauses : new.clauses.items ≡ old.clauses.items ++ clause ∷ []
+  pub learned : new.learned.items ≡ old.learned.items ++ clause ∷ []
   pub steps : new.steps.items ≡ old.steps.items ++ step ∷ []
-  pub made : made_by (map literals_of (lists_of old.clauses.items)) step ≡ Some (literals_of clause.items)
+  pub made : made_by (map literals_of (all_clauses given old)) step ≡ Some (literals_of clause.items)
   pub some : IfSome jump (λ j. IsJump old.trail.entries.items (literals_of clause.items) j.place j.back)
   pub none : IfNone jump (IsEmpty (literals_of clause.items))
   pub entries : new.trail.entries.items ≡ old.trail.entries.items

@@ -1,21 +1,20 @@
 //! The analysis of a conflict: its clause is resolved with reasons of the trail, from the end, until one literal
 //! is left behind some decision.
 
-ghost use Rattle.std.specs.Prelude.{ℕ, ◌≡◌, ◌+◌, ◌<◌, ◌≤◌, ◌++◌, ◌∷◌, [], false, true, length, take, map, slice_get, Some, None, IfOk, OnOk, IfSome, IfNone, OnSome, List};
+ghost use Rattle.std.specs.Prelude.{ℕ, ◌≡◌, ◌+◌, ◌<◌, false, true, length, take, slice_get, Some, None, IfOk, OnOk, IfSome, IfNone};
 ghost use Rattle.bb_cnf.specs.declared.clauses.Lit.{Lit as Literal};
-ghost use Rattle.bb_cnf.specs.Clauses.{Literals, literals_of, lists_of};
+ghost use Rattle.bb_cnf.specs.Clauses.{Literals};
 ghost use Rattle.bb_cnf.specs.PartialResolvent.{held, AreListed};
-ghost use Rattle.bb_cdcl.specs.declared.trail.Entry.{Entry as TrailEntry};
-ghost use Rattle.bb_cdcl.specs.Trails.{falsified, opposite, AreNew, HaveReasons, IsReason, IsNew};
+
+ghost use Rattle.bb_cdcl.specs.Trails.{falsified, AreNew, HaveReasons};
 ghost use Rattle.bb_cdcl.specs.Analysis.{AreFalsified, IsCovered, IsJump, IsResolved};
 
 use crate::NoMemory;
-use crate::events::clause_at;
+use crate::clauses::Clauses;
 use crate::guide::Guide;
 use crate::shortening::shorten;
 use crate::trail::{Entry, negation};
 use bb_cnf::{Lit, PartialResolvent, laws};
-use smallvec::SmallVec;
 use std::alloc::Global;
 
 /// The trail is taken back to the decision at the place `back`. Then the learned clause implies the negation of the
@@ -78,7 +77,7 @@ fn jump_back(resolvent: &PartialResolvent, entries: &[Entry], place: usize) -> O
 // Resolves with the reason of the literal at a place.
 fn resolve_at(
     resolvent: &mut PartialResolvent,
-    clauses: &[SmallVec<Lit, 4>],
+    clauses: &Clauses<'_>,
     entries: &[Entry],
     place: usize,
     lit: Lit,
@@ -88,16 +87,16 @@ fn resolve_at(
 ) -> Result<(), NoMemory>
     requires at_place { slice_get entries.now place ≡ Some (record { lit = lit; reason = Some reason }) }
     requires new { AreNew entries.now }
-    requires reasons { HaveReasons (lists_of clauses.now) entries.now }
+    requires reasons { HaveReasons clauses.now entries.now }
     requires falsified { AreFalsified (take (place + 1) entries.now) (held resolvent.old) }
     requires covered { IsCovered entries.now (held resolvent.old) place place }
     requires listed { AreListed resolvent.old }
     ensures falsified { OnOk result (AreFalsified (take place entries.now) (held resolvent.new)) }
-    ensures resolved { OnOk result ((first : Literals) → IsResolved (lists_of clauses.now) first pairs.old.items resolvent.old → IsResolved (lists_of clauses.now) first pairs.new.items resolvent.new) }
+    ensures resolved { OnOk result ((first : Literals) → IsResolved clauses.now first pairs.old.items resolvent.old → IsResolved clauses.now first pairs.new.items resolvent.new) }
     ensures listed { OnOk result (AreListed resolvent.new) }
 {
     laws::chains();
-    let clause = clause_at(clauses, reason);
+    let clause = clauses.at(reason);
     guide.resolves(resolvent, clause, reason);
     resolvent.resolve(clause, lit.var)?;
     pairs.push((reason as u64, lit.var))?;
@@ -109,7 +108,7 @@ fn resolve_at(
 fn stop(
     alloc: Global,
     resolvent: &mut PartialResolvent,
-    clauses: &[SmallVec<Lit, 4>],
+    clauses: &Clauses<'_>,
     entries: &[Entry],
     place: usize,
     pairs: &mut Vec<(u64, u32)>,
@@ -117,12 +116,12 @@ fn stop(
 ) -> Result<Option<usize>, NoMemory>
     requires within { place < length entries.now }
     requires new { AreNew entries.now }
-    requires reasons { HaveReasons (lists_of clauses.now) entries.now }
+    requires reasons { HaveReasons clauses.now entries.now }
     requires covered { IsCovered entries.now (held resolvent.old) place place }
     requires listed { AreListed resolvent.old }
     ensures covered { OnOk result (IsCovered entries.now (held resolvent.new) place place) }
     ensures jump { IfOk result (λ back. IfSome back (IsJump entries.now (held resolvent.new) place)) }
-    ensures resolved { OnOk result ((first : Literals) → IsResolved (lists_of clauses.now) first pairs.old.items resolvent.old → IsResolved (lists_of clauses.now) first pairs.new.items resolvent.new) }
+    ensures resolved { OnOk result ((first : Literals) → IsResolved clauses.now first pairs.old.items resolvent.old → IsResolved clauses.now first pairs.new.items resolvent.new) }
     ensures listed { OnOk result (AreListed resolvent.new) }
 {
     if entry_at(entries, place).reason.is_some() && !guide.is_asserting() {
@@ -136,7 +135,7 @@ fn stop(
 fn step(
     alloc: Global,
     resolvent: &mut PartialResolvent,
-    clauses: &[SmallVec<Lit, 4>],
+    clauses: &Clauses<'_>,
     entries: &[Entry],
     place: usize,
     pairs: &mut Vec<(u64, u32)>,
@@ -144,12 +143,12 @@ fn step(
 ) -> Result<Option<usize>, NoMemory>
     requires within { place < length entries.now }
     requires new { AreNew entries.now }
-    requires reasons { HaveReasons (lists_of clauses.now) entries.now }
+    requires reasons { HaveReasons clauses.now entries.now }
     requires falsified { AreFalsified (take (place + 1) entries.now) (held resolvent.old) }
     requires listed { AreListed resolvent.old }
     ensures falsified { IfOk result (λ back. IfNone back (AreFalsified (take place entries.now) (held resolvent.new))) }
     ensures jump { IfOk result (λ back. IfSome back (IsJump entries.now (held resolvent.new) place)) }
-    ensures resolved { OnOk result ((first : Literals) → IsResolved (lists_of clauses.now) first pairs.old.items resolvent.old → IsResolved (lists_of clauses.now) first pairs.new.items resolvent.new) }
+    ensures resolved { OnOk result ((first : Literals) → IsResolved clauses.now first pairs.old.items resolvent.old → IsResolved clauses.now first pairs.new.items resolvent.new) }
     ensures listed { OnOk result (AreListed resolvent.new) }
 {
     if !has_at(resolvent, entries, place) {
@@ -174,18 +173,18 @@ fn step(
 pub(crate) fn analyze(
     alloc: Global,
     resolvent: &mut PartialResolvent,
-    clauses: &[SmallVec<Lit, 4>],
+    clauses: &Clauses<'_>,
     entries: &[Entry],
     pairs: &mut Vec<(u64, u32)>,
     guide: &mut Guide,
 ) -> Result<Option<Jump>, NoMemory>
     requires new { AreNew entries.now }
-    requires reasons { HaveReasons (lists_of clauses.now) entries.now }
+    requires reasons { HaveReasons clauses.now entries.now }
     requires falsified { AreFalsified entries.now (held resolvent.old) }
     requires listed { AreListed resolvent.old }
     ensures empty { IfOk result (λ jump. IfNone jump ((l : Literal) → held resolvent.new l ≡ false)) }
     ensures jump { IfOk result (λ jump. IfSome jump (λ j. IsJump entries.now (held resolvent.new) j.place j.back)) }
-    ensures resolved { OnOk result ((first : Literals) → IsResolved (lists_of clauses.now) first pairs.old.items resolvent.old → IsResolved (lists_of clauses.now) first pairs.new.items resolvent.new) }
+    ensures resolved { OnOk result ((first : Literals) → IsResolved clauses.now first pairs.old.items resolvent.old → IsResolved clauses.now first pairs.new.items resolvent.new) }
     ensures listed { OnOk result (AreListed resolvent.new) }
 {
     let mut place = entries.len();

@@ -1,9 +1,10 @@
 //! What happens next: a clause is false, a clause implies a literal, or neither.
 
-ghost use Rattle.std.specs.Prelude.{ℕ, ◌≡◌, ◌-◌, ◌<◌, ◌≤◌, length, slice_get, Some, List};
+ghost use Rattle.std.specs.Prelude.{◌-◌, ◌<◌, length};
 ghost use Rattle.bb_cnf.specs.Clauses.{lists_of, IsWithin};
 ghost use Rattle.bb_cdcl.specs.Events.{Comes, IfQuiet};
 
+use crate::clauses::{Clauses, clause_at};
 use crate::examination::{Standing, examine};
 use bb_cnf::Lit;
 use smallvec::SmallVec;
@@ -17,24 +18,12 @@ pub(crate) enum Event {
     Quiet,
 }
 
-/// The literals of the clause of this number.
-pub(crate) fn clause_at<'a>(clauses: &'a [SmallVec<Lit, 4>], number: usize) -> &'a [Lit]
-    requires { number < length clauses.now }
-    ensures { slice_get (lists_of clauses.now) number ≡ Some result.now }
-{
-    clauses[number].as_slice()
-}
-
 /// What comes from one clause, where it is false or implies a literal.
-pub(crate) fn event_of(
-    clauses: &[SmallVec<Lit, 4>],
-    values: &[Option<bool>],
-    number: usize,
-) -> Event
+pub(crate) fn event_of(clauses: &Clauses<'_>, values: &[Option<bool>], number: usize) -> Event
     requires { number < length clauses.now }
-    ensures { Comes (lists_of clauses.now) values.now result }
+    ensures { Comes clauses.now values.now result }
 {
-    match examine(clause_at(clauses, number), values) {
+    match examine(clauses.at(number), values) {
         Standing::False => Event::Conflict(number),
         Standing::Unit(lit) => {
             if (lit.var as usize) < values.len() {

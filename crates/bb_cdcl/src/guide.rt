@@ -14,7 +14,7 @@ pub(crate) struct Guide {
     scores: Scores,
     bits: Vec<bool>,
     levels: Vec<u32>,
-    places: Vec<usize>,
+    places: Vec<u32>,
     level: u32,
     top: u32,
     open: usize,
@@ -65,17 +65,13 @@ impl Guide {
     /// A literal was implied, and comes to this place.
     pub(crate) fn implied(&mut self, lit: Lit, place: usize) {
         write(&mut self.levels, lit.var, self.level);
-        if (lit.var as usize) < self.places.len() {
-            self.places[lit.var as usize] = place;
-        }
+        let place = u32::try_from(place).unwrap_or(0);
+        write(&mut self.places, lit.var, place);
     }
 
     /// The place of a variable.
     pub(crate) fn place(&self, var: u32) -> usize {
-        match self.places.get(var as usize) {
-            Some(place) => *place,
-            None => 0,
-        }
+        read(&self.places, var) as usize
     }
 
     /// A literal was taken back.

@@ -3,6 +3,7 @@
 #![tactic(auto)]
 
 mod analysis;
+mod clauses;
 mod events;
 mod examination;
 mod guide;

@@ -38,13 +38,13 @@ fn run(
     }
 }
 
-// Goes on until there are so many clauses, or to the end.
+// Goes on until so many clauses were learned, or to the end.
 fn run_to(
     alloc: Global,
     given: &[SmallVec<Lit, 4>],
     s: &mut State,
     helpers: &mut Helpers,
-    clauses: usize,
+    learned: usize,
 ) -> Result<Option<bool>, NoMemory>
     requires within { IsWithin (length s.old.trail.values.items - 1) (lists_of given.now) }
     requires derived { IsDerived (lists_of given.now) s.old }
@@ -52,7 +52,7 @@ fn run_to(
     ensures ends { IfOk result (λ end. IfSome end (Ends (lists_of given.now) s.old s.new)) }
     ensures pauses { IfOk result (λ end. IfNone end (Pauses (lists_of given.now) s.old s.new)) }
 {
-    while s.clauses.len() < clauses {
+    while s.learned.len() < learned {
         match turn(alloc, given, s, helpers)? {
             Turn::Going => {}
             Turn::Satisfied => return Ok(Some(true)),
@@ -76,8 +76,8 @@ pub(crate) fn search(
 {
     let mut more = FIRST;
     for _ in 0..RESTARTS {
-        let clauses = s.clauses.len().saturating_add(more);
-        if let Some(end) = run_to(alloc, given, s, helpers, clauses)? {
+        let learned = s.learned.len().saturating_add(more);
+        if let Some(end) = run_to(alloc, given, s, helpers, learned)? {
             return Ok(end);
         }
         restart(s, helpers);

@@ -1,18 +1,17 @@
 //! The learned clause is made shorter: a literal is resolved away where its reason adds no other.
 
-ghost use Rattle.std.specs.Prelude.{ℕ, ◌≡◌, ◌<◌, length, OnOk, List};
-ghost use Rattle.bb_cnf.specs.Clauses.{Literals, lists_of};
+ghost use Rattle.std.specs.Prelude.{◌<◌, length, OnOk};
+ghost use Rattle.bb_cnf.specs.Clauses.{Literals};
 ghost use Rattle.bb_cnf.specs.PartialResolvent.{held, AreListed};
 ghost use Rattle.bb_cdcl.specs.Trails.{AreNew, HaveReasons};
 ghost use Rattle.bb_cdcl.specs.Analysis.{IsCovered, IsResolved};
 
 use crate::NoMemory;
 use crate::analysis::entry_at;
-use crate::events::clause_at;
+use crate::clauses::Clauses;
 use crate::guide::Guide;
 use crate::trail::{Entry, negation};
 use bb_cnf::{Lit, PartialResolvent, laws};
-use smallvec::SmallVec;
 use std::alloc::Global;
 
 // Does the resolvent have all literals of the clause but this one?
@@ -28,7 +27,7 @@ fn has_others(resolvent: &PartialResolvent, clause: &[Lit], but: Lit) -> bool {
 // Does the resolvent have the negation of the literal at this place, and add its reason no other?
 fn is_redundant(
     resolvent: &PartialResolvent,
-    clauses: &[SmallVec<Lit, 4>],
+    clauses: &Clauses<'_>,
     entries: &[Entry],
     place: usize,
 ) -> bool {
@@ -38,10 +37,9 @@ fn is_redundant(
     let Some(reason) = entry.reason else {
         return false;
     };
-    let Some(clause) = clauses.get(reason) else {
-        return false;
-    };
-    resolvent.has(negation(entry.lit)) && has_others(resolvent, clause.as_slice(), entry.lit)
+    reason < clauses.len()
+        && resolvent.has(negation(entry.lit))
+        && has_others(resolvent, clauses.at(reason), entry.lit)
 }
 
 // Places of literals that can be resolved away, the last first. Each reason has literals of earlier places alone, so
@@ -49,7 +47,7 @@ fn is_redundant(
 fn redundant(
     alloc: Global,
     resolvent: &PartialResolvent,
-    clauses: &[SmallVec<Lit, 4>],
+    clauses: &Clauses<'_>,
     entries: &[Entry],
     guide: &Guide,
 ) -> Result<Vec<usize>, NoMemory> {
@@ -68,7 +66,7 @@ fn redundant(
 // Resolves with the reason of the literal at a place before the one that is kept, if the resolvent has its negation.
 fn resolve_before(
     resolvent: &mut PartialResolvent,
-    clauses: &[SmallVec<Lit, 4>],
+    clauses: &Clauses<'_>,
     entries: &[Entry],
     place: usize,
     at: usize,
@@ -77,11 +75,11 @@ fn resolve_before(
     requires within { place < length entries.now }
     requires before { at < place }
     requires new { AreNew entries.now }
-    requires reasons { HaveReasons (lists_of clauses.now) entries.now }
+    requires reasons { HaveReasons clauses.now entries.now }
     requires covered { IsCovered entries.now (held resolvent.old) place place }
     requires listed { AreListed resolvent.old }
     ensures covered { OnOk result (IsCovered entries.now (held resolvent.new) place place) }
-    ensures resolved { OnOk result ((first : Literals) → IsResolved (lists_of clauses.now) first pairs.old.items resolvent.old → IsResolved (lists_of clauses.now) first pairs.new.items resolvent.new) }
+    ensures resolved { OnOk result ((first : Literals) → IsResolved clauses.now first pairs.old.items resolvent.old → IsResolved clauses.now first pairs.new.items resolvent.new) }
     ensures listed { OnOk result (AreListed resolvent.new) }
 {
     laws::chains();
@@ -92,7 +90,7 @@ fn resolve_before(
     let Some(reason) = entry.reason else {
         return Ok(());
     };
-    let clause = clause_at(clauses, reason);
+    let clause = clauses.at(reason);
     resolvent.resolve(clause, entry.lit.var)?;
     pairs.push((reason as u64, entry.lit.var))?;
     Ok(())
@@ -102,7 +100,7 @@ fn resolve_before(
 pub(crate) fn shorten(
     alloc: Global,
     resolvent: &mut PartialResolvent,
-    clauses: &[SmallVec<Lit, 4>],
+    clauses: &Clauses<'_>,
     entries: &[Entry],
     place: usize,
     pairs: &mut Vec<(u64, u32)>,
@@ -110,11 +108,11 @@ pub(crate) fn shorten(
 ) -> Result<(), NoMemory>
     requires within { place < length entries.now }
     requires new { AreNew entries.now }
-    requires reasons { HaveReasons (lists_of clauses.now) entries.now }
+    requires reasons { HaveReasons clauses.now entries.now }
     requires covered { IsCovered entries.now (held resolvent.old) place place }
     requires listed { AreListed resolvent.old }
     ensures covered { OnOk result (IsCovered entries.now (held resolvent.new) place place) }
-    ensures resolved { OnOk result ((first : Literals) → IsResolved (lists_of clauses.now) first pairs.old.items resolvent.old → IsResolved (lists_of clauses.now) first pairs.new.items resolvent.new) }
+    ensures resolved { OnOk result ((first : Literals) → IsResolved clauses.now first pairs.old.items resolvent.old → IsResolved clauses.now first pairs.new.items resolvent.new) }
     ensures listed { OnOk result (AreListed resolvent.new) }
 {
     for at in redundant(alloc, resolvent, clauses, entries, guide)? {

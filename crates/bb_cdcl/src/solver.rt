@@ -17,7 +17,7 @@ fn decide(alloc: Global, vars: u32, given: &[SmallVec<Lit, 4>]) -> Result<Outcom
     ensures sat { IfOk result (λ outcome. IfSat outcome (formula vars (lists_of given.now))) }
     ensures unsat { IfOk result (λ outcome. IfUnsat outcome (formula vars (lists_of given.now))) }
 {
-    let mut s = start(alloc, vars, given)?;
+    let mut s = start(alloc, vars)?;
     let mut helpers = helpers(alloc, vars, given)?;
     if search(alloc, given, &mut s, &mut helpers)? {
         let bits = model(alloc, &s.trail.values)?;

@@ -1,7 +1,7 @@
 //! The state before the first turn, and the model after the last.
 
 ghost use Rattle.std.specs.Prelude.{ℕ, ◌≡◌, ◌+◌, ◌-◌, ◌<◌, ◌≤◌, Bool, true, false, not, Some, None, length, map, replicate, get_or, All, IfOk, List};
-ghost use Rattle.bb_cnf.specs.Clauses.{lists_of, IsWithin};
+ghost use Rattle.bb_cnf.specs.Clauses.{IsWithin};
 ghost use Rattle.bb_cnf.specs.declared.clauses.Lit.{Lit as Literal};
 ghost use Rattle.bb_cnf.specs.Truth.{assignment_of, Satisfies};
 ghost use Rattle.bb_cdcl.specs.Events.{IsSatisfied};
@@ -17,30 +17,18 @@ use bb_cnf::{Lit, PartialResolvent};
 use smallvec::SmallVec;
 use std::alloc::Global;
 
-// The same clauses once more.
-fn copied(alloc: Global, clauses: &[SmallVec<Lit, 4>]) -> Result<Vec<SmallVec<Lit, 4>>, NoMemory>
-    ensures { IfOk result (λ all. lists_of all.items ≡ lists_of clauses.now) }
-{
-    let mut all = Vec::with_capacity(alloc, clauses.len())?;
-    for clause in clauses {
-        all.push(SmallVec::from_slice(alloc, clause.as_slice())?)?;
-    }
-    Ok(all)
-}
-
 /// No variable has a value, and nothing was learned.
-pub(crate) fn start(alloc: Global, vars: u32, given: &[SmallVec<Lit, 4>]) -> Result<State, NoMemory>
-    ensures derived { IfOk result (IsDerived (lists_of given.now)) }
+pub(crate) fn start(alloc: Global, vars: u32) -> Result<State, NoMemory>
+    ensures derived { IfOk result (λ s. (given : List (List Literal)) → IsDerived given s) }
     ensures ready { IfOk result IsReady }
     ensures values { IfOk result (λ s. length s.trail.values.items ≡ vars + 1) }
 {
-    let clauses = copied(alloc, given)?;
     let values = vec![in alloc; None; vars as usize + 1]?;
     Ok(State {
-        clauses,
+        learned: Vec::new(alloc),
         steps: Vec::new(alloc),
         trail: Trail {
-            entries: Vec::new(alloc),
+            entries: Vec::with_capacity(alloc, vars as usize)?,
             values,
         },
         resolvent: PartialResolvent::new(alloc),
@@ -64,7 +52,7 @@ pub(crate) fn helpers(
     vars: u32,
     given: &[SmallVec<Lit, 4>],
 ) -> Result<Helpers, NoMemory> {
-    let mut watches = Watches::new(alloc, vars)?;
+    let mut watches = Watches::new(alloc, vars, given.len())?;
     watch_all(&mut watches, given)?;
     let guide = Guide::new(alloc, vars, given.len())?;
     Ok(Helpers { watches, guide })

@@ -1,18 +1,19 @@
 //! One turn of the solver's loop.
 
-ghost use Rattle.std.specs.Prelude.{ℕ, ◌≡◌, ◌-◌, ◌<◌, ◌≤◌, true, None, Some, length, slice_get, IfOk, IfSome, OnOk, List};
+ghost use Rattle.std.specs.Prelude.{◌≡◌, ◌-◌, ◌<◌, ◌≤◌, true, None, Some, length, IfOk, IfSome, List};
 ghost use Rattle.bb_cnf.specs.declared.clauses.Lit.{Lit as Literal};
 ghost use Rattle.bb_cnf.specs.Clauses.{lists_of, IsWithin};
 ghost use Rattle.bb_cdcl.specs.Trails.{value_at, IsReason};
 ghost use Rattle.bb_cdcl.specs.Events.{Comes, IfQuiet, IsConflict, IsFree};
-ghost use Rattle.bb_cdcl.specs.States.{IsDerived, IsReady, Turns};
+ghost use Rattle.bb_cdcl.specs.States.{all_clauses, IsDerived, IsReady, Turns};
 
 use crate::NoMemory;
 use crate::analysis::Jump;
+use crate::clauses::Clauses;
 use crate::events::{Event, unsatisfied};
 use crate::guide::Guide;
 use crate::state::{State, Turn, extend, go_back, learn};
-use crate::trail::{Entry, Trail, pop_to};
+use crate::trail::{Entry, pop_to};
 use crate::watch_lists::Watches;
 use crate::watches::propagated;
 use bb_cnf::{Lit, laws};
@@ -49,19 +50,15 @@ fn choice(given: &[SmallVec<Lit, 4>], values: &[Option<bool>], guide: &mut Guide
 }
 
 // What happens next.
-fn next_event(
-    given: &[SmallVec<Lit, 4>],
-    clauses: &[SmallVec<Lit, 4>],
-    trail: &Trail,
-    helpers: &mut Helpers,
-) -> Event
-    requires within { IsWithin (length trail.now.values.items - 1) (lists_of given.now) }
-    requires begins { (k : ℕ) (c : List Literal) → slice_get (lists_of given.now) k ≡ Some c → slice_get (lists_of clauses.now) k ≡ Some c }
-    ensures comes { Comes (lists_of clauses.now) trail.now.values.items result }
-    ensures quiet { IfQuiet (lists_of given.now) trail.now.values.items result }
+fn next_event(given: &[SmallVec<Lit, 4>], s: &State, helpers: &mut Helpers) -> Event
+    requires within { IsWithin (length s.now.trail.values.items - 1) (lists_of given.now) }
+    ensures comes { Comes (all_clauses (lists_of given.now) s.now) s.now.trail.values.items result }
+    ensures quiet { IfQuiet (lists_of given.now) s.now.trail.values.items result }
 {
-    match propagated(&mut helpers.watches, clauses, &trail.entries, &trail.values) {
-        Event::Quiet => choice(given, &trail.values, &mut helpers.guide),
+    let clauses = Clauses::new(given, &s.learned);
+    let (entries, values) = (&s.trail.entries, &s.trail.values);
+    match propagated(&mut helpers.watches, &clauses, entries, values) {
+        Event::Quiet => choice(given, values, &mut helpers.guide),
         event => event,
     }
 }
@@ -69,14 +66,14 @@ fn next_event(
 // Watches the last clause: the literal that it will imply, and the one that became false last of the others.
 fn watch_last(
     alloc: Global,
-    clauses: &[SmallVec<Lit, 4>],
+    learned: &[SmallVec<Lit, 4>],
     helpers: &mut Helpers,
     jump: Jump,
 ) -> Result<(), NoMemory> {
     helpers.watches.taken_back(jump.back);
     helpers.guide.retention.learned()?;
     helpers.guide.retention.reduce(alloc, &mut helpers.watches)?;
-    match clauses.last() {
+    match learned.last() {
         Some(clause) => {
             let (first, second) = helpers.guide.last_two(clause.as_slice());
             helpers.watches.add(first, second)
@@ -95,16 +92,16 @@ fn resolve_conflict(
 ) -> Result<Turn, NoMemory>
     requires derived { IsDerived (lists_of given.now) s.old }
     requires ready { IsReady s.old }
-    requires conflict { IsConflict (lists_of s.old.clauses.items) s.old.trail.values.items number }
+    requires conflict { IsConflict (all_clauses (lists_of given.now) s.old) s.old.trail.values.items number }
     ensures { IfOk result (Turns (lists_of given.now) s.old s.new) }
 {
     laws::chains();
-    let learned = s.clauses.len();
-    match learn(alloc, s, number, &mut helpers.guide)? {
+    let last = Clauses::new(given, &s.learned).len();
+    match learn(alloc, given, s, number, &mut helpers.guide)? {
         None => Ok(Turn::Refuted),
         Some(jump) => {
-            watch_last(alloc, &s.clauses, helpers, jump)?;
-            go_back(s, jump, learned, &mut helpers.guide)?;
+            watch_last(alloc, &s.learned, helpers, jump)?;
+            go_back(s, jump, last, &mut helpers.guide)?;
             Ok(Turn::Going)
         }
     }
@@ -122,7 +119,7 @@ fn advance(
     requires ready { IsReady s.old }
     requires in_range { lit.var < length s.old.trail.values.items }
     requires free { value_at s.old.trail.values.items lit.var ≡ None }
-    requires reason { IfSome reason (IsReason (lists_of s.old.clauses.items) s.old.trail.entries.items lit) }
+    requires reason { IfSome reason (IsReason (all_clauses (lists_of given.now) s.old) s.old.trail.entries.items lit) }
     ensures { IfOk result (Turns (lists_of given.now) s.old s.new) }
 {
     let place = s.trail.entries.len();
@@ -146,7 +143,7 @@ pub(crate) fn turn(
     requires ready { IsReady s.old }
     ensures { IfOk result (Turns (lists_of given.now) s.old s.new) }
 {
-    match next_event(given, &s.clauses, &s.trail, helpers) {
+    match next_event(given, s, helpers) {
         Event::Conflict(number) => resolve_conflict(alloc, given, s, number, helpers),
         Event::Implied(lit, number) => { advance(given, s, lit, Some(number), &mut helpers.guide) }
         Event::Free(lit) => advance(given, s, lit, None, &mut helpers.guide),
@@ -171,8 +168,7 @@ pub(crate) fn restart(s: &mut State, helpers: &mut Helpers)
     requires { IsReady s.old }
     ensures ready { IsReady s.new }
     ensures same { length s.new.trail.values.items ≡ length s.old.trail.values.items }
-    ensures clauses { s.new.clauses.items ≡ s.old.clauses.items }
-    ensures steps { s.new.steps.items ≡ s.old.steps.items }
+    ensures derived { (given : List (List Literal)) → IsDerived given s.old → IsDerived given s.new }
 {
     let place = before_decisions(&s.trail.entries);
     pop_to(&mut s.trail, &mut helpers.guide, place);

@@ -5,13 +5,33 @@ use crate::scores::{read, write};
 use bb_cnf::Lit;
 use std::alloc::Global;
 
+/// A literal in one number: twice its variable, and one more where it is negated. A clause has two of them.
+#[derive(Clone, Copy, Debug, PartialEq, Eq)]
+struct Code(u32);
+
+impl Code {
+    // No literal: there is no variable 0.
+    const NOTHING: Code = Code(0);
+
+    fn of(lit: Lit) -> Code {
+        Code(lit.var.saturating_mul(2).saturating_add(lit.neg as u32))
+    }
+
+    fn lit(self) -> Lit {
+        Lit {
+            var: self.0 / 2,
+            neg: self.0 % 2 == 1,
+        }
+    }
+}
+
 /// The nodes of the clause of number n are 2n + 1 and 2n + 2. Each is on the list of the literal that it watches: one
 /// begins with a head, and goes on by `next`; 0 ends it.
 #[derive(Drop)]
 pub(crate) struct Watches {
     heads: Vec<u32>,
     pub(crate) next: Vec<u32>,
-    watched: Vec<Lit>,
+    watched: Vec<Code>,
     // clauses that were looked at once
     pub(crate) looked_at: usize,
     // the place on the trail whose literal comes next, and the node on its list, with the one before
@@ -19,13 +39,6 @@ pub(crate) struct Watches {
     pub(crate) is_new: bool,
     pub(crate) node: u32,
     pub(crate) before: u32,
-}
-
-// No literal.
-const NOTHING: Lit = Lit { var: 0, neg: false };
-
-fn code(lit: Lit) -> usize {
-    2 * lit.var as usize + if lit.neg { 1 } else { 0 }
 }
 
 /// The clause's other node.
@@ -38,13 +51,18 @@ pub(crate) fn other_node(node: u32) -> u32 {
 }
 
 impl Watches {
-    /// No clause is watched.
-    pub(crate) fn new(alloc: Global, vars: u32) -> Result<Watches, NoMemory> {
+    /// No clause is watched. There is room for so many.
+    pub(crate) fn new(alloc: Global, vars: u32, clauses: usize) -> Result<Watches, NoMemory> {
         let size = 2 * (vars as usize + 1);
+        let nodes = clauses.saturating_mul(2).saturating_add(1);
+        let mut next = Vec::with_capacity(alloc, nodes)?;
+        let mut watched = Vec::with_capacity(alloc, nodes)?;
+        next.push(0)?;
+        watched.push(Code::NOTHING)?;
         Ok(Watches {
             heads: vec![in alloc; 0; size]?,
-            next: vec![in alloc; 0; 1]?,
-            watched: vec![in alloc; NOTHING; 1]?,
+            next,
+            watched,
             looked_at: 0,
             place: 0,
             is_new: true,
@@ -55,17 +73,11 @@ impl Watches {
 
     /// The first node of the literal's list.
     pub(crate) fn head(&self, lit: Lit) -> u32 {
-        match self.heads.get(code(lit)) {
-            Some(node) => *node,
-            None => 0,
-        }
+        read(&self.heads, Code::of(lit).0)
     }
 
     fn set_head(&mut self, lit: Lit, node: u32) {
-        let place = code(lit);
-        if place < self.heads.len() {
-            self.heads[place] = node;
-        }
+        write(&mut self.heads, Code::of(lit).0, node);
     }
 
     // A new node for the literal.
@@ -73,7 +85,7 @@ impl Watches {
         let node = u32::try_from(self.next.len()).unwrap_or(0);
         let head = self.head(lit);
         self.next.push(head)?;
-        self.watched.push(lit)?;
+        self.watched.push(Code::of(lit))?;
         self.set_head(lit, node);
         Ok(())
     }
@@ -93,8 +105,8 @@ impl Watches {
     /// The literal that the node watches.
     pub(crate) fn watched(&self, node: u32) -> Lit {
         match self.watched.get(node as usize) {
-            Some(lit) => *lit,
-            None => NOTHING,
+            Some(code) => code.lit(),
+            None => Code::NOTHING.lit(),
         }
     }
 
@@ -104,9 +116,9 @@ impl Watches {
         self.node = read(&self.next, self.node);
     }
 
-    fn set_watched(&mut self, node: u32, lit: Lit) {
+    fn set_watched(&mut self, node: u32, code: Code) {
         if (node as usize) < self.watched.len() {
-            self.watched[node as usize] = lit;
+            self.watched[node as usize] = code;
         }
     }
 
@@ -128,7 +140,7 @@ impl Watches {
         let head = self.head(to);
         write(&mut self.next, node, head);
         self.set_head(to, node);
-        self.set_watched(node, to);
+        self.set_watched(node, Code::of(to));
     }
 
     /// The nodes of this clause leave their lists when they are met there.
@@ -137,8 +149,8 @@ impl Watches {
             .unwrap_or(u32::MAX)
             .saturating_mul(2)
             .saturating_add(1);
-        self.set_watched(node, NOTHING);
-        self.set_watched(node.saturating_add(1), NOTHING);
+        self.set_watched(node, Code::NOTHING);
+        self.set_watched(node.saturating_add(1), Code::NOTHING);
     }
 
     /// Does the clause of the node watch nothing any more?

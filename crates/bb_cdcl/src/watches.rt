@@ -1,16 +1,14 @@
 //! Two watched literals in each clause: a clause is looked at again when one of them becomes false. No answer depends
 //! on it that all such clauses are found.
 
-ghost use Rattle.std.specs.Prelude.{ℕ, ◌≡◌, length, List};
-ghost use Rattle.bb_cnf.specs.Clauses.{lists_of};
 ghost use Rattle.bb_cdcl.specs.Events.{Comes};
 
-use crate::events::{Event, clause_at, event_of};
+use crate::clauses::Clauses;
+use crate::events::{Event, event_of};
 use crate::examination::{Standing, examine, value};
 use crate::trail::{Entry, negation};
 use crate::watch_lists::{Watches, other_node};
 use bb_cnf::Lit;
-use smallvec::SmallVec;
 
 // Is the other literal that the clause watches true?
 fn is_settled(watches: &Watches, values: &[Option<bool>]) -> bool {
@@ -19,13 +17,8 @@ fn is_settled(watches: &Watches, values: &[Option<bool>]) -> bool {
 }
 
 // Looks at the clause of the node, of which one literal became false.
-fn look(
-    watches: &mut Watches,
-    clauses: &[SmallVec<Lit, 4>],
-    values: &[Option<bool>],
-    lit: Lit,
-) -> Event
-    ensures { Comes (lists_of clauses.now) values.now result }
+fn look(watches: &mut Watches, clauses: &Clauses<'_>, values: &[Option<bool>], lit: Lit) -> Event
+    ensures { Comes clauses.now values.now result }
 {
     let number = (watches.node.saturating_sub(1) / 2) as usize;
     if watches.is_forgotten() {
@@ -36,7 +29,7 @@ fn look(
         watches.go_on();
         return Event::Quiet;
     }
-    match examine(clause_at(clauses, number), values) {
+    match examine(clauses.at(number), values) {
         Standing::True(to) => watches.watch(lit, to),
         Standing::Open(first, second) => {
             if watches.watched(other_node(watches.node)) == first {
@@ -54,13 +47,8 @@ fn look(
 }
 
 // Looks at the clauses that watch a literal that became false.
-fn visit(
-    watches: &mut Watches,
-    clauses: &[SmallVec<Lit, 4>],
-    values: &[Option<bool>],
-    lit: Lit,
-) -> Event
-    ensures { Comes (lists_of clauses.now) values.now result }
+fn visit(watches: &mut Watches, clauses: &Clauses<'_>, values: &[Option<bool>], lit: Lit) -> Event
+    ensures { Comes clauses.now values.now result }
 {
     if watches.is_new {
         watches.is_new = false;
@@ -80,8 +68,8 @@ fn visit(
 }
 
 // Looks once at each clause that was not looked at before.
-fn first_look(watches: &mut Watches, clauses: &[SmallVec<Lit, 4>], values: &[Option<bool>]) -> Event
-    ensures { Comes (lists_of clauses.now) values.now result }
+fn first_look(watches: &mut Watches, clauses: &Clauses<'_>, values: &[Option<bool>]) -> Event
+    ensures { Comes clauses.now values.now result }
 {
     for number in watches.looked_at..clauses.len() {
         watches.looked_at = number + 1;
@@ -96,11 +84,11 @@ fn first_look(watches: &mut Watches, clauses: &[SmallVec<Lit, 4>], values: &[Opt
 // Follows the trail.
 fn follow(
     watches: &mut Watches,
-    clauses: &[SmallVec<Lit, 4>],
+    clauses: &Clauses<'_>,
     entries: &[Entry],
     values: &[Option<bool>],
 ) -> Event
-    ensures { Comes (lists_of clauses.now) values.now result }
+    ensures { Comes clauses.now values.now result }
 {
     for place in watches.place..entries.len() {
         watches.place = place;
@@ -116,11 +104,11 @@ fn follow(
 /// A clause that is false or implies a literal.
 pub(crate) fn propagated(
     watches: &mut Watches,
-    clauses: &[SmallVec<Lit, 4>],
+    clauses: &Clauses<'_>,
     entries: &[Entry],
     values: &[Option<bool>],
 ) -> Event
-    ensures { Comes (lists_of clauses.now) values.now result }
+    ensures { Comes clauses.now values.now result }
 {
     match first_look(watches, clauses, values) {
         Event::Quiet => follow(watches, clauses, entries, values),

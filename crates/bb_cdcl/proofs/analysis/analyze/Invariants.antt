@@ -1,5 +1,5 @@
 use Rattle.std.proofs.Common.{◌≤◌, length, take}
-use Rattle.bb_cnf.specs.Clauses.{Literals, lists_of}
+use Rattle.bb_cnf.specs.Clauses.{Literals}
 use Rattle.bb_cnf.specs.PartialResolvent.{held, AreListed}
 use Rattle.bb_cdcl.specs.Analysis.{AreFalsified, IsResolved}
 use Rattle.bb_cdcl.proofs.analysis.analyze.Given as goal
@@ -9,7 +9,7 @@ invariant-loop-place l = record {
   within : l.place ≤ length l.entries;
   falsified : AreFalsified (take l.place l.entries) (held l.resolvent);
   listed : AreListed l.resolvent;
-  resolved : (first : Literals) → IsResolved (lists_of l.clauses) first l.initial.pairs.items l.initial.resolvent → IsResolved (lists_of l.clauses) first l.pairs.items l.resolvent;
+  resolved : (first : Literals) → IsResolved l.clauses first l.initial.pairs.items l.initial.resolvent → IsResolved l.clauses first l.pairs.items l.resolvent;
 }
 
 abbrev pub decreases-loop-place : goal.decreases-loop-place

@@ -1,4 +1,4 @@
-use Rattle.bb_cnf.specs.Clauses.{Literals, lists_of}
+use Rattle.bb_cnf.specs.Clauses.{Literals}
 use Rattle.bb_cnf.specs.PartialResolvent.{held, AreListed}
 use Rattle.bb_cdcl.specs.Analysis.{IsCovered, IsResolved}
 use Rattle.bb_cdcl.proofs.shortening.shorten.Given as goal
@@ -7,5 +7,5 @@ abbrev pub invariant-loop-at : goal.invariant-loop-at
 invariant-loop-at l = record {
   covered : IsCovered l.entries (held l.resolvent) l.place l.place;
   listed : AreListed l.resolvent;
-  resolved : (first : Literals) → IsResolved (lists_of l.clauses) first l.initial.pairs.items l.initial.resolvent → IsResolved (lists_of l.clauses) first l.pairs.items l.resolvent;
+  resolved : (first : Literals) → IsResolved l.clauses first l.initial.pairs.items l.initial.resolvent → IsResolved l.clauses first l.pairs.items l.resolvent;
 }

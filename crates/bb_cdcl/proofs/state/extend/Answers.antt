@@ -1,7 +1,6 @@
 use Rattle.std.proofs.Common.{sym, subst}
-use Rattle.bb_cnf.specs.Clauses.{lists_of}
-use Rattle.bb_cdcl.specs.Trails.{AreNew, HaveReasons}
-use Rattle.bb_cdcl.proofs.Extended.{new_push, reasons_push, free_is_new}
+use Rattle.bb_cdcl.specs.Trails.{AreNew}
+use Rattle.bb_cdcl.proofs.Extended.{new_push, free_is_new}
 use Rattle.bb_cdcl.proofs.state.extend.Goals as goal
 
 pub returns-clause-ready : goal.returns-clause-ready
@@ -9,7 +8,6 @@ returns-clause-ready c =
     let ready = c.requires.ready in
     record {
       new = subst AreNew (sym c.in_ok-assign.ensures.entries) (new_push _ _ ready.new (free_is_new _ _ _ ready.values c.requires.free));
-      reasons = subst (HaveReasons (lists_of c.args.s.now.clauses.items)) (sym c.in_ok-assign.ensures.entries) (reasons_push _ _ _ ready.reasons c.requires.reason);
       values = c.in_ok-assign.ensures.values;
       room = c.in_ok-assign.ensures.room;
       empty = ready.empty;

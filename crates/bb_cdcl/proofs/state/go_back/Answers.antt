@@ -1,7 +1,6 @@
 use Rattle.std.proofs.Common.{◌≡◌, ◌≤◌, Some, [], ◌∷◌, ◌++◌, slice_get, sym, subst, ap, ◌∙◌, length, arith, refl}
-use Rattle.bb_cnf.specs.Clauses.{lists_of}
-use Rattle.bb_cdcl.specs.Trails.{opposite, IsNew, AreNew, HaveReasons}
-use Rattle.bb_cdcl.proofs.Extended.{new_front, reasons_front, new_is_free, still_new, entry_in_range}
+use Rattle.bb_cdcl.specs.Trails.{opposite, IsNew, AreNew}
+use Rattle.bb_cdcl.proofs.Extended.{new_front, new_is_free, still_new, entry_in_range}
 use Rattle.bb_cdcl.proofs.Measured.{jump_less}
 use Rattle.bb_cdcl.proofs.state.go_back.Goals as goal
 
@@ -10,7 +9,6 @@ extend-requires-clause-ready c =
     let ready = c.requires.ready in
     record {
       new = subst AreNew (sym c.pop_to.ensures.entries) (new_front _ _ ready.new);
-      reasons = subst (HaveReasons (lists_of c.args.s.now.clauses.items)) (sym c.pop_to.ensures.entries) (reasons_front _ _ _ ready.reasons);
       values = c.pop_to.ensures.values;
       room = c.pop_to.ensures.room;
       empty = ready.empty;
@@ -25,14 +23,14 @@ extend-requires-clause-in_range c =
 pub extend-requires-clause-free : goal.extend-requires-clause-free
 extend-requires-clause-free c =
     let ready = c.requires.ready in
-    let jump = c.requires.jump.2 in
+    let jump = c.requires.jump.1 in
     let stands = subst (λ es. slice_get es c.args.jump.place ≡ Some c.entry_at-entry.result) c.deref.ensures.value c.entry_at-entry.ensures in
     let new = still_new _ _ _ _ jump.covered.before (ready.new _ _ stands) in
     rw c.negation-lit.ensures (new_is_free _ _ (opposite c.entry_at-entry.result.lit) c.pop_to.ensures.values (subst (λ es. IsNew es (opposite c.entry_at-entry.result.lit)) (sym c.pop_to.ensures.entries) new))
 
 pub returns-clause-advances : goal.returns-clause-advances
 returns-clause-advances c =
-    let jump = c.requires.jump.2 in
+    let jump = c.requires.jump.1 in
     let within : length c.args.s.now.trail.entries.items ≤ length c.args.s.now.trail.values.items = (let room = c.requires.ready.room in omega (arith, room)) in
     let same = c.in_ok-extend.ensures.same ∙ c.pop_to.ensures.same in
     record {

@@ -1,0 +1,62 @@
+//! The clauses by their numbers: the given ones, and behind them those that were learned. Both lists stay where they
+//! are, so that each given clause is held once.
+
+ghost use Rattle.std.specs.Prelude.{◌≡◌, ◌<◌, ◌++◌, length, slice_get, Some};
+ghost use Rattle.bb_cnf.specs.Clauses.{lists_of};
+
+use bb_cnf::Lit;
+use smallvec::SmallVec;
+use std::marker::Model;
+
+/// The given clauses and the learned ones.
+#[derive(Drop)]
+pub(crate) struct Clauses<'a> {
+    given: &'a [SmallVec<Lit, 4>],
+    learned: &'a [SmallVec<Lit, 4>],
+}
+
+impl<'a> Model for Clauses<'a> {
+    ghost use Rattle.std.specs.Prelude.{List, ◌++◌};
+    ghost use Rattle.bb_cnf.specs.declared.clauses.Lit.{Lit as Literal};
+    ghost use Rattle.bb_cnf.specs.Clauses.{lists_of};
+
+    ghost Value = { List (List Literal) };
+
+    ghost view = { λ c. lists_of c.given.now ++ lists_of c.learned.now };
+}
+
+/// The literals of the clause of this number.
+pub(crate) fn clause_at<'a>(clauses: &'a [SmallVec<Lit, 4>], number: usize) -> &'a [Lit]
+    requires { number < length clauses.now }
+    ensures { slice_get (lists_of clauses.now) number ≡ Some result.now }
+{
+    clauses[number].as_slice()
+}
+
+impl<'a> Clauses<'a> {
+    /// The learned clauses have the numbers behind those of the given ones.
+    pub(crate) fn new(given: &'a [SmallVec<Lit, 4>], learned: &'a [SmallVec<Lit, 4>]) -> Clauses<'a>
+        ensures { result ≡ lists_of given.entry.now ++ lists_of learned.entry.now }
+    {
+        Clauses { given, learned }
+    }
+
+    /// How many clauses there are.
+    pub(crate) fn len(&self) -> usize
+        ensures { result ≡ length self.now }
+    {
+        self.given.len() + self.learned.len()
+    }
+
+    /// The literals of the clause of this number.
+    pub(crate) fn at(&self, number: usize) -> &'a [Lit]
+        requires { number < length self.now }
+        ensures { slice_get self.now number ≡ Some result.now }
+    {
+        if number < self.given.len() {
+            clause_at(self.given, number)
+        } else {
+            clause_at(self.learned, number - self.given.len())
+        }
+    }
+}
