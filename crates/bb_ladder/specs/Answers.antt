@@ -51,4 +51,4 @@ pub record AreTexts (words : List (List ℕ)) (holds : List ℕ → Option (List
 abbrev pub AnswersSpeakOfTexts : Type 0
 AnswersSpeakOfTexts = (words : List (List ℕ)) (holds : List ℕ → Option (List ℕ)) (before after : Reads) (status : ℕ) (text : List ℕ) (q : Question) (spec imp : List ℕ)
     → MayAnswer words holds before after status text → AreTexts words holds q spec imp
-    → (status ≡ 0 → AreFinished q.asked spec imp text) × ((status ≡ 1 → AreRefuted q.asked spec imp) × (status ≡ 3 → AreLeftOpen q.asked spec imp))
+    → (status ≡ 0 → AreFinished q.asked spec imp text) × (status ≡ 1 → AreRefuted q.asked spec imp) × (status ≡ 3 → AreLeftOpen q.asked spec imp)
