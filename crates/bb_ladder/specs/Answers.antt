@@ -26,15 +26,15 @@ Gives held bytes = IfSome held (λ h. bytes ≡ take READ_LIMIT h)
 
 -- what may be answered after the specification was read: the implementation is read, and the two texts are judged
 pub data AfterSpec (held : Option (List ℕ)) (q : Question) (before after : Reads) (spec : List ℕ) (status : ℕ) (text : List ℕ) : Type 0 where
-  ImpUnread : IsRead before after q.imp true → Rose before.faults after.faults → status ≡ 4 → text ≡ codes "unread impl\n" → AfterSpec held q before after spec status text
-  ImpLong : (imp : List ℕ) → Gives held imp → length imp ≡ READ_LIMIT → IsRead before after q.imp false → status ≡ 2 → text ≡ codes "refused impl toolong\n" → AfterSpec held q before after spec status text
-  BothRead : (imp : List ℕ) → Gives held imp → length imp < READ_LIMIT → IsRead before after q.imp false → Judges q.asked spec imp status text → AfterSpec held q before after spec status text
+  ImpUnread : IsRead before after q.imp (Some true) → Rose before.faults after.faults → status ≡ 4 → text ≡ codes "unread impl\n" → AfterSpec held q before after spec status text
+  ImpLong : (imp : List ℕ) → Gives held imp → length imp ≡ READ_LIMIT → IsRead before after q.imp (Some false) → status ≡ 2 → text ≡ codes "refused impl toolong\n" → AfterSpec held q before after spec status text
+  BothRead : (imp : List ℕ) → Gives held imp → length imp < READ_LIMIT → IsRead before after q.imp (Some false) → Judges q.asked spec imp status text → AfterSpec held q before after spec status text
 
 -- what may be answered to the names of two files: the specification is read first
 pub data OfFiles (holds : List ℕ → Option (List ℕ)) (q : Question) (before after : Reads) (status : ℕ) (text : List ℕ) : Type 0 where
-  SpecUnread : IsRead before after q.spec true → Rose before.faults after.faults → status ≡ 4 → text ≡ codes "unread spec\n" → OfFiles holds q before after status text
-  SpecLong : (spec : List ℕ) → Gives (holds q.spec) spec → length spec ≡ READ_LIMIT → IsRead before after q.spec false → status ≡ 2 → text ≡ codes "refused spec toolong\n" → OfFiles holds q before after status text
-  SpecRead : (spec : List ℕ) (between : Reads) → Gives (holds q.spec) spec → length spec < READ_LIMIT → IsRead before between q.spec false → AfterSpec (holds q.imp) q between after spec status text → OfFiles holds q before after status text
+  SpecUnread : IsRead before after q.spec (Some true) → Rose before.faults after.faults → status ≡ 4 → text ≡ codes "unread spec\n" → OfFiles holds q before after status text
+  SpecLong : (spec : List ℕ) → Gives (holds q.spec) spec → length spec ≡ READ_LIMIT → IsRead before after q.spec (Some false) → status ≡ 2 → text ≡ codes "refused spec toolong\n" → OfFiles holds q before after status text
+  SpecRead : (spec : List ℕ) (between : Reads) → Gives (holds q.spec) spec → length spec < READ_LIMIT → IsRead before between q.spec (Some false) → AfterSpec (holds q.imp) q between after spec status text → OfFiles holds q before after status text
 
 -- what may be answered to words, given what the files hold and the reads before the call and after it
 pub data MayAnswer (words : List (List ℕ)) (holds : List ℕ → Option (List ℕ)) (before after : Reads) (status : ℕ) (text : List ℕ) : Type 0 where

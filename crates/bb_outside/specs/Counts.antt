@@ -1,6 +1,6 @@
 -- Counts that are kept in a 64-bit number. A count goes up by one at a time and stays at its last value,
 -- 2^64 - 1. So a count that stands there at the end of a call may have been raised in it.
-use Rattle.std.specs.Prelude.{◌≡◌, ◌⊎◌, ◌↔◌, ℕ, ◌+◌, ◌-◌, ◌^◌, ◌<◌, ◌≤◌, min, Bool, true, false, List, [], ◌∷◌, ◌++◌, Option, option_map, Result, Ok, Err}
+use Rattle.std.specs.Prelude.{◌≡◌, ◌⊎◌, ◌↔◌, ℕ, ◌+◌, ◌-◌, ◌^◌, ◌<◌, ◌≤◌, min, Bool, true, false, List, [], ◌∷◌, ◌++◌, Option, Some, None, option_map, IfSome, Result, Ok, Err}
 use Rattle.bb_outside.specs.declared.files.FileFault.{FileFault}
 use Rattle.bb_outside.specs.declared.files.FileFault.TheVariants.{Failed, NoMemory}
 
@@ -20,11 +20,11 @@ CountsWhere failed before now = (failed → now ≡ next_count before) × ((fail
 abbrev pub RoseIsGrowth : Type 0
 RoseIsGrowth = (before now : ℕ) → before ≤ now → now < 2 ^ 64 → Rose before now ↔ ((before < now) ⊎ (now ≡ 2 ^ 64 - 1))
 
--- a read gave no bytes for another reason than want of memory
-abbrev pub is_failed : {A : Type 0} → Result A FileFault → Bool
-is_failed (Ok bytes) = false
-is_failed (Err Failed) = true
-is_failed (Err NoMemory) = false
+-- whether a read failed; None where memory was wanting, since a list of the reads may not have found room either
+abbrev pub outcome_of : {A : Type 0} → Result A FileFault → Option Bool
+outcome_of (Ok bytes) = Some false
+outcome_of (Err Failed) = Some true
+outcome_of (Err NoMemory) = None
 
 -- what is known of the reads so far: how many there were and how many of them failed, and, where it is told, of which name each
 -- was and whether it failed, in their order
@@ -33,8 +33,8 @@ pub record Reads : Type 0 where
   pub faults : ℕ
   pub told : Option (List (List ℕ × Bool))
 
--- from before to after there was one read, of the file of this name, and it failed or not
-pub record IsRead (before after : Reads) (name : List ℕ) (failed : Bool) : Type 0 where
+-- from before to after there was one read of the file of this name, which failed or not; after want of memory what is told is left open
+pub record IsRead (before after : Reads) (name : List ℕ) (outcome : Option Bool) : Type 0 where
   pub counted : after.count ≡ next_count before.count
-  pub told : after.told ≡ option_map (λ told. told ++ (name, failed) ∷ []) before.told
+  pub told : IfSome outcome (λ failed. after.told ≡ option_map (λ told. told ++ (name, failed) ∷ []) before.told)
   pub later : before.faults ≤ after.faults
