@@ -14,9 +14,13 @@ mod memory;
 mod option_tests;
 #[cfg(test)]
 mod outside_tests;
+mod recording;
+#[cfg(test)]
+mod recording_tests;
 #[cfg(test)]
 mod row_tests;
 #[cfg(test)]
 mod tests;
 
 pub use memory::{Outcome, run_in_memory};
+pub use recording::{NamedRead, RecordingFiles};

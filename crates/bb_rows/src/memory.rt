@@ -17,7 +17,8 @@ pub struct Outcome {
     pub report: Vec<u8>,
 }
 
-fn words(alloc: Global, texts: &[&str]) -> Result<Vec<String>, AllocError>
+// The words of a command line.
+pub(crate) fn words(alloc: Global, texts: &[&str]) -> Result<Vec<String>, AllocError>
     ensures { IfOk result (λ words. map string_bytes words.items ≡ map (λ text. text.now) texts.now) }
 {
     let mut words = Vec::new(alloc);
@@ -37,7 +38,7 @@ fn file(alloc: Global, name: &str, text: &[u8]) -> Result<(String, Vec<u8>), All
 }
 
 // The two files in memory.
-fn held_files(
+pub(crate) fn held_files(
     alloc: Global,
     spec: &[u8],
     imp: &[u8],
@@ -53,7 +54,7 @@ fn held_files(
 }
 
 // An empty sink with room for any report.
-fn planned_sink(alloc: Global, plan: Vec<Take>) -> Result<MemSink, AllocError>
+pub(crate) fn planned_sink(alloc: Global, plan: Vec<Take>) -> Result<MemSink, AllocError>
     ensures { IfOk result (λ sink. sink.bytes ≡ []) }
 {
     let mut sink = MemSink::new(alloc, plan);
