@@ -1,6 +1,8 @@
 -- What a learned clause leaves true.
-use Rattle.std.proofs.Common.{◌≡◌, ◌<◌, ℕ, ◌+◌, ◌-◌, Option, Some, None, IfSome, IsSomeAnd, option_and_then, List, [], ◌∷◌, ◌++◌, length, map, take, slice_get, sym, ◌∙◌, ap, subst, arith, length-append}
-use Rattle.std.proofs.lemmas.List.{append_assoc, map-append}
+use Rattle.std.proofs.Common.{◌≡◌, ◌<◌, ℕ, ◌+◌, ◌-◌, false, Option, Some, None, IfSome, IfNone, IsSomeAnd, option_map, option_and_then, List, [], ◌∷◌, ◌++◌, length, map, take, slice_get, refl, sym, ◌∙◌, ap, subst, arith, length-append}
+use Rattle.std.proofs.lemmas.List.{append_assoc, append-nil, map-append, length-map}
+use Rattle.std.proofs.lemmas.Option.{slice_get-map}
+use Rattle.smallvec.specs.SmallVec.{SmallVec}
 use Rattle.bb_cnf.specs.declared.clauses.Lit.{Lit}
 use Rattle.bb_cnf.specs.declared.refutation.Step.{Step}
 use Rattle.bb_cnf.specs.Clauses.{Literals, literals_of, lists_of}
@@ -9,9 +11,11 @@ use Rattle.bb_cnf.specs.Laws.{ChainLaws}
 use Rattle.bb_cdcl.specs.declared.analysis.Jump.{Jump}
 use Rattle.bb_cdcl.specs.declared.state.State.{State}
 use Rattle.bb_cdcl.specs.declared.trail.Entry.{Entry}
+use Rattle.bb_cdcl.specs.declared.trail.Trail.{Trail}
+use Rattle.bb_cnf.specs.PartialResolvent.{held, AreListed}
 use Rattle.bb_cdcl.specs.Trails.{opposite, AreNew, HaveReasons, IsReason, AreValues, HasRoom}
 use Rattle.bb_cdcl.specs.Analysis.{IsJump}
-use Rattle.bb_cdcl.specs.States.{all_clauses, IsDerived, IsReady, Learns, Advances, left_of}
+use Rattle.bb_cdcl.specs.States.{all_clauses, IsDerived, IsReady, Grows, Leads, Learns, Advances, left_of}
 use Rattle.bb_cdcl.specs.Measure.{left}
 use Rattle.bb_cdcl.proofs.Extended.{get_last, more_reasons, reasons_push, reasons_front, lists_of-push}
 
@@ -22,57 +26,97 @@ derived_push laws given all steps step c before made =
     ∙ ap (option_and_then (λ a. derived a (step ∷ []))) before
     ∙ ap (option_and_then (λ d. Some (all ++ d ∷ []))) made
 
--- all clauses, with the learned one
-pub lists_learned : (given : List (List Lit)) (old new : State) (jump : Option Jump) (learns : Learns given old new jump) → all_clauses given new ≡ all_clauses given old ++ learns.clause.items ∷ []
-lists_learned given old new jump learns =
-    ap (λ more. given ++ lists_of more) learns.learned ∙ ap (λ more. given ++ more) (lists_of-push old.learned.items learns.clause)
-    ∙ sym (append_assoc given (lists_of old.learned.items) (learns.clause.items ∷ []))
+-- all clauses, with one more
+lists_more : (given : List (List Lit)) (old new : State) (clause : SmallVec Lit) → new.learned.items ≡ old.learned.items ++ clause ∷ [] → all_clauses given new ≡ all_clauses given old ++ clause.items ∷ []
+lists_more given old new clause more =
+    ap (λ learned. given ++ lists_of learned) more ∙ ap (λ learned. given ++ learned) (lists_of-push old.learned.items clause)
+    ∙ sym (append_assoc given (lists_of old.learned.items) (clause.items ∷ []))
 
-sets_learned : (given : List (List Lit)) (old new : State) (jump : Option Jump) (learns : Learns given old new jump)
-    → map literals_of (all_clauses given new) ≡ map literals_of (all_clauses given old) ++ literals_of learns.clause.items ∷ []
-sets_learned given old new jump learns =
-    ap (map literals_of) (lists_learned given old new jump learns) ∙ map-append literals_of (all_clauses given old) (learns.clause.items ∷ [])
+-- a clause more, and the step that makes it
+added : ChainLaws → (given : List (List Lit)) (old new : State) (clause : SmallVec Lit) (step : Step) → IsDerived given old → new.learned.items ≡ old.learned.items ++ clause ∷ []
+    → new.steps.items ≡ old.steps.items ++ step ∷ [] → made_by (map literals_of (all_clauses given old)) step ≡ Some (literals_of clause.items) → new.trail ≡ old.trail → IsDerived given new
+added laws given old new clause step before more steps made trail =
+    let all = lists_more given old new clause more in
+    record {
+      derives = ap (derived (map literals_of given)) steps
+          ∙ derived_push laws (map literals_of given) (map literals_of (all_clauses given old)) old.steps.items step (literals_of clause.items) before.derives made
+          ∙ ap Some (sym (ap (map literals_of) all ∙ map-append literals_of (all_clauses given old) (clause.items ∷ [])));
+      reasons = subst (λ (t : Trail). HaveReasons (all_clauses given new) t.entries.items) (sym trail)
+          (subst (λ clauses. HaveReasons clauses old.trail.entries.items) (sym all) (more_reasons (all_clauses given old) clause.items old.trail.entries.items before.reasons));
+    }
 
-derives_learned : ChainLaws → (given : List (List Lit)) (old new : State) (jump : Option Jump) → IsDerived given old → (learns : Learns given old new jump)
-    → derived (map literals_of given) new.steps.items ≡ Some (map literals_of (all_clauses given old) ++ literals_of learns.clause.items ∷ [])
-derives_learned laws given old new jump before learns =
-    ap (derived (map literals_of given)) learns.steps
-    ∙ derived_push laws (map literals_of given) (map literals_of (all_clauses given old)) old.steps.items learns.step (literals_of learns.clause.items) before.derives learns.made
+pub grows_not : (given : List (List Lit)) (s : State) → IsDerived given s → Grows given s s
+grows_not given s before = record { derived = before; more = []; clauses = sym (append-nil (all_clauses given s)); trail = refl; resolvent = refl }
 
-pub learned_derived : ChainLaws → (given : List (List Lit)) (old new : State) (jump : Option Jump) → IsDerived given old → Learns given old new jump → IsDerived given new
-learned_derived laws given old new jump before learns = record {
-  derives = derives_learned laws given old new jump before learns ∙ ap (λ (all : List Literals). Some all) (sym (sets_learned given old new jump learns));
-  reasons = subst (HaveReasons (all_clauses given new)) (sym learns.entries)
-      (subst (λ all. HaveReasons all old.trail.entries.items) (sym (lists_learned given old new jump learns)) (more_reasons (all_clauses given old) learns.clause.items old.trail.entries.items before.reasons));
+pub grows_by : ChainLaws → (given : List (List Lit)) (old new : State) (clause : SmallVec Lit) (step : Step) → IsDerived given old → new.learned.items ≡ old.learned.items ++ clause ∷ []
+    → new.steps.items ≡ old.steps.items ++ step ∷ [] → made_by (map literals_of (all_clauses given old)) step ≡ Some (literals_of clause.items) → new.trail ≡ old.trail
+    → new.resolvent ≡ old.resolvent → Grows given old new
+grows_by laws given old new clause step before more steps made trail resolvent = record {
+  derived = added laws given old new clause step before more steps made trail;
+  more = clause.items ∷ [];
+  clauses = lists_more given old new clause more;
+  trail = trail;
+  resolvent = resolvent;
 }
+
+pub grows_on : (given : List (List Lit)) (old mid new : State) → Grows given old mid → Grows given mid new → Grows given old new
+grows_on given old mid new first then = record {
+  derived = then.derived;
+  more = first.more ++ then.more;
+  clauses = then.clauses ∙ ap (λ all. all ++ then.more) first.clauses ∙ append_assoc (all_clauses given old) first.more then.more;
+  trail = then.trail ∙ first.trail;
+  resolvent = then.resolvent ∙ first.resolvent;
+}
+
+last_of : {A : Type 0} (xs : List A) (x : A) → slice_get (xs ++ x ∷ []) (length (xs ++ x ∷ []) - 1) ≡ Some x
+last_of xs x =
+    let longer : length (xs ++ x ∷ []) ≡ length xs + 1 = length-append xs (x ∷ []) in
+    let place : length (xs ++ x ∷ []) - 1 ≡ length xs = omega (arith, longer) in
+    ap (slice_get (xs ++ x ∷ [])) place ∙ get_last xs x
+
+-- the last clause is empty
+refuted : (given : List (List Lit)) (s : State) (clause : List Lit) → IsDerived given s → 0 < length s.steps.items → slice_get (all_clauses given s) (length (all_clauses given s) - 1) ≡ Some clause
+    → IsEmpty (literals_of clause) → IsRefutation given s.steps.items
+refuted given s clause before some last empty =
+    let all = all_clauses given s in (
+      some,
+      subst (λ o. IsSomeAnd o EndsEmpty) (sym before.derives)
+          (subst (λ o. IsSomeAnd o IsEmpty)
+          (sym (ap (λ n. slice_get (map literals_of all) (n - 1)) (length-map all literals_of) ∙ slice_get-map literals_of all (length all - 1) ∙ ap (option_map literals_of) last)) empty),
+    )
+
+if_none : (jump : Option Jump) (A B : Type 0) → (A → B) → IfNone jump A → IfNone jump B
+if_none None A B f a = f a
+if_none (Some j) A B f a = tt
+
+-- the clause that the step leads to is the last
+pub learned_last : ChainLaws → (given : List (List Lit)) (old mid new : State) (jump : Option Jump) (step : Step) (clause : SmallVec Lit) → Leads given old mid jump step
+    → literals_of clause.items ≡ held mid.resolvent → new.learned.items ≡ mid.learned.items ++ clause ∷ [] → new.steps.items ≡ mid.steps.items ++ step ∷ [] → new.trail ≡ mid.trail
+    → ((l : Lit) → held new.resolvent l ≡ false) → AreListed new.resolvent → Learns given old new jump
+learned_last laws given old mid new jump step clause leads is more steps trail empty listed =
+    let derived = added laws given mid new clause step leads.derived more steps (leads.made ∙ ap (λ (k : Literals). Some k) (sym is)) trail in
+    let last = ap (λ all. slice_get all (length all - 1)) (lists_more given mid new clause more) ∙ last_of (all_clauses given mid) clause.items in
+    let longer : length new.steps.items ≡ length mid.steps.items + 1 = ap length steps ∙ length-append mid.steps.items (step ∷ []) in
+    record {
+      derived = derived;
+      trail = trail ∙ leads.trail;
+      clause = clause.items;
+      last = last;
+      some = subst (λ k. IfSome jump (λ j. IsJump old.trail.entries.items k j.place j.back)) (sym is) leads.some;
+      none = if_none jump (IsEmpty (held mid.resolvent)) (IsRefutation given new.steps.items)
+          (λ nothing. refuted given new clause.items derived (omega (arith, longer)) last (subst IsEmpty (sym is) nothing)) leads.none;
+      empty = empty;
+      listed = listed;
+    }
 
 pub learned_ready : (given : List (List Lit)) (old new : State) (jump : Option Jump) → IsReady old → Learns given old new jump → IsReady new
 learned_ready given old new jump ready learns = record {
-  new = subst AreNew (sym learns.entries) ready.new;
-  values = subst (λ es. AreValues es new.trail.values.items) (sym learns.entries) (subst (AreValues old.trail.entries.items) (sym learns.values) ready.values);
-  room = subst (λ es. HasRoom es new.trail.values.items) (sym learns.entries) (subst (HasRoom old.trail.entries.items) (sym learns.values) ready.room);
+  new = subst (λ (t : Trail). AreNew t.entries.items) (sym learns.trail) ready.new;
+  values = subst (λ (t : Trail). AreValues t.entries.items t.values.items) (sym learns.trail) ready.values;
+  room = subst (λ (t : Trail). HasRoom t.entries.items t.values.items) (sym learns.trail) ready.room;
   empty = learns.empty;
   listed = learns.listed;
 }
-
-pub refuted : ChainLaws → (given : List (List Lit)) (old new : State) → IsDerived given old → Learns given old new None → IsRefutation given new.steps.items
-refuted laws given old new before learns = (
-  (let longer : length new.steps.items ≡ length old.steps.items + 1 = ap length learns.steps ∙ length-append old.steps.items (learns.step ∷ []) in omega (arith, longer)),
-  subst (λ o. IsSomeAnd o EndsEmpty) (sym (derives_learned laws given old new None before learns)) (ends (map literals_of (all_clauses given old)) (literals_of learns.clause.items) learns.none),
-) where
-  ends : (all : List Literals) (c : Literals) → IsEmpty c → EndsEmpty (all ++ c ∷ [])
-  ends all c empty =
-      let longer : length (all ++ c ∷ []) ≡ length all + 1 = length-append all (c ∷ []) in
-      let place : length (all ++ c ∷ []) - 1 ≡ length all = omega (arith, longer) in
-      subst (λ o. IsSomeAnd o IsEmpty) (sym (ap (slice_get (all ++ c ∷ [])) place ∙ get_last all c)) empty
-
--- the clause that was learned last
-pub last_learned : (given : List (List Lit)) (old new : State) (jump : Option Jump) (n : ℕ) (learns : Learns given old new jump) → n ≡ length (all_clauses given old)
-    → slice_get (all_clauses given new) n ≡ Some learns.clause.items
-last_learned given old new jump n learns count =
-    ap (λ all. slice_get all n) (lists_learned given old new jump learns)
-    ∙ ap (slice_get (all_clauses given old ++ learns.clause.items ∷ [])) count
-    ∙ get_last (all_clauses given old) learns.clause.items
 
 pub derived_kept : (given : List (List Lit)) (old new : State) (entries : List Entry) → IsDerived given old → new.learned.items ≡ old.learned.items → new.steps.items ≡ old.steps.items
     → new.trail.entries.items ≡ entries → HaveReasons (all_clauses given old) entries → IsDerived given new
@@ -104,10 +148,8 @@ derived_jumped given old new place back n clause before learned steps stands jum
     (record { clause = clause; stands = stands; own = jump.covered.member; others = jump.covered.others }))
 
 pub advances_learned : (given : List (List Lit)) (old mid new : State) (jump : Option Jump) → Learns given old mid jump → Advances mid new → Advances old new
-advances_learned given old mid new jump learns advances =
-    let same : length mid.trail.values.items ≡ length old.trail.values.items = ap length learns.values in
-    record {
-      ready = advances.ready;
-      less = subst (λ n. left_of new < n) (ap (λ n. left n mid.trail.entries.items) same ∙ ap (left (length old.trail.values.items)) learns.entries) advances.less;
-      same = advances.same ∙ same;
-    }
+advances_learned given old mid new jump learns advances = record {
+  ready = advances.ready;
+  less = subst (λ (t : Trail). left_of new < left (length t.values.items) t.entries.items) learns.trail advances.less;
+  same = advances.same ∙ ap (λ (t : Trail). length t.values.items) learns.trail;
+}

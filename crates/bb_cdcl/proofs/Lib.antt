@@ -9,3 +9,4 @@ pub mod Measured
 pub mod Resolved
 pub mod Shortened
 pub mod Started
+pub mod Unitary

@@ -20,7 +20,7 @@ falsified_within entries at place m before is = elim (falsified (take place entr
       no_clash (sym (ap (λ es. falsified es m) (sym (take-take at place entries before)) ∙ any_front (λ e. same_literal (opposite e.lit) m) (take place entries) at no) ∙ is)
 ] refl
 
-both_false : (a b : Bool) → a ≡ false → b ≡ false → (a || b) ≡ false
+pub both_false : (a b : Bool) → a ≡ false → b ≡ false → (a || b) ≡ false
 both_false a b x y = ap (λ t. t || b) x ∙ y
 
 -- the reason does not have the literal's negation
@@ -36,7 +36,7 @@ reason_lacks clauses front l r clause new reason stands =
     ] refl
 
 -- what the resolution makes, where the reason does not have the literal's negation
-made_of : (x : ℕ) (s : Bool) (c d e : Literals) → c (opposite (lit_of x s)) ≡ true → d (lit_of x s) ≡ true → d (opposite (lit_of x s)) ≡ false → resolution c d x ≡ Some e
+pub made_of : (x : ℕ) (s : Bool) (c d e : Literals) → c (opposite (lit_of x s)) ≡ true → d (lit_of x s) ≡ true → d (opposite (lit_of x s)) ≡ false → resolution c d x ≡ Some e
     → resolvent c d (opposite (lit_of x s)) (lit_of x s) ≡ e
 made_of x false c d e mine yours lacks is = elim (which (c (positive x) && d (negated x)) _ _ _ e is) as (λ _. resolvent c d (negated x) (positive x) ≡ e) [
   | inl first ↦ no_clash (sym lacks ∙ (and_true (c (positive x)) (d (negated x)) first.0).1)

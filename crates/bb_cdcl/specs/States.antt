@@ -1,6 +1,5 @@
 -- What stays true of a solver.
-use Rattle.std.specs.Prelude.{ℕ, ◌≡◌, ◌<◌, Bool, false, true, Some, IfSome, IfNone, Option, List, [], ◌∷◌, ◌++◌, map, length, All}
-use Rattle.smallvec.specs.SmallVec.{SmallVec}
+use Rattle.std.specs.Prelude.{ℕ, ◌≡◌, ◌<◌, Bool, false, true, Some, IfSome, IfNone, Option, List, ◌++◌, ◌-◌, map, length, slice_get, All}
 use Rattle.bb_cnf.specs.declared.clauses.Lit.{Lit}
 use Rattle.bb_cnf.specs.declared.refutation.Step.{Step}
 use Rattle.bb_cnf.specs.Clauses.{literals_of, lists_of}
@@ -32,17 +31,33 @@ pub record IsReady (s : State) : Type 0 where
   pub empty : (l : Lit) → held s.resolvent l ≡ false
   pub listed : AreListed s.resolvent
 
--- A clause was learned, by a step. The trail is as before.
+-- More clauses were derived. The trail and the resolvent are as before.
+pub record Grows (given : List (List Lit)) (old new : State) : Type 0 where
+  pub derived : IsDerived given new
+  pub more : List (List Lit)
+  pub clauses : all_clauses given new ≡ all_clauses given old ++ more
+  pub trail : new.trail ≡ old.trail
+  pub resolvent : new.resolvent ≡ old.resolvent
+
+-- A step makes what the resolvent holds, and by this the trail may be taken back; or it is the empty clause. The trail
+-- is as before.
+pub record Leads (given : List (List Lit)) (old new : State) (jump : Option Jump) (step : Step) : Type 0 where
+  pub derived : IsDerived given new
+  pub trail : new.trail ≡ old.trail
+  pub made : made_by (map literals_of (all_clauses given new)) step ≡ Some (held new.resolvent)
+  pub listed : AreListed new.resolvent
+  pub some : IfSome jump (λ j. IsJump old.trail.entries.items (held new.resolvent) j.place j.back)
+  pub none : IfNone jump (IsEmpty (held new.resolvent))
+
+-- The last clause was learned, and by it the trail may be taken back; or it is the empty clause. The trail is as
+-- before.
 pub record Learns (given : List (List Lit)) (old new : State) (jump : Option Jump) : Type 0 where
-  pub clause : SmallVec Lit
-  pub step : Step
-  pub learned : new.learned.items ≡ old.learned.items ++ clause ∷ []
-  pub steps : new.steps.items ≡ old.steps.items ++ step ∷ []
-  pub made : made_by (map literals_of (all_clauses given old)) step ≡ Some (literals_of clause.items)
-  pub some : IfSome jump (λ j. IsJump old.trail.entries.items (literals_of clause.items) j.place j.back)
-  pub none : IfNone jump (IsEmpty (literals_of clause.items))
-  pub entries : new.trail.entries.items ≡ old.trail.entries.items
-  pub values : new.trail.values.items ≡ old.trail.values.items
+  pub derived : IsDerived given new
+  pub trail : new.trail ≡ old.trail
+  pub clause : List Lit
+  pub last : slice_get (all_clauses given new) (length (all_clauses given new) - 1) ≡ Some clause
+  pub some : IfSome jump (λ j. IsJump old.trail.entries.items (literals_of clause) j.place j.back)
+  pub none : IfNone jump (IsRefutation given new.steps.items)
   pub empty : (l : Lit) → held new.resolvent l ≡ false
   pub listed : AreListed new.resolvent
 

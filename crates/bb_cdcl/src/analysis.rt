@@ -5,7 +5,6 @@ ghost use Rattle.std.specs.Prelude.{ℕ, ◌≡◌, ◌+◌, ◌<◌, false, tru
 ghost use Rattle.bb_cnf.specs.declared.clauses.Lit.{Lit as Literal};
 ghost use Rattle.bb_cnf.specs.Clauses.{Literals};
 ghost use Rattle.bb_cnf.specs.PartialResolvent.{held, AreListed};
-
 ghost use Rattle.bb_cdcl.specs.Trails.{falsified, AreNew, HaveReasons};
 ghost use Rattle.bb_cdcl.specs.Analysis.{AreFalsified, IsCovered, IsJump, IsResolved};
 
@@ -112,7 +111,7 @@ fn stop(
     entries: &[Entry],
     place: usize,
     pairs: &mut Vec<(u64, u32)>,
-    guide: &Guide,
+    guide: &mut Guide,
 ) -> Result<Option<usize>, NoMemory>
     requires within { place < length entries.now }
     requires new { AreNew entries.now }

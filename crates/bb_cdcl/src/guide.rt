@@ -8,7 +8,8 @@ use std::alloc::Global;
 
 /// Scores, the last bit of each variable, and the level of each that has a value with its place on the trail; and for
 /// the analysis of a conflict its level, how many literals of that level the resolvent has, and the variables of the
-/// other literals that it got: the first `count` ones of a list.
+/// other literals that it got: the first `count` ones of a list. Each variable of level 0 that a conflict met has the
+/// number of its unit clause, counted from 1.
 #[derive(Drop)]
 pub(crate) struct Guide {
     scores: Scores,
@@ -20,8 +21,12 @@ pub(crate) struct Guide {
     open: usize,
     found: Vec<u32>,
     count: usize,
+    units: Vec<u32>,
     pub(crate) retention: Retention,
 }
+
+// The unit clause is about to be made.
+const AWAITED: u32 = u32::MAX;
 
 impl Guide {
     /// No variable has a value.
@@ -37,6 +42,7 @@ impl Guide {
             open: 0,
             found: vec![in alloc; 0; size]?,
             count: 0,
+            units: vec![in alloc; 0; size]?,
             retention: Retention::new(alloc, given),
         })
     }
@@ -72,6 +78,30 @@ impl Guide {
     /// The place of a variable.
     pub(crate) fn place(&self, var: u32) -> usize {
         read(&self.places, var) as usize
+    }
+
+    /// Is the level 0?
+    pub(crate) fn is_low(&self, var: u32) -> bool {
+        read(&self.levels, var) == 0
+    }
+
+    /// The number of the unit clause of a variable of level 0, if it is made or about to be made.
+    pub(crate) fn unit(&self, var: u32) -> Option<usize> {
+        match read(&self.units, var) {
+            0 => None,
+            next => Some(next as usize - 1),
+        }
+    }
+
+    /// The unit clause of the variable has this number.
+    pub(crate) fn has_unit(&mut self, var: u32, number: usize) {
+        let number = u32::try_from(number).unwrap_or(AWAITED);
+        write(&mut self.units, var, number.saturating_add(1));
+    }
+
+    /// The unit clause of the variable is about to be made.
+    pub(crate) fn awaits_unit(&mut self, var: u32) {
+        write(&mut self.units, var, AWAITED);
     }
 
     /// A literal was taken back.

@@ -7,6 +7,8 @@ mod clauses;
 mod events;
 mod examination;
 mod guide;
+mod learning;
+mod low_literals;
 mod outcome;
 mod retention;
 mod scores;
@@ -17,6 +19,7 @@ mod start;
 mod state;
 mod trail;
 mod turn;
+mod units;
 mod watch_lists;
 mod watches;
 

@@ -1,4 +1,5 @@
-//! The learned clause is made shorter: a literal is resolved away where its reason adds no other.
+//! The learned clause is made shorter: a literal is resolved away where its reason adds no other, but for literals of
+//! level 0, which are resolved away later.
 
 ghost use Rattle.std.specs.Prelude.{◌<◌, length, OnOk};
 ghost use Rattle.bb_cnf.specs.Clauses.{Literals};
@@ -14,10 +15,10 @@ use crate::trail::{Entry, negation};
 use bb_cnf::{Lit, PartialResolvent, laws};
 use std::alloc::Global;
 
-// Does the resolvent have all literals of the clause but this one?
-fn has_others(resolvent: &PartialResolvent, clause: &[Lit], but: Lit) -> bool {
+// Does the resolvent have all literals of the clause but this one and those of level 0?
+fn has_others(resolvent: &PartialResolvent, clause: &[Lit], but: Lit, guide: &Guide) -> bool {
     for lit in clause {
-        if *lit != but && !resolvent.has(*lit) {
+        if *lit != but && !guide.is_low(lit.var) && !resolvent.has(*lit) {
             return false;
         }
     }
@@ -30,6 +31,7 @@ fn is_redundant(
     clauses: &Clauses<'_>,
     entries: &[Entry],
     place: usize,
+    guide: &Guide,
 ) -> bool {
     let Some(entry) = entries.get(place) else {
         return false;
@@ -39,7 +41,7 @@ fn is_redundant(
     };
     reason < clauses.len()
         && resolvent.has(negation(entry.lit))
-        && has_others(resolvent, clauses.at(reason), entry.lit)
+        && has_others(resolvent, clauses.at(reason), entry.lit, guide)
 }
 
 // Places of literals that can be resolved away, the last first. Each reason has literals of earlier places alone, so
@@ -54,7 +56,7 @@ fn redundant(
     let mut places = Vec::new(alloc);
     for var in guide.found() {
         let place = guide.place(*var);
-        if is_redundant(resolvent, clauses, entries, place) {
+        if is_redundant(resolvent, clauses, entries, place, guide) {
             places.push(place)?;
         }
     }
@@ -71,6 +73,7 @@ fn resolve_before(
     place: usize,
     at: usize,
     pairs: &mut Vec<(u64, u32)>,
+    guide: &mut Guide,
 ) -> Result<(), NoMemory>
     requires within { place < length entries.now }
     requires before { at < place }
@@ -91,6 +94,7 @@ fn resolve_before(
         return Ok(());
     };
     let clause = clauses.at(reason);
+    guide.adds(resolvent, clause);
     resolvent.resolve(clause, entry.lit.var)?;
     pairs.push((reason as u64, entry.lit.var))?;
     Ok(())
@@ -104,7 +108,7 @@ pub(crate) fn shorten(
     entries: &[Entry],
     place: usize,
     pairs: &mut Vec<(u64, u32)>,
-    guide: &Guide,
+    guide: &mut Guide,
 ) -> Result<(), NoMemory>
     requires within { place < length entries.now }
     requires new { AreNew entries.now }
@@ -117,7 +121,7 @@ pub(crate) fn shorten(
 {
     for at in redundant(alloc, resolvent, clauses, entries, guide)? {
         if at < place {
-            resolve_before(resolvent, clauses, entries, place, at, pairs)?;
+            resolve_before(resolvent, clauses, entries, place, at, pairs, guide)?;
         }
     }
     Ok(())

@@ -1,19 +1,16 @@
 //! The solver's state: what it derived, and its trail.
 
-ghost use Rattle.std.specs.Prelude.{◌≡◌, ◌-◌, ◌<◌, ◌++◌, ◌∷◌, [], false, Some, None, length, map, take, slice_get, IfOk, OnOk, IfSome, IfNone};
+ghost use Rattle.std.specs.Prelude.{◌≡◌, ◌-◌, ◌<◌, ◌++◌, ◌∷◌, [], false, Some, None, length, take, slice_get, IfOk, OnOk};
 ghost use Rattle.bb_cnf.specs.declared.clauses.Lit.{Lit as Literal};
-ghost use Rattle.bb_cnf.specs.Clauses.{Literals, literals_of, lists_of};
-ghost use Rattle.bb_cnf.specs.Chains.{made_by};
+ghost use Rattle.bb_cnf.specs.Clauses.{Literals, literals_of};
 ghost use Rattle.bb_cnf.specs.PartialResolvent.{held, AreListed};
 ghost use Rattle.bb_cdcl.specs.declared.trail.Entry.{Entry as TrailEntry};
-ghost use Rattle.bb_cdcl.specs.Trails.{value_at, opposite, AreNew, HaveReasons, AreValues};
+ghost use Rattle.bb_cdcl.specs.Trails.{value_at, opposite};
 ghost use Rattle.bb_cdcl.specs.Analysis.{IsJump};
-ghost use Rattle.bb_cdcl.specs.Events.{IsConflict};
-ghost use Rattle.bb_cdcl.specs.States.{all_clauses, IsDerived, IsReady, Learns, Advances};
+ghost use Rattle.bb_cdcl.specs.States.{IsReady, Advances};
 
 use crate::NoMemory;
-use crate::analysis::{Jump, analyze, entry_at};
-use crate::clauses::Clauses;
+use crate::analysis::{Jump, entry_at};
 use crate::guide::Guide;
 use crate::trail::{Trail, assign, negation, pop_to};
 use bb_cnf::{Lit, PartialResolvent, Step};
@@ -54,42 +51,11 @@ pub(crate) fn extend(s: &mut State, lit: Lit, reason: Option<usize>) -> Result<(
     Ok(())
 }
 
-// The step that a false clause leads to, and where it leads.
-fn conflict_step(
+/// The clause that the resolvent has come to.
+pub(crate) fn drained(
     alloc: Global,
     resolvent: &mut PartialResolvent,
-    clauses: &Clauses<'_>,
-    trail: &Trail,
-    number: usize,
-    guide: &mut Guide,
-) -> Result<(Option<Jump>, Step), NoMemory>
-    requires empty { (l : Literal) → held resolvent.old l ≡ false }
-    requires listed { AreListed resolvent.old }
-    requires new { AreNew trail.now.entries.items }
-    requires reasons { HaveReasons clauses.now trail.now.entries.items }
-    requires values { AreValues trail.now.entries.items trail.now.values.items }
-    requires conflict { IsConflict clauses.now trail.now.values.items number }
-    ensures made { IfOk result (λ r. made_by (map literals_of clauses.now) r.1 ≡ Some (held resolvent.new)) }
-    ensures some { IfOk result (λ r. IfSome r.0 (λ j. IsJump trail.now.entries.items (held resolvent.new) j.place j.back)) }
-    ensures none { IfOk result (λ r. IfNone r.0 ((l : Literal) → held resolvent.new l ≡ false)) }
-    ensures listed { OnOk result (AreListed resolvent.new) }
-{
-    let mut rest = Vec::new(alloc);
-    let clause = clauses.at(number);
-    guide.begin(resolvent, clause, number);
-    resolvent.put_all(clause)?;
-    let jump = analyze(alloc, resolvent, clauses, &trail.entries, &mut rest, guide)?;
-    Ok((
-        jump,
-        Step {
-            first: number as u64,
-            rest,
-        },
-    ))
-}
-
-// The clause that the resolvent has come to.
-fn drained(alloc: Global, resolvent: &mut PartialResolvent) -> Result<SmallVec<Lit, 4>, NoMemory>
+) -> Result<SmallVec<Lit, 4>, NoMemory>
     requires { AreListed resolvent.old }
     ensures given { IfOk result (λ clause. literals_of clause.items ≡ held resolvent.old) }
     ensures empty { OnOk result ((l : Literal) → held resolvent.new l ≡ false) }
@@ -99,25 +65,16 @@ fn drained(alloc: Global, resolvent: &mut PartialResolvent) -> Result<SmallVec<L
     Ok(clause)
 }
 
-/// Learns a clause from one that is false.
-pub(crate) fn learn(
-    alloc: Global,
-    given: &[SmallVec<Lit, 4>],
-    s: &mut State,
-    number: usize,
-    guide: &mut Guide,
-) -> Result<Option<Jump>, NoMemory>
-    requires derived { IsDerived (lists_of given.now) s.old }
-    requires ready { IsReady s.old }
-    requires conflict { IsConflict (all_clauses (lists_of given.now) s.old) s.old.trail.values.items number }
-    ensures { IfOk result (Learns (lists_of given.now) s.old s.new) }
+/// Adds a clause, and the step that makes it.
+pub(crate) fn add(s: &mut State, clause: SmallVec<Lit, 4>, step: Step) -> Result<(), NoMemory>
+    ensures learned { OnOk result (s.new.learned.items ≡ s.old.learned.items ++ clause ∷ []) }
+    ensures steps { OnOk result (s.new.steps.items ≡ s.old.steps.items ++ step ∷ []) }
+    ensures trail { s.new.trail ≡ s.old.trail }
+    ensures resolvent { s.new.resolvent ≡ s.old.resolvent }
 {
-    let clauses = Clauses::new(given, &s.learned);
-    let (jump, step) = conflict_step(alloc, &mut s.resolvent, &clauses, &s.trail, number, guide)?;
-    let clause = drained(alloc, &mut s.resolvent)?;
     s.learned.push(clause)?;
     s.steps.push(step)?;
-    Ok(jump)
+    Ok(())
 }
 
 /// Takes the trail back, and makes true what the clause of this number implies then.

@@ -8,11 +8,11 @@ ghost use Rattle.bb_cdcl.specs.Events.{Comes, IfQuiet, IsConflict, IsFree};
 ghost use Rattle.bb_cdcl.specs.States.{all_clauses, IsDerived, IsReady, Turns};
 
 use crate::NoMemory;
-use crate::analysis::Jump;
 use crate::clauses::Clauses;
 use crate::events::{Event, unsatisfied};
 use crate::guide::Guide;
-use crate::state::{State, Turn, extend, go_back, learn};
+use crate::learning::learn;
+use crate::state::{State, Turn, extend, go_back};
 use crate::trail::{Entry, pop_to};
 use crate::watch_lists::Watches;
 use crate::watches::propagated;
@@ -63,23 +63,20 @@ fn next_event(given: &[SmallVec<Lit, 4>], s: &State, helpers: &mut Helpers) -> E
     }
 }
 
-// Watches the last clause: the literal that it will imply, and the one that became false last of the others.
-fn watch_last(
+// Watches the learned clauses from a place on. Of the last one it watches the literal that it will imply, and the one
+// that became false last of the others.
+fn watch_from(
     alloc: Global,
     learned: &[SmallVec<Lit, 4>],
+    place: usize,
     helpers: &mut Helpers,
-    jump: Jump,
 ) -> Result<(), NoMemory> {
-    helpers.watches.taken_back(jump.back);
-    helpers.guide.retention.learned()?;
-    helpers.guide.retention.reduce(alloc, &mut helpers.watches)?;
-    match learned.last() {
-        Some(clause) => {
-            let (first, second) = helpers.guide.last_two(clause.as_slice());
-            helpers.watches.add(first, second)
-        }
-        None => Ok(()),
+    for at in place..learned.len() {
+        let (first, second) = helpers.guide.last_two(learned[at].as_slice());
+        helpers.watches.add(first, second)?;
+        helpers.guide.retention.learned()?;
     }
+    helpers.guide.retention.reduce(alloc, &mut helpers.watches)
 }
 
 // Learns from a false clause, and goes back.
@@ -96,11 +93,13 @@ fn resolve_conflict(
     ensures { IfOk result (Turns (lists_of given.now) s.old s.new) }
 {
     laws::chains();
-    let last = Clauses::new(given, &s.learned).len();
+    let known = s.learned.len();
     match learn(alloc, given, s, number, &mut helpers.guide)? {
         None => Ok(Turn::Refuted),
         Some(jump) => {
-            watch_last(alloc, &s.learned, helpers, jump)?;
+            helpers.watches.taken_back(jump.back);
+            watch_from(alloc, &s.learned, known, helpers)?;
+            let last = Clauses::new(given, &s.learned).len().saturating_sub(1);
             go_back(s, jump, last, &mut helpers.guide)?;
             Ok(Turn::Going)
         }

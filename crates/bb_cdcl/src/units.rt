@@ -1,0 +1,190 @@
+//! Unit clauses of literals of level 0, which the clauses alone imply. Each is derived once, when a conflict first has
+//! its negation, and takes the place of the literal's reason from then on: so learned clauses have no such literals,
+//! and no chain goes over their reasons again.
+
+ghost use Rattle.std.specs.Prelude.{◌≡◌, ◌<◌, ◌∷◌, [], ℕ, false, length, map, slice_get, Some, IfOk, IfSome, OnOk, List};
+ghost use Rattle.bb_cnf.specs.declared.clauses.Lit.{Lit as Literal};
+ghost use Rattle.bb_cnf.specs.Clauses.{Literals, literals_of, lists_of};
+ghost use Rattle.bb_cnf.specs.Chains.{made_by};
+ghost use Rattle.bb_cnf.specs.PartialResolvent.{held, AreListed};
+ghost use Rattle.bb_cdcl.specs.declared.trail.Entry.{Entry as TrailEntry};
+ghost use Rattle.bb_cdcl.specs.Analysis.{IsCovered, IsResolved};
+ghost use Rattle.bb_cdcl.specs.States.{IsDerived, Grows, Leads};
+
+use crate::NoMemory;
+use crate::analysis::{Jump, entry_at};
+use crate::clauses::Clauses;
+use crate::guide::Guide;
+use crate::low_literals::{implied_at, low, missing};
+use crate::state::{State, add, drained};
+use crate::trail::negation;
+use bb_cnf::{Lit, PartialResolvent, Step, laws};
+use smallvec::SmallVec;
+use std::alloc::Global;
+
+// The only literal of a clause.
+fn only(clause: &[Lit]) -> Option<Lit>
+    ensures { IfSome result (λ lit. clause.now ≡ lit ∷ []) }
+{
+    if clause.len() == 1 {
+        Some(clause[0])
+    } else {
+        None
+    }
+}
+
+// Resolves with the clause of a number, if it is a unit clause and the resolvent has the negation of its literal. A
+// variable is kept.
+fn resolve_unit(
+    resolvent: &mut PartialResolvent,
+    clauses: &Clauses<'_>,
+    unit: Option<usize>,
+    kept: u32,
+    pairs: &mut Vec<(u64, u32)>,
+) -> Result<(), NoMemory>
+    requires listed { AreListed resolvent.old }
+    ensures covered { OnOk result ((entries : List TrailEntry) (place back : ℕ) (e : TrailEntry) → slice_get entries place ≡ Some e → e.lit.var ≡ kept
+        → IsCovered entries (held resolvent.old) place back → IsCovered entries (held resolvent.new) place back) }
+    ensures resolved { OnOk result ((first : Literals) → IsResolved clauses.now first pairs.old.items resolvent.old → IsResolved clauses.now first pairs.new.items resolvent.new) }
+    ensures listed { OnOk result (AreListed resolvent.new) }
+{
+    laws::chains();
+    let Some(number) = unit else {
+        return Ok(());
+    };
+    if number >= clauses.len() {
+        return Ok(());
+    }
+    let clause = clauses.at(number);
+    let Some(lit) = only(clause) else {
+        return Ok(());
+    };
+    if lit.var == kept || !resolvent.has(negation(lit)) {
+        return Ok(());
+    }
+    resolvent.resolve(clause, lit.var)?;
+    pairs.push((number as u64, lit.var))?;
+    Ok(())
+}
+
+// Resolves with the unit clauses of the negations of these literals, where they are made.
+fn resolve_units(
+    resolvent: &mut PartialResolvent,
+    clauses: &Clauses<'_>,
+    lits: &[Lit],
+    kept: u32,
+    pairs: &mut Vec<(u64, u32)>,
+    guide: &Guide,
+) -> Result<(), NoMemory>
+    requires listed { AreListed resolvent.old }
+    ensures covered { OnOk result ((entries : List TrailEntry) (place back : ℕ) (e : TrailEntry) → slice_get entries place ≡ Some e → e.lit.var ≡ kept
+        → IsCovered entries (held resolvent.old) place back → IsCovered entries (held resolvent.new) place back) }
+    ensures resolved { OnOk result ((first : Literals) → IsResolved clauses.now first pairs.old.items resolvent.old → IsResolved clauses.now first pairs.new.items resolvent.new) }
+    ensures listed { OnOk result (AreListed resolvent.new) }
+{
+    for lit in lits {
+        resolve_unit(resolvent, clauses, guide.unit(lit.var), kept, pairs)?;
+    }
+    Ok(())
+}
+
+// The step that makes the unit clause of a variable from its reason.
+fn unit_step(
+    alloc: Global,
+    resolvent: &mut PartialResolvent,
+    clauses: &Clauses<'_>,
+    var: u32,
+    reason: usize,
+    guide: &Guide,
+) -> Result<Step, NoMemory>
+    requires reason { reason < length clauses.now }
+    requires empty { (l : Literal) → held resolvent.old l ≡ false }
+    requires listed { AreListed resolvent.old }
+    ensures made { IfOk result (λ step. made_by (map literals_of clauses.now) step ≡ Some (held resolvent.new)) }
+    ensures listed { OnOk result (AreListed resolvent.new) }
+{
+    let clause = clauses.at(reason);
+    let mut rest = Vec::with_capacity(alloc, clause.len())?;
+    resolvent.put_all(clause)?;
+    resolve_units(resolvent, clauses, clause, var, &mut rest, guide)?;
+    Ok(Step {
+        first: reason as u64,
+        rest,
+    })
+}
+
+// Makes the unit clause of the literal at a place.
+fn make_unit(
+    alloc: Global,
+    given: &[SmallVec<Lit, 4>],
+    s: &mut State,
+    place: usize,
+    resolvent: &mut PartialResolvent,
+    guide: &mut Guide,
+) -> Result<(), NoMemory>
+    requires derived { IsDerived (lists_of given.now) s.old }
+    requires empty { (l : Literal) → held resolvent.old l ≡ false }
+    requires listed { AreListed resolvent.old }
+    ensures grows { OnOk result (Grows (lists_of given.now) s.old s.new) }
+    ensures empty { OnOk result ((l : Literal) → held resolvent.new l ≡ false) }
+    ensures listed { OnOk result (AreListed resolvent.new) }
+{
+    laws::chains();
+    let clauses = Clauses::new(given, &s.learned);
+    let Some((var, reason)) = implied_at(&clauses, &s.trail.entries, place) else {
+        return Ok(());
+    };
+    let step = unit_step(alloc, resolvent, &clauses, var, reason, guide)?;
+    guide.has_unit(var, clauses.len());
+    let clause = drained(alloc, resolvent)?;
+    add(s, clause, step)?;
+    Ok(())
+}
+
+// Makes the unit clauses of the literals at these places, one after another.
+fn make_units(
+    alloc: Global,
+    given: &[SmallVec<Lit, 4>],
+    s: &mut State,
+    places: &[usize],
+    guide: &mut Guide,
+) -> Result<(), NoMemory>
+    requires { IsDerived (lists_of given.now) s.old }
+    ensures { OnOk result (Grows (lists_of given.now) s.old s.new) }
+{
+    let mut resolvent = PartialResolvent::new(alloc);
+    for place in places {
+        make_unit(alloc, given, s, *place, &mut resolvent, guide)?;
+    }
+    Ok(())
+}
+
+/// Resolves literals of level 0 away by their unit clauses, which are made where they are missing.
+pub(crate) fn resolve_low(
+    alloc: Global,
+    given: &[SmallVec<Lit, 4>],
+    s: &mut State,
+    jump: Jump,
+    step: &mut Step,
+    guide: &mut Guide,
+) -> Result<(), NoMemory>
+    requires { Leads (lists_of given.now) s.old s.old (Some jump) step.old }
+    ensures { OnOk result (Leads (lists_of given.now) s.old s.new (Some jump) step.new) }
+{
+    laws::chains();
+    let lits = low(alloc, &s.resolvent, &s.trail.entries, guide)?;
+    let clauses = Clauses::new(given, &s.learned);
+    let places = missing(alloc, &clauses, &s.trail.entries, &lits, guide)?;
+    make_units(alloc, given, s, &places, guide)?;
+    let kept = entry_at(&s.trail.entries, jump.place).lit.var;
+    let clauses = Clauses::new(given, &s.learned);
+    resolve_units(
+        &mut s.resolvent,
+        &clauses,
+        &lits,
+        kept,
+        &mut step.rest,
+        guide,
+    )?;
+    Ok(())
+}
