@@ -1,5 +1,6 @@
 //! The checker of refutations and the printed lines, through public calls.
 
+use crate::words::{halves, word};
 use bb_cnf::{Cnf, Lit, Refutation, Step, check, print};
 use smallvec::SmallVec;
 use std::alloc::Global;
@@ -46,29 +47,30 @@ pub(crate) fn clauses(alloc: Global, text: &str) -> Result<Vec<SmallVec<Lit, 4>>
     Ok(all)
 }
 
-// A clause and a variable with a stroke between them.
-fn push_pair(steps: &mut [Step], clause: &str, var: &str) -> Result<(), Fail> {
-    let step = steps.last_mut().ok_or("no step before")?;
-    step.rest.push((number(clause)?, variable(var)?))?;
-    Ok(())
+// A step as the number of its first clause, and the clause and the variable of each resolution with a stroke between them.
+fn step(alloc: Global, text: &str) -> Result<Step, Fail> {
+    let mut rest = Vec::new(alloc);
+    for word in text.split_whitespace() {
+        if let Some((clause, var)) = word.split_once('/') {
+            rest.push((number(clause)?, variable(var)?))?;
+        }
+    }
+    let first = number(word(text, 0))?;
+    Ok(Step { first, rest })
 }
 
-// Steps as they are printed: the first clause, and clause and variable of each resolution.
+// Steps with commas between them.
 fn refutation(alloc: Global, text: &str) -> Result<Refutation, Fail> {
     let mut steps = Vec::new(alloc);
-    for word in text.split_whitespace() {
-        match word.split_once('/') {
-            Some((clause, var)) => push_pair(&mut steps, clause, var)?,
-            None => steps.push(Step {
-                first: number(word)?,
-                rest: Vec::new(alloc),
-            })?,
+    for part in text.split(',') {
+        if !word(part, 0).is_empty() {
+            steps.push(step(alloc, part)?)?;
         }
     }
     Ok(Refutation { steps })
 }
 
-// Whether the checker accepts these steps for these clauses.
+// Whether the checker accepts these steps for these clauses over so many variables.
 fn accepts(alloc: Global, vars: u32, lists: &str, steps: &str) -> Result<bool, Fail> {
     match Cnf::new(vars, clauses(alloc, lists)?) {
         Some(cnf) => Ok(check(alloc, &cnf, &refutation(alloc, steps)?)?),
@@ -76,97 +78,101 @@ fn accepts(alloc: Global, vars: u32, lists: &str, steps: &str) -> Result<bool, F
     }
 }
 
-// Compares what the checker says.
-fn is_checked<R: Abort>(
-    rt: &R,
-    alloc: Global,
-    vars: u32,
-    lists: &str,
-    steps: &str,
-    expected: bool,
-) -> Result<(), Fail> {
+// Compares what the checker says of steps for these clauses, as a row of a table has both.
+fn row<R: Abort>(rt: &R, alloc: Global, vars: u32, lists: &str, row: &str) -> Result<(), Fail> {
+    let (steps, expected) = halves(row);
+    let found = accepts(alloc, vars, lists, steps)?;
     assert_eq!(rt;
-        accepts(alloc, vars, lists, steps)?,
+        if found { "accepted" } else { "refused" },
         expected,
-        "{lists} {steps}"
+        "{lists}: {row}"
     );
     Ok(())
 }
 
 const CHAIN: &str = "1 0 -1 2 0 -2 0";
 
+const STEPS_FOR_THE_CHAIN: &str = "\
+0 1/1 2/2 => accepted
+0 2/2 1/1 => refused
+1 0/1 2/2 => accepted
+0 1/1, 3 2/2 => accepted
+0 1/1 => refused
+3 => refused
+0 3/1 => refused
+ => refused";
+
 #[test]
 fn a_chain_stands_where_each_resolution_does(rt: HostRuntime) -> Result<(), Fail> {
-    let alloc = rt.alloc();
-    is_checked(&rt, alloc, 2, CHAIN, "0 1/1 2/2", true)?;
-    is_checked(&rt, alloc, 2, CHAIN, "0 2/2 1/1", false)?;
-    is_checked(&rt, alloc, 2, CHAIN, "1 0/1 2/2", true)?;
-    is_checked(&rt, alloc, 2, CHAIN, "0 1/1 3 2/2", true)?;
-    is_checked(&rt, alloc, 2, CHAIN, "0 1/1", false)?;
-    is_checked(&rt, alloc, 2, CHAIN, "3", false)?;
-    is_checked(&rt, alloc, 2, CHAIN, "0 3/1", false)?;
-    is_checked(&rt, alloc, 2, CHAIN, "", false)?;
+    for line in STEPS_FOR_THE_CHAIN.lines() {
+        row(&rt, rt.alloc(), 2, CHAIN, line)?;
+    }
     Ok(())
 }
 
 // The highest variable is 4,294,967,295, and no clause has the number 18,446,744,073,709,551,615.
+const EDGES: &str = "\
+0: 0: 0 => accepted
+1: 1 1 0 -1 -1 0: 0 1/1 => accepted
+1: 1 -1 0 1 -1 0: 0 1/1 => refused
+1: 1 0 1 0: 0 1/1 => refused
+1: 1 0 -1 0: 0 1/0 => refused
+1: 1 0 -1 0: 0 1/4294967295 => refused
+1: 1 0 -1 0: 0 18446744073709551615/1 => refused
+4294967295: 4294967295 0 -4294967295 0: 0 1/4294967295 => accepted";
+
 #[test]
 fn edges_of_clauses_and_numbers(rt: HostRuntime) -> Result<(), Fail> {
-    let alloc = rt.alloc();
-    is_checked(&rt, alloc, 0, "0", "0", true)?;
-    is_checked(&rt, alloc, 1, "1 1 0 -1 -1 0", "0 1/1", true)?;
-    is_checked(&rt, alloc, 1, "1 -1 0 1 -1 0", "0 1/1", false)?;
-    is_checked(&rt, alloc, 1, "1 0 1 0", "0 1/1", false)?;
-    is_checked(&rt, alloc, 1, "1 0 -1 0", "0 1/0", false)?;
-    is_checked(&rt, alloc, 1, "1 0 -1 0", "0 1/4294967295", false)?;
-    is_checked(&rt, alloc, 1, "1 0 -1 0", "0 18446744073709551615/1", false)?;
-    is_checked(
-        &rt,
-        alloc,
-        u32::MAX,
-        "4294967295 0 -4294967295 0",
-        "0 1/4294967295",
-        true,
-    )?;
+    for line in EDGES.lines() {
+        let (vars, rest) = line.split_once(": ").unwrap_or((line, ""));
+        let (lists, steps) = rest.split_once(": ").unwrap_or((rest, ""));
+        row(&rt, rt.alloc(), variable(vars)?, lists, steps)?;
+    }
     Ok(())
+}
+
+// The lines of steps for these clauses.
+fn printed(alloc: Global, lists: &str, steps: &str) -> Result<Vec<u8>, Fail> {
+    let mut text = Vec::new(alloc);
+    if let Some(cnf) = Cnf::new(2, clauses(alloc, lists)?) {
+        print(&cnf, &refutation(alloc, steps)?, &mut text)?;
+    }
+    Ok(text)
 }
 
 #[test]
 fn the_lines_name_clauses_and_variables(rt: HostRuntime) -> Result<(), Fail> {
-    let alloc = rt.alloc();
-    let cnf = Cnf::new(2, clauses(alloc, CHAIN)?);
-    assert!(rt; cnf.is_some());
-    if let Some(cnf) = cnf {
-        let mut text = Vec::new(alloc);
-        print(&cnf, &refutation(alloc, "0 1/1 2/2")?, &mut text)?;
-        let want = b"clause 0 1\nclause 1 -1 2\nclause 2 -2\nstep 3 0 1/1 2/2\n";
-        assert_eq!(rt; text.as_slice(), want.as_slice());
-    }
+    let text = printed(rt.alloc(), CHAIN, "0 1/1 2/2")?;
+    let want = b"clause 0 1\nclause 1 -1 2\nclause 2 -2\nstep 3 0 1/1 2/2\n";
+    assert_eq!(rt; text.as_slice(), want.as_slice());
     Ok(())
+}
+
+// How many variables and clauses a formula of one variable and one clause has once it has grown by one of each.
+fn grown(alloc: Global) -> Result<(u32, usize), Fail> {
+    let Some(mut cnf) = Cnf::new(1, clauses(alloc, "1 0")?) else {
+        return Err(Fail::new("no formula"));
+    };
+    cnf.raise_vars(2);
+    let mut lits = SmallVec::new(alloc);
+    lits.push(Lit { var: 2, neg: true })?;
+    cnf.push(lits)?;
+    Ok((cnf.vars, cnf.clauses.len()))
 }
 
 #[test]
 fn a_formula_grows_by_clauses_and_variables(rt: HostRuntime) -> Result<(), Fail> {
-    let alloc = rt.alloc();
-    let first = Cnf::new(1, clauses(alloc, "1 0")?);
-    assert!(rt; first.is_some());
-    if let Some(mut cnf) = first {
-        cnf.raise_vars(2);
-        let mut lits = SmallVec::new(alloc);
-        lits.push(Lit { var: 2, neg: true })?;
-        cnf.push(lits)?;
-        assert_eq!(rt; cnf.vars, 2);
-        assert_eq!(rt; cnf.clauses.len(), 2);
-    }
+    let (vars, count) = grown(rt.alloc())?;
+    assert_eq!(rt; vars, 2);
+    assert_eq!(rt; count, 2);
     Ok(())
 }
 
+// A 0 of two digits is the variable 0, and ends no clause.
 #[test]
 fn a_variable_out_of_range_makes_no_list(rt: HostRuntime) -> Result<(), Fail> {
     let alloc = rt.alloc();
     assert!(rt; Cnf::new(1, clauses(alloc, "1 0 2 0")?).is_none());
-    let mut lits = SmallVec::new(alloc);
-    lits.push(Lit { var: 0, neg: false })?;
-    assert!(rt; Cnf::new(1, vec![in alloc; lits]?).is_none());
+    assert!(rt; Cnf::new(1, clauses(alloc, "00 0")?).is_none());
     Ok(())
 }

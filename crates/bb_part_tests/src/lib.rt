@@ -4,9 +4,15 @@
 #[cfg(test)]
 mod clause_tests;
 #[cfg(test)]
+mod diagram_answers;
+#[cfg(test)]
+mod diagram_calls;
+#[cfg(test)]
 mod diagram_tests;
 #[cfg(test)]
 mod net_tests;
+#[cfg(test)]
+mod net_texts;
 #[cfg(test)]
 mod order_tests;
 #[cfg(test)]
@@ -16,6 +22,8 @@ mod quantifier_tests;
 #[cfg(test)]
 mod solver_tests;
 #[cfg(test)]
+mod store_tests;
+#[cfg(test)]
 mod table_tests;
 #[cfg(test)]
-mod tried;
+mod words;

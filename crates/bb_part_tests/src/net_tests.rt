@@ -3,10 +3,12 @@
 ghost use Rattle.std.specs.Prelude.{◌≡◌, true, length};
 ghost use Rattle.bb_net.specs.Values.{output_pins};
 
-use bb_bits::Table;
-use bb_building::{fit, net, pair};
-use bb_net::{Cell, Net};
-use std::alloc::Global;
+use crate::net_texts::{net, pair};
+use crate::words::{bits, digits};
+use bb_bits::Name;
+use bb_building::{fit, table_of};
+use bb_net::{Net, Pair};
+use std::alloc::{AllocError, Global};
 use std::test::Fail;
 
 // Whether there is a bit for each output pin of a netlist with one box at most.
@@ -21,55 +23,60 @@ fn fits_pins(net: &Net, z: &[bool]) -> bool
 }
 
 // The bits of all cells for bits of the inputs and of the output pins.
-fn values(alloc: Global, net: &Net, x: &[bool], z: &[bool]) -> Result<Vec<bool>, Fail> {
-    if x.len() != net.inputs() as usize || !fits_pins(net, z) {
+fn values(alloc: Global, net: &Net, x: &str, z: &str) -> Result<String, Fail> {
+    let x = bits(alloc, x)?;
+    let z = bits(alloc, z)?;
+    if x.len() != net.inputs() as usize || !fits_pins(net, &z) {
         return Err(Fail::new("too few or too many bits"));
     }
     let mut out = vec![in alloc; false; net.cells().len()]?;
-    net.value(x, z, &mut out);
-    Ok(out)
+    net.value(&x, &z, &mut out);
+    Ok(digits(alloc, &out)?)
 }
 
-// The bits of all cells for bits of the inputs and a table.
-fn values_with(alloc: Global, net: &Net, x: &[bool], table: Table) -> Result<Vec<bool>, Fail> {
-    let tables = vec![in alloc; table]?;
+// The bits of all cells for bits of the inputs and the rows of a table of one input pin and one output pin.
+fn values_with(alloc: Global, net: &Net, x: &str, rows: &str) -> Result<String, Fail> {
+    let x = bits(alloc, x)?;
+    let tables = vec![in alloc; table_of(alloc, 1, 1, &bits(alloc, rows)?)?]?;
     if x.len() != net.inputs() as usize || !fit(&tables, net.boxes()) {
         return Err(Fail::new("a table that does not fit"));
     }
     let mut out = vec![in alloc; false; net.cells().len()]?;
-    net.value_with(x, &tables, &mut out);
-    Ok(out)
+    net.value_with(&x, &tables, &mut out);
+    Ok(digits(alloc, &out)?)
+}
+
+// What is known of bits, with a question mark for one that is not known.
+fn known_digits(alloc: Global, known: &[Option<bool>]) -> Result<String, AllocError> {
+    let mut digits = String::new(alloc);
+    for bit in known {
+        digits.push(match bit {
+            Some(true) => '1',
+            Some(false) => '0',
+            None => '?',
+        })?;
+    }
+    Ok(digits)
 }
 
 // What is known of all cells for bits of the inputs.
-fn known(alloc: Global, net: &Net, x: &[bool]) -> Result<Vec<Option<bool>>, Fail> {
+fn known(alloc: Global, net: &Net, x: &str) -> Result<String, Fail> {
+    let x = bits(alloc, x)?;
     if x.len() != net.inputs() as usize {
         return Err(Fail::new("too few or too many bits"));
     }
     let mut out = vec![in alloc; None; net.cells().len()]?;
-    net.tern(x, &mut out);
-    Ok(out)
+    net.tern(&x, &mut out);
+    Ok(known_digits(alloc, &out)?)
 }
 
 #[test]
 fn gates_have_their_functions(rt: HostRuntime) -> Result<(), Fail> {
     let alloc = rt.alloc();
-    let cells = [
-        Cell::Not(2),
-        Cell::And(2, 3),
-        Cell::Or(2, 3),
-        Cell::Xor(2, 3),
-        Cell::Mux(2, 3, 4),
-    ];
-    let net = net(alloc, 3, &[], &cells, &[9])?;
-    let out = values(alloc, &net, &[false, true, true], &[])?;
-    assert_eq!(rt;
-        out.as_slice(),
-        [
-            false, true, false, true, true, true, false, true, true, true
-        ]
-        .as_slice()
-    );
+    let cells = "not 2, and 2 3, or 2 3, xor 2 3, mux 2 3 4";
+    let net = net(alloc, 3, None, cells, "9")?;
+    let found = values(alloc, &net, "011", "")?;
+    assert_eq!(rt; found.as_str(), "0101110111");
     Ok(())
 }
 
@@ -77,20 +84,13 @@ fn gates_have_their_functions(rt: HostRuntime) -> Result<(), Fail> {
 #[test]
 fn a_box_is_free_or_holds_a_table_or_is_unknown(rt: HostRuntime) -> Result<(), Fail> {
     let alloc = rt.alloc();
-    let cells = [Cell::BoxOut(0, 0), Cell::Xor(2, 3)];
-    let net = net(alloc, 1, &[&[2]], &cells, &[4])?;
-    let expected = [false, true, true, true, false];
-    let out = values(alloc, &net, &[true], &[true])?;
-    assert_eq!(rt; out.as_slice(), expected.as_slice());
-    let mut table = Table::zeros(alloc, 1, 1)?;
-    table.set(1, 0, true);
-    let out = values_with(alloc, &net, &[true], table)?;
-    assert_eq!(rt; out.as_slice(), expected.as_slice());
-    let known = known(alloc, &net, &[true])?;
-    assert_eq!(rt;
-        known.as_slice(),
-        [Some(false), Some(true), Some(true), None, None].as_slice()
-    );
+    let net = net(alloc, 1, Some("2"), "output 0 0, xor 2 3", "4")?;
+    let free = values(alloc, &net, "1", "1")?;
+    assert_eq!(rt; free.as_str(), "01110");
+    let with_table = values_with(alloc, &net, "1", "01")?;
+    assert_eq!(rt; with_table.as_str(), "01110");
+    let unknown = known(alloc, &net, "1")?;
+    assert_eq!(rt; unknown.as_str(), "011??");
     Ok(())
 }
 
@@ -98,39 +98,65 @@ fn a_box_is_free_or_holds_a_table_or_is_unknown(rt: HostRuntime) -> Result<(), F
 #[test]
 fn unknown_conditions_may_settle(rt: HostRuntime) -> Result<(), Fail> {
     let alloc = rt.alloc();
-    let cells = [Cell::BoxOut(0, 0), Cell::Mux(3, 1, 2), Cell::And(3, 0)];
-    let net = net(alloc, 1, &[&[]], &cells, &[])?;
-    let (zero, one) = (Some(false), Some(true));
-    let at_one = known(alloc, &net, &[true])?;
-    assert_eq!(rt;
-        at_one.as_slice(),
-        [zero, one, one, None, one, zero].as_slice()
-    );
-    let at_zero = known(alloc, &net, &[false])?;
-    assert_eq!(rt;
-        at_zero.as_slice(),
-        [zero, one, zero, None, None, zero].as_slice()
-    );
+    let net = net(alloc, 1, Some(""), "output 0 0, mux 3 1 2, and 3 0", "")?;
+    let at_one = known(alloc, &net, "1")?;
+    assert_eq!(rt; at_one.as_str(), "011?10");
+    let at_zero = known(alloc, &net, "0")?;
+    assert_eq!(rt; at_zero.as_str(), "010??0");
     Ok(())
+}
+
+fn tell_places(out: &mut String, places: &[u32]) -> Result<(), AllocError> {
+    for place in places {
+        write!(out, " {}", *place)?;
+    }
+    Ok(())
+}
+
+fn tell_name(out: &mut String, name: &Name) -> Result<(), AllocError> {
+    out.push(' ')?;
+    for b in name.bytes() {
+        out.push(char::from(*b))?;
+    }
+    Ok(())
+}
+
+fn tell_outs(out: &mut String, pair: &Pair) -> Result<(), AllocError> {
+    for name in pair.outs() {
+        tell_name(out, &name.text)?;
+    }
+    Ok(())
+}
+
+fn tell_boxes(out: &mut String, pair: &Pair) -> Result<(), AllocError> {
+    for texts in pair.boxes() {
+        tell_name(out, texts.path())?;
+    }
+    Ok(())
+}
+
+// The output places of both netlists, how many inputs there are, and the texts of the outputs and the boxes.
+fn told(alloc: Global, pair: &Pair) -> Result<String, AllocError> {
+    let mut out = String::from_str(alloc, "spec")?;
+    tell_places(&mut out, pair.spec().outs())?;
+    out.push_str(" imp")?;
+    tell_places(&mut out, pair.imp().outs())?;
+    write!(out, " inputs {}", pair.ins().len())?;
+    out.push_str(" outputs")?;
+    tell_outs(&mut out, pair)?;
+    out.push_str(" boxes")?;
+    tell_boxes(&mut out, pair)?;
+    Ok(out)
 }
 
 // A specification whose output is its input, and an implementation whose output is that of a box over its input.
 #[test]
 fn a_pair_holds_two_nets(rt: HostRuntime) -> Result<(), Fail> {
     let alloc = rt.alloc();
-    let spec = net(alloc, 1, &[], &[], &[2])?;
-    let imp = net(alloc, 1, &[&[2]], &[Cell::BoxOut(0, 0)], &[3])?;
+    let spec = net(alloc, 1, None, "", "2")?;
+    let imp = net(alloc, 1, Some("2"), "output 0 0", "3")?;
     let pair = pair(alloc, spec, imp)?;
-    assert_eq!(rt; pair.spec().outs(), [2].as_slice());
-    assert_eq!(rt; pair.imp().outs(), [3].as_slice());
-    assert_eq!(rt; pair.ins().len(), 1);
-    assert_eq!(rt; pair.outs().len(), 1);
-    assert_eq!(rt; pair.boxes().len(), 1);
-    for out in pair.outs() {
-        assert_eq!(rt; out.text.bytes(), b"y".as_slice());
-    }
-    for texts in pair.boxes() {
-        assert_eq!(rt; texts.path().bytes(), b"u".as_slice());
-    }
+    let told = told(alloc, &pair)?;
+    assert_eq!(rt; told.as_str(), "spec 2 imp 3 inputs 1 outputs y boxes u");
     Ok(())
 }

@@ -1,12 +1,11 @@
 //! Cells in any order, through public calls.
 
-use bb_net::{Cell, Loose, LooseCell, order};
+use bb_net::{Cell, Loose, LooseCell, Ordered, order};
+use std::alloc::Global;
 use std::test::Fail;
 
-// The output is a copy of a complement that stands behind it.
-#[test]
-fn a_copy_stands_where_its_cell_stands(rt: HostRuntime) -> Result<(), Fail> {
-    let alloc = rt.alloc();
+// An input, a copy of a complement that stands behind it, and that complement; the output is the copy.
+fn ordered(alloc: Global) -> Result<Ordered, Fail> {
     let mut cells = Vec::new(alloc);
     cells.push(LooseCell::Const(false))?;
     cells.push(LooseCell::Const(true))?;
@@ -14,13 +13,14 @@ fn a_copy_stands_where_its_cell_stands(rt: HostRuntime) -> Result<(), Fail> {
     cells.push(LooseCell::Copy(4))?;
     cells.push(LooseCell::Not(2))?;
     let loose = Loose::of(1, cells, Vec::new(alloc), vec![in alloc; 3]?);
-    match order(&loose) {
-        Ok(ordered) => {
-            assert_eq!(rt; ordered.net.cells().len(), 4);
-            assert_eq!(rt; ordered.net.cells()[3], Cell::Not(2));
-            assert_eq!(rt; ordered.net.outs(), [3].as_slice());
-        }
-        Err(_) => assert!(rt; false),
-    }
+    Ok(order(&loose)?)
+}
+
+#[test]
+fn a_copy_stands_where_its_cell_stands(rt: HostRuntime) -> Result<(), Fail> {
+    let ordered = ordered(rt.alloc())?;
+    assert_eq!(rt; ordered.net.cells().len(), 4);
+    assert_eq!(rt; ordered.net.cells()[3], Cell::Not(2));
+    assert_eq!(rt; ordered.net.outs(), [3].as_slice());
     Ok(())
 }

@@ -1,54 +1,46 @@
 //! Quantifiers and least points, through public calls.
 
-use crate::tried::{and, exists, forall, least, or, var};
-use bb_dd::Diagrams;
-use bb_uniq::Ref;
+use crate::diagram_answers::rows;
 use std::test::Fail;
+
+const DISJUNCTION: &str = "\
+var 0 => 2
+var 1 => 3
+or 2 3 => 4
+forall 4 0 => 3
+exists 4 0 => 1
+forall 4 1 => 2
+len => 3";
 
 #[test]
 fn quantifiers_of_a_disjunction(rt: HostRuntime) -> Result<(), Fail> {
-    let mut d = Diagrams::start(rt.alloc(), 2, 3, 4)?;
-    let a = var(&mut d, 0)?;
-    let b = var(&mut d, 1)?;
-    let either = or(&mut d, a, b)?;
-    assert_eq!(rt; forall(&mut d, either, 0)?, b);
-    assert_eq!(rt; exists(&mut d, either, 0)?, Ref(1));
-    assert_eq!(rt; forall(&mut d, either, 1)?, a);
-    assert_eq!(rt; d.len(), 3);
-    Ok(())
+    rows(&rt, rt.alloc(), (2, 3, 4), DISJUNCTION)
 }
+
+const LEAST_POINTS: &str = "\
+var 0 => 2
+var 1 => 3
+or 2 3 => 4
+least 4 1 0 11 => true 01
+least 4 1 1 11 => true 10
+least 4 0 1 10 => false 10";
 
 #[test]
 fn the_least_point_with_given_first_bits(rt: HostRuntime) -> Result<(), Fail> {
-    let mut d = Diagrams::start(rt.alloc(), 2, 3, 4)?;
-    let a = var(&mut d, 0)?;
-    let b = var(&mut d, 1)?;
-    let either = or(&mut d, a, b)?;
-    let mut point = [true, true];
-    assert_eq!(rt; least(&d, either, true, 0, &mut point), Some(true));
-    assert_eq!(rt; point, [false, true]);
-    point = [true, true];
-    assert_eq!(rt; least(&d, either, true, 1, &mut point), Some(true));
-    assert_eq!(rt; point, [true, false]);
-    assert_eq!(rt; least(&d, either, false, 1, &mut point), Some(false));
-    assert_eq!(rt; point, [true, false]);
-    Ok(())
+    rows(&rt, rt.alloc(), (2, 3, 4), LEAST_POINTS)
 }
+
+const CONJUNCTION: &str = "\
+var 0 => 2
+var 1 => 3
+and 2 3 => 4
+exists 4 1 => 2
+forall 4 0 => 0
+least 4 1 0 00 => true 11
+least 4 0 1 11 => true 10
+least 4 1 1 01 => false 01";
 
 #[test]
 fn quantifiers_and_least_points_of_a_conjunction(rt: HostRuntime) -> Result<(), Fail> {
-    let mut d = Diagrams::start(rt.alloc(), 2, 3, 4)?;
-    let a = var(&mut d, 0)?;
-    let b = var(&mut d, 1)?;
-    let both = and(&mut d, a, b)?;
-    assert_eq!(rt; exists(&mut d, both, 1)?, a);
-    assert_eq!(rt; forall(&mut d, both, 0)?, Ref(0));
-    let mut point = [false, false];
-    assert_eq!(rt; least(&d, both, true, 0, &mut point), Some(true));
-    assert_eq!(rt; point, [true, true]);
-    assert_eq!(rt; least(&d, both, false, 1, &mut point), Some(true));
-    assert_eq!(rt; point, [true, false]);
-    point = [false, true];
-    assert_eq!(rt; least(&d, both, true, 1, &mut point), Some(false));
-    Ok(())
+    rows(&rt, rt.alloc(), (2, 3, 4), CONJUNCTION)
 }

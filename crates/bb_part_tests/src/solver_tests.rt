@@ -1,6 +1,7 @@
 //! The solver, through public calls. Each refutation is checked.
 
 use crate::clause_tests::clauses;
+use crate::words::{halves, number};
 use bb_cdcl::{Outcome, solve};
 use bb_cnf::{Cnf, Lit, check};
 use smallvec::SmallVec;
@@ -8,32 +9,30 @@ use std::alloc::Global;
 use std::process::Abort;
 use std::test::Fail;
 
-// Whether the clauses have a model, as the solver says; none where its refutation is refused.
-fn answer(alloc: Global, vars: u32, lists: &str) -> Result<Option<bool>, Fail> {
+// Whether the clauses have a model or are refuted, as the solver says; neither where its refutation is refused.
+fn answer(alloc: Global, vars: u32, lists: &str) -> Result<&'static str, Fail> {
     let Some(cnf) = Cnf::new(vars, clauses(alloc, lists)?) else {
-        return Ok(None);
+        return Ok("neither");
     };
     match solve(alloc, &cnf)? {
-        Outcome::Sat(_) => Ok(Some(true)),
+        Outcome::Sat(_) => Ok("model"),
         Outcome::Unsat(refutation) => {
             if check(alloc, &cnf, &refutation)? {
-                Ok(Some(false))
+                Ok("refuted")
             } else {
-                Ok(None)
+                Ok("neither")
             }
         }
     }
 }
 
-// Compares what the solver says.
-fn is_answer<R: Abort>(
-    rt: &R,
-    alloc: Global,
-    vars: u32,
-    lists: &str,
-    expected: Option<bool>,
-) -> Result<(), Fail> {
-    assert_eq!(rt; answer(alloc, vars, lists)?, expected, "{lists}");
+// Compares what the solver says of each row: the number of variables, a colon, and clauses.
+fn rows<R: Abort>(rt: &R, alloc: Global, table: &str) -> Result<(), Fail> {
+    for row in table.lines() {
+        let (formula, expected) = halves(row);
+        let (vars, lists) = formula.split_once(':').unwrap_or((formula, ""));
+        assert_eq!(rt; answer(alloc, number(vars, 0), lists)?, expected, "{row}");
+    }
     Ok(())
 }
 
@@ -49,34 +48,36 @@ fn bits(alloc: Global, vars: u32, lists: &str) -> Result<Vec<bool>, Fail> {
 
 #[test]
 fn units_decide(rt: HostRuntime) -> Result<(), Fail> {
-    let alloc = rt.alloc();
-    is_answer(&rt, alloc, 2, "1 0 -1 2 0 -2 0", Some(false))?;
-    let model = bits(alloc, 2, "1 0 -1 2 0")?;
+    rows(&rt, rt.alloc(), "2: 1 0 -1 2 0 -2 0 => refuted")?;
+    let model = bits(rt.alloc(), 2, "1 0 -1 2 0")?;
     assert_eq!(rt; model.as_slice(), [true, true].as_slice());
     Ok(())
 }
 
+const EDGES: &str = "\
+0: => model
+3: => model
+0: 0 => refuted
+2: 1 2 0 0 -1 0 => refuted
+1: 1 0 -1 0 => refuted
+1: 1 1 0 -1 -1 0 => refuted
+1: 1 -1 0 => model
+2: 1 -1 2 0 -2 -2 0 => model";
+
 #[test]
 fn edges_of_formulas(rt: HostRuntime) -> Result<(), Fail> {
-    let alloc = rt.alloc();
-    is_answer(&rt, alloc, 0, "", Some(true))?;
-    is_answer(&rt, alloc, 3, "", Some(true))?;
-    assert_eq!(rt; bits(alloc, 3, "")?.len(), 3);
-    is_answer(&rt, alloc, 0, "0", Some(false))?;
-    is_answer(&rt, alloc, 2, "1 2 0 0 -1 0", Some(false))?;
-    is_answer(&rt, alloc, 1, "1 0 -1 0", Some(false))?;
-    is_answer(&rt, alloc, 1, "1 1 0 -1 -1 0", Some(false))?;
-    is_answer(&rt, alloc, 1, "1 -1 0", Some(true))?;
-    is_answer(&rt, alloc, 2, "1 -1 2 0 -2 -2 0", Some(true))?;
+    rows(&rt, rt.alloc(), EDGES)?;
+    assert_eq!(rt; bits(rt.alloc(), 3, "")?.len(), 3);
     Ok(())
 }
 
 // Pigeon i sits in hole j where variable 2i + j - 2 is true.
+const PIGEONS: &str =
+    "6: 1 2 0 3 4 0 5 6 0 -1 -3 0 -1 -5 0 -3 -5 0 -2 -4 0 -2 -6 0 -4 -6 0 => refuted";
+
 #[test]
 fn three_pigeons_have_no_place_in_two_holes(rt: HostRuntime) -> Result<(), Fail> {
-    let lists = "1 2 0 3 4 0 5 6 0 -1 -3 0 -1 -5 0 -3 -5 0 -2 -4 0 -2 -6 0 -4 -6 0";
-    is_answer(&rt, rt.alloc(), 6, lists, Some(false))?;
-    Ok(())
+    rows(&rt, rt.alloc(), PIGEONS)
 }
 
 // Two chains of clauses i or i + 1, over the variables 1 to 100 and 103 to 202, and between them all four clauses over two more.
@@ -96,17 +97,21 @@ fn chains(alloc: Global) -> Result<Vec<SmallVec<Lit, 4>>, Fail> {
     Ok(all)
 }
 
+// Whether the solver refutes the chains and its refutation is accepted.
+fn are_refuted(alloc: Global, lists: Vec<SmallVec<Lit, 4>>) -> Result<bool, Fail> {
+    let Some(cnf) = Cnf::new(202, lists) else {
+        return Ok(false);
+    };
+    match solve(alloc, &cnf)? {
+        Outcome::Sat(_) => Ok(false),
+        Outcome::Unsat(refutation) => Ok(check(alloc, &cnf, &refutation)?),
+    }
+}
+
 // Without learning each assignment of one side or the other would be visited.
 #[test]
 fn a_contradiction_between_two_chains_is_learned(rt: HostRuntime) -> Result<(), Fail> {
     let alloc = rt.alloc();
-    let cnf = Cnf::new(202, chains(alloc)?);
-    assert!(rt; cnf.is_some());
-    if let Some(cnf) = cnf {
-        match solve(alloc, &cnf)? {
-            Outcome::Sat(_) => assert!(rt; false),
-            Outcome::Unsat(refutation) => assert!(rt; check(alloc, &cnf, &refutation)?),
-        }
-    }
+    assert!(rt; are_refuted(alloc, chains(alloc)?)?);
     Ok(())
 }
