@@ -6,8 +6,6 @@ mod command;
 mod laws;
 mod number;
 mod reading;
-#[cfg(test)]
-mod tests;
 mod value;
 
 pub use asked::{Asked, WordsFault};
