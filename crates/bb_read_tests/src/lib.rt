@@ -2,6 +2,10 @@
 #![tactic(auto)]
 
 #[cfg(test)]
+mod expression_telling;
+#[cfg(test)]
 mod lex_tests;
 #[cfg(test)]
 mod parse_tests;
+#[cfg(test)]
+mod telling;
