@@ -36,7 +36,7 @@ abbrev pub Stands : List (Option Bool) → List Lit → Standing → Type 0
 Stands values clause (standings.True l) = IsSatisfied values clause
 Stands values clause standings.False = IsFalseClause values clause
 Stands values clause (standings.Unit l) = IsUnitClause values clause l
-Stands values clause (standings.Open k l) = IsOpenClause values clause l
+Stands values clause (standings.Open l) = IsOpenClause values clause l
 
 -- the clause of this number is false
 pub record IsConflict (clauses : List (List Lit)) (values : List (Option Bool)) (k : ℕ) : Type 0 where

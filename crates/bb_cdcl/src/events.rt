@@ -47,7 +47,7 @@ pub(crate) fn unsatisfied(clauses: &[SmallVec<Lit, 4>], values: &[Option<bool>])
             Standing::True(_) => {}
             Standing::False => return Event::Conflict(number),
             Standing::Unit(lit) => return Event::Implied(lit, number),
-            Standing::Open(_, lit) => return Event::Free(lit),
+            Standing::Open(lit) => return Event::Free(lit),
         }
     }
     Event::Quiet

@@ -6,14 +6,14 @@ ghost use Rattle.bb_cdcl.specs.Events.{Stands};
 
 use bb_cnf::Lit;
 
-/// This one of its literals is true; all are false; one has no value and the others are false; or these two have no
-/// value.
+/// This one of its literals is true; all are false; this one has no value and the others are false; or this one and
+/// another have no value.
 #[derive(Clone, Copy, Debug)]
 pub(crate) enum Standing {
     True(Lit),
     False,
     Unit(Lit),
-    Open(Lit, Lit),
+    Open(Lit),
 }
 
 /// The variable's bit, where it is assigned.
@@ -41,7 +41,7 @@ pub(crate) fn examine(clause: &[Lit], values: &[Option<bool>]) -> Standing
             None => match free {
                 Some(other) => {
                     if other != *lit {
-                        return Standing::Open(other, *lit);
+                        return Standing::Open(*lit);
                     }
                 }
                 None => free = Some(*lit),

@@ -25,13 +25,25 @@ impl Code {
     }
 }
 
-/// The nodes of the clause of number n are 2n + 1 and 2n + 2. Each is on the list of the literal that it watches: one
-/// begins with a head, and goes on by `next`; 0 ends it.
+// The literal that it watches, and the next node on the list of this literal.
+#[derive(Clone, Copy, Debug)]
+struct Node {
+    next: u32,
+    watched: Code,
+}
+
+const NONE: Node = Node {
+    next: 0,
+    watched: Code::NOTHING,
+};
+
+/// The nodes of the clause of number n are 2n + 2 and 2n + 3, beside each other in memory, since a visit to one looks at
+/// the other. Each is on the list of the literal that it watches: one begins with a head, and goes on by `next`; 0 ends
+/// it.
 #[derive(Drop)]
 pub(crate) struct Watches {
     heads: Vec<u32>,
-    pub(crate) next: Vec<u32>,
-    watched: Vec<Code>,
+    nodes: Vec<Node>,
     // clauses that were looked at once
     pub(crate) looked_at: usize,
     // the place on the trail whose literal comes next, and the node on its list, with the one before
@@ -43,26 +55,19 @@ pub(crate) struct Watches {
 
 /// The clause's other node.
 pub(crate) fn other_node(node: u32) -> u32 {
-    if node % 2 == 1 {
-        node.saturating_add(1)
-    } else {
-        node.saturating_sub(1)
-    }
+    node ^ 1
 }
 
 impl Watches {
     /// No clause is watched. There is room for so many.
     pub(crate) fn new(alloc: Global, vars: u32, clauses: usize) -> Result<Watches, NoMemory> {
         let size = 2 * (vars as usize + 1);
-        let nodes = clauses.saturating_mul(2).saturating_add(1);
-        let mut next = Vec::with_capacity(alloc, nodes)?;
-        let mut watched = Vec::with_capacity(alloc, nodes)?;
-        next.push(0)?;
-        watched.push(Code::NOTHING)?;
+        let mut nodes = Vec::with_capacity(alloc, clauses.saturating_mul(2).saturating_add(2))?;
+        nodes.push(NONE)?;
+        nodes.push(NONE)?;
         Ok(Watches {
             heads: vec![in alloc; 0; size]?,
-            next,
-            watched,
+            nodes,
             looked_at: 0,
             place: 0,
             is_new: true,
@@ -82,10 +87,10 @@ impl Watches {
 
     // A new node for the literal.
     fn add_node(&mut self, lit: Lit) -> Result<(), NoMemory> {
-        let node = u32::try_from(self.next.len()).unwrap_or(0);
-        let head = self.head(lit);
-        self.next.push(head)?;
-        self.watched.push(Code::of(lit))?;
+        let node = u32::try_from(self.nodes.len()).unwrap_or(0);
+        let next = self.head(lit);
+        let watched = Code::of(lit);
+        self.nodes.push(Node { next, watched })?;
         self.set_head(lit, node);
         Ok(())
     }
@@ -102,33 +107,48 @@ impl Watches {
         self.is_new = true;
     }
 
+    /// How many nodes there are.
+    pub(crate) fn len(&self) -> usize {
+        self.nodes.len()
+    }
+
+    fn at(&self, node: u32) -> Node {
+        match self.nodes.get(node as usize) {
+            Some(found) => *found,
+            None => NONE,
+        }
+    }
+
     /// The literal that the node watches.
     pub(crate) fn watched(&self, node: u32) -> Lit {
-        match self.watched.get(node as usize) {
-            Some(code) => code.lit(),
-            None => Code::NOTHING.lit(),
-        }
+        self.at(node).watched.lit()
     }
 
     /// Goes on to the next node of the list.
     pub(crate) fn go_on(&mut self) {
         self.before = self.node;
-        self.node = read(&self.next, self.node);
+        self.node = self.at(self.node).next;
     }
 
     fn set_watched(&mut self, node: u32, code: Code) {
-        if (node as usize) < self.watched.len() {
-            self.watched[node as usize] = code;
+        if (node as usize) < self.nodes.len() {
+            self.nodes[node as usize].watched = code;
+        }
+    }
+
+    fn set_next(&mut self, node: u32, next: u32) {
+        if (node as usize) < self.nodes.len() {
+            self.nodes[node as usize].next = next;
         }
     }
 
     /// Takes the node from the list of the literal.
     pub(crate) fn take_out(&mut self, from: Lit) {
-        let after = read(&self.next, self.node);
+        let after = self.at(self.node).next;
         if self.before == 0 {
             self.set_head(from, after);
         } else {
-            write(&mut self.next, self.before, after);
+            self.set_next(self.before, after);
         }
         self.node = after;
     }
@@ -138,7 +158,7 @@ impl Watches {
         let node = self.node;
         self.take_out(from);
         let head = self.head(to);
-        write(&mut self.next, node, head);
+        self.set_next(node, head);
         self.set_head(to, node);
         self.set_watched(node, Code::of(to));
     }
@@ -148,22 +168,13 @@ impl Watches {
         let node = u32::try_from(number)
             .unwrap_or(u32::MAX)
             .saturating_mul(2)
-            .saturating_add(1);
+            .saturating_add(2);
         self.set_watched(node, Code::NOTHING);
-        self.set_watched(node.saturating_add(1), Code::NOTHING);
+        self.set_watched(other_node(node), Code::NOTHING);
     }
 
     /// Does the clause of the node watch nothing any more?
     pub(crate) fn is_forgotten(&self) -> bool {
         self.watched(self.node).var == 0
-    }
-
-    /// Watches this literal, if the clause does not watch it already.
-    pub(crate) fn watch(&mut self, from: Lit, to: Lit) {
-        if self.watched(other_node(self.node)) == to {
-            self.go_on();
-        } else {
-            self.take_to(from, to);
-        }
     }
 }

@@ -5,7 +5,7 @@ ghost use Rattle.bb_cdcl.specs.Events.{Comes};
 
 use crate::clauses::Clauses;
 use crate::events::{Event, event_of};
-use crate::examination::{Standing, examine, value};
+use crate::examination::value;
 use crate::trail::{Entry, negation};
 use crate::watch_lists::{Watches, other_node};
 use bb_cnf::Lit;
@@ -16,11 +16,21 @@ fn is_settled(watches: &Watches, values: &[Option<bool>]) -> bool {
     value(values, other.var) == Some(!other.neg)
 }
 
+// A literal that is not false, but not this one.
+fn not_false(clause: &[Lit], values: &[Option<bool>], but: Lit) -> Option<Lit> {
+    for lit in clause {
+        if *lit != but && value(values, lit.var) != Some(lit.neg) {
+            return Some(*lit);
+        }
+    }
+    None
+}
+
 // Looks at the clause of the node, of which one literal became false.
 fn look(watches: &mut Watches, clauses: &Clauses<'_>, values: &[Option<bool>], lit: Lit) -> Event
     ensures { Comes clauses.now values.now result }
 {
-    let number = (watches.node.saturating_sub(1) / 2) as usize;
+    let number = (watches.node.saturating_sub(2) / 2) as usize;
     if watches.is_forgotten() {
         watches.take_out(lit);
         return Event::Quiet;
@@ -29,21 +39,17 @@ fn look(watches: &mut Watches, clauses: &Clauses<'_>, values: &[Option<bool>], l
         watches.go_on();
         return Event::Quiet;
     }
-    match examine(clauses.at(number), values) {
-        Standing::True(to) => watches.watch(lit, to),
-        Standing::Open(first, second) => {
-            if watches.watched(other_node(watches.node)) == first {
-                watches.take_to(lit, second);
-            } else {
-                watches.take_to(lit, first);
-            }
+    let other = watches.watched(other_node(watches.node));
+    match not_false(clauses.at(number), values, other) {
+        Some(to) => {
+            watches.take_to(lit, to);
+            Event::Quiet
         }
-        _ => {
+        None => {
             watches.go_on();
-            return event_of(clauses, values, number);
+            event_of(clauses, values, number)
         }
     }
-    Event::Quiet
 }
 
 // Looks at the clauses that watch a literal that became false.
@@ -55,7 +61,7 @@ fn visit(watches: &mut Watches, clauses: &Clauses<'_>, values: &[Option<bool>], 
         watches.before = 0;
         watches.node = watches.head(lit);
     }
-    for _ in 0..watches.next.len() {
+    for _ in 0..watches.len() {
         if watches.node == 0 {
             return Event::Quiet;
         }
