@@ -1,0 +1,4 @@
+pub mod AlikeCells
+pub mod FormulaLemmas
+pub mod FormulaValues
+pub mod OrderedFormulas

@@ -1,0 +1,4 @@
+pub mod Formulas
+pub mod Alike
+pub mod LooseFormulas
+pub mod Laws
