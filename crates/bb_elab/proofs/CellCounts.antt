@@ -59,6 +59,17 @@ is_kept (cell.Xor a b) = true
 is_kept (cell.Mux c t e) = true
 is_kept (cell.BoxOut b p) = true
 
+pub kept_is : (c : LooseCell) → IsKept c → is_kept c ≡ true
+kept_is (cell.Const b) h = refl
+kept_is (cell.Input i) h = refl
+kept_is (cell.Not a) h = refl
+kept_is (cell.And a b) h = refl
+kept_is (cell.Or a b) h = refl
+kept_is (cell.Xor a b) h = refl
+kept_is (cell.Mux c t e) h = refl
+kept_is (cell.BoxOut b p) h = refl
+kept_is (cell.Copy p) h = absurd h
+
 abbrev weight : Entry → ℕ
 weight x = if is_kept x.1 then 1 else 0
 
@@ -93,7 +104,7 @@ sum-enumerated g a (x ∷ xs) = sum_by-cons (λ (y : ℕ × _). g y.1) (a, x) (e
 
 module _ (d : Design) (lowering : Lowering) (number : Numbering) (lowered : IsLowering d lowering) where
   -- the steps of an expression: its operators are kept
-  step_kept : (constant : Bool → ℕ) (step : ℕ → ℕ) (bit : ℕ → ℕ → ℕ) (b : BitStep) → is_kept (step_cell constant step bit b) ≡ is_operator b
+  pub step_kept : (constant : Bool → ℕ) (step : ℕ → ℕ) (bit : ℕ → ℕ → ℕ) (b : BitStep) → is_kept (step_cell constant step bit b) ≡ is_operator b
   step_kept constant step bit (steps.Const b) = refl
   step_kept constant step bit (steps.Net n i) = refl
   step_kept constant step bit (steps.Not a) = refl
@@ -303,17 +314,6 @@ module _ (d : Design) (f : FlatNet) (bounded : IsBounded d) (stands : StandsFor 
 
   abbrev to : Entry → ℕ
   to x = stands.ordered.to (number x.0)
-
-  kept_is : (c : LooseCell) → IsKept c → is_kept c ≡ true
-  kept_is (cell.Const b) h = refl
-  kept_is (cell.Input i) h = refl
-  kept_is (cell.Not a) h = refl
-  kept_is (cell.And a b) h = refl
-  kept_is (cell.Or a b) h = refl
-  kept_is (cell.Xor a b) h = refl
-  kept_is (cell.Mux c t e) h = refl
-  kept_is (cell.BoxOut b p) h = refl
-  kept_is (cell.Copy p) h = absurd h
 
   filtered : (xs : List Entry) (x : Entry) → Contains xs x → is_kept x.1 ≡ true → Contains (filter (λ y. is_kept y.1) xs) x
   filtered [] x has on = absurd (none_in_nil x has)

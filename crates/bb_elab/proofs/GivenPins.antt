@@ -71,7 +71,7 @@ module _ (d : Design) (lowering : Lowering) (l : LooseList) (list : IsListOf d l
         let there = All-contains (λ j. j < length (lowering k x).all) (lowering k x).bits j low.places bit in
         ((_, step_listed d lowering l list k s c has x (omega (arith, n.1, n.2)) j there), refl)
 
-    steps_plain : (x : ℕ) (e : Expression) (w : ℕ) → Contains (enumerate_from 0 (lowered_in (s, c))) (x, (e, w)) → (p : Place) → Contains (step_places lowering k x) p → Plain p
+    pub steps_plain : (x : ℕ) (e : Expression) (w : ℕ) → Contains (enumerate_from 0 (lowered_in (s, c))) (x, (e, w)) → (p : Place) → Contains (step_places lowering k x) p → Plain p
     steps_plain x e w at p there = let j = from_map (Step k x) (lowering k x).bits p there in subst Plain j.2 (step_plain x e w at j.0 j.1)
 
   module _ (k : ℕ) (s : Scope) (gate : Gate) (outs ins : List Expression) (has : Contains (enumerate_from 0 (parts d)) (k, (s, GateInstance gate outs ins))) where

@@ -129,3 +129,9 @@ pub mod WrittenValue
 pub mod GivenPins
 pub mod BoxNeeds
 pub mod StandingNames
+pub mod TermFormulas
+pub mod AlikePlaces
+pub mod AlikeEquations
+pub mod KeptCells
+pub mod AlikeCells
+pub mod AlikeNets

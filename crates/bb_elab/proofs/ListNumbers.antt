@@ -15,7 +15,7 @@ use Rattle.bb_elab.proofs.TopLaws.{contains_cases, none_in_nil}
 not_same : (a b : ℕ) → a < b → (a == b) ≡ false
 not_same a b lt = grind (arith, lt)
 
-flips : (a b : ℕ) → (a == b) ≡ (b == a)
+pub flips : (a b : ℕ) → (a == b) ≡ (b == a)
 flips a b = grind arith
 
 above : (a b n : ℕ) → a < b → AllByRecursion (λ y. (a == y) ≡ false) (range_with_len b n)
@@ -46,9 +46,12 @@ module _ (d : Design) (lowering : Lowering) (l : LooseList) (list : IsListOf d l
   abbrev number_of : Place × LooseCell → ℕ
   number_of x = list.number x.0
 
-  pub one_place_listed : (p q : Place) (u v : LooseCell) → IsListed d lowering l list p u → IsListed d lowering l list q v → list.number p ≡ list.number q → p ≡ q
-  one_place_listed p q u v a b same =
+  -- no two places have one number
+  pub numbers_apart : IsDistinct ◌==◌ (map number_of (places d lowering list.number))
+  numbers_apart =
       let all = map number_of (places d lowering list.number) in
       let range = range_with_len 0 (length l.cells) in
-      let apart = IsDistinct-IsPermutation ◌==◌ flips range all (IsPermutation-sym all range list.numbers) (range_distinct 0 (length l.cells)) in
-      ap (λ (x : Place × LooseCell). x.0) (one_element number_of (places d lowering list.number) apart (p, u) (q, v) a b same)
+      IsDistinct-IsPermutation ◌==◌ flips range all (IsPermutation-sym all range list.numbers) (range_distinct 0 (length l.cells))
+
+  pub one_place_listed : (p q : Place) (u v : LooseCell) → IsListed d lowering l list p u → IsListed d lowering l list q v → list.number p ≡ list.number q → p ≡ q
+  one_place_listed p q u v a b same = ap (λ (x : Place × LooseCell). x.0) (one_element number_of (places d lowering list.number) numbers_apart (p, u) (q, v) a b same)

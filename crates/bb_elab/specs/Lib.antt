@@ -39,3 +39,4 @@ pub mod ContentTables
 pub mod LoopLaws
 pub mod CopyLaws
 pub mod NamingLaws
+pub mod AlikeNets

@@ -1,6 +1,9 @@
 //! Laws of the names in flat netlists. Each function has a law as its contract and does nothing.
 
 ghost use Rattle.bb_elab.specs.NamingLaws.{BoxNeedsAreOne, StandingNetsAreNamed, StandingNetsAreNamedAlike};
+ghost use Rattle.bb_elab.specs.AlikeNets.{StandingNetsAreAlike};
+
+use bb_alike::laws::order_keeps_formulas;
 
 /// A box depends on another in every list of the cells of a design or in none.
 pub fn box_needs_are_one()
@@ -16,3 +19,10 @@ pub fn standing_nets_are_named()
 pub fn standing_nets_are_named_alike()
     ensures { StandingNetsAreNamedAlike }
 {}
+
+/// And they are alike: only the order of their cells, and how expressions are lowered, is left open.
+pub fn standing_nets_are_alike()
+    ensures { StandingNetsAreAlike }
+{
+    order_keeps_formulas();
+}
