@@ -1,3 +1,4 @@
+pub mod AlikePairs
 pub mod CheckLemmas
 pub mod ClockLemmas
 pub mod Decisions
@@ -10,6 +11,7 @@ pub mod PairLaws
 pub mod PairLemmas
 pub mod PickLemmas
 pub mod PlaceLemmas
+pub mod RearrangedFormulas
 pub mod RefusalLaws
 pub mod SpelledContents
 pub mod TakenAlike

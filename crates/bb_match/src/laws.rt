@@ -1,11 +1,15 @@
 //! Laws of these definitions. Each function has a law as its contract and does nothing.
 
+ghost use Rattle.bb_match.specs.AlikePairs.{PairsForDesignsAreAlike};
 ghost use Rattle.bb_match.specs.DesignAgreement.{DesignsAgreeWithThemselves, NoTablesNoContents, SpelledContentsAgree, TablesAgreeAsContents, TablesSpellContents};
 ghost use Rattle.bb_match.specs.DesignRefusals.{StandingNetsAreTakenAlike, DesignRefusalsAreOne, NotPairAndRefusal};
 ghost use Rattle.bb_match.specs.Laws.{NotFitAndRefused, FirstRefusalsAreOne, FitOrRefused, PairsAreOne, FittingHavePair};
 
+use bb_alike::laws::formulas_are_of_cells;
 use bb_elab::list_laws::standing_nets_give_outputs;
-use bb_elab::naming_laws::{standing_nets_are_named, standing_nets_are_named_alike};
+use bb_elab::naming_laws::{
+    standing_nets_are_alike, standing_nets_are_named, standing_nets_are_named_alike,
+};
 use bb_elab::table_laws::{contents_have_tables, tables_give_outputs, tables_have_contents};
 use bb_net::{rearranged_keeps_values, value_goes_by_boxes};
 
@@ -116,4 +120,13 @@ pub fn designs_agree_with_themselves()
     tables_give_outputs();
     contents_have_tables();
     tables_have_contents();
+}
+
+/// Pairs that stand for the same two sound designs are alike.
+pub fn pairs_for_designs_are_alike()
+    ensures { PairsForDesignsAreAlike }
+{
+    formulas_are_of_cells();
+    standing_nets_are_named_alike();
+    standing_nets_are_alike();
 }
