@@ -38,6 +38,9 @@ Condition p o (suc (suc (suc (suc (suc n))))) = NoTablesAgree p.spec p.imp
 abbrev pub Holds : NetPair → Options → Rung → Type 0
 Holds p o r = Condition p o (rank r)
 
+pub contained : (before : List (List Bool)) (x : List Bool) (after : List (List Bool)) → Contains (before ++ x ∷ after) x
+contained before x after = Contains-append_right before (x ∷ after) x (0, omega arith, refl)
+
 module _ (weakens : Weakens) (vectors : PatternsAreVectors) (p : NetPair) (o : Options) (kept : IsPair p) where
   -- where it holds, so does the one behind it
   one_up : (n : ℕ) → Condition p o n → Condition p o (suc n)
@@ -61,9 +64,6 @@ module _ (weakens : Weakens) (vectors : PatternsAreVectors) (p : NetPair) (o : O
   no_tables Output h = up 2 3 5 refl h
   no_tables Input h = up 1 4 5 refl h
   no_tables Expand h = h
-
-  contained : (before : List (List Bool)) (x : List Bool) (after : List (List Bool)) → Contains (before ++ x ∷ after) x
-  contained before x after = Contains-append_right before (x ∷ after) x (0, omega arith, refl)
 
   not_said : {T : Type 0} (said other : Said) → said ≡ other → says_error other ≡ false → says_error said ≡ true → T
   not_said said other same off on = absurd (true≢false (sym on ∙ ap says_error same ∙ off))

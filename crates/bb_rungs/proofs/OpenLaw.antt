@@ -1,7 +1,8 @@
--- Where no check says that there is an error, and none gives tables, each leaves the question open; so none of them decides.
-use Rattle.std.proofs.Common.{◌≡◌, ◌&&◌, ◌||◌, Bool, true, false, not, if◌then◌else◌, List, [], ◌∷◌, All, true≢false, refl, sym, ap, ◌∙◌, inl, inr, arith, ◌<◌, ◌≤◌, ◌^◌, ℕ}
+-- Where no check says that there is an error, and none gives tables, each leaves the question open, and only there; so none of them
+-- decides.
+use Rattle.std.proofs.Common.{◌≡◌, ◌&&◌, ◌||◌, Bool, true, false, not, if◌then◌else◌, List, [], ◌∷◌, All, Contains, true≢false, refl, sym, ap, ap₂, subst, ◌∙◌, inl, inr, arith, ◌<◌, ◌≤◌, ◌^◌, ℕ}
 use Rattle.std.specs.List.{list_any}
-use Rattle.std.proofs.lemmas.List.Elements.{All-nil, All-cons, All-contains}
+use Rattle.std.proofs.lemmas.List.Elements.{All-nil, All-cons, All-contains, All-head, All-tail}
 use Rattle.bb_net.specs.Completions.{table_bits}
 use Rattle.bb_net.specs.Pairs.{NetPair}
 use Rattle.bb_expand.specs.ClauseCounts.{clause_total}
@@ -13,9 +14,11 @@ use Rattle.bb_rungs.specs.declared.options.Options.{Options}
 use Rattle.bb_rungs.specs.declared.rung.Rung.{Rung}
 use Rattle.bb_rungs.specs.declared.rung.Rung.TheVariants.{Ternary, Symbolic, Local, Output, Input, Expand}
 use Rattle.bb_rungs.specs.declared.verdict.Verdict.TheVariants as verdicts
-use Rattle.bb_rungs.specs.Laws.{ClimbsLeaveOpen, DecidersDecide}
+use Rattle.bb_rungs.specs.Laws.{ClimbsLeaveOpen, LeftOpenIsTold, DecidersDecide}
 use Rattle.bb_rungs.specs.LeftOpen.{Decides, LeavesOpen}
 use Rattle.bb_rungs.specs.Rungs.{asked_rungs, MaySay, Hit, NoHit, TooMany, Finding, Without, ChoicesTooMany, Answered, TooWide, ClausesTooMany, Decided, Climbs, Top, End, Step, says_error, says_repair, is_error, is_repair}
+use Rattle.bb_rungs.proofs.ErrorLaw.{contained}
+use Rattle.bb_rungs.proofs.StayLaw.{known_not_right}
 
 pub neither : (a b : Bool) → (a || b) ≡ false → (a ≡ false) × (b ≡ false)
 neither false false e = (refl, refl)
@@ -73,6 +76,69 @@ module _ (p : NetPair) (o : Options) where
       let no_error = neither (is_error line) (list_any is_error more) off in
       let no_tables = neither (is_repair line) (list_any is_repair more) none in
       All-cons (LeavesOpen p o) r rest (said_open r line.said says no_error.0 no_tables.0) (climb_open rest more behind no_error.1 no_tables.1)
+
+  -- what is said where a check leaves the question open
+  abbrev IsOpen : Said → Type 0
+  IsOpen said = (says_error said ≡ false) × (says_repair said ≡ false)
+
+  as_told : (said told : Said) → said ≡ told → IsOpen told → IsOpen said
+  as_told said told same h = subst IsOpen (sym same) h
+
+  open_said : (r : Rung) (said : Said) → MaySay p o r said → LeavesOpen p o r → IsOpen said
+  open_said Ternary said (Hit found j is hit same) right =
+      absurd (known_not_right p.spec p.imp found.input.items j hit.wrong (right found.input.items (subst (λ all. Contains all found.input.items) (sym hit.stands) (contained hit.before found.input.items hit.after)) j hit.there))
+  open_said Ternary said (NoHit right same) left = as_told said _ same (refl, refl)
+  open_said Symbolic said (TooMany many same) left = as_told said _ same (refl, refl)
+  open_said Symbolic said (Finding few found is same) (inl many) = absurd (few many)
+  open_said Symbolic said (Finding few found (j, is, first) same) (inr right) =
+      absurd (known_not_right p.spec p.imp found.input.items j first.at.holds (right found.input.items first.at.vector j first.there))
+  open_said Symbolic said (Without few right same) left = as_told said _ same (refl, refl)
+  open_said Local said (TooMany many same) left = as_told said _ same (refl, refl)
+  open_said Local said (Finding few found is same) (inl many) = absurd (few many)
+  open_said Local said (Finding few found (j, is, first) same) (inr right) =
+      let z = right found.input.items first.at.vector j first.there in absurd (first.at.holds z.0 z.1 z.2)
+  open_said Local said (Without few right same) left = as_told said _ same (refl, refl)
+  open_said Output said (TooMany many same) left = as_told said _ same (refl, refl)
+  open_said Output said (Finding few found is same) (inl many) = absurd (few many)
+  open_said Output said (Finding few found (is, least) same) (inr right) =
+      let z = right found.input.items least.vector in
+      let wrong = least.holds z.0 z.1 in
+      absurd (wrong.2 (z.2 wrong.0 wrong.1))
+  open_said Output said (Without few right same) left = as_told said _ same (refl, refl)
+  open_said Input said (ChoicesTooMany many same) left = as_told said _ same (refl, refl)
+  open_said Input said (Answered few answer is same) (inl many) = absurd (few many)
+  open_said Input said (Answered few choices.Error is same) (inr suit) = absurd (is suit.0)
+  open_said Input said (Answered few choices.Clear is same) (inr suit) = as_told said _ same (refl, refl)
+  open_said Input said (Answered few (choices.Repair tables) is same) (inr suit) = absurd (suit.1 is.0)
+  open_said Expand said (TooWide wide same) left = as_told said _ same (refl, refl)
+  open_said Expand said (ClausesTooMany small many same) left = as_told said _ same (refl, refl)
+  open_said Expand said (Decided small few answer is same) (inl wide) = absurd (above _ _ wide small)
+  open_said Expand said (Decided small few answer is same) (inr many) = absurd (above _ _ many few)
+
+  -- no line tells an error, and none tells of tables
+  record AreOpen (lines : List Line) : Type 0 where
+    error : list_any is_error lines ≡ false
+    repair : list_any is_repair lines ≡ false
+
+  one_more : (line : Line) (more : List Line) → IsOpen line.said → AreOpen more → AreOpen (line ∷ more)
+  one_more line more first h = record { error = ap₂ ◌||◌ first.0 h.error; repair = ap₂ ◌||◌ first.1 h.repair }
+
+  open_climb : (rungs : List Rung) (lines : List Line) → Climbs p o rungs lines → All (LeavesOpen p o) rungs → AreOpen lines
+  open_climb [] [] Top left = record { error = refl; repair = refl }
+  open_climb [] (line ∷ more) climb left = elim climb [ ]
+  open_climb (r ∷ rest) [] climb left = elim climb [ ]
+  open_climb (r ∷ rest) (line ∷ []) (End is says last) left = one_more line [] (open_said r line.said says (All-head (LeavesOpen p o) r rest left)) (record { error = refl; repair = refl })
+  open_climb (r ∷ rest) (line ∷ more) (Step is says on behind) left =
+      one_more line more (open_said r line.said says (All-head (LeavesOpen p o) r rest left)) (open_climb rest more behind (All-tail (LeavesOpen p o) r rest left))
+
+-- the verdict where no line tells an error, and none tells of tables
+open_verdict : (a b : Bool) → a ≡ false → b ≡ false → (if a then verdicts.Error else (if b then verdicts.Repairable else verdicts.Open)) ≡ verdicts.Open
+open_verdict a b off none = rw off (rw none refl)
+
+pub left_open_is_told : LeftOpenIsTold
+left_open_is_told p o lines climb left =
+    let none = open_climb p o _ lines climb left in
+    open_verdict (list_any is_error lines) (list_any is_repair lines) none.error none.repair
 
 pub climbs_leave_open : ClimbsLeaveOpen
 climbs_leave_open p o lines climb verdict =

@@ -21,8 +21,8 @@ use Rattle.bb_rungs.specs.Rungs.{MaySay, Hit, NoHit, TooMany, Finding, Without, 
 use Rattle.bb_rungs.proofs.ErrorLaw.{Weakens, Holds, shows, no_tables, up}
 
 -- a known bit that is wrong is not right
-not_both : (spec imp : Netlist) (x : List Bool) (j : ℕ) → IsKnownWrong spec imp x j → MayBeRight spec imp x j → ⊥
-not_both spec imp x j (bit, known, wrong) right = wrong (subst (λ v. IfSome v (λ b. wanted_bit spec x j ≡ b)) known right)
+pub known_not_right : (spec imp : Netlist) (x : List Bool) (j : ℕ) → IsKnownWrong spec imp x j → MayBeRight spec imp x j → ⊥
+known_not_right spec imp x j (bit, known, wrong) right = wrong (subst (λ v. IfSome v (λ b. wanted_bit spec x j ≡ b)) known right)
 
 first_rises : {X : Type 0} (R : X → X → Type 0) (x : X) (xs : List X) → AllPairs R (x ∷ xs) → All (R x) xs
 first_rises R x xs pairs k d within = pairs 0 (suc k) d (omega arith) (omega (arith, within))
@@ -40,10 +40,10 @@ other said told same h = subst Stays (sym same) h
 module _ (weakens : Weakens) (vectors : PatternsAreVectors) (p : NetPair) (o : Options) (kept : IsPair p) where
   pub stays : (r : Rung) (said : Said) → MaySay p o r said → Holds p o r → Stays said
   stays Ternary said (Hit found j is hit same) h = other said _ same ((λ e. cc e), refl)
-  stays Ternary said (NoHit right same) (x, has, j, there, wrong) = absurd (not_both p.spec p.imp x j wrong (right x has j there))
+  stays Ternary said (NoHit right same) (x, has, j, there, wrong) = absurd (known_not_right p.spec p.imp x j wrong (right x has j there))
   stays Symbolic said (TooMany many same) h = other said _ same ((λ e. cc e), refl)
   stays Symbolic said (Finding few found is same) h = other said _ same ((λ e. cc e), refl)
-  stays Symbolic said (Without few right same) (x, vector, j, there, wrong) = absurd (not_both p.spec p.imp x j wrong (right x vector j there))
+  stays Symbolic said (Without few right same) (x, vector, j, there, wrong) = absurd (known_not_right p.spec p.imp x j wrong (right x vector j there))
   stays Local said (TooMany many same) h = other said _ same ((λ e. cc e), refl)
   stays Local said (Finding few found is same) h = other said _ same ((λ e. cc e), refl)
   stays Local said (Without few right same) (x, vector, j, there, wrong) = let found = right x vector j there in absurd (wrong found.0 found.1 found.2)

@@ -9,7 +9,7 @@ use Rattle.std.proofs.lemmas.List.FromFn.{length-map-range_with_len, get_or-map-
 use Rattle.std.proofs.lemmas.Slice.Zip.{get_or-zip, length-zip}
 use Rattle.bb_bits.specs.Tables.{TableBits, HasAllBits, table_bit}
 use Rattle.bb_net.specs.Netlists.{Pins, box_at}
-use Rattle.bb_net.specs.Pairs.{NetPair, IsPair, BoxTexts, NamesPins}
+use Rattle.bb_net.specs.Pairs.{NetPair, BoxTexts, NamesPins}
 use Rattle.bb_net.specs.Values.{table_at, FitBoxes}
 use Rattle.bb_rungs.specs.Laws.{LinesFixTables, TextsFixTables}
 use Rattle.bb_rungs.specs.declared.verdict.Verdict.TheVariants as verdicts

@@ -42,6 +42,10 @@ ClimbsAreTold = (p : NetPair) (o : Options) (lines : List Line) → IsPair p →
 abbrev pub ClimbsLeaveOpen : Type 0
 ClimbsLeaveOpen = (p : NetPair) (o : Options) (lines : List Line) → IsClimb p o lines → verdict_of lines ≡ verdicts.Open → AllLeaveOpen p o
 
+-- and only there: where each check that is asked for leaves the question open, that is the verdict
+abbrev pub LeftOpenIsTold : Type 0
+LeftOpenIsTold = (p : NetPair) (o : Options) (lines : List Line) → IsClimb p o lines → AllLeaveOpen p o → verdict_of lines ≡ verdicts.Open
+
 -- where a check that is asked for decides, the question is not left open
 abbrev pub DecidersDecide : Type 0
 DecidersDecide = (p : NetPair) (o : Options) (lines : List Line) → IsClimb p o lines → SomeDecides p o → verdict_of lines ≡ verdicts.Open → ⊥

@@ -1,7 +1,8 @@
 //! Laws of what checks say. Each function has a law as its contract and does nothing.
 
-ghost use Rattle.bb_rungs.specs.Laws.{ErrorsExcludeTables, RepairsAgree, LinesFixTables, TextsFixTables, ClimbsAreTold, ClimbsLeaveOpen, DecidersDecide, ErrorsStay, ClimbsSayAlike};
+ghost use Rattle.bb_rungs.specs.Laws.{ErrorsExcludeTables, RepairsAgree, LinesFixTables, TextsFixTables, ClimbsAreTold, ClimbsLeaveOpen, LeftOpenIsTold, DecidersDecide, ErrorsStay, ClimbsSayAlike};
 
+use crate::alike_laws::alike_climbs_say_alike;
 use bb_net::conditions_weaken;
 use bb_tern::laws::patterns_are_vectors;
 
@@ -40,6 +41,11 @@ pub fn climbs_leave_open()
     ensures { ClimbsLeaveOpen }
 {}
 
+/// Where each check that is asked for leaves the question open, that is the verdict.
+pub fn left_open_is_told()
+    ensures { LeftOpenIsTold }
+{}
+
 /// Where a check that is asked for decides, the question is not left open.
 pub fn deciders_decide()
     ensures { DecidersDecide }
@@ -57,6 +63,5 @@ pub fn errors_stay()
 pub fn climbs_say_alike()
     ensures { ClimbsSayAlike }
 {
-    conditions_weaken();
-    patterns_are_vectors();
+    alike_climbs_say_alike();
 }

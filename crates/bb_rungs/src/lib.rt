@@ -1,6 +1,7 @@
 //! The ladder of checks on a pair: which are run, what each says, and the report of what they said.
 #![tactic(auto)]
 
+mod alike_laws;
 mod bits;
 mod climbing;
 mod laws;
@@ -12,10 +13,14 @@ mod rung;
 mod table_lines;
 mod verdict;
 
+pub use alike_laws::{
+    alike_climbs_say_alike, alike_pairs_are_decided, alike_pairs_are_left_open,
+    alike_pairs_are_told, alike_reports_are_one,
+};
 pub use climbing::climb;
 pub use laws::{
     climbs_are_told, climbs_leave_open, climbs_say_alike, deciders_decide, errors_exclude_tables,
-    errors_stay, lines_fix_tables, repairs_agree, texts_fix_tables,
+    errors_stay, left_open_is_told, lines_fix_tables, repairs_agree, texts_fix_tables,
 };
 pub use line::{Evidence, Line, Proof, Said};
 pub use options::Options;

@@ -1,0 +1,88 @@
+-- What pairs that are alike share: their bits, values where boxes are unknown, clauses, and the functions of each check.
+use Rattle.std.proofs.Common.{◌≡◌, ◌≤◌, ◌^◌, refl, sym, subst}
+use Rattle.std.proofs.lemmas.List.Sorted.{IsPermutation-refl}
+use Rattle.bb_net.specs.Completions.{HaveSmallTables, table_bits}
+use Rattle.bb_net.specs.Netlists.{Netlist}
+use Rattle.bb_net.specs.Pairs.{NetPair, IsPair}
+use Rattle.bb_sym.specs.Functions.{symbolic_functions, local_functions, output_functions}
+use Rattle.bb_input.specs.Answers.{IsFinishable}
+use Rattle.bb_input.specs.InputFunctions.{input_functions}
+use Rattle.bb_expand.specs.ClauseCounts.{clause_total}
+use Rattle.bb_alike.specs.Alike.{AreAlike, ArePairsAlike}
+use Rattle.bb_alike.specs.Formulas.{cell_formulas}
+use Rattle.bb_alike.specs.Laws.{AlikeCellsAreKnownAlike}
+use Rattle.bb_rungs.proofs.AlikeBits.{BitLaws, known_outputs, share_bits}
+use Rattle.bb_rungs.proofs.AlikeBoxes.{box_count_alike, table_bits_alike}
+use Rattle.bb_rungs.proofs.AlikeConditions.{AreKnownAlike}
+use Rattle.bb_rungs.proofs.AlikeCounts.{clause_totals_alike}
+use Rattle.bb_rungs.proofs.AlikeFunctions.{ShareAll, local_among, output_among}
+use Rattle.bb_rungs.proofs.AlikeInputs.{input_among}
+use Rattle.bb_rungs.proofs.AlikeKnown.{symbolic_among}
+use Rattle.bb_rungs.proofs.AlikeTables.{FunctionsFixTables, AreAmong}
+
+-- the laws on which this rests
+pub record PairLaws : Type 0 where
+  pub bits : BitLaws
+  pub known : AlikeCellsAreKnownAlike
+  pub fix : FunctionsFixTables
+
+-- what goes from one pair to another
+pub record Share (p q : NetPair) : Type 0 where
+  pub nets : ShareAll p.spec p.imp q.spec q.imp
+  pub known : AreKnownAlike p.imp q.imp
+  pub clauses : clause_total p.imp ≡ clause_total q.imp
+  pub symbolic : AreAmong (symbolic_functions p.spec p.imp) (symbolic_functions q.spec q.imp)
+  pub local : AreAmong (local_functions p.spec p.imp) (local_functions q.spec q.imp)
+  pub output : AreAmong (output_functions p.spec p.imp) (output_functions q.spec q.imp)
+  pub input : AreAmong (input_functions p.spec p.imp) (input_functions q.spec q.imp)
+
+module _ (p q : NetPair) (share : Share p q) where
+  pub bits_alike : table_bits p.imp.boxes ≡ table_bits q.imp.boxes
+  bits_alike = table_bits_alike p.imp.boxes q.imp.boxes share.nets.imp.boxes
+
+  pub small_alike : HaveSmallTables p.imp.boxes → HaveSmallTables q.imp.boxes
+  small_alike small = subst (λ n. n ≤ 2 ^ 24) bits_alike small
+
+  pub finishable_alike : IsFinishable p.imp → IsFinishable q.imp
+  finishable_alike h = record {
+    one_box = subst (λ n. n ≤ 1) (box_count_alike p.imp.boxes q.imp.boxes share.nets.imp.boxes) h.one_box;
+    small = small_alike h.small;
+  }
+
+module _ (laws : PairLaws) (p q : NetPair) (one : IsPair p) (other : IsPair q) (alike : ArePairsAlike p q) where
+  nets : ShareAll p.spec p.imp q.spec q.imp
+  nets = record {
+    spec = share_bits p.spec q.spec one.spec other.spec alike.spec laws.bits;
+    imp = share_bits p.imp q.imp one.imp other.imp alike.imp laws.bits;
+    outputs = one.beside.outputs;
+  }
+
+  outputs_known : AreKnownAlike p.imp q.imp
+  outputs_known = known_outputs p.imp q.imp one.imp other.imp alike.imp laws.known
+
+  pub share : Share p q
+  share = record {
+    nets = nets;
+    known = outputs_known;
+    clauses = clause_totals_alike laws.bits.formulas p.imp q.imp one.imp other.imp alike.imp nets.imp.boxes nets.imp.outputs;
+    symbolic = symbolic_among (record { formulas = laws.bits.formulas; cells = laws.bits.cells; known = laws.known; fix = laws.fix }) p.spec p.imp q.spec q.imp nets one.imp other.imp alike.imp outputs_known;
+    local = local_among laws.fix p.spec p.imp q.spec q.imp nets;
+    output = output_among laws.fix p.spec p.imp q.spec q.imp nets;
+    input = input_among laws.fix p.spec p.imp q.spec q.imp nets;
+  }
+
+pub share_back : PairLaws → (p q : NetPair) → IsPair p → IsPair q → ArePairsAlike p q → Share q p
+share_back laws p q one other alike = share laws q p other one (record {
+  spec = laws.bits.back p.spec q.spec alike.spec;
+  imp = laws.bits.back p.imp q.imp alike.imp;
+  ins = sym alike.ins;
+  outs = sym alike.outs;
+  boxes = sym alike.boxes;
+})
+
+-- a pair is alike to itself
+net_itself : (net : Netlist) → AreAlike net net
+net_itself net = record { inputs = refl; cells = IsPermutation-refl (cell_formulas net); boxes = refl; outs = refl }
+
+pub alike_itself : (p : NetPair) → ArePairsAlike p p
+alike_itself p = record { spec = net_itself p.spec; imp = net_itself p.imp; ins = refl; outs = refl; boxes = refl }

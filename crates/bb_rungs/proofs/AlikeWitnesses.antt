@@ -1,0 +1,96 @@
+-- What a check finds of one pair it may find of another that is alike: where outputs are wrong, the first and least of it, and tables.
+use Rattle.std.proofs.Common.{ℕ, ◌<◌, Bool, List, [], ◌∷◌, ◌∙◌, sym, subst, arith}
+use Rattle.bb_bits.specs.Numbers.{number_of}
+use Rattle.bb_bits.specs.Tables.{TableBits, row_of}
+use Rattle.bb_net.specs.Agreement.{IsOutput}
+use Rattle.bb_net.specs.Completions.{AreCompletion}
+use Rattle.bb_net.specs.Conditions.{IsKnownWrong, IsFirstHit, IsAlwaysWrong, HasAlwaysWrong}
+use Rattle.bb_net.specs.Netlists.{Netlist}
+use Rattle.bb_net.specs.Values.{table_at}
+use Rattle.bb_sym.specs.Finds.{IsLeastVector, IsFirstFound, IsSometimesRight}
+use Rattle.bb_input.specs.Answers.{AreLeastOutputs, AreLeastTables}
+use Rattle.bb_rungs.proofs.AlikeBoxes.{box_count_alike, output_pins_alike, pins_at_alike}
+use Rattle.bb_rungs.proofs.AlikeConditions.{AreKnownAlike, may_be_right, right_among_alike, suit_alike, there, vector, wanted_alike}
+use Rattle.bb_rungs.proofs.AlikeFunctions.{ShareAll}
+
+module _ (spec imp other_spec other_imp : Netlist) (share : ShareAll spec imp other_spec other_imp) where
+  pub here : (j : ℕ) → IsOutput imp j → IsOutput other_imp j
+  here j l = subst (λ n. j < n) share.imp.outputs l
+
+  pub known_wrong_alike : AreKnownAlike imp other_imp → (x : List Bool) (j : ℕ) → IsOutput imp j → IsKnownWrong spec imp x j → IsKnownWrong other_spec other_imp x j
+  known_wrong_alike known x j l (bit, is, wrong) = (bit, sym (known x j l) ∙ is, λ e. wrong (wanted_alike spec imp other_spec other_imp share x j l ∙ e))
+
+  pub always_wrong_alike : (x : List Bool) (j : ℕ) → IsOutput imp j → IsAlwaysWrong spec imp x j → IsAlwaysWrong other_spec other_imp x j
+  always_wrong_alike x j l wrong z long e =
+      wrong z (long ∙ sym (output_pins_alike imp.boxes other_imp.boxes share.imp.boxes)) (share.imp.out_bits x z j l ∙ e ∙ sym (wanted_alike spec imp other_spec other_imp share x j l))
+
+  pub sometimes_right_alike : (x : List Bool) (j : ℕ) → IsOutput imp j → IsSometimesRight spec imp x j → IsSometimesRight other_spec other_imp x j
+  sometimes_right_alike x j l (z, long, right) =
+      (z, long ∙ output_pins_alike imp.boxes other_imp.boxes share.imp.boxes, sym (share.imp.out_bits x z j l) ∙ right ∙ wanted_alike spec imp other_spec other_imp share x j l)
+
+  pub has_wrong_alike : (x : List Bool) → HasAlwaysWrong spec imp x → HasAlwaysWrong other_spec other_imp x
+  has_wrong_alike x wrong z long =
+      let (j, l, off) = wrong z (long ∙ sym (output_pins_alike imp.boxes other_imp.boxes share.imp.boxes)) in
+      (j, here j l, λ e. off (share.imp.out_bits x z j l ∙ e ∙ sym (wanted_alike spec imp other_spec other_imp share x j l)))
+
+  pub first_hit_alike : AreKnownAlike imp other_imp → (patterns : List (List Bool)) (x : List Bool) (j : ℕ) → IsFirstHit spec imp patterns x j → IsFirstHit other_spec other_imp patterns x j
+  first_hit_alike known patterns x j h = record {
+    before = h.before;
+    after = h.after;
+    stands = h.stands;
+    earlier = right_among_alike spec imp other_spec other_imp share known h.before h.earlier;
+    there = here j h.there;
+    wrong = known_wrong_alike known x j h.there h.wrong;
+    first = λ i l. may_be_right spec imp other_spec other_imp share known x i (omega (arith, l, h.there)) (h.first i l);
+  }
+
+  pub completion_alike : (tables : List TableBits) → AreCompletion spec imp tables → AreCompletion other_spec other_imp tables
+  completion_alike tables h =
+      let count = box_count_alike imp.boxes other_imp.boxes share.imp.boxes in
+      let pins = pins_at_alike imp.boxes other_imp.boxes share.imp.boxes in
+      record {
+        fit = record {
+          count = h.fit.count ∙ count;
+          inputs = λ b l. h.fit.inputs b (omega (arith, l, count)) ∙ (pins b).0;
+          outputs = λ b l. h.fit.outputs b (omega (arith, l, count)) ∙ (pins b).1;
+          whole = λ b l. h.fit.whole b (omega (arith, l, count));
+        };
+        agree = λ x long j l.
+            let own = there spec imp other_spec other_imp share j l in
+            sym (share.imp.tabled_bits x tables j own) ∙ h.agree x (vector spec imp other_spec other_imp share x long) j own ∙ wanted_alike spec imp other_spec other_imp share x j own;
+      }
+
+-- both ways
+module _ (spec imp other_spec other_imp : Netlist) (to : ShareAll spec imp other_spec other_imp) (from : ShareAll other_spec other_imp spec imp) where
+  pub least_vector_alike : (P Q : List Bool → Type 0) → ((y : List Bool) → P y → Q y) → ((y : List Bool) → Q y → P y) → (x : List Bool) → IsLeastVector imp P x → IsLeastVector other_imp Q x
+  least_vector_alike P Q there back x h = record {
+    vector = vector other_spec other_imp spec imp from x h.vector;
+    holds = there x h.holds;
+    least = λ y long holds. h.least y (vector spec imp other_spec other_imp to y long) (back y holds);
+  }
+
+  pub first_found_alike : (P Q N M : List Bool → ℕ → Type 0) → ((y : List Bool) (j : ℕ) → IsOutput imp j → P y j → Q y j) → ((y : List Bool) (j : ℕ) → IsOutput other_imp j → Q y j → P y j)
+      → ((y : List Bool) (j : ℕ) → IsOutput imp j → N y j → M y j) → (x : List Bool) (j : ℕ) → IsFirstFound imp P N x j → IsFirstFound other_imp Q M x j
+  first_found_alike P Q N M there back none x j h =
+      let l = here spec imp other_spec other_imp to j h.there in
+      record {
+        there = l;
+        at = least_vector_alike (λ y. P y j) (λ y. Q y j) (λ y. there y j h.there) (λ y. back y j l) x h.at;
+        earlier = λ i before y long. none y i (omega (arith, before, h.there)) (h.earlier i before y (vector spec imp other_spec other_imp to y long));
+      }
+
+  least_outputs_alike : (ins outs : List Bool) → AreLeastOutputs spec imp ins outs → AreLeastOutputs other_spec other_imp ins outs
+  least_outputs_alike ins outs h = record {
+    whole = h.whole ∙ output_pins_alike imp.boxes other_imp.boxes to.imp.boxes;
+    suit = suit_alike spec imp other_spec other_imp to (record { ins = ins; outs = outs } ∷ []) h.suit;
+    least = λ others long suit. h.least others (long ∙ output_pins_alike other_imp.boxes imp.boxes from.imp.boxes) (suit_alike other_spec other_imp spec imp from (record { ins = ins; outs = others } ∷ []) suit);
+  }
+
+  pub least_tables_alike : (tables : List TableBits) → AreLeastTables spec imp tables → AreLeastTables other_spec other_imp tables
+  least_tables_alike tables h = record {
+    completion = completion_alike spec imp other_spec other_imp to tables h.completion;
+    rows = λ b l ins long.
+        let count = box_count_alike imp.boxes other_imp.boxes to.imp.boxes in
+        let pins = pins_at_alike imp.boxes other_imp.boxes to.imp.boxes b in
+        least_outputs_alike ins (row_of (table_at tables b) (number_of ins)) (h.rows b (omega (arith, l, count)) ins (long ∙ sym pins.0));
+  }

@@ -1,0 +1,127 @@
+-- All that a check may say of a pair is told by one word, and has one text, but for what the expansion finds.
+use Rattle.std.proofs.Common.{◌≡◌, ◌<◌, ◌≤◌, Bool, true, List, ◌++◌, ℕ, true≢false, refl, sym, ap, ap₂, ◌∙◌, arith}
+use Rattle.bb_net.specs.Conditions.{IsKnownWrong, MayBeRight, IsAlwaysWrong}
+use Rattle.bb_net.specs.Pairs.{NetPair, IsPair}
+use Rattle.bb_bits.specs.Truth.{Truth}
+use Rattle.bb_tern.specs.Patterns.{PatternsAreVectors}
+use Rattle.bb_sym.specs.declared.found.Found.{Found}
+use Rattle.bb_sym.specs.Finds.{IsSometimesRight}
+use Rattle.bb_expand.specs.declared.expanded.Expanded.TheVariants as expanded
+use Rattle.bb_input.specs.declared.InputAnswer.{InputAnswer}
+use Rattle.bb_input.specs.declared.InputAnswer.TheVariants as choices
+use Rattle.bb_input.specs.Laws.{IsSameAnswer, OneAnswer}
+use Rattle.bb_rungs.specs.declared.line.Evidence.TheVariants.{Vector}
+use Rattle.bb_rungs.specs.declared.line.Said.{Said}
+use Rattle.bb_rungs.specs.declared.line.Said.TheVariants.{Error}
+use Rattle.bb_rungs.specs.declared.options.Options.{Options}
+use Rattle.bb_rungs.specs.declared.rung.Rung.{Rung}
+use Rattle.bb_rungs.specs.declared.rung.Rung.TheVariants.{Ternary, Symbolic, Local, Output, Input, Expand}
+use Rattle.bb_rungs.specs.Reports.{result_name, details, told_output, input_line}
+use Rattle.bb_rungs.specs.Rungs.{MaySay, MayHit, Hit, NoHit, MayFind, TooMany, Finding, Without, MayChoose, ChoicesTooMany, Answered, MayExpand, TooWide, ClausesTooMany, Decided, says_error, says_repair, told_answer, tried}
+use Rattle.bb_rungs.specs.TableLines.{table_lines}
+use Rattle.bb_rungs.proofs.ErrorLaw.{Weakens, shows}
+use Rattle.bb_rungs.proofs.OneWitness.{NumbersFixBits, AreSameFound, one_hit, one_first, one_least}
+use Rattle.bb_rungs.proofs.StayLaw.{Stays, stays, known_not_right}
+
+-- the laws on which this rests
+pub record OneLaws : Type 0 where
+  pub weakens : Weakens
+  pub vectors : PatternsAreVectors
+  pub bits : NumbersFixBits
+  pub answers : OneAnswer
+
+-- they are told by one word, and are both errors, both repairs or neither; and but for the expansion the same stands behind the line
+pub record SayAlike (p : NetPair) (o : Options) (r : Rung) (s t : Said) : Type 0 where
+  pub word : result_name s ≡ result_name t
+  pub error : says_error s ≡ says_error t
+  pub repair : says_repair s ≡ says_repair t
+  pub text : (r ≡ Expand → ⊥) → details p o s ≡ details p o t
+
+pub above : (n m : ℕ) → n < m → m ≤ n → ⊥
+above n m less more = omega (arith, less, more)
+
+module _ (p : NetPair) (o : Options) (r : Rung) where
+  -- two that are told as these are alike where these are
+  pub by_told : (s t told other : Said) → s ≡ told → t ≡ other → SayAlike p o r told other → SayAlike p o r s t
+  by_told s t told other same also h = record {
+    word = ap result_name same ∙ h.word ∙ sym (ap result_name also);
+    error = ap says_error same ∙ h.error ∙ sym (ap says_error also);
+    repair = ap says_repair same ∙ h.repair ∙ sym (ap says_repair also);
+    text = λ plain. ap (details p o) same ∙ h.text plain ∙ sym (ap (details p o) also);
+  }
+
+  pub say_alike : (s t : Said) → result_name s ≡ result_name t → says_error s ≡ says_error t → says_repair s ≡ says_repair t → ((r ≡ Expand → ⊥) → details p o s ≡ details p o t) → SayAlike p o r s t
+  say_alike s t word error repair text = record { word = word; error = error; repair = repair; text = text }
+
+  one_said : (s t told : Said) → s ≡ told → t ≡ told → SayAlike p o r s t
+  one_said s t told same also = by_told s t told told same also (say_alike told told refl refl refl (λ plain. refl))
+
+  one_found : (s t : Said) (found other : Found) → s ≡ Error (Vector found) → t ≡ Error (Vector other) → AreSameFound found other → SayAlike p o r s t
+  one_found s t found other same also h =
+      by_told s t _ _ same also (say_alike _ _ refl refl refl (λ plain. ap₂ (λ j x. told_output p.outs j ++ input_line p.ins x) h.output h.input))
+
+  answers_alike : (a b : InputAnswer) → IsSameAnswer a b → SayAlike p o r (told_answer a) (told_answer b)
+  answers_alike choices.Error b same = one_said _ _ _ refl (ap told_answer same)
+  answers_alike choices.Clear b same = one_said _ _ _ refl (ap told_answer same)
+  answers_alike (choices.Repair tables) b (others, is, same) = by_told _ _ _ _ refl (ap told_answer is) (say_alike _ _ refl refl refl (λ plain. ap (table_lines p.boxes) same))
+
+module _ (laws : OneLaws) (p : NetPair) (o : Options) (kept : IsPair p) where
+  -- an error excludes the word that there is none
+  not_none : (r : Rung) (s t : Said) → MaySay p o r s → MaySay p o r t → says_error s ≡ true → Stays t
+  not_none r s t one other on = stays laws.weakens laws.vectors p o kept r t other (shows laws.weakens laws.vectors p o kept r s one on)
+
+  finds_alike : (r : Rung) (functions : List Truth) (Finds : Found → Type 0) (none : Type 0) → ((found other : Found) → Finds found → Finds other → AreSameFound found other)
+      → (s t : Said) → MayFind o functions Finds none s → MayFind o functions Finds none t → (says_error s ≡ true → Stays t) → (says_error t ≡ true → Stays s) → SayAlike p o r s t
+  finds_alike r functions Finds none one s t (TooMany many same) (TooMany more also) st ts = one_said p o r s t _ same also
+  finds_alike r functions Finds none one s t (TooMany many same) (Finding few found is also) st ts = absurd (few many)
+  finds_alike r functions Finds none one s t (TooMany many same) (Without few is also) st ts = absurd (few many)
+  finds_alike r functions Finds none one s t (Finding few found is same) (TooMany many also) st ts = absurd (few many)
+  finds_alike r functions Finds none one s t (Finding few found is same) (Finding fewer other be also) st ts = one_found p o r s t found other same also (one found other is be)
+  finds_alike r functions Finds none one s t (Finding few found is same) (Without fewer be also) st ts = absurd ((st (ap says_error same)).0 also)
+  finds_alike r functions Finds none one s t (Without few is same) (TooMany many also) st ts = absurd (few many)
+  finds_alike r functions Finds none one s t (Without few is same) (Finding fewer other be also) st ts = absurd ((ts (ap says_error also)).0 same)
+  finds_alike r functions Finds none one s t (Without few is same) (Without fewer be also) st ts = one_said p o r s t _ same also
+
+  chosen_alike : (s t : Said) → MayChoose p o s → MayChoose p o t → SayAlike p o Input s t
+  chosen_alike s t (ChoicesTooMany many same) (ChoicesTooMany more also) = one_said p o Input s t _ same also
+  chosen_alike s t (ChoicesTooMany many same) (Answered few answer is also) = absurd (few many)
+  chosen_alike s t (Answered few answer is same) (ChoicesTooMany many also) = absurd (few many)
+  chosen_alike s t (Answered few answer is same) (Answered fewer other be also) =
+      by_told p o Input s t _ _ same also (answers_alike p o Input answer other (laws.answers p.spec p.imp kept.imp answer other is be))
+
+  expanded_alike : (s t : Said) → MayExpand p o s → MayExpand p o t → (says_error s ≡ true → Stays t) → (says_error t ≡ true → Stays s) → SayAlike p o Expand s t
+  expanded_alike s t (TooWide wide same) (TooWide wider also) st ts = one_said p o Expand s t _ same also
+  expanded_alike s t (TooWide wide same) (ClausesTooMany small many also) st ts = absurd (above _ _ wide small)
+  expanded_alike s t (TooWide wide same) (Decided small few answer is also) st ts = absurd (above _ _ wide small)
+  expanded_alike s t (ClausesTooMany small many same) (TooWide wide also) st ts = absurd (above _ _ wide small)
+  expanded_alike s t (ClausesTooMany small many same) (ClausesTooMany smaller more also) st ts = one_said p o Expand s t _ same also
+  expanded_alike s t (ClausesTooMany small many same) (Decided smaller few answer is also) st ts = absurd (above _ _ many few)
+  expanded_alike s t (Decided small few answer is same) (TooWide wide also) st ts = absurd (above _ _ wide small)
+  expanded_alike s t (Decided small few answer is same) (ClausesTooMany smaller many also) st ts = absurd (above _ _ many few)
+  expanded_alike s t (Decided small few (expanded.Error vectors cnf refutation) is same) (Decided smaller fewer (expanded.Error others clauses steps) be also) st ts =
+      by_told p o Expand s t _ _ same also (say_alike p o Expand _ _ refl refl refl (λ plain. absurd (plain refl)))
+  expanded_alike s t (Decided small few (expanded.Error vectors cnf refutation) is same) (Decided smaller fewer (expanded.Repair tables) be also) st ts =
+      absurd (true≢false (sym (ap says_repair also) ∙ (st (ap says_error same)).1))
+  expanded_alike s t (Decided small few (expanded.Repair tables) is same) (Decided smaller fewer (expanded.Error vectors cnf refutation) be also) st ts =
+      absurd (true≢false (sym (ap says_repair same) ∙ (ts (ap says_error also)).1))
+  expanded_alike s t (Decided small few (expanded.Repair tables) is same) (Decided smaller fewer (expanded.Repair others) be also) st ts = by_told p o Expand s t _ _ same also (say_alike p o Expand _ _ refl refl refl (λ plain. absurd (plain refl)))
+
+  hits_alike : (s t : Said) → MayHit p o s → MayHit p o t → (says_error s ≡ true → Stays t) → (says_error t ≡ true → Stays s) → SayAlike p o Ternary s t
+  hits_alike s t (Hit found j is hit same) (Hit other k be more also) st ts = one_found p o Ternary s t found other same also (one_hit p.spec p.imp (tried p o) found other j k is be hit more)
+  hits_alike s t (Hit found j is hit same) (NoHit right also) st ts = absurd ((st (ap says_error same)).0 also)
+  hits_alike s t (NoHit right same) (Hit other k be more also) st ts = absurd ((ts (ap says_error also)).0 same)
+  hits_alike s t (NoHit right same) (NoHit more also) st ts = one_said p o Ternary s t _ same also
+
+  -- an output that is wrong is not right
+  always_not_right : (x : List Bool) (j : ℕ) → IsAlwaysWrong p.spec p.imp x j → IsSometimesRight p.spec p.imp x j → ⊥
+  always_not_right x j wrong (z, long, right) = wrong z long right
+
+  pub said_alike : (r : Rung) (s t : Said) → MaySay p o r s → MaySay p o r t → SayAlike p o r s t
+  said_alike Ternary s t one other = hits_alike s t one other (not_none Ternary s t one other) (not_none Ternary t s other one)
+  said_alike Symbolic s t one other =
+      finds_alike Symbolic _ _ _ (one_first laws.bits p (IsKnownWrong p.spec p.imp) (MayBeRight p.spec p.imp) (known_not_right p.spec p.imp)) s t one other (not_none Symbolic s t one other) (not_none Symbolic t s other one)
+  said_alike Local s t one other =
+      finds_alike Local _ _ _ (one_first laws.bits p (IsAlwaysWrong p.spec p.imp) (IsSometimesRight p.spec p.imp) always_not_right) s t one other (not_none Local s t one other) (not_none Local t s other one)
+  said_alike Output s t one other = finds_alike Output _ _ _ (one_least laws.bits p) s t one other (not_none Output s t one other) (not_none Output t s other one)
+  said_alike Input s t one other = chosen_alike s t one other
+  said_alike Expand s t one other = expanded_alike s t one other (not_none Expand s t one other) (not_none Expand t s other one)

@@ -1,0 +1,72 @@
+//! Laws of pairs that are alike. Each function has a law as its contract and does nothing.
+
+ghost use Rattle.bb_rungs.specs.AlikePairs.{AlikePairsAreLeftOpen, AlikePairsAreDecided, AlikePairsAreTold, AlikeReportsAreOne, AlikeClimbsSayAlike};
+
+use bb_alike::laws::{
+    alike_cells_are_known_alike, alike_cells_have_one_bit, alike_is_mutual, alike_nets_have_cells,
+    formulas_are_of_cells,
+};
+use bb_bits::number_spelled_once;
+use bb_input::answers_are_one;
+use bb_net::conditions_weaken;
+use bb_sym::laws::functions;
+use bb_tern::laws::patterns_are_vectors;
+
+/// Where a check leaves the question open for one pair, it does for another that is alike.
+pub fn alike_pairs_are_left_open()
+    ensures { AlikePairsAreLeftOpen }
+{
+    functions();
+    formulas_are_of_cells();
+    alike_is_mutual();
+    alike_nets_have_cells();
+    alike_cells_have_one_bit();
+    alike_cells_are_known_alike();
+}
+
+/// Where it decides one, it decides the other.
+pub fn alike_pairs_are_decided()
+    ensures { AlikePairsAreDecided }
+{
+    functions();
+    formulas_are_of_cells();
+    alike_is_mutual();
+    alike_nets_have_cells();
+    alike_cells_have_one_bit();
+    alike_cells_are_known_alike();
+}
+
+/// What a check may say of one pair it may say of the other, unless it refutes the clauses of the one.
+pub fn alike_pairs_are_told()
+    ensures { AlikePairsAreTold }
+{
+    functions();
+    formulas_are_of_cells();
+    alike_is_mutual();
+    alike_nets_have_cells();
+    alike_cells_have_one_bit();
+    alike_cells_are_known_alike();
+}
+
+/// Reports of pairs that are alike are the same, but for what stands behind the line of the expansion.
+pub fn alike_reports_are_one()
+    ensures { AlikeReportsAreOne }
+{
+    functions();
+    formulas_are_of_cells();
+    alike_is_mutual();
+    alike_nets_have_cells();
+    alike_cells_have_one_bit();
+    alike_cells_are_known_alike();
+    conditions_weaken();
+    patterns_are_vectors();
+    number_spelled_once();
+    answers_are_one();
+}
+
+/// All climbs of pairs that are alike have the same lines, but for what stands behind them.
+pub fn alike_climbs_say_alike()
+    ensures { AlikeClimbsSayAlike }
+{
+    alike_reports_are_one();
+}
