@@ -6,7 +6,7 @@ use Rattle.bb_outside.specs.Counts.{Reads, Rose}
 use Rattle.bb_ladder.specs.declared.answer.TheConstants.{READ_LIMIT}
 use Rattle.bb_ladder.specs.declared.asked.Asked.{Asked as TextsAsked}
 use Rattle.bb_ladder.specs.Answers.{Question, AfterSpec, ImpUnread, ImpLong, BothRead, OfFiles, SpecUnread, SpecLong, SpecRead, MayAnswer, Usage, Asked, AreTexts}
-use Rattle.bb_ladder.specs.TextAnswers.{Judges, Refused, Judged, ErrorsRefute, RepairsFinish, OpenAnswersLeaveOpen, DecidedAreAnswered}
+use Rattle.bb_ladder.specs.TextAnswers.{Judges, Refused, Judged, ErrorsRefute, RepairsFinish, OpenAnswersLeaveOpen, DecidedAreAnswered, LeftOpenAreAnswered}
 use Rattle.bb_ladder.specs.TextPairs.{AreRefuted, AreFinished, AreLeftOpen, AreDecided}
 use Rattle.bb_ladder.proofs.TextPairLaws.{report_status}
 
@@ -74,27 +74,39 @@ unread_rose words holds before after status text (Asked q e (SpecRead spec betwe
 not_long : (n : ℕ) (text front : List ℕ) → front ≡ take n text → length front ≡ n → length text < n → ⊥
 not_long n text front e whole short = omega (arith, length-take n text, ap length e, whole, short)
 
-module _ (answered : DecidedAreAnswered) (q : Question) (spec imp : List ℕ) (spec_short : length spec < READ_LIMIT) (imp_short : length imp < READ_LIMIT) (decided : AreDecided q.asked spec imp) where
-  after_decided : (held : Option (List ℕ)) (before after : Reads) (other : List ℕ) (status : ℕ) (text : List ℕ) → other ≡ spec → held ≡ Some imp → (Rose before.faults after.faults → ⊥) → AfterSpec held q before after other status text
-      → (status ≡ 0) ⊎ (status ≡ 1)
-  after_decided held before after other status text same there calm (ImpUnread c rose s t) = absurd (calm rose)
-  after_decided held before after other status text same there calm (ImpLong long h l c s t) = absurd (not_long READ_LIMIT imp long (rw there at h) l imp_short)
-  after_decided held before after other status text same there calm (BothRead read h low c j) =
+-- what is answered to two texts within the limit, where no read failed
+module _ (P : TextsAsked → List ℕ → List ℕ → Type 0) (S : ℕ → Type 0) (answered : (asked : TextsAsked) (spec imp : List ℕ) (status : ℕ) (text : List ℕ) → Judges asked spec imp status text → P asked spec imp → S status)
+    (q : Question) (spec imp : List ℕ) (spec_short : length spec < READ_LIMIT) (imp_short : length imp < READ_LIMIT) (is : P q.asked spec imp) where
+  after_answered : (held : Option (List ℕ)) (before after : Reads) (other : List ℕ) (status : ℕ) (text : List ℕ) → other ≡ spec → held ≡ Some imp → (Rose before.faults after.faults → ⊥) → AfterSpec held q before after other status text
+      → S status
+  after_answered held before after other status text same there calm (ImpUnread c rose s t) = absurd (calm rose)
+  after_answered held before after other status text same there calm (ImpLong long h l c s t) = absurd (not_long READ_LIMIT imp long (rw there at h) l imp_short)
+  after_answered held before after other status text same there calm (BothRead read h low c j) =
       let whole : read ≡ imp = whole_front READ_LIMIT imp read (rw there at h) low in
-      answered q.asked spec imp status text (subst (λ z. Judges q.asked z imp status text) same (subst (λ z. Judges q.asked other z status text) whole j)) decided
+      answered q.asked spec imp status text (subst (λ z. Judges q.asked z imp status text) same (subst (λ z. Judges q.asked other z status text) whole j)) is
 
-  files_decided : (holds : List ℕ → Option (List ℕ)) (before after : Reads) (status : ℕ) (text : List ℕ) → holds q.spec ≡ Some spec → holds q.imp ≡ Some imp → (Rose before.faults after.faults → ⊥) → OfFiles holds q before after status text
-      → (status ≡ 0) ⊎ (status ≡ 1)
-  files_decided holds before after status text spec_there imp_there calm (SpecUnread c rose s t) = absurd (calm rose)
-  files_decided holds before after status text spec_there imp_there calm (SpecLong long g l c s t) = absurd (not_long READ_LIMIT spec long (rw spec_there at g) l spec_short)
-  files_decided holds before after status text spec_there imp_there calm (SpecRead other between g short c a) =
-      after_decided (holds q.imp) between after other status text (whole_front READ_LIMIT spec other (rw spec_there at g) short) imp_there (λ rose. calm (omega (arith, c.later, rose))) a
+  files_answered : (holds : List ℕ → Option (List ℕ)) (before after : Reads) (status : ℕ) (text : List ℕ) → holds q.spec ≡ Some spec → holds q.imp ≡ Some imp → (Rose before.faults after.faults → ⊥) → OfFiles holds q before after status text
+      → S status
+  files_answered holds before after status text spec_there imp_there calm (SpecUnread c rose s t) = absurd (calm rose)
+  files_answered holds before after status text spec_there imp_there calm (SpecLong long g l c s t) = absurd (not_long READ_LIMIT spec long (rw spec_there at g) l spec_short)
+  files_answered holds before after status text spec_there imp_there calm (SpecRead other between g short c a) =
+      after_answered (holds q.imp) between after other status text (whole_front READ_LIMIT spec other (rw spec_there at g) short) imp_there (λ rose. calm (omega (arith, c.later, rose))) a
 
-  pub decided_sound : (words : List (List ℕ)) (holds : List ℕ → Option (List ℕ)) (before after : Reads) (status : ℕ) (text : List ℕ) → AreTexts words holds q spec imp → (Rose before.faults after.faults → ⊥) → MayAnswer words holds before after status text
-      → (status ≡ 0) ⊎ (status ≡ 1)
-  decided_sound words holds before after status text texts calm (Usage none c s t) = absurd (asks_nothing (sym none ∙ texts.asks))
+  words_answered : (words : List (List ℕ)) (holds : List ℕ → Option (List ℕ)) (before after : Reads) (status : ℕ) (text : List ℕ) → AreTexts words holds q spec imp → (Rose before.faults after.faults → ⊥) → MayAnswer words holds before after status text
+      → S status
+  words_answered words holds before after status text texts calm (Usage none c s t) = absurd (asks_nothing (sym none ∙ texts.asks))
     where
       asks_nothing : None ≡ Some q → ⊥
       asks_nothing e = cc e
-  decided_sound words holds before after status text texts calm (Asked known e files) =
-      files_decided holds before after status text texts.spec_held texts.imp_held calm (subst (λ z. OfFiles holds z before after status text) (same_question known q (sym e ∙ texts.asks)) files)
+  words_answered words holds before after status text texts calm (Asked known e files) =
+      files_answered holds before after status text texts.spec_held texts.imp_held calm (subst (λ z. OfFiles holds z before after status text) (same_question known q (sym e ∙ texts.asks)) files)
+
+pub decided_sound : DecidedAreAnswered → (q : Question) (spec imp : List ℕ) → length spec < READ_LIMIT → length imp < READ_LIMIT → AreDecided q.asked spec imp
+    → (words : List (List ℕ)) (holds : List ℕ → Option (List ℕ)) (before after : Reads) (status : ℕ) (text : List ℕ) → AreTexts words holds q spec imp → (Rose before.faults after.faults → ⊥) → MayAnswer words holds before after status text
+    → (status ≡ 0) ⊎ (status ≡ 1)
+decided_sound = words_answered AreDecided (λ status. (status ≡ 0) ⊎ (status ≡ 1))
+
+pub open_complete : LeftOpenAreAnswered → (q : Question) (spec imp : List ℕ) → length spec < READ_LIMIT → length imp < READ_LIMIT → AreLeftOpen q.asked spec imp
+    → (words : List (List ℕ)) (holds : List ℕ → Option (List ℕ)) (before after : Reads) (status : ℕ) (text : List ℕ) → AreTexts words holds q spec imp → (Rose before.faults after.faults → ⊥) → MayAnswer words holds before after status text
+    → status ≡ 3
+open_complete = words_answered AreLeftOpen (λ status. status ≡ 3)

@@ -1,3 +1,4 @@
 pub mod TextDesignLaws
 pub mod HeadlineLemmas
 pub mod TextPairLaws
+pub mod StatusLaw

@@ -2,6 +2,7 @@
 use Rattle.std.proofs.Common.{◌≡◌, ◌⊎◌, ℕ, Bool, true, false, if◌then◌else◌, List, refl, sym, ap, subst, ◌∙◌, arith, inl, inr}
 use Rattle.std.specs.List.{list_any}
 use Rattle.std.specs.Prelude.{Result, Ok, Err, IfOk, IfErr, MatchResult}
+use Rattle.std.proofs.lemmas.List.Elements.{All-weaker}
 use Rattle.std.proofs.lemmas.Result.{IfErr-weaker}
 use Rattle.bb_elab.specs.Flats.{FlatNet}
 use Rattle.bb_elab.specs.Hierarchy.{Design}
@@ -9,18 +10,21 @@ use Rattle.bb_elab.specs.ListLaws.{SoundTextsAreAllowed}
 use Rattle.bb_elab.specs.Stands.{StandsFor}
 use Rattle.bb_match.specs.declared.fault.MatchFault.{MatchFault}
 use Rattle.bb_match.specs.declared.fault.MatchFault.TheVariants as pair
+use Rattle.bb_match.specs.AlikePairs.{PairsForDesignsAreAlike}
 use Rattle.bb_match.specs.DesignAgreement.{IsPairFor, NoTablesNoContents, SpelledContentsAgree, TablesSpellContents}
 use Rattle.bb_match.specs.DesignRefusals.{IsRefusalFor, DesignRefusalsAreOne}
 use Rattle.bb_match.specs.DesignRefusals as designs
 use Rattle.bb_match.specs.Refusals.{IsFirstRefusal}
-use Rattle.bb_net.specs.Pairs.{NetPair}
+use Rattle.bb_net.specs.Pairs.{NetPair, IsPair}
 use Rattle.bb_parse.specs.Laws.{SourcesAreFormed}
+use Rattle.bb_rungs.specs.AlikePairs.{AlikePairsAreLeftOpen, AlikePairsAreDecided}
 use Rattle.bb_rungs.specs.declared.line.Line.{Line}
 use Rattle.bb_rungs.specs.declared.verdict.Verdict.{Verdict}
 use Rattle.bb_rungs.specs.declared.verdict.Verdict.TheVariants as verdicts
-use Rattle.bb_rungs.specs.Laws.{ErrorsExcludeTables, RepairsAgree, ClimbsLeaveOpen, DecidersDecide}
+use Rattle.bb_rungs.specs.Laws.{ErrorsExcludeTables, RepairsAgree, ClimbsLeaveOpen, LeftOpenIsTold, DecidersDecide}
+use Rattle.bb_rungs.specs.LeftOpen.{LeavesOpen}
 use Rattle.bb_rungs.specs.Reports.{EndsWithTables, report_text, status_of, verdict_of}
-use Rattle.bb_rungs.specs.Rungs.{IsClimb, is_error, is_repair}
+use Rattle.bb_rungs.specs.Rungs.{IsClimb, asked_rungs, is_error, is_repair}
 use Rattle.bb_ladder.specs.declared.answer.Answer.{Answer}
 use Rattle.bb_ladder.specs.declared.asked.Asked.{Asked}
 use Rattle.bb_ladder.specs.declared.refusal.Refusal.{Refusal}
@@ -28,9 +32,9 @@ use Rattle.bb_ladder.specs.declared.refusal.Refusal.TheVariants.{Spec, Imp, Pair
 use Rattle.bb_ladder.specs.declared.side_fault.SideFault.{SideFault}
 use Rattle.bb_ladder.specs.declared.side_fault.SideFault.TheVariants as side
 use Rattle.bb_ladder.specs.RefusalLines.{refusal_line}
-use Rattle.bb_ladder.specs.TextAnswers.{Judges, Refused, Judged, ErrorsRefute, RepairsFinish, OpenAnswersLeaveOpen, DecidedAreAnswered, RefusedAreAnsweredOnce}
+use Rattle.bb_ladder.specs.TextAnswers.{Judges, Refused, Judged, ErrorsRefute, RepairsFinish, OpenAnswersLeaveOpen, DecidedAreAnswered, LeftOpenAreAnswered, RefusedAreAnsweredOnce}
 use Rattle.bb_ladder.specs.TextDesigns.{IsDesignOf, IsSideFault, TextDesignsAreOne, SideFaultsAreOne, NotDesignAndFault}
-use Rattle.bb_ladder.specs.TextPairs.{AreDesignsOf, IsRefusal, StandsForTexts, DesignsAreAllowed, RefusalsAreOne, NotPairAndRefusal}
+use Rattle.bb_ladder.specs.TextPairs.{AreDesignsOf, IsRefusal, StandsForTexts, DesignsAreAllowed, RefusalsAreOne, NotPairAndRefusal, TextPairsAreAlike}
 use Rattle.bb_ladder.specs.TextRefusals.{of_spec, of_imp, of_pair}
 
 pub designs_are_allowed : SourcesAreFormed → SoundTextsAreAllowed → DesignsAreAllowed
@@ -123,6 +127,15 @@ module _ (allowed : DesignsAreAllowed) (one_design : TextDesignsAreOne) (no_faul
         (subst (λ z. IsRefusalFor z i e) left (subst (λ z. IsRefusalFor t z e) right is))
     no_pair_and_refusal asked spec imp p NoMemory stands is = is
 
+-- pairs of two texts are pairs of the same designs
+
+pub text_pairs_are_alike : DesignsAreAllowed → TextDesignsAreOne → PairsForDesignsAreAlike → TextPairsAreAlike
+text_pairs_are_alike allowed one_design law asked spec imp p q (s, i, are, for) (t, j, be, also) =
+    let left : t ≡ s = one_design asked.spec_top spec t s be.spec_design are.spec_design in
+    let right : j ≡ i = one_design asked.imp_top imp j i be.imp_design are.imp_design in
+    law s i p q (allowed asked.spec_top spec s are.spec_design) (allowed asked.imp_top imp i are.imp_design) for
+    (subst (λ z. IsPairFor z i q) left (subst (λ z. IsPairFor t z q) right also))
+
 -- what fails fails by the first refusal
 
 module _ (one : RefusalsAreOne) (apart : NotPairAndRefusal) (asked : Asked) (spec imp : List ℕ) where
@@ -212,9 +225,17 @@ errors_refute allowed excludes exactly asked spec imp status text (Judged p line
     let none = excludes p asked.options lines for.kept climb (status_error lines (sym same ∙ one)) in
     (s, i, are, (p, for), (exactly s i p (allowed asked.spec_top spec s are.spec_design) (allowed asked.imp_top imp i are.imp_design) for).0 none)
 
-pub open_answers_leave_open : ClimbsLeaveOpen → OpenAnswersLeaveOpen
-open_answers_leave_open leave asked spec imp status text (Refused r is s t) three = absurd (omega (arith, s, three))
-open_answers_leave_open leave asked spec imp status text (Judged p lines stands climb same t) three = (p, stands, leave p asked.options lines climb (is_open (verdict_of lines) (sym same ∙ three)))
+pub is_pair : (asked : Asked) (spec imp : List ℕ) (p : NetPair) → StandsForTexts asked spec imp p → IsPair p
+is_pair asked spec imp p (s, i, are, for) = for.kept
+
+pub open_answers_leave_open : TextPairsAreAlike → AlikePairsAreLeftOpen → ClimbsLeaveOpen → OpenAnswersLeaveOpen
+open_answers_leave_open alike stays leave asked spec imp status text (Refused r is s t) three = absurd (omega (arith, s, three))
+open_answers_leave_open alike stays leave asked spec imp status text (Judged p lines stands climb same t) three =
+    let left = leave p asked.options lines climb (is_open (verdict_of lines) (sym same ∙ three)) in
+    record {
+      pair = (p, stands);
+      left = λ q also. All-weaker (LeavesOpen p asked.options) (LeavesOpen q asked.options) (λ r. stays p q asked.options r (is_pair asked spec imp p stands) (is_pair asked spec imp q also) (alike asked spec imp p q stands also)) (asked_rungs asked.options) left;
+    }
 
 -- the verdict of a status that is not open
 decided_status : (v : Verdict) → (v ≡ verdicts.Open → ⊥) → (status_of v ≡ 0) ⊎ (status_of v ≡ 1)
@@ -222,10 +243,15 @@ decided_status verdicts.Error not_open = inr refl
 decided_status verdicts.Repairable not_open = inl refl
 decided_status verdicts.Open not_open = absurd (not_open refl)
 
-pub decided_are_answered : NotPairAndRefusal → DecidersDecide → DecidedAreAnswered
-decided_are_answered apart decide asked spec imp status text (Refused r is s t) decided = absurd (apart asked spec imp decided.pair.0 r decided.pair.1 is)
-decided_are_answered apart decide asked spec imp status text (Judged p lines stands climb same t) decided =
-    subst (λ n. (n ≡ 0) ⊎ (n ≡ 1)) (sym same) (decided_status (verdict_of lines) (decide p asked.options lines climb (decided.decided p stands)))
+pub decided_are_answered : NotPairAndRefusal → TextPairsAreAlike → AlikePairsAreDecided → DecidersDecide → DecidedAreAnswered
+decided_are_answered apart alike decided decide asked spec imp status text (Refused r is s t) (q, also, decides) = absurd (apart asked spec imp q r also is)
+decided_are_answered apart alike decided decide asked spec imp status text (Judged p lines stands climb same t) (q, also, decides) =
+    let so = decided q p asked.options decides.0 (is_pair asked spec imp q also) (is_pair asked spec imp p stands) (alike asked spec imp q p also stands) decides.2 in
+    subst (λ n. (n ≡ 0) ⊎ (n ≡ 1)) (sym same) (decided_status (verdict_of lines) (decide p asked.options lines climb (decides.0, decides.1, so)))
+
+pub left_open_are_answered : NotPairAndRefusal → LeftOpenIsTold → LeftOpenAreAnswered
+left_open_are_answered apart told asked spec imp status text (Refused r is s t) left = absurd (apart asked spec imp left.pair.0 r left.pair.1 is)
+left_open_are_answered apart told asked spec imp status text (Judged p lines stands climb same t) left = same ∙ ap status_of (told p asked.options lines climb (left.left p stands))
 
 pub refused_are_answered_once : RefusalsAreOne → NotPairAndRefusal → RefusedAreAnsweredOnce
 refused_are_answered_once one apart asked spec imp r status text is (Refused q also s t) = (s, t ∙ ap refusal_line (one asked spec imp q r also is))

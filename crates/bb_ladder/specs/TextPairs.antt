@@ -2,6 +2,7 @@
 -- thing for which they are refused; the pair that stands for them; and whether contents of the boxes agree. What is wrong with the
 -- specification comes before what is wrong with the implementation, and that before what is wrong with the two as a pair.
 use Rattle.std.specs.Prelude.{◌≡◌, ℕ, List, Option}
+use Rattle.bb_alike.specs.Alike.{ArePairsAlike}
 use Rattle.bb_bits.specs.Contents.{Contents}
 use Rattle.bb_bits.specs.Tables.{TableBits}
 use Rattle.bb_elab.specs.Hierarchy.{Design}
@@ -38,9 +39,10 @@ StandsForTexts asked spec imp p = (s i : Design) × AreDesignsOf asked spec imp 
 abbrev pub AreRefuted : Asked → List ℕ → List ℕ → Type 0
 AreRefuted asked spec imp = (s i : Design) × AreDesignsOf asked spec imp s i × ((p : NetPair) × IsPairFor s i p) × NoContentsAgree s i
 
--- a pair stands for the two, and each check that is asked for leaves the question open for it
-abbrev pub AreLeftOpen : Asked → List ℕ → List ℕ → Type 0
-AreLeftOpen asked spec imp = (p : NetPair) × StandsForTexts asked spec imp p × AllLeaveOpen p asked.options
+-- a pair stands for the two, and for each such pair each check that is asked for leaves the question open
+pub record AreLeftOpen (asked : Asked) (spec imp : List ℕ) : Type 0 where
+  pub pair : (p : NetPair) × StandsForTexts asked spec imp p
+  pub left : (p : NetPair) → StandsForTexts asked spec imp p → AllLeaveOpen p asked.options
 
 -- a pair stands for the two, and the text ends with lines of tables that spell contents of its boxes: there are such contents, and with
 -- all of them the two agree
@@ -56,10 +58,9 @@ pub record AreFinished (asked : Asked) (spec imp text : List ℕ) : Type 0 where
   pub contents : (contents : Contents) × FitDesign i contents × AreSpelled p.boxes tables contents
   pub agree : (contents : Contents) → FitDesign i contents → AreSpelled p.boxes tables contents → ContentsAgree s i contents
 
--- a pair stands for the two, and for each such pair a check that is asked for decides
-pub record AreDecided (asked : Asked) (spec imp : List ℕ) : Type 0 where
-  pub pair : (p : NetPair) × StandsForTexts asked spec imp p
-  pub decided : (p : NetPair) → StandsForTexts asked spec imp p → SomeDecides p asked.options
+-- a pair stands for the two for which a check that is asked for decides
+abbrev pub AreDecided : Asked → List ℕ → List ℕ → Type 0
+AreDecided asked spec imp = (p : NetPair) × StandsForTexts asked spec imp p × SomeDecides p asked.options
 
 -- laws that a reader expects
 
@@ -74,3 +75,7 @@ RefusalsAreOne = (asked : Asked) (spec imp : List ℕ) (e f : Refusal) → IsRef
 -- and no pair where they have one
 abbrev pub NotPairAndRefusal : Type 0
 NotPairAndRefusal = (asked : Asked) (spec imp : List ℕ) (p : NetPair) (refusal : Refusal) → StandsForTexts asked spec imp p → IsRefusal asked spec imp refusal → ⊥
+
+-- pairs that stand for two texts are alike
+abbrev pub TextPairsAreAlike : Type 0
+TextPairsAreAlike = (asked : Asked) (spec imp : List ℕ) (p q : NetPair) → StandsForTexts asked spec imp p → StandsForTexts asked spec imp q → ArePairsAlike p q

@@ -16,7 +16,8 @@ use crate::pair_texts::{keeps, pair_of};
 use crate::refusal::Refusal;
 use crate::refusal_words::push_refusal;
 use crate::text_laws::{
-    decided_are_answered, errors_refute, open_answers_leave_open, repairs_finish,
+    decided_are_answered, errors_refute, left_open_are_answered, open_answers_leave_open,
+    repairs_finish,
 };
 use bb_bits::NoMemory;
 use bb_net::Pair;
@@ -67,7 +68,7 @@ fn answer(alloc: Global, spec: &[u8], imp: &[u8], asked: &Asked) -> Result<Answe
 ///
 /// Status 0 says that the tables at the end of the report make the two agree, status 1 that no contents of the boxes do, status 3 that
 /// each check that is asked for leaves the question open, and status 2 that the line is their first refusal. Where a check that is asked
-/// for decides, the status is 0 or 1.
+/// for decides, the status is 0 or 1, and where each leaves the question open, it is 3.
 ///
 /// # Errors
 ///
@@ -81,10 +82,12 @@ pub fn judge_pair(alloc: Global, spec: &[u8], imp: &[u8], asked: &Asked) -> Resu
     ensures error { IfOk result (λ answer. answer.status ≡ 1 → AreRefuted asked.now spec.now imp.now) }
     ensures left_open { IfOk result (λ answer. answer.status ≡ 3 → AreLeftOpen asked.now spec.now imp.now) }
     ensures decided { IfOk result (λ answer. AreDecided asked.now spec.now imp.now → (answer.status ≡ 0) ⊎ (answer.status ≡ 1)) }
+    ensures stays_open { IfOk result (λ answer. AreLeftOpen asked.now spec.now imp.now → answer.status ≡ 3) }
 {
     repairs_finish();
     errors_refute();
     open_answers_leave_open();
     decided_are_answered();
+    left_open_are_answered();
     answer(alloc, spec, imp, asked)
 }

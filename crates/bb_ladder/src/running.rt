@@ -10,7 +10,8 @@ ghost use Rattle.bb_ladder.specs.TextPairs.{AreDecided, AreFinished, AreLeftOpen
 use crate::answer::{Answer, READ_LIMIT, say};
 use crate::judging::judge_pair;
 use crate::text_laws::{
-    decided_are_answered, errors_refute, open_answers_leave_open, repairs_finish,
+    decided_are_answered, errors_refute, left_open_are_answered, open_answers_leave_open,
+    repairs_finish,
 };
 use crate::words::{Question, question_of};
 use bb_bits::NoMemory;
@@ -102,15 +103,20 @@ pub fn run<F: Files, K: Sink>(alloc: Global, words: &[String], files: &mut F, ou
     // An error is reported only where no contents of the boxes make every output and every next state agree on every vector.
     ensures error { result ≡ 1 → (q : TextQuestion) (spec imp : List ℕ) → AreTexts (map string_bytes words.now) (F.holds files.old) q spec imp → AreRefuted q.asked spec imp }
 
-    // The question is left open only where each check that is asked for finds neither a mistake nor tables, or would need more nodes or
-    // clauses than it may have, or wider tables.
+    // The question is left open only where, for each pair that stands for the texts, each check that is asked for finds neither a mistake
+    // nor tables, or would need more nodes or clauses than it may have, or wider tables.
     ensures left_open { result ≡ 3 → (q : TextQuestion) (spec imp : List ℕ) → AreTexts (map string_bytes words.now) (F.holds files.old) q spec imp → AreLeftOpen q.asked spec imp }
 
-    // Where the files hold texts within the limit, no failure was counted, the texts fit and a check that is asked for decides, the answer
-    // is an error or tables, unless memory runs out.
+    // Where the files hold texts within the limit, no failure was counted, and a check that is asked for decides a pair that stands for
+    // the texts, the answer is an error or tables, unless memory runs out.
     ensures decided { (q : TextQuestion) (spec imp : List ℕ) → AreTexts (map string_bytes words.now) (F.holds files.old) q spec imp → length spec < READ_LIMIT → length imp < READ_LIMIT
         → AreDecided q.asked spec imp → (Rose (F.reads files.old).faults (F.reads files.new).faults → ⊥) → (Rose (K.faults out.old) (K.faults out.new) → ⊥)
         → ((result ≡ 0) ⊎ (result ≡ 1)) ⊎ (result ≡ 5) }
+
+    // And where each check that is asked for leaves the question open, that is the answer.
+    ensures stays_open { (q : TextQuestion) (spec imp : List ℕ) → AreTexts (map string_bytes words.now) (F.holds files.old) q spec imp → length spec < READ_LIMIT → length imp < READ_LIMIT
+        → AreLeftOpen q.asked spec imp → (Rose (F.reads files.old).faults (F.reads files.new).faults → ⊥) → (Rose (K.faults out.old) (K.faults out.new) → ⊥)
+        → (result ≡ 3) ⊎ (result ≡ 5) }
 
     // What the files hold stays, and a file or the sink is blamed only where a failure was counted in this call.
     ensures kept { (n : List ℕ) → F.holds files.new n ≡ F.holds files.old n }
@@ -123,6 +129,7 @@ pub fn run<F: Files, K: Sink>(alloc: Global, words: &[String], files: &mut F, ou
     errors_refute();
     open_answers_leave_open();
     decided_are_answered();
+    left_open_are_answered();
     let Ok(answer) = answer(alloc, words, files) else {
         return 5;
     };

@@ -2,17 +2,20 @@
 //! a law as its contract and does nothing.
 
 ghost use Rattle.bb_ladder.specs.Answers.{AnswersSpeakOfTexts};
-ghost use Rattle.bb_ladder.specs.TextAnswers.{ErrorsRefute, RepairsFinish, OpenAnswersLeaveOpen, DecidedAreAnswered, RefusedAreAnsweredOnce};
-ghost use Rattle.bb_ladder.specs.TextPairs.{DesignsAreAllowed, NotPairAndRefusal, RefusalsAreOne};
+ghost use Rattle.bb_ladder.specs.TextAnswers.{ErrorsRefute, RepairsFinish, OpenAnswersLeaveOpen, DecidedAreAnswered, LeftOpenAreAnswered, RefusedAreAnsweredOnce, ReportsAreOne, StatusesAreOne};
+ghost use Rattle.bb_ladder.specs.TextPairs.{DesignsAreAllowed, NotPairAndRefusal, RefusalsAreOne, TextPairsAreAlike};
 
 use crate::side::{not_design_and_fault, side_faults_are_one, text_designs_are_one};
 use bb_elab::list_laws::sound_texts_are_allowed;
 use bb_match::laws::{
-    design_refusals_are_one, no_tables_no_contents, not_pair_and_refusal, spelled_contents_agree,
-    tables_spell_contents,
+    design_refusals_are_one, no_tables_no_contents, not_pair_and_refusal,
+    pairs_for_designs_are_alike, spelled_contents_agree, tables_spell_contents,
 };
 use bb_parse::laws::sources_are_formed;
-use bb_rungs::{climbs_leave_open, deciders_decide, errors_exclude_tables, repairs_agree};
+use bb_rungs::{
+    alike_pairs_are_decided, alike_pairs_are_left_open, alike_reports_are_one, climbs_leave_open,
+    deciders_decide, errors_exclude_tables, left_open_is_told, repairs_agree,
+};
 
 /// The design of a text is one of which the laws of designs speak.
 pub fn designs_are_allowed()
@@ -43,6 +46,15 @@ pub fn no_pair_and_refusal()
     not_pair_and_refusal();
 }
 
+/// Pairs that stand for two texts are alike.
+pub fn text_pairs_are_alike()
+    ensures { TextPairsAreAlike }
+{
+    designs_are_allowed();
+    text_designs_are_one();
+    pairs_for_designs_are_alike();
+}
+
 /// An error is told only where no contents agree.
 pub fn errors_refute()
     ensures { ErrorsRefute }
@@ -66,6 +78,8 @@ pub fn repairs_finish()
 pub fn open_answers_leave_open()
     ensures { OpenAnswersLeaveOpen }
 {
+    text_pairs_are_alike();
+    alike_pairs_are_left_open();
     climbs_leave_open();
 }
 
@@ -74,7 +88,17 @@ pub fn decided_are_answered()
     ensures { DecidedAreAnswered }
 {
     no_pair_and_refusal();
+    text_pairs_are_alike();
+    alike_pairs_are_decided();
     deciders_decide();
+}
+
+/// Where each check that is asked for leaves the question open, that is the answer.
+pub fn left_open_are_answered()
+    ensures { LeftOpenAreAnswered }
+{
+    no_pair_and_refusal();
+    left_open_is_told();
 }
 
 /// Where two texts have a refusal, its line is the only answer.
@@ -83,6 +107,26 @@ pub fn refused_are_answered_once()
 {
     refusals_are_one();
     no_pair_and_refusal();
+}
+
+/// Two texts have one status, whichever pair stands for them.
+pub fn statuses_are_one()
+    ensures { StatusesAreOne }
+{
+    text_designs_are_one();
+    no_pair_and_refusal();
+    repairs_finish();
+    errors_refute();
+    open_answers_leave_open();
+    left_open_are_answered();
+}
+
+/// Two texts have one report, whichever pair stands for them, but for what stands behind the line of the expansion.
+pub fn reports_are_one()
+    ensures { ReportsAreOne }
+{
+    text_pairs_are_alike();
+    alike_reports_are_one();
 }
 
 /// An answer speaks of the texts that the files hold as its status says, also where a front of it alone is written.

@@ -28,3 +28,9 @@ returns-clause-decided c =
     let so : (a : Answer) → Judges c.args.asked.now c.args.spec.now c.args.imp.now a.status a.report.items → AreDecided c.args.asked.now c.args.spec.now c.args.imp.now → (a.status ≡ 0) ⊎ (a.status ≡ 1) =
     λ a judged decided. c.decided_are_answered.ensures c.args.asked.now c.args.spec.now c.args.imp.now a.status a.report.items judged decided in
     IfOk-weaker _ _ _ so c.answer.ensures.answer
+
+pub returns-clause-stays_open : goal.returns-clause-stays_open
+returns-clause-stays_open c =
+    let so : (a : Answer) → Judges c.args.asked.now c.args.spec.now c.args.imp.now a.status a.report.items → AreLeftOpen c.args.asked.now c.args.spec.now c.args.imp.now → a.status ≡ 3 =
+    λ a judged left. c.left_open_are_answered.ensures c.args.asked.now c.args.spec.now c.args.imp.now a.status a.report.items judged left in
+    IfOk-weaker _ _ _ so c.answer.ensures.answer

@@ -1,5 +1,5 @@
 use Rattle.std.proofs.Common.{inl}
-use Rattle.bb_ladder.proofs.HeadlineLemmas.{decided_sound, error_sound, open_sound, repair_sound, unread_rose}
+use Rattle.bb_ladder.proofs.HeadlineLemmas.{decided_sound, error_sound, open_complete, open_sound, repair_sound, unread_rose}
 use Rattle.bb_ladder.proofs.running.run.Goals as goal
 
 pub returns-in-Ok-put_all-clause-whole : goal.returns-in-Ok-put_all-clause-whole
@@ -26,3 +26,7 @@ returns-in-Ok-put_all-clause-unread g c = λ four. unread_rose _ _ _ _ c.in-Ok.a
 pub returns-in-Ok-put_all-clause-decided : goal.returns-in-Ok-put_all-clause-decided
 returns-in-Ok-put_all-clause-decided g c = λ q spec imp texts spec_short imp_short decided calm quiet. inl
     (decided_sound c.decided_are_answered.ensures q spec imp spec_short imp_short decided _ _ _ _ c.in-Ok.answer.status c.in-Ok.answer.report.items texts calm c.in-Ok.ensures.answer)
+
+pub returns-in-Ok-put_all-clause-stays_open : goal.returns-in-Ok-put_all-clause-stays_open
+returns-in-Ok-put_all-clause-stays_open g c = λ q spec imp texts spec_short imp_short left calm quiet. inl
+    (open_complete c.left_open_are_answered.ensures q spec imp spec_short imp_short left _ _ _ _ c.in-Ok.answer.status c.in-Ok.answer.report.items texts calm c.in-Ok.ensures.answer)
