@@ -2,3 +2,4 @@ pub mod AlikeCells
 pub mod FormulaLemmas
 pub mod FormulaValues
 pub mod OrderedFormulas
+pub mod RearrangedFormulas

@@ -1,6 +1,7 @@
 -- Laws of netlists that are alike.
 use Rattle.std.specs.Prelude.{◌≡◌, ℕ, ◌<◌, Bool, List, length}
 use Rattle.bb_net.specs.Netlists.{Netlist, cell_at, IsNetlist}
+use Rattle.bb_net.specs.Rearrangements.{IsRearranged}
 use Rattle.bb_net.specs.Ternary.{tern, tern_of}
 use Rattle.bb_net.specs.Values.{bit_of, value_of}
 use Rattle.bb_alike.specs.Alike.{AreAlike}
@@ -28,3 +29,8 @@ AlikeCellsHaveOneBit = (a b : Netlist) → IsNetlist a → IsNetlist b → AreAl
 abbrev pub AlikeCellsAreKnownAlike : Type 0
 AlikeCellsAreKnownAlike = (a b : Netlist) → IsNetlist a → IsNetlist b → AreAlike a b → (x : List Bool)
     → (k m : ℕ) → k < length a.cells → m < length b.cells → formula_at a.cells k ≡ formula_at b.cells m → tern_of (tern a x) k ≡ tern_of (tern b x) m
+
+-- alike netlists whose inputs and outputs are rearranged in one way are alike
+abbrev pub RearrangedStayAlike : Type 0
+RearrangedStayAlike = (numbers picks : List ℕ) (old new u v : Netlist) → IsNetlist old → IsNetlist new → IsNetlist u → IsNetlist v
+    → IsRearranged numbers picks old new → IsRearranged numbers picks u v → AreAlike old u → AreAlike new v

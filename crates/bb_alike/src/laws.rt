@@ -1,6 +1,6 @@
 //! Laws of netlists that are alike. Each function has a law as its contract and does nothing.
 
-ghost use Rattle.bb_alike.specs.Laws.{FormulasAreOfCells, AlikeIsMutual, AlikeNetsHaveCells, AlikeCellsHaveOneBit, AlikeCellsAreKnownAlike};
+ghost use Rattle.bb_alike.specs.Laws.{FormulasAreOfCells, AlikeIsMutual, AlikeNetsHaveCells, AlikeCellsHaveOneBit, AlikeCellsAreKnownAlike, RearrangedStayAlike};
 ghost use Rattle.bb_alike.specs.LooseFormulas.{OrderKeepsFormulas};
 
 use bb_net::{tern_exists, value_exists};
@@ -37,4 +37,9 @@ pub fn alike_cells_are_known_alike()
 /// The formulas of an ordered netlist are the only ones that meet the equations of the list of which it is an order.
 pub fn order_keeps_formulas()
     ensures { OrderKeepsFormulas }
+{}
+
+/// Alike netlists whose inputs and outputs are rearranged in one way are alike.
+pub fn rearranged_stay_alike()
+    ensures { RearrangedStayAlike }
 {}

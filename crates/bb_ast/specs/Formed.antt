@@ -2,14 +2,11 @@
 -- sized numbers have 1 to 128 bits, and other numbers are below 2 ^ 31.
 use Rattle.std.specs.Prelude.{ℕ, ◌<◌, ◌≤◌, ◌^◌, List, [], ◌∷◌, Option, None, length, IfSome}
 use Rattle.std.specs.List.{AllByRecursion}
+use Rattle.bb_bits.specs.Names.{IsPrintable}
 use Rattle.bb_ast.specs.declared.module.Port.{Port}
 use Rattle.bb_ast.specs.declared.module.Range.{Range}
 use Rattle.bb_ast.specs.Syntax.{Expression, Net, Bit, Part, Sized, Plain, Not, Chain, Cond, Concat, Repeat, Operands, no_operand, operand, Arms, no_arm, arm, Parts, no_part, part}
 use Rattle.bb_ast.specs.Syntax.{PlainConns, Order, Named, PlainBody, Ports, Nets, Regs, Supply, Assign, Gates, Calls, Always, PlainHead, PlainModule}
-
--- one or more of the bytes 33 to 126
-abbrev pub IsPrintable : List ℕ → Type 0
-IsPrintable name = (0 < length name) × AllByRecursion (λ b. (33 ≤ b) × (b ≤ 126)) name
 
 -- what a plain number says, also as an index or a count
 abbrev pub IsSmall : ℕ → Type 0

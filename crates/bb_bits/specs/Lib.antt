@@ -1,7 +1,10 @@
 pub mod Bits
+pub mod Closures
 pub mod Contents
+pub mod Earlier
 pub mod Names
 pub mod Numbers
+pub mod Places
 pub mod RowLaws
 pub mod Tables
 pub mod Truth

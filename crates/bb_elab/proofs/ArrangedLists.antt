@@ -4,22 +4,26 @@ use Rattle.std.proofs.lemmas.Option.{slice_get_within}
 use Rattle.std.specs.Prelude.{slice_get, Some, Result, Ok, Err, IfErr, IsErrAnd, MatchResult}
 use Rattle.bb_ast.specs.Syntax.{PlainModule}
 use Rattle.bb_net.specs.Loose.{LooseList, IsLoose, IsOnClosedWalk, IsLeastOnClosedWalk}
-use Rattle.bb_elab.specs.declared.fault.ElabFault.{ElabFault}
-use Rattle.bb_elab.specs.declared.fault.ElabFault.TheVariants.{Loop, Undriven}
+use Rattle.bb_design.specs.declared.fault.ElabFault.{ElabFault}
+use Rattle.bb_design.specs.declared.fault.ElabFault.TheVariants.{Loop, Undriven}
 use Rattle.bb_elab.specs.declared.growing.Grown.{Grown}
-use Rattle.bb_elab.specs.declared.outline.Outline.{Outline}
-use Rattle.bb_elab.specs.declared.placed.Placed.{Placed}
-use Rattle.bb_elab.specs.declared.stored.Stored.{Stored}
-use Rattle.bb_elab.specs.DrivenNumbers.{IsFirstAt}
-use Rattle.bb_elab.specs.Hierarchy.{Design}
-use Rattle.bb_elab.specs.ListLaws.{IsBounded, ListsAreLoose}
-use Rattle.bb_elab.specs.LoopLaws.{ListsWithoutWalks, LeastWalksAreFirstLoops}
-use Rattle.bb_elab.specs.NetBits.{Bit, net_order}
-use Rattle.bb_elab.specs.Placements.{ArePlaced, AreOutlined, AreCounts, AreStored, AreReads}
-use Rattle.bb_elab.specs.Refusals.{IsAcyclic, AreDrivenOnce, IsUndriven, AreDriven, TwoDrivers, NoDriver, Cycle, IsRefusalOf}
-use Rattle.bb_elab.specs.Stages.{IsFinite, HasGrown, IsListed, IsReadable, TellsOf}
-use Rattle.bb_elab.specs.Texts.{bit_text}
-use Rattle.bb_elab.proofs.StageRefusals.{refused, and_clear, finite_clear}
+use Rattle.bb_blast.specs.declared.outline.Outline.{Outline}
+use Rattle.bb_blast.specs.declared.placed.Placed.{Placed}
+use Rattle.bb_blast.specs.declared.stored.Stored.{Stored}
+use Rattle.bb_elab.specs.DrivenNumbers.{IsFirstAt, AreCounts, AreReads}
+use Rattle.bb_design.specs.Hierarchy.{Design}
+use Rattle.bb_cells.specs.ListLaws.{ListsAreLoose}
+use Rattle.bb_design.specs.Allowed.{IsBounded}
+use Rattle.bb_cells.specs.LoopLaws.{ListsWithoutWalks, LeastWalksAreFirstLoops}
+use Rattle.bb_design.specs.NetBits.{Bit, net_order}
+use Rattle.bb_blast.specs.Placements.{ArePlaced, AreOutlined, AreStored}
+use Rattle.bb_design.specs.Refusals.{IsAcyclic, AreDrivenOnce, IsUndriven, AreDriven, TwoDrivers, NoDriver, Cycle, IsRefusalOf}
+use Rattle.bb_design.specs.CauseLaws.{TellsOf}
+use Rattle.bb_elab.specs.Stages.{HasGrown, IsListed, IsReadable}
+use Rattle.bb_hier.specs.Finite.{IsFinite}
+use Rattle.bb_design.specs.Texts.{bit_text}
+use Rattle.bb_elab.proofs.FiniteDesigns.{finite_clear}
+use Rattle.bb_design.specs.DesignLaws.{DesignLaws}
 
 module _ (text : List PlainModule) (g : Grown) (l : LooseList) where
   pub is_loose : ListsAreLoose → (x : (d : Design) × HasGrown text d g × IsListed d l) → IsLoose l
@@ -96,12 +100,13 @@ module _ (text : List PlainModule) (g : Grown) (placed : List Placed) (outlines 
   pub listed_at : (l : LooseList) → ((d : Design) → ArePlaced d placed → AreOutlined d placed outlines → AreStored d stored → IsBounded d → AreDrivenOnce d → IsListed d l) → (d : Design) → HasGrown text d g → IsListed d l
   listed_at l law d has = let all = seen d has in law d all.0 all.1 all.2 has.finite.bounded has.grown.once
 
--- the cause that is told is the first
-pub first_undriven_cause : (d : Design) (fault : ElabFault) → IsFinite d → AreDrivenOnce d → TellsOf d NoDriver fault → IsRefusalOf d fault
-first_undriven_cause d fault finite once tells = refused d NoDriver fault tells (and_clear d TwoDrivers (finite_clear d finite) once)
+module _ (of_designs : DesignLaws) where
+  -- the cause that is told is the first
+  pub first_undriven_cause : (d : Design) (fault : ElabFault) → IsFinite d → AreDrivenOnce d → TellsOf d NoDriver fault → IsRefusalOf d fault
+  first_undriven_cause d fault finite once tells = (of_designs.causes d).refused NoDriver fault tells ((of_designs.causes d).next TwoDrivers (finite_clear of_designs d finite) once)
 
-pub first_loop_cause : (d : Design) (fault : ElabFault) → IsFinite d → AreDrivenOnce d → AreDriven d → TellsOf d Cycle fault → IsRefusalOf d fault
-first_loop_cause d fault finite once driven tells = refused d Cycle fault tells (and_clear d NoDriver (and_clear d TwoDrivers (finite_clear d finite) once) driven)
+  pub first_loop_cause : (d : Design) (fault : ElabFault) → IsFinite d → AreDrivenOnce d → AreDriven d → TellsOf d Cycle fault → IsRefusalOf d fault
+  first_loop_cause d fault finite once driven tells = (of_designs.causes d).refused Cycle fault tells ((of_designs.causes d).next NoDriver ((of_designs.causes d).next TwoDrivers (finite_clear of_designs d finite) once) driven)
 
 pub told_on : {A P Q : Type 0} → A ⊎ P → (P → Q) → A ⊎ Q
 told_on (inl none) next = inl none

@@ -6,14 +6,13 @@ use Rattle.std.proofs.lemmas.List.{take_all}
 use Rattle.std.proofs.lemmas.List.Concat.{length-flat_map}
 use Rattle.std.proofs.lemmas.List.Sums.{sum_by_more}
 use Rattle.std.proofs.lemmas.Option.{slice_get_within, get_or_from_slice_get, same_Some}
-use Rattle.bb_elab.specs.declared.placed.Placed.{Placed}
-use Rattle.bb_elab.specs.Hierarchy.{Design, Scope, scopes}
-use Rattle.bb_elab.specs.NetBits.{Bit, net_order, scope_bits}
+use Rattle.bb_blast.specs.declared.placed.Placed.{Placed}
+use Rattle.bb_design.specs.Hierarchy.{Design, Scope, scopes}
+use Rattle.bb_design.specs.NetBits.{Bit, net_order, scope_bits}
 use Rattle.bb_elab.specs.PlacedPaths.{IsLastBelow}
-use Rattle.bb_elab.specs.Placements.{IsScopeAt, ArePlaced}
-use Rattle.bb_elab.proofs.ModuleCells.{less_or_past}
-use Rattle.bb_elab.proofs.NetNumbers.{got_flat}
-use Rattle.bb_elab.proofs.RecursiveNames.{some_at}
+use Rattle.bb_blast.specs.Placements.{IsScopeAt, ArePlaced}
+use Rattle.bb_lists.proofs.Orders.{less_or_past}
+use Rattle.bb_lists.proofs.Places.{got_flat, some_at}
 
 flat-next : {A B : Type 0} (f : A → List B) (xs : List A) (k : ℕ) (x : A) → slice_get xs k ≡ Some x → length (flat_map f (take (k + 1) xs)) ≡ length (flat_map f (take k xs)) + length (f x)
 flat-next f xs k x there =

@@ -3,21 +3,21 @@ use Rattle.std.proofs.Common.{◌≡◌, ◌≢◌, ◌⊎◌, ℕ, zero, suc, �
 use Rattle.std.specs.Prelude.{replicate, slice_index_or, IfSome, IfNone}
 use Rattle.std.specs.List.{range_with_len}
 use Rattle.std.proofs.lemmas.List.FromFn.{get_or-map-range_with_len}
-use Rattle.std.proofs.lemmas.List.{get_or_past}
-use Rattle.std.proofs.lemmas.List.{get_or-set_same, get_or-set_other, length-set}
+use Rattle.std.proofs.lemmas.List.{get_or_past, get_or-set_same, get_or-set_other, length-set}
 use Rattle.std.proofs.lemmas.Option.{same_Some}
 use Rattle.bb_net.specs.declared.loose.LooseCell.{LooseCell}
 use Rattle.bb_net.specs.declared.loose.LooseCell.TheVariants.{Const, Input, Copy}
 use Rattle.bb_net.specs.Loose.{LooseList, loose_at, IsLoose}
 use Rattle.bb_net.specs.Orders.{IsKept, IsSource}
-use Rattle.bb_elab.specs.Closures.{Leads, One, More}
+use Rattle.bb_bits.specs.Closures.{Leads, One, More}
 use Rattle.bb_elab.specs.CopyEnds.{EndsAt, AreEnds}
-use Rattle.bb_elab.specs.ReadPlaces.{copy_steps, FollowsAt}
-use Rattle.bb_elab.proofs.CopyMarks.{copy_to, copy_from, copies_one, unmarked, unmarked_less, unmarked_at}
-use Rattle.bb_elab.proofs.Firsts.{less_or_same}
-use Rattle.bb_elab.proofs.ModuleCells.{less_or_past}
+use Rattle.bb_cells.specs.ReadPlaces.{copy_steps, FollowsAt}
+use Rattle.bb_elab.proofs.CopyMarks.{copies_one}
+use Rattle.bb_lists.proofs.Marks.{unmarked, unmarked_less, unmarked_at}
+use Rattle.bb_lists.proofs.Orders.{less_or_same, less_or_past}
+use Rattle.bb_cells.specs.CellLaws.{CellLaws}
 
-module _ (l : LooseList) where
+module _ (of_cells : CellLaws) (l : LooseList) where
   kept_no_copy : (k p : ℕ) → IsKept (loose_at l k) → loose_at l k ≡ Copy p → ⊥
   kept_no_copy k p kept is = subst IsKept is kept
 
@@ -31,14 +31,14 @@ module _ (l : LooseList) where
       (ap suc r.0, r.1)
 
   starts_there : (j k : ℕ) → Leads (copy_steps l.cells) j k → j < length l.cells
-  starts_there j k (One has) = (copy_from l.cells j k (Const false) has).0
-  starts_there j k (More {y = y} has rest) = (copy_from l.cells j y (Const false) has).0
+  starts_there j k (One has) = ((of_cells.copies l.cells j k (Const false)).0 has).0
+  starts_there j k (More {y = y} has rest) = ((of_cells.copies l.cells j y (Const false)).0 has).0
 
   leads_source : (j k : ℕ) → Leads (copy_steps l.cells) j k → k < length l.cells → IsKept (loose_at l k) → (n : ℕ) × IsSource n l j k
-  leads_source j k (One has) there kept = (1, (k, there, (copy_from l.cells j k (Const false) has).1, (refl, kept)))
+  leads_source j k (One has) there kept = (1, (k, there, ((of_cells.copies l.cells j k (Const false)).0 has).1, (refl, kept)))
   leads_source j k (More {y = y} has rest) there kept =
       let r = leads_source y k rest there kept in
-      (suc r.0, (y, starts_there y k rest, (copy_from l.cells j y (Const false) has).1, r.1))
+      (suc r.0, (y, starts_there y k rest, ((of_cells.copies l.cells j y (Const false)).0 has).1, r.1))
 
   pub follow_source : (j k : ℕ) → FollowsAt l.cells j k → k < length l.cells → IsKept (loose_at l k) → (n : ℕ) × IsSource n l j k
   follow_source j k (inl same) there kept = (0, (same, subst (λ i. IsKept (loose_at l i)) (sym same) kept))
@@ -94,7 +94,7 @@ module _ (l : LooseList) where
 abbrev pub Comes : LooseList → ℕ → ℕ → ℕ → Type 0
 Comes l place at step = place < length l.cells → (n source : ℕ) → IsSource n l place source → (at < length l.cells) × (m : ℕ) × IsSource m l at source × (m + step ≡ n)
 
-module _ (l : LooseList) (place : ℕ) where
+module _ (of_cells : CellLaws) (l : LooseList) (place : ℕ) where
   pub comes_first : Comes l place place 0
   comes_first there n source is = (there, n, is, plus)
     where
@@ -105,7 +105,7 @@ module _ (l : LooseList) (place : ℕ) where
   comes_next at of step comes copy there n source is = by (comes there n source is)
     where
       by : (at < length l.cells) × (m : ℕ) × IsSource m l at source × (m + step ≡ n) → (of < length l.cells) × (m : ℕ) × IsSource m l of source × (m + (step + 1) ≡ n)
-      by (low, zero, s, long) = absurd (kept_no_copy l at of s.1 copy)
+      by (low, zero, s, long) = absurd (kept_no_copy of_cells l at of s.1 copy)
       by (low, suc m, s, long) =
           let same = copies_one s.0 of (sym s.2 ∙ copy) in
           (subst (λ p. p < length l.cells) same s.1, m, subst (λ p. IsSource m l p source) same s.3, omega (arith, long))
@@ -124,7 +124,7 @@ module _ (l : LooseList) (place : ℕ) where
   pub ends_soon : (at step : ℕ) → Comes l place at step → length l.cells ≤ step → EndsAt l place at
   ends_soon at step comes past there n source is =
       let c = comes there n source is in
-      let short = few_copies l n place source is there in
+      let short = few_copies of_cells l n place source is there in
       absurd (omega (arith, short, c.3, past))
 
 -- where a copy ends, there ends what it is a copy of
@@ -152,7 +152,7 @@ taken_at (c ∷ cells) zero k d lt = absurd (omega (arith, lt))
 taken_at (c ∷ cells) (suc n) zero d lt = refl
 taken_at (c ∷ cells) (suc n) (suc k) d lt = taken_at cells n k d (omega (arith, lt))
 
-module _ (l : LooseList) (loose : IsLoose l) where
+module _ (of_cells : CellLaws) (l : LooseList) (loose : IsLoose l) where
   -- inputs stand behind the two constants
   pub input_cell : (k : ℕ) → k < l.inputs → loose_at l (k + 2) ≡ Input k
   input_cell k lt =
@@ -176,7 +176,7 @@ module _ (l : LooseList) (loose : IsLoose l) where
   source_follows (suc n) place source there is = inr (by (source_follows n is.0 source is.1 is.3))
     where
       copy : Contains (copy_steps l.cells) (place, is.0)
-      copy = copy_to l.cells place is.0 (Const false) there is.2
+      copy = ((of_cells.copies l.cells place is.0 (Const false)).1 (there, is.2))
 
       by : FollowsAt l.cells is.0 source → Leads (copy_steps l.cells) place source
       by (inl same) = One (subst (λ p. Contains {X = ℕ × ℕ} (copy_steps l.cells) (place, p)) same copy)
@@ -187,7 +187,7 @@ module _ (l : LooseList) (loose : IsLoose l) where
     input_is : (k : ℕ) → k < limit → FollowsAt l.cells place (k + 2) → source ≡ k + 2
     input_is k lt follows =
         let lt2 : k < l.inputs = omega (arith, lt, few) in
-        let s = follow_source l place (k + 2) follows (input_there k lt2) (input_kept k lt2) in (source_unique l n s.0 place source (k + 2) is s.1).1
+        let s = follow_source of_cells l place (k + 2) follows (input_there k lt2) (input_kept k lt2) in (source_unique of_cells l n s.0 place source (k + 2) is s.1).1
 
     -- the input at which they end
     pub input_found : (o : Option ℕ) → IfSome o (λ k. (k < limit) × (k + 2 ≡ source)) → IfSome o (λ k. (k < limit) × FollowsAt l.cells place (k + 2))

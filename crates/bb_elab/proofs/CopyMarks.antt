@@ -6,60 +6,15 @@ use Rattle.std.specs.List.{enumerate_from, flat_map}
 use Rattle.std.proofs.lemmas.List.{get_or_default, get_or-set_same, get_or-set_other, length-set}
 use Rattle.bb_net.specs.declared.loose.LooseCell.{LooseCell}
 use Rattle.bb_net.specs.declared.loose.LooseCell.TheVariants.{Const, Input, Not, And, Or, Xor, Mux, BoxOut, Copy}
-use Rattle.bb_elab.specs.Closures.{Leads, One, More}
-use Rattle.bb_elab.specs.ReadPlaces.{read_by, copied_by, copy_steps, read_places, FollowsAt, IsReadPlace, AreClosed}
+use Rattle.bb_bits.specs.Closures.{Leads, One, More}
+use Rattle.bb_cells.specs.ReadPlaces.{read_by, copied_by, copy_steps, read_places, FollowsAt, IsReadPlace, AreClosed}
 use Rattle.bb_net.specs.Loose.{LooseList, loose_at, operands, IsLoose}
 use Rattle.bb_net.specs.Netlists.{Pins, box_at}
-use Rattle.bb_elab.proofs.CauseDecisions.{from_flat, from_map}
-use Rattle.bb_elab.proofs.Enumerated.{enumerated_from, numbered_at}
-use Rattle.bb_elab.proofs.Firsts.{less_or_same}
-use Rattle.bb_elab.proofs.Levels.{contains-map}
-use Rattle.bb_elab.proofs.ReadingLaw.{into_flat}
-use Rattle.bb_elab.proofs.TopLaws.{contains_here, contains_cases, none_in_nil}
-
-copied_is : (c : LooseCell) (k : ℕ) → Contains (copied_by c) k → c ≡ Copy k
-copied_is (Const b) k has = absurd (none_in_nil k has)
-copied_is (Input i) k has = absurd (none_in_nil k has)
-copied_is (Not a) k has = absurd (none_in_nil k has)
-copied_is (And a b) k has = absurd (none_in_nil k has)
-copied_is (Or a b) k has = absurd (none_in_nil k has)
-copied_is (Xor a b) k has = absurd (none_in_nil k has)
-copied_is (Mux c t e) k has = absurd (none_in_nil k has)
-copied_is (BoxOut b p) k has = absurd (none_in_nil k has)
-copied_is (Copy p) k has = by (contains_cases p [] k has)
-  where
-    by : (p ≡ k) ⊎ Contains [] k → Copy p ≡ Copy k
-    by (inl same) = ap Copy same
-    by (inr none) = absurd (none_in_nil k none)
-
--- the steps of copies
-pub copy_to : (cells : List LooseCell) (j k : ℕ) (c : LooseCell) → j < length cells → get_or cells j c ≡ Copy k → Contains (copy_steps cells) (j, k)
-copy_to cells j k c lt is =
-    into_flat (λ (x : ℕ × LooseCell). map (λ k. (x.0, k)) (copied_by x.1)) (enumerate_from 0 cells) (j, get_or cells j c) (j, k) (numbered_at cells j c lt)
-    (contains-map (λ k. (j, k)) (copied_by (get_or cells j c)) k (subst (λ u. Contains (copied_by u) k) (sym is) (contains_here k [])))
-
-pub copy_from : (cells : List LooseCell) (j k : ℕ) (c : LooseCell) → Contains (copy_steps cells) (j, k) → (j < length cells) × (get_or cells j c ≡ Copy k)
-copy_from cells j k c has =
-    let x = from_flat (λ (x : ℕ × LooseCell). map (λ k. (x.0, k)) (copied_by x.1)) (enumerate_from 0 cells) (j, k) has in
-    let y = from_map (λ k. (x.0.0, k)) (copied_by x.0.1) (j, k) x.2 in
-    let e = enumerated_from 0 cells x.0.0 x.0.1 x.1 in
-    let place : e.0 ≡ j = omega (arith, e.1, ap (λ (z : ℕ × ℕ). z.0) y.2) in
-    (omega (arith, place, e.2), ap (λ i. get_or cells i c) (sym place) ∙ e.3 c ∙ copied_is x.0.1 k (subst (Contains (copied_by x.0.1)) (ap (λ (z : ℕ × ℕ). z.1) y.2) y.1))
-
-pub copies_one : (a b : ℕ) → Copy a ≡ Copy b → a ≡ b
-copies_one a b e = grind (arith, e)
-
--- how many are not marked
-unfoldable pub unmarked : List Bool → ℕ
-unmarked [] = 0
-unmarked (b ∷ marks) = (if b then 0 else 1) + unmarked marks
-
-pub unmarked_less : (marks : List Bool) (k : ℕ) → k < length marks → slice_index_or marks k false ≡ false → unmarked (set marks k true) < unmarked marks
-unfolding unmarked
-unmarked_less [] k lt off = absurd (omega (arith, lt))
-unmarked_less (true ∷ marks) zero lt off = absurd (true≢false off)
-unmarked_less (false ∷ marks) zero lt off = omega arith
-unmarked_less (b ∷ marks) (suc k) lt off = let rest = unmarked_less marks k (omega (arith, lt)) off in omega (arith, rest)
+use Rattle.bb_lists.proofs.Members.{from_flat, from_map, contains-map, into_flat, contains_here, contains_cases, none_in_nil}
+use Rattle.bb_lists.proofs.Numbered.{enumerated_from, numbered_at}
+use Rattle.bb_lists.proofs.Orders.{less_or_same}
+use Rattle.bb_lists.proofs.Marks.{unmarked_at}
+use Rattle.bb_cells.specs.CellLaws.{CellLaws}
 
 pub leads_on : {A : Type 0} (steps : List (A × A)) (a b c : A) → Leads steps a b → Contains steps (b, c) → Leads steps a c
 leads_on steps a b c (One has) step = More has (One step)
@@ -208,11 +163,6 @@ one_followed cells before marks now starts start are long closed kept on only = 
         from (inl b) = inl b
         from (inr r) = inr (r.0, Contains-append_left starts (start ∷ []) r.0 r.1, r.2)
 
-pub unmarked_at : (n k : ℕ) → get_or (replicate n false) k false ≡ true → ⊥
-unmarked_at zero k on = true≢false (sym on)
-unmarked_at (suc n) zero on = true≢false (sym on)
-unmarked_at (suc n) (suc k) on = unmarked_at n k on
-
 pub unmarked_closed : (cells : List LooseCell) (marks : List Bool) (n : ℕ) → marks ≡ replicate n false → AreClosed cells marks
 unmarked_closed cells marks n is j k on step lt = absurd (unmarked_at n j (ap (λ l. get_or l j false) (sym is) ∙ on))
 
@@ -238,10 +188,10 @@ read_operand boxes (Mux c t e) k has = has
 read_operand boxes (BoxOut b p) k has = absurd (none_in_nil k has)
 read_operand boxes (Copy p) k has = absurd (none_in_nil k has)
 
-module _ (l : LooseList) (loose : IsLoose l) where
+module _ (of_cells : CellLaws) (l : LooseList) (loose : IsLoose l) where
   copies_there : (j k : ℕ) → Contains (copy_steps l.cells) (j, k) → k < length l.cells
   copies_there j k has =
-      let f = copy_from l.cells j k (Const false) has in
+      let f = (of_cells.copies l.cells j k (Const false)).0 has in
       All-contains (λ k. k < length l.cells) (operands l.boxes (loose_at l j)) k (loose.there j f.0) (subst (λ c. Contains (operands l.boxes c) k) (sym f.1) (contains_here k []))
 
   read_there : (clocks : List ℕ) → All (λ p. p < length l.cells) clocks → (j : ℕ) → Contains (read_places l clocks) j → j < length l.cells
@@ -269,3 +219,7 @@ module _ (l : LooseList) (loose : IsLoose l) where
       → ((s : ℕ) → Contains (read_places l clocks) s → s < length l.cells → slice_index_or marks s false ≡ true) → (k : ℕ) → IsReadPlace l clocks k → slice_index_or marks k false ≡ true
   all_marked clocks timed marks long closed started k read =
       followed_marked l.cells marks long closed copies_there read.0 k (started read.0 read.1 (read_there clocks timed read.0 read.1)) read.2
+
+-- a copy is one of one place
+pub copies_one : (a b : ℕ) → Copy a ≡ Copy b → a ≡ b
+copies_one a b e = grind (arith, e)

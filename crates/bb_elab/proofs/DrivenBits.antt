@@ -5,23 +5,23 @@ use Rattle.std.proofs.lemmas.Grind.{flat_map-append}
 use Rattle.std.proofs.lemmas.List.{map-append, length-map, length-drop}
 use Rattle.std.proofs.lemmas.List.Elements.{All-contains}
 use Rattle.bb_ast.specs.Syntax.{Expression}
-use Rattle.bb_expr.specs.Declarations.{range_of}
+use Rattle.bb_names.specs.Declarations.{range_of}
+use Rattle.bb_names.specs.Spots.{Pin}
 use Rattle.bb_expr.specs.Laws.{ValuesHaveWidth, MadeHasValue}
-use Rattle.bb_expr.specs.Spots.{Pin}
 use Rattle.bb_expr.specs.Terms.{Term, bit_of}
-use Rattle.bb_elab.specs.Hierarchy.{Design, Path, Scope, path_to, scopes, is_box}
-use Rattle.bb_elab.specs.NetBits.{Bit, bits_named, pin_bits, output_bits, top_inputs, written_bits}
-use Rattle.bb_elab.specs.Contexts.{width_of, context_width, low_bits, made_in}
-use Rattle.bb_elab.specs.Constructs.{Construct, Assignment, GateInstance, Register, SupplyNet, InputConnection, OutputConnection, BoxContents, body_constructs, constructs_at, parts}
-use Rattle.bb_elab.specs.Drivers.{Source, Free, Made, Box, Drive, driven, driven_by, terminal_terms, drives_at, driven_bits}
-use Rattle.bb_elab.specs.DrivenWorlds.{IsLegal}
-use Rattle.bb_elab.specs.GateFunctions.{on_terms, gate_gives}
-use Rattle.bb_elab.specs.ListLaws.{IsBounded}
-use Rattle.bb_elab.proofs.SoundConstructs.{sound_constructs_are_legal}
-use Rattle.bb_elab.proofs.SoundSpots.{source_there}
-use Rattle.bb_elab.proofs.TopLaws.{contains_here, contains_there, contains_cases, none_in_nil}
-use Rattle.bb_elab.proofs.WrittenValue.{length-range, written_short}
+use Rattle.bb_design.specs.Hierarchy.{Design, Path, Scope, path_to, scopes, is_box}
+use Rattle.bb_design.specs.NetBits.{Bit, bits_named, pin_bits, output_bits, top_inputs, written_bits}
+use Rattle.bb_design.specs.Contexts.{width_of, context_width, made_in}
+use Rattle.bb_bits.specs.Bits.{low_bits}
+use Rattle.bb_design.specs.Constructs.{Construct, Assignment, GateInstance, Register, SupplyNet, InputConnection, OutputConnection, BoxContents, body_constructs, constructs_at, parts}
+use Rattle.bb_design.specs.Drivers.{Source, Free, Made, Box, Drive, driven, driven_by, terminal_terms, drives_at, driven_bits}
+use Rattle.bb_design.specs.DrivenWorlds.{IsLegal}
+use Rattle.bb_design.specs.GateFunctions.{on_terms, gate_gives}
+use Rattle.bb_design.specs.Allowed.{IsBounded}
+use Rattle.bb_lists.proofs.Members.{contains_here, contains_there, contains_cases, none_in_nil}
+use Rattle.bb_lists.proofs.Ranges.{length-range}
 use Rattle.bb_expr.specs.Terms as term
+use Rattle.bb_design.specs.DesignLaws.{DesignLaws}
 
 -- the bits that a construct drives
 
@@ -70,7 +70,7 @@ legal_fits s (InputConnection i pin e) legal = legal
 legal_fits s (OutputConnection i pin e) legal = legal.width
 legal_fits s BoxContents legal = tt
 
-module _ (values : ValuesHaveWidth) (cells : MadeHasValue) where
+module _ (of_designs : DesignLaws) (values : ValuesHaveWidth) (cells : MadeHasValue) where
   made_long : (s : Scope) (e : Expression) (n : ℕ) → width_of s e ≤ n → length (made_in s e n).bits ≡ n
   made_long s e n fits =
       let env : List ℕ → ℕ → Bool = λ m k. false in
@@ -83,7 +83,7 @@ module _ (values : ValuesHaveWidth) (cells : MadeHasValue) where
       let made = (made_in s right wide).bits in
       let fits : width_of s right ≤ wide = omega arith in
       let long = made_long s right wide fits in
-      let short = written_short s left in
+      let short = of_designs.written_few s left in
       of_terms s.path (written_bits s left) (low_bits n made) (omega (arith, length-drop (length made - n) made, long, short))
   drives_are s (GateInstance gate outs ins) legal = of_driven (Made s.path (gate_gives on_terms gate (terminal_terms s ins))) (flat_map (written_bits s) outs)
   drives_are s (Register r) legal = of_driven Free (written_bits s r.left)
@@ -91,7 +91,7 @@ module _ (values : ValuesHaveWidth) (cells : MadeHasValue) where
   drives_are s (InputConnection i pin e) legal = of_terms s.path (pin_bits (path_to s.path i) pin) (made_in s e (width_of s e)).bits (omega (arith, pins_long (path_to s.path i) pin, legal, made_long s e (width_of s e) (omega arith)))
   drives_are s (OutputConnection i pin e) legal =
       let pins = pin_bits (path_to s.path i) pin in
-      let short = written_short s e in
+      let short = of_designs.written_few s e in
       of_terms (path_to s.path i) (written_bits s e) (map (λ b. term.Net b.net b.place) pins) (omega (arith, short, legal, pins_long (path_to s.path i) pin, length-map pins (λ b. term.Net b.net b.place)))
   drives_are s BoxContents legal = of_numbered s 0 (output_bits s)
 
@@ -100,7 +100,7 @@ module _ (values : ValuesHaveWidth) (cells : MadeHasValue) where
 abbrev pub drivers_in : Design → Scope → List Bit
 drivers_in d s = flat_map (bits_driven s) (constructs_at d.text s)
 
-module _ (values : ValuesHaveWidth) (cells : MadeHasValue) (d : Design) (bounded : IsBounded d) where
+module _ (of_designs : DesignLaws) (values : ValuesHaveWidth) (cells : MadeHasValue) (d : Design) (bounded : IsBounded d) where
   fitting : (s : Scope) → Contains (scopes d) s → (c : Construct) → Contains (constructs_at d.text s) c → IsFitting s c
   fitting s here c has = by (is_box s) refl
     where
@@ -110,12 +110,12 @@ module _ (values : ValuesHaveWidth) (cells : MadeHasValue) (d : Design) (bounded
 
       by : (b : Bool) → is_box s ≡ b → IsFitting s c
       by true box = only (contains_cases BoxContents [] c (subst (λ b. Contains (if b then BoxContents ∷ [] else flat_map (λ item. body_constructs d.text item.body) s.source.items) c) box has))
-      by false box = legal_fits s c (All-contains (IsLegal (λ k. []) s) (constructs_at d.text s) c (sound_constructs_are_legal d.text (λ k. []) s bounded.faultless (source_there d s bounded.top here) box) has)
+      by false box = legal_fits s c (All-contains (IsLegal (λ k. []) s) (constructs_at d.text s) c (of_designs.constructs_legal d.text (λ k. []) s bounded.faultless (of_designs.of_text d s bounded.top here) box) has)
 
   scope_drives : (s : Scope) (cs : List Construct) → ((c : Construct) → Contains cs c → IsFitting s c) → map (λ (x : Drive). x.bit) (flat_map drives_at (map (λ c. (s, c)) cs)) ≡ flat_map (bits_driven s) cs
   scope_drives s [] fits = refl
   scope_drives s (c ∷ cs) fits = map-append (λ (x : Drive). x.bit) (drives_at (s, c)) (flat_map drives_at (map (λ c. (s, c)) cs))
-      ∙ ap₂ ◌++◌ (drives_are values cells s c (fits c (contains_here c cs))) (scope_drives s cs (λ z has. fits z (contains_there c cs z has)))
+      ∙ ap₂ ◌++◌ (drives_are of_designs values cells s c (fits c (contains_here c cs))) (scope_drives s cs (λ z has. fits z (contains_there c cs z has)))
 
   all_drives : (ss : List Scope) → ((s : Scope) → Contains ss s → Contains (scopes d) s) → map (λ (x : Drive). x.bit) (flat_map drives_at (flat_map (λ s. map (λ c. (s, c)) (constructs_at d.text s)) ss)) ≡ flat_map (drivers_in d) ss
   all_drives [] there = refl

@@ -4,29 +4,31 @@ use Rattle.std.specs.Prelude.{slice_get}
 use Rattle.std.specs.Option.{option_map_or}
 use Rattle.std.specs.List.{flat_map, slice_index_or}
 use Rattle.bb_ast.specs.Syntax.{PlainModule}
+use Rattle.bb_names.specs.Spots.{Pin, module_named}
 use Rattle.bb_expr.specs.Laws.{ValuesHaveWidth, MadeHasValue}
-use Rattle.bb_expr.specs.Spots.{Pin, module_named}
-use Rattle.bb_elab.specs.declared.outline.Part.{Part}
-use Rattle.bb_elab.specs.declared.outline.Outline.{Outline}
-use Rattle.bb_elab.specs.declared.placed.Placed.{Placed}
-use Rattle.bb_elab.specs.Hierarchy.{Design, Instance, Scope, root, path_to, instances_of, scopes, is_box}
-use Rattle.bb_elab.specs.NetBits.{Bit, scope_bits, net_order, bits_named, pin_bits, output_bits, top_inputs, written_bits}
-use Rattle.bb_elab.specs.Constructs.{Construct, Assignment, GateInstance, Register, SupplyNet, InputConnection, OutputConnection, BoxContents, body_constructs, constructs_at}
-use Rattle.bb_elab.specs.Drivers.{driven_bits}
-use Rattle.bb_elab.specs.ListLaws.{IsBounded}
-use Rattle.bb_elab.specs.Outlines.{AreAt, IsPinIn, IsPartOf, IsOutline}
-use Rattle.bb_elab.specs.Placements.{IsScopeAt, IsChildAt, IsPlacedAt, ArePlaced, AreOutlined}
-use Rattle.bb_elab.specs.DrivenNumbers.{numbers_from, first_inside, part_numbers, outline_numbers, scope_numbers, top_numbers, driven_numbers, IsInside, MayCountInputs, MayBeCounted}
-use Rattle.bb_elab.proofs.CalleeLaw.{got}
-use Rattle.bb_elab.proofs.RecursiveNames.{some_at}
-use Rattle.bb_elab.proofs.NumberedLists.{some_same, zip_all, zip_other, AreNumbered, zip_numbered, at_append, at_below, zip_flat}
-use Rattle.bb_elab.proofs.ScopeBits.{at_scope_bits}
+use Rattle.bb_blast.specs.declared.outline.Part.{Part}
+use Rattle.bb_blast.specs.declared.outline.Outline.{Outline}
+use Rattle.bb_blast.specs.declared.placed.Placed.{Placed}
+use Rattle.bb_design.specs.Hierarchy.{Design, Instance, Scope, root, path_to, instances_of, scopes, is_box}
+use Rattle.bb_design.specs.NetBits.{Bit, scope_bits, net_order, bits_named, pin_bits, output_bits, top_inputs, written_bits}
+use Rattle.bb_design.specs.Constructs.{Construct, Assignment, GateInstance, Register, SupplyNet, InputConnection, OutputConnection, BoxContents, body_constructs, constructs_at}
+use Rattle.bb_design.specs.Drivers.{driven_bits}
+use Rattle.bb_design.specs.Allowed.{IsBounded}
+use Rattle.bb_blast.specs.Outlines.{IsPinIn, IsPartOf, IsOutline}
+use Rattle.bb_bits.specs.Places.{AreAt, numbers_from}
+use Rattle.bb_blast.specs.Placements.{IsScopeAt, IsChildAt, IsPlacedAt, ArePlaced, AreOutlined}
+use Rattle.bb_elab.specs.DrivenNumbers.{first_inside, part_numbers, outline_numbers, scope_numbers, top_numbers, driven_numbers, IsInside, MayCountInputs, MayBeCounted}
+use Rattle.bb_lists.proofs.Places.{got, some_at, some_same}
+use Rattle.bb_lists.proofs.AtPlaces.{at_append, at_below, zip_flat}
+use Rattle.bb_lists.proofs.Zips.{zip_all, zip_other, AreNumbered, zip_numbered}
 use Rattle.bb_elab.proofs.DrivenBits.{bits_driven, drivers_in, driven_are}
-use Rattle.bb_elab.specs.declared.outline.Part.TheVariants as part
+use Rattle.bb_blast.specs.declared.outline.Part.TheVariants as part
+use Rattle.bb_lists.proofs.FlatPlaces.{at_flat, flat_longer, flat_fits}
+use Rattle.bb_design.specs.DesignLaws.{DesignLaws}
 
 module _ (d : Design) (all : List Placed) (placed : ArePlaced d all) (k : ℕ) (s : Scope) (p : Placed) (here : IsScopeAt d k s) (is : IsPlacedAt d k s p) where
   at_scope : (xs : List Bit) (ks : List ℕ) → AreAt (scope_bits s) ks xs → AreAt (net_order d) (numbers_from p.first ks) xs
-  at_scope xs ks at = at_scope_bits d k s p.first here is.first ks xs at
+  at_scope xs ks at = at_flat scope_bits (scopes d) k s here p.first is.first ks xs at
 
   -- the scope of an instance
   abbrev HasInside : ℕ → Instance → Type 0
@@ -58,7 +60,7 @@ module _ (d : Design) (all : List Placed) (placed : ArePlaced d all) (k : ℕ) (
       let scope : Scope = record { path = path_to s.path pin.called.name; source = c.2 } in
       let bits : AreAt (scope_bits scope) ks (pin_bits scope.path port) = subst (λ m. AreAt (scope_bits (record { path = path_to s.path pin.called.name; source = m })) ks (pin_bits scope.path port)) (sym same) (pin.bits scope.path) in
       subst (λ m. AreAt (net_order d) (numbers_from (first_inside all p instance) ks) (pin_bits (path_to s.path m) port)) pin.named
-      (at_scope_bits d c.3 scope (first_inside all p instance) c.5 c.6 ks (pin_bits scope.path port) bits)
+      (at_flat scope_bits (scopes d) c.3 scope c.5 (first_inside all p instance) c.6 ks (pin_bits scope.path port) bits)
 
   part_at : (part : Part) (c : Construct) → IsPartOf d.text s.source part c → AreAt (net_order d) (part_numbers all p part) (bits_driven s c)
   part_at (part.Assignment left right) (Assignment l r) at = at_scope (written_bits s l) left.items (at.0 s.path)
@@ -143,7 +145,7 @@ module _ (d : Design) (all : List Placed) (placed : ArePlaced d all) (k : ℕ) (
     }
 
 -- the whole design
-module _ (d : Design) (all : List Placed) (outlines : List Outline) (placed : ArePlaced d all) (outlined : AreOutlined d all outlines) where
+module _ (of_designs : DesignLaws) (d : Design) (all : List Placed) (outlines : List Outline) (placed : ArePlaced d all) (outlined : AreOutlined d all outlines) where
   top_at : (ps : List Placed) → ((p : Placed) → slice_get ps 0 ≡ Some p → slice_get all 0 ≡ Some p) → 0 < length ps → AreAt (net_order d) (top_numbers ps outlines) (top_inputs d)
   top_at [] same some = absurd (omega (arith, some))
   top_at (p ∷ ps) same some =
@@ -151,7 +153,7 @@ module _ (d : Design) (all : List Placed) (outlines : List Outline) (placed : Ar
       let o = outlined 0 (root d) p refl at in
       let is = placed.each 0 (root d) p refl at in
       subst (λ z. AreAt (net_order d) (option_map_or (λ (q : Outline). numbers_from p.first q.inputs.items) z []) (top_inputs d)) (sym o.1)
-      (at_scope_bits d 0 (root d) p.first refl is.first o.0.inputs.items (top_inputs d) (o.2.inputs []))
+      (at_flat scope_bits (scopes d) 0 (root d) refl p.first is.first o.0.inputs.items (top_inputs d) (o.2.inputs []))
 
   pub inputs_there : (p : Placed) → slice_get all 0 ≡ Some p → MayCountInputs outlines (length (net_order d)) p
   inputs_there p at =
@@ -160,7 +162,7 @@ module _ (d : Design) (all : List Placed) (outlines : List Outline) (placed : Ar
       record {
         outlined = (got outlines p.module o.0 o.0 o.1).0;
         numbers = subst (λ z. All (λ k. k < length (net_order d)) (option_map_or (λ (q : Outline). numbers_from p.first q.inputs.items) z [])) (sym o.1)
-            (at_below (net_order d) (numbers_from p.first o.0.inputs.items) (top_inputs d) (at_scope_bits d 0 (root d) p.first refl is.first o.0.inputs.items (top_inputs d) (o.2.inputs [])));
+            (at_below (net_order d) (numbers_from p.first o.0.inputs.items) (top_inputs d) (at_flat scope_bits (scopes d) 0 (root d) refl p.first is.first o.0.inputs.items (top_inputs d) (o.2.inputs [])));
       }
 
   pub scopes_there : All (MayBeCounted all outlines (length (net_order d))) all
@@ -168,7 +170,7 @@ module _ (d : Design) (all : List Placed) (outlines : List Outline) (placed : Ar
       (λ p s z. let o = outlined z.0 s p z.2 z.1 in may_be_counted d all placed z.0 s p z.2 (placed.each z.0 s p z.2 z.1) outlines o.0 o.1 o.2) all (scopes d) (zip_numbered all (scopes d) placed.count)
 
   pub driven_at : ValuesHaveWidth → MadeHasValue → IsBounded d → AreAt (net_order d) (driven_numbers all outlines) (driven_bits d)
-  driven_at values cells bounded = subst (AreAt (net_order d) (driven_numbers all outlines)) (sym (driven_are values cells d bounded))
+  driven_at values cells bounded = subst (AreAt (net_order d) (driven_numbers all outlines)) (sym (driven_are of_designs values cells d bounded))
       (at_append (net_order d) (top_numbers all outlines) (flat_map (scope_numbers all outlines) all) (top_inputs d) (flat_map (drivers_in d) (scopes d)) (top_at all (λ p at. at) (omega (arith, placed.count)))
       (zip_flat (net_order d) (AreNumbered all (scopes d)) (scope_numbers all outlines) (drivers_in d)
       (λ p s z. let o = outlined z.0 s p z.2 z.1 in scope_at d all placed z.0 s p z.2 (placed.each z.0 s p z.2 z.1) outlines o.0 o.1 o.2) all (scopes d) (zip_numbered all (scopes d) placed.count)))

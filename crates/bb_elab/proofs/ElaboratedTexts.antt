@@ -2,17 +2,17 @@
 use Rattle.std.proofs.Common.{◌≡◌, ◌⊎◌, ℕ, ◌<◌, List, length, Option, Some, inl, inr, sym, ◌∙◌}
 use Rattle.std.specs.Prelude.{slice_get}
 use Rattle.bb_ast.specs.Syntax.{PlainModule}
-use Rattle.bb_elab.specs.declared.fault.ElabFault.{ElabFault}
-use Rattle.bb_elab.specs.declared.fault.ElabFault.TheVariants.{NoMemory}
-use Rattle.bb_elab.specs.Flats.{FlatNet}
-use Rattle.bb_elab.specs.Hierarchy.{top_of}
-use Rattle.bb_elab.specs.Refusals.{IsFirstRefusal, IsRefusalOf, IsSoundDesign, IsSoundText}
-use Rattle.bb_elab.specs.Stages.{AtTop}
-use Rattle.bb_elab.specs.Stands.{StandsFor, StandsForText}
-use Rattle.bb_elab.proofs.RecursiveNames.{some_at}
-use Rattle.bb_elab.proofs.RefusalLaws.{not_sound_and_refused, first_refusals_are_one}
+use Rattle.bb_design.specs.declared.fault.ElabFault.{ElabFault}
+use Rattle.bb_design.specs.declared.fault.ElabFault.TheVariants.{NoMemory}
+use Rattle.bb_net.specs.Flats.{FlatNet}
+use Rattle.bb_design.specs.Hierarchy.{top_of}
+use Rattle.bb_design.specs.Refusals.{IsFirstRefusal, IsRefusalOf, IsSoundDesign, IsSoundText}
+use Rattle.bb_hier.specs.Finite.{AtTop}
+use Rattle.bb_cells.specs.Stands.{StandsFor, StandsForText}
+use Rattle.bb_lists.proofs.Places.{some_at}
+use Rattle.bb_design.specs.DesignLaws.{DesignLaws}
 
-module _ (text : List PlainModule) (name : Option (List ℕ)) (top : ℕ) (lt : top < length text) (place : slice_get text top ≡ top_of text name) where
+module _ (of_designs : DesignLaws) (text : List PlainModule) (name : Option (List ℕ)) (top : ℕ) (lt : top < length text) (place : slice_get text top ≡ top_of text name) where
   abbrev head : (t : PlainModule) × (slice_get text top ≡ Some t)
   head = some_at text top lt
 
@@ -29,11 +29,11 @@ module _ (text : List PlainModule) (name : Option (List ℕ)) (top : ℕ) (lt : 
   -- no other answer is given
   pub only_memory : (fault : ElabFault) → (fault ≡ NoMemory) ⊎ AtTop text top (λ d. IsRefusalOf d fault) → IsSoundText text name → fault ≡ NoMemory
   only_memory fault (inl none) sound = none
-  only_memory fault (inr refused) sound = absurd (not_sound_and_refused text name fault sound (refused_text fault refused))
+  only_memory fault (inr refused) sound = absurd (of_designs.not_both text name fault sound (refused_text fault refused))
 
   pub only_first : (fault : ElabFault) → (fault ≡ NoMemory) ⊎ AtTop text top (λ d. IsRefusalOf d fault) → (first : ElabFault) → IsFirstRefusal text name first → (fault ≡ first) ⊎ (fault ≡ NoMemory)
   only_first fault (inl none) first is = inr none
-  only_first fault (inr refused) first is = inl (first_refusals_are_one text name fault first (refused_text fault refused) is)
+  only_first fault (inr refused) first is = inl (of_designs.one_refusal text name fault first (refused_text fault refused) is)
 
   module _ (flat : FlatNet) (stands : AtTop text top (λ d. StandsFor d flat × IsSoundDesign d)) where
     pub stands_for_text : StandsForText text name flat
@@ -43,4 +43,4 @@ module _ (text : List PlainModule) (name : Option (List ℕ)) (top : ℕ) (lt : 
     sound_text = (head.0, meant, (stands head.0 head.1).1)
 
     pub not_refused : (first : ElabFault) → IsFirstRefusal text name first → ⊥
-    not_refused first is = not_sound_and_refused text name first sound_text is
+    not_refused first is = of_designs.not_both text name first sound_text is

@@ -5,36 +5,37 @@ use Rattle.std.specs.Prelude.{All, slice_index}
 use Rattle.std.specs.List.{AllZip, enumerate_from}
 use Rattle.std.proofs.lemmas.List.{length-map, get_or_default}
 use Rattle.std.proofs.lemmas.List.Elements.{Contains-get_or}
-use Rattle.bb_ast.specs.Formed.{IsPrintable}
+use Rattle.bb_bits.specs.Names.{IsPrintable}
 use Rattle.bb_ast.specs.Syntax.{PlainModule}
-use Rattle.bb_expr.specs.declared.net.NetInfo.{NetInfo}
-use Rattle.bb_expr.specs.Nets.{nets_of}
+use Rattle.bb_names.specs.declared.net.NetInfo.{NetInfo}
+use Rattle.bb_names.specs.Nets.{nets_of}
 use Rattle.bb_net.specs.Loose.{LooseList}
 use Rattle.bb_net.specs.Netlists.{Netlist}
 use Rattle.bb_net.specs.Pairs.{BoxTexts as BoxTextsOf}
-use Rattle.bb_elab.specs.declared.fault.ElabFault.{ElabFault}
-use Rattle.bb_elab.specs.declared.flat.Reg.{Reg}
+use Rattle.bb_design.specs.declared.fault.ElabFault.{ElabFault}
+use Rattle.bb_net.specs.declared.flat.Reg.{Reg}
 use Rattle.bb_elab.specs.declared.growing.Grown.{Grown}
-use Rattle.bb_elab.specs.Flats.{FlatNet, ArePrintable, IsFlat}
-use Rattle.bb_elab.specs.Hierarchy.{Design, scopes, root, boxes, instances}
-use Rattle.bb_elab.specs.ListLaws.{IsBounded, StandingNetsAreFlat}
-use Rattle.bb_elab.specs.NetBits.{Bit, bits_of_net, net_order, scope_bits, top_inputs, top_outputs}
-use Rattle.bb_elab.specs.Placements.{IsScopeAt, IsStoredAt}
-use Rattle.bb_elab.specs.Places.{pins_of}
-use Rattle.bb_elab.specs.Refusals.{TwoDrivers, NoDriver, Cycle, BoxTexts, RegisterTexts, PortTexts, IsAbsent, IsSoundDesign, IsRefusalOf, input_texts, output_texts}
-use Rattle.bb_elab.specs.Registers.{RegisterBit, registers}
-use Rattle.bb_elab.specs.Stages.{HasGrown, AreArranged, TellsOf}
-use Rattle.bb_elab.specs.Stands.{IsRegister, StandsFor, box_number, box_texts}
-use Rattle.bb_elab.specs.Texts.{bit_text}
-use Rattle.bb_elab.proofs.CauseDecisions.{all_from, from_flat, from_map}
-use Rattle.bb_elab.proofs.CalledInstances.{there_at}
-use Rattle.bb_elab.proofs.Enumerated.{length-enumerated}
-use Rattle.bb_elab.proofs.FlatInvariants.{zip_length}
+use Rattle.bb_net.specs.Flats.{FlatNet, ArePrintable, IsFlat}
+use Rattle.bb_design.specs.Hierarchy.{Design, scopes, root, boxes, instances}
+use Rattle.bb_cells.specs.ListLaws.{StandingNetsAreFlat}
+use Rattle.bb_design.specs.Allowed.{IsBounded}
+use Rattle.bb_design.specs.NetBits.{Bit, bits_of_net, net_order, scope_bits, top_inputs, top_outputs}
+use Rattle.bb_blast.specs.Placements.{IsScopeAt, IsStoredAt}
+use Rattle.bb_cells.specs.Places.{pins_of}
+use Rattle.bb_design.specs.Refusals.{TwoDrivers, NoDriver, Cycle, BoxTexts, RegisterTexts, PortTexts, IsAbsent, IsSoundDesign, IsRefusalOf, input_texts, output_texts}
+use Rattle.bb_design.specs.CauseLaws.{TellsOf, AreClear}
+use Rattle.bb_design.specs.Registers.{RegisterBit, registers}
+use Rattle.bb_elab.specs.Stages.{HasGrown, AreArranged}
+use Rattle.bb_cells.specs.Stands.{IsRegister, StandsFor, box_number, box_texts}
+use Rattle.bb_design.specs.Texts.{bit_text}
+use Rattle.bb_lists.proofs.Members.{all_from, from_flat, from_map, into_flat, contains_here, kept_from}
+use Rattle.bb_lists.proofs.Places.{there_at}
+use Rattle.bb_lists.proofs.Numbered.{length-enumerated}
+use Rattle.bb_lists.proofs.Zips.{zip_length}
 use Rattle.bb_elab.proofs.PrintableTexts.{bit_printable, box_printable}
-use Rattle.bb_elab.proofs.StageRefusals.{AreClear, and_clear, refused, finite_clear, sound_design}
-use Rattle.bb_elab.proofs.ReadingLaw.{into_flat}
+use Rattle.bb_elab.proofs.FiniteDesigns.{finite_clear}
 use Rattle.bb_elab.proofs.TimedRegisters.{zip_back}
-use Rattle.bb_elab.proofs.TopLaws.{contains_here, kept_from}
+use Rattle.bb_design.specs.DesignLaws.{DesignLaws}
 
 -- a bit of some nets of the top is one of the design
 ports_there : (d : Design) (some : NetInfo → Bool) (b : Bit) → Contains (flat_map (bits_of_net []) (filter some (nets_of d.top))) b → Contains (net_order d) b
@@ -42,12 +43,13 @@ ports_there d some b has =
     let net = from_flat (bits_of_net []) (filter some (nets_of d.top)) b has in
     into_flat scope_bits (scopes d) (root d) b (contains_here (root d) (instances d)) (into_flat (bits_of_net []) (nets_of d.top) net.0 b (kept_from some (nets_of d.top) net.0 net.1).0 net.2)
 
-texts_printable : (d : Design) → IsBounded d → (bits : List Bit) → ((b : Bit) → Contains bits b → Contains (net_order d) b) → All IsPrintable (map (bit_text d) bits)
-texts_printable d bounded bits there = all_from IsPrintable (map (bit_text d) bits) (λ n has.
-    let b = from_map (bit_text d) bits n has in
-    subst IsPrintable b.2 (bit_printable d bounded b.0 (there b.0 b.1)))
+module _ (of_designs : DesignLaws) where
+  texts_printable : (d : Design) → IsBounded d → (bits : List Bit) → ((b : Bit) → Contains bits b → Contains (net_order d) b) → All IsPrintable (map (bit_text d) bits)
+  texts_printable d bounded bits there = all_from IsPrintable (map (bit_text d) bits) (λ n has.
+      let b = from_map (bit_text d) bits n has in
+      subst IsPrintable b.2 (bit_printable of_designs d bounded b.0 (there b.0 b.1)))
 
-module _ (text : List PlainModule) (d : Design) (g : Grown) (has : HasGrown text d g) (list : LooseList) (net : Netlist) (numbers : List ℕ) (are : AreArranged d list net numbers) where
+module _ (of_designs : DesignLaws) (text : List PlainModule) (d : Design) (g : Grown) (has : HasGrown text d g) (list : LooseList) (net : Netlist) (numbers : List ℕ) (are : AreArranged d list net numbers) where
   -- each number is that of a box
   number_there : (b : ℕ) → Contains numbers b → b < length (boxes d)
   number_there b there =
@@ -70,23 +72,23 @@ module _ (text : List PlainModule) (d : Design) (g : Grown) (has : HasGrown text
 
   -- no cause before the texts
   clear_of_loops : AreClear d 6
-  clear_of_loops = and_clear d Cycle (and_clear d NoDriver (and_clear d TwoDrivers (finite_clear d has.finite) has.grown.once) are.driven) are.acyclic
+  clear_of_loops = (of_designs.causes d).next Cycle ((of_designs.causes d).next NoDriver ((of_designs.causes d).next TwoDrivers (finite_clear of_designs d has.finite) has.grown.once) are.driven) are.acyclic
 
   pub boxes_refused : (fault : ElabFault) → TellsOf d BoxTexts fault → IsRefusalOf d fault
-  boxes_refused fault tells = refused d BoxTexts fault tells clear_of_loops
+  boxes_refused fault tells = (of_designs.causes d).refused BoxTexts fault tells clear_of_loops
 
   module _ (boxes_apart : IsAbsent d BoxTexts) where
     pub registers_refused : (fault : ElabFault) → TellsOf d RegisterTexts fault → IsRefusalOf d fault
-    registers_refused fault tells = refused d RegisterTexts fault tells (and_clear d BoxTexts clear_of_loops boxes_apart)
+    registers_refused fault tells = (of_designs.causes d).refused RegisterTexts fault tells ((of_designs.causes d).next BoxTexts clear_of_loops boxes_apart)
 
     module _ (registers_apart : IsAbsent d RegisterTexts) where
       pub ports_refused : (fault : ElabFault) → TellsOf d PortTexts fault → IsRefusalOf d fault
-      ports_refused fault tells = refused d PortTexts fault tells (and_clear d RegisterTexts (and_clear d BoxTexts clear_of_loops boxes_apart) registers_apart)
+      ports_refused fault tells = (of_designs.causes d).refused PortTexts fault tells ((of_designs.causes d).next RegisterTexts ((of_designs.causes d).next BoxTexts clear_of_loops boxes_apart) registers_apart)
 
       module _ (ports_apart : IsAbsent d PortTexts) (ins : List (List ℕ)) (regs : List Reg) (outs : List (List ℕ)) (named : List BoxTextsOf)
           (ins_are : ins ≡ input_texts d) (regs_are : AllZip (IsRegister d) (registers d) regs) (outs_are : outs ≡ output_texts d) (named_are : named ≡ map (λ b. box_texts d (box_number d b)) numbers) where
         pub is_sound : IsSoundDesign d
-        is_sound = sound_design d (and_clear d PortTexts (and_clear d RegisterTexts (and_clear d BoxTexts clear_of_loops boxes_apart) registers_apart) ports_apart)
+        is_sound = (of_designs.causes d).sound ((of_designs.causes d).next PortTexts ((of_designs.causes d).next RegisterTexts ((of_designs.causes d).next BoxTexts clear_of_loops boxes_apart) registers_apart) ports_apart)
 
         abbrev pub flat : FlatNet
         flat = record { net = net; ins = ins; regs = regs; outs = outs; boxes = named }
@@ -109,18 +111,18 @@ module _ (text : List PlainModule) (d : Design) (g : Grown) (has : HasGrown text
         register_printable : (reg : Reg) → Contains regs reg → IsPrintable reg.text
         register_printable reg there =
             let r = zip_back (IsRegister d) (registers d) regs reg regs_are there in
-            subst IsPrintable (sym r.2.text) (bit_printable d has.finite.bounded r.0.bit (register_there r.0 r.1))
+            subst IsPrintable (sym r.2.text) (bit_printable of_designs d has.finite.bounded r.0.bit (register_there r.0 r.1))
 
         box_named : (x : BoxTextsOf) → Contains (map (λ b. box_texts d (box_number d b)) numbers) x → IsPrintable x.path
         box_named x there =
             let b = from_map (λ b. box_texts d (box_number d b)) numbers x there in
-            subst (λ (y : BoxTextsOf). IsPrintable y.path) b.2 (box_printable d has.finite.bounded (box_number d b.0) (Contains-get_or (boxes d) b.0 (root d) (number_there b.0 b.1)))
+            subst (λ (y : BoxTextsOf). IsPrintable y.path) b.2 (box_printable of_designs d has.finite.bounded (box_number d b.0) (Contains-get_or (boxes d) b.0 (root d) (number_there b.0 b.1)))
 
         are_printable : ArePrintable flat
         are_printable = record {
-          ins = subst (All IsPrintable) (sym ins_are) (texts_printable d has.finite.bounded (top_inputs d) (ports_there d _));
+          ins = subst (All IsPrintable) (sym ins_are) (texts_printable of_designs d has.finite.bounded (top_inputs d) (ports_there d _));
           regs = all_from (λ (r : Reg). IsPrintable r.text) regs register_printable;
-          outs = subst (All IsPrintable) (sym outs_are) (texts_printable d has.finite.bounded (top_outputs d) (ports_there d _));
+          outs = subst (All IsPrintable) (sym outs_are) (texts_printable of_designs d has.finite.bounded (top_outputs d) (ports_there d _));
           boxes = all_from (λ (x : BoxTextsOf). IsPrintable x.path) named (λ x there. box_named x (subst (λ l. Contains l x) named_are there));
         }
 

@@ -3,22 +3,24 @@ use Rattle.std.proofs.Common.{◌≡◌, ◌^◌, ℕ, ◌<◌, List, length, So
 use Rattle.std.specs.Prelude.{slice_get}
 use Rattle.std.proofs.lemmas.Option.{slice_get_within}
 use Rattle.bb_ast.specs.Syntax.{PlainModule}
-use Rattle.bb_elab.specs.declared.fault.ElabFault.TheVariants.{DrivenTwice}
-use Rattle.bb_elab.specs.declared.outline.Outline.{Outline}
-use Rattle.bb_elab.specs.declared.placed.Placed.{Placed}
-use Rattle.bb_elab.specs.declared.stored.Stored.{Stored}
-use Rattle.bb_elab.specs.DrivenNumbers.{IsFirstAt}
-use Rattle.bb_elab.specs.Hierarchy.{Design}
-use Rattle.bb_elab.specs.ListLaws.{IsBounded}
-use Rattle.bb_elab.specs.NetBits.{Bit, net_order}
-use Rattle.bb_elab.specs.Placements.{ArePlaced, AreOutlined, AreCounts, AreStored}
-use Rattle.bb_elab.specs.Refusals.{TwoDrivers, IsDrivenTwice, AreDrivenOnce, IsSmall, IsRefusalOf, design_on}
-use Rattle.bb_elab.specs.Stages.{AtTop, IsFinite, AreGrown}
-use Rattle.bb_elab.specs.Texts.{bit_text}
-use Rattle.bb_elab.proofs.RecursiveNames.{some_at}
-use Rattle.bb_elab.proofs.StageRefusals.{refused, finite_clear}
+use Rattle.bb_design.specs.declared.fault.ElabFault.TheVariants.{DrivenTwice}
+use Rattle.bb_blast.specs.declared.outline.Outline.{Outline}
+use Rattle.bb_blast.specs.declared.placed.Placed.{Placed}
+use Rattle.bb_blast.specs.declared.stored.Stored.{Stored}
+use Rattle.bb_elab.specs.DrivenNumbers.{IsFirstAt, AreCounts}
+use Rattle.bb_design.specs.Hierarchy.{Design}
+use Rattle.bb_design.specs.Allowed.{IsBounded}
+use Rattle.bb_design.specs.NetBits.{Bit, net_order}
+use Rattle.bb_blast.specs.Placements.{ArePlaced, AreOutlined, AreStored}
+use Rattle.bb_design.specs.Refusals.{TwoDrivers, IsDrivenTwice, AreDrivenOnce, IsSmall, IsRefusalOf, design_on}
+use Rattle.bb_elab.specs.Stages.{AreGrown}
+use Rattle.bb_hier.specs.Finite.{AtTop, IsFinite}
+use Rattle.bb_design.specs.Texts.{bit_text}
+use Rattle.bb_lists.proofs.Places.{some_at}
+use Rattle.bb_elab.proofs.FiniteDesigns.{finite_clear}
+use Rattle.bb_design.specs.DesignLaws.{DesignLaws}
 
-module _ (text : List PlainModule) (top : ℕ) (lt : top < length text) (finite : AtTop text top IsFinite) (placed : List Placed) (scopes : AtTop text top (λ d. ArePlaced d placed)) where
+module _ (of_designs : DesignLaws) (text : List PlainModule) (top : ℕ) (lt : top < length text) (finite : AtTop text top IsFinite) (placed : List Placed) (scopes : AtTop text top (λ d. ArePlaced d placed)) where
   -- the module on top, and the design
   abbrev head : (t : PlainModule) × (slice_get text top ≡ Some t)
   head = some_at text top lt
@@ -72,7 +74,7 @@ module _ (text : List PlainModule) (top : ℕ) (lt : top < length text) (finite 
         twice n named t at =
             let d = design_on text t in
             let b = found d (counted_at t at) in
-            refused d TwoDrivers (DrivenTwice n) (record { name = n; is = refl; told = (b.0, b.2, named d refl (scopes t at) (outlined_at t at) b.0 b.1) }) (finite_clear d (finite t at))
+            (of_designs.causes d).refused TwoDrivers (DrivenTwice n) (record { name = n; is = refl; told = (b.0, b.2, named d refl (scopes t at) (outlined_at t at) b.0 b.1) }) (finite_clear of_designs d (finite t at))
 
       pub grown : (stored : List Stored) → ((d : Design) → IsBounded d → AreCounts d counts → AreDrivenOnce d)
           → (bits : ℕ) → ((d : Design) → ArePlaced d placed → AreOutlined d placed outlines → bits ≡ length (net_order d))

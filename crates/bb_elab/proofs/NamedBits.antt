@@ -9,20 +9,19 @@ use Rattle.std.proofs.lemmas.Option.{slice_get-get_or, slice_get_within, get_or_
 use Rattle.bb_ast.specs.Syntax.{PlainModule}
 use Rattle.bb_net.specs.Pairs.{BoxTexts}
 use Rattle.bb_elab.specs.declared.growing.Grown.{Grown}
-use Rattle.bb_elab.specs.declared.outline.Outline.{Outline}
-use Rattle.bb_elab.specs.declared.placed.Placed.{Placed}
-use Rattle.bb_elab.specs.Closures.{IsFirstRepeat}
-use Rattle.bb_elab.specs.Hierarchy.{Design, Scope, root, scopes, boxes, is_box}
-use Rattle.bb_elab.specs.Outlines.{AreAt}
-use Rattle.bb_elab.specs.NetBits.{Bit, net_order}
-use Rattle.bb_elab.specs.Placements.{IsScopeAt, ArePlaced, AreOutlined}
+use Rattle.bb_blast.specs.declared.outline.Outline.{Outline}
+use Rattle.bb_blast.specs.declared.placed.Placed.{Placed}
+use Rattle.bb_bits.specs.Closures.{IsFirstRepeat}
+use Rattle.bb_design.specs.Hierarchy.{Design, Scope, root, scopes, boxes, is_box}
+use Rattle.bb_bits.specs.Places.{AreAt}
+use Rattle.bb_design.specs.NetBits.{Bit, net_order}
+use Rattle.bb_blast.specs.Placements.{IsScopeAt, ArePlaced, AreOutlined}
 use Rattle.bb_elab.specs.Stages.{HasGrown}
-use Rattle.bb_elab.specs.Stands.{box_number, box_texts}
-use Rattle.bb_elab.proofs.CauseDecisions.{all_from}
-use Rattle.bb_elab.proofs.NumberedLists.{head_same}
+use Rattle.bb_cells.specs.Stands.{box_number, box_texts}
+use Rattle.bb_lists.proofs.Members.{all_from}
+use Rattle.bb_lists.proofs.Places.{head_same, some_at}
 use Rattle.bb_elab.proofs.ReadBits.{zip_there}
-use Rattle.bb_elab.proofs.RecursiveNames.{some_at}
-use Rattle.bb_elab.proofs.Turns.{zip_both}
+use Rattle.bb_lists.proofs.Turns.{zip_both}
 
 pub taken-push : {A : Type 0} (xs : List A) (i : ℕ) (x : A) → slice_get xs i ≡ Some x → take (i + 1) xs ≡ take i xs ++ x ∷ []
 taken-push xs i x at =

@@ -7,33 +7,33 @@ use Rattle.std.proofs.lemmas.Option.{same_Some}
 use Rattle.bb_net.specs.Loose.{LooseList}
 use Rattle.bb_net.specs.Netlists.{Netlist}
 use Rattle.bb_net.specs.Orders.{IsSource}
-use Rattle.bb_elab.specs.declared.flat.Reg.{Reg}
-use Rattle.bb_elab.specs.declared.stored.Stored.{Stored}
-use Rattle.bb_elab.specs.Hierarchy.{Design}
-use Rattle.bb_elab.specs.NetBits.{Bit, net_order}
-use Rattle.bb_elab.specs.Outlines.{AreAt}
-use Rattle.bb_elab.specs.Placements.{IsStoredAt, AreStored}
-use Rattle.bb_elab.specs.Refusals.{register_texts}
-use Rattle.bb_elab.specs.Registers.{RegisterBit, registers, cut_bits}
+use Rattle.bb_net.specs.declared.flat.Reg.{Reg}
+use Rattle.bb_blast.specs.declared.stored.Stored.{Stored}
+use Rattle.bb_design.specs.Hierarchy.{Design}
+use Rattle.bb_design.specs.NetBits.{Bit, net_order}
+use Rattle.bb_bits.specs.Places.{AreAt}
+use Rattle.bb_blast.specs.Placements.{IsStoredAt, AreStored}
+use Rattle.bb_design.specs.Refusals.{register_texts}
+use Rattle.bb_design.specs.Registers.{RegisterBit, registers, cut_bits}
 use Rattle.bb_elab.specs.Stages.{AreArranged}
-use Rattle.bb_elab.specs.Stands.{IsRegister}
-use Rattle.bb_elab.specs.Texts.{bit_text}
-use Rattle.bb_elab.proofs.CalleeLaw.{got-map}
-use Rattle.bb_elab.proofs.CauseDecisions.{all_from}
-use Rattle.bb_elab.proofs.ClockInputs.{net_there}
+use Rattle.bb_cells.specs.Stands.{IsRegister}
+use Rattle.bb_design.specs.Texts.{bit_text}
+use Rattle.bb_lists.proofs.Places.{got-map}
+use Rattle.bb_lists.proofs.Members.{all_from}
 use Rattle.bb_elab.proofs.NamedBits.{taken-push, zip_at}
-use Rattle.bb_elab.proofs.NumberedLists.{at_below}
-use Rattle.bb_elab.proofs.PlacesInRow.{map-twice}
+use Rattle.bb_lists.proofs.AtPlaces.{at_below}
+use Rattle.bb_lists.proofs.Maps.{map-twice}
 use Rattle.bb_elab.proofs.ReadBits.{zip_there}
-use Rattle.bb_elab.proofs.Turns.{zip_both}
+use Rattle.bb_lists.proofs.Turns.{zip_both}
+use Rattle.bb_cells.specs.CellLaws.{CellLaws}
 
-module _ (d : Design) (list : LooseList) (net : Netlist) (numbers : List ℕ) (are : AreArranged d list net numbers) where
+module _ (of_cells : CellLaws) (d : Design) (list : LooseList) (net : Netlist) (numbers : List ℕ) (are : AreArranged d list net numbers) where
   -- copies end behind it
   pub clock_source : (first : ℕ) → first ≡ 2 + length (cut_bits d) → (k : ℕ) (b : Bit) → slice_get (net_order d) k ≡ Some b → (n source : ℕ) × IsSource n list (first + k) source
-  clock_source first is k b at = are.ordered.sources (first + k) (omega (arith, is, net_there d are.lowering list are.listed k b at))
+  clock_source first is k b at = are.ordered.sources (first + k) (omega (arith, is, (of_cells.net_places d are.lowering list are.listed k b at).1))
 
   clock_fits : (first : ℕ) → first ≡ 2 + length (cut_bits d) → (x : Stored) (r : RegisterBit) → IsStoredAt d x r → first + x.clock < 2 ^ 32
-  clock_fits first is x r stored = let low = net_there d are.lowering list are.listed x.clock stored.clock.0 stored.clock.2 in let few = are.listed.fits in omega (arith, is, low, few)
+  clock_fits first is x r stored = let low = (of_cells.net_places d are.lowering list are.listed x.clock stored.clock.0 stored.clock.2).1 in let few = are.listed.fits in omega (arith, is, low, few)
 
   pub clocks_fit : (first : ℕ) → first ≡ 2 + length (cut_bits d) → (stored : List Stored) → AreStored d stored → All (λ x. first + x.clock < 2 ^ 32) stored
   clocks_fit first is stored all = all_from (λ x. first + x.clock < 2 ^ 32) stored (λ x has. let r = zip_there (IsStoredAt d) stored (registers d) x all has in clock_fits first is x r.0 r.2)

@@ -5,17 +5,17 @@ use Rattle.std.proofs.lemmas.Option.{slice_get_within, same_Some}
 use Rattle.bb_ast.specs.Syntax.{PlainModule}
 use Rattle.bb_net.specs.Pairs.{BoxTexts}
 use Rattle.bb_elab.specs.declared.growing.Grown.{Grown}
-use Rattle.bb_elab.specs.declared.outline.Outline.{Outline}
-use Rattle.bb_elab.specs.declared.placed.Placed.{Placed}
-use Rattle.bb_elab.specs.DrivenNumbers.{numbers_from}
-use Rattle.bb_elab.specs.Hierarchy.{Design, Scope, root}
-use Rattle.bb_elab.specs.NetBits.{Bit, net_order, input_bits, output_bits, top_inputs, top_outputs}
-use Rattle.bb_elab.specs.Outlines.{AreAt, IsOutline}
-use Rattle.bb_elab.specs.Placements.{IsScopeAt}
+use Rattle.bb_blast.specs.declared.outline.Outline.{Outline}
+use Rattle.bb_blast.specs.declared.placed.Placed.{Placed}
+use Rattle.bb_bits.specs.Places.{numbers_from, AreAt}
+use Rattle.bb_design.specs.Hierarchy.{Design, Scope, root, scopes}
+use Rattle.bb_design.specs.NetBits.{Bit, net_order, input_bits, output_bits, top_inputs, top_outputs, scope_bits}
+use Rattle.bb_blast.specs.Outlines.{IsOutline}
+use Rattle.bb_blast.specs.Placements.{IsScopeAt}
 use Rattle.bb_elab.specs.Stages.{HasGrown}
-use Rattle.bb_elab.specs.Stands.{box_texts}
-use Rattle.bb_elab.specs.Texts.{path_text, pin_text}
-use Rattle.bb_elab.proofs.ScopeBits.{at_scope_bits}
+use Rattle.bb_cells.specs.Stands.{box_texts}
+use Rattle.bb_design.specs.Texts.{path_text, pin_text}
+use Rattle.bb_lists.proofs.FlatPlaces.{at_flat, flat_longer, flat_fits}
 
 module _ (text : List PlainModule) (d : Design) (g : Grown) (has : HasGrown text d g) (k : ℕ) (s : Scope) (at : IsScopeAt d k s) (p : Placed) (there : slice_get g.placed.items k ≡ Some p) where
   made : (o : Outline) × (slice_get g.outlines.items p.module ≡ Some o) × IsOutline d.text s.source o
@@ -29,10 +29,10 @@ module _ (text : List PlainModule) (d : Design) (g : Grown) (has : HasGrown text
     is_outline = subst (IsOutline d.text s.source) (same_Some made.0 o (sym made.1 ∙ kept)) made.2
 
     pub inputs_at : AreAt (net_order d) (numbers_from p.first o.inputs.items) (input_bits s)
-    inputs_at = at_scope_bits d k s p.first at (has.grown.scopes.each k s p at there).first o.inputs.items (input_bits s) (is_outline.inputs s.path)
+    inputs_at = at_flat scope_bits (scopes d) k s at p.first (has.grown.scopes.each k s p at there).first o.inputs.items (input_bits s) (is_outline.inputs s.path)
 
     pub outputs_at : AreAt (net_order d) (numbers_from p.first o.outputs.items) (output_bits s)
-    outputs_at = at_scope_bits d k s p.first at (has.grown.scopes.each k s p at there).first o.outputs.items (output_bits s) (is_outline.outputs s.path)
+    outputs_at = at_flat scope_bits (scopes d) k s at p.first (has.grown.scopes.each k s p at there).first o.outputs.items (output_bits s) (is_outline.outputs s.path)
 
 from_zero : (n : ℕ) → n ≡ 0 → (ks : List ℕ) → numbers_from n ks ≡ ks
 from_zero n is [] = refl

@@ -2,22 +2,25 @@
 use Rattle.std.proofs.Common.{◌≡◌, ℕ, zero, suc, ◌<◌, ◌++◌, ◌∷◌, [], List, Option, Some, None, refl, sym, ap, ◌∙◌, subst, arith}
 use Rattle.std.specs.Prelude.{IfSome, codes, slice_get}
 use Rattle.std.proofs.lemmas.Option.{slice_get_within, same_Some}
-use Rattle.bb_elab.specs.declared.placed.Instance as placed
-use Rattle.bb_elab.specs.declared.placed.Placed.{Placed}
-use Rattle.bb_elab.specs.Hierarchy.{Path, Design, Scope, path_to, scopes}
+use Rattle.bb_blast.specs.declared.placed.Instance as placed
+use Rattle.bb_blast.specs.declared.placed.Placed.{Placed}
+use Rattle.bb_design.specs.Hierarchy.{Path, Design, Scope, path_to, scopes}
 use Rattle.bb_elab.specs.PlacedPaths.{IsPathAt, Top, Below, AreRooted}
-use Rattle.bb_elab.specs.Placements.{IsScopeAt, IsInstanceAt, ArePlaced}
-use Rattle.bb_elab.specs.Texts.{path_prefix, path_text}
-use Rattle.bb_elab.proofs.DepthWalks.{dotted_more}
-use Rattle.bb_elab.proofs.RecursiveNames.{some_at}
+use Rattle.bb_blast.specs.Placements.{IsScopeAt, IsInstanceAt, ArePlaced}
+use Rattle.bb_design.specs.Texts.{path_prefix, path_text}
+use Rattle.bb_lists.proofs.Places.{some_at}
+use Rattle.bb_lists.proofs.Members.{into_flat}
+use Rattle.bb_design.specs.NetBits.{scope_bits}
+use Rattle.bb_design.specs.DesignLaws.{DesignLaws}
 
-pub text-below : (above : Path) (n : List ℕ) → path_text (path_to above n) ≡ path_prefix above ++ n
-text-below [] n = refl
-text-below (a ∷ p) n = sym (dotted_more a p n)
+module _ (of_designs : DesignLaws) where
+  pub text-below : (above : Path) (n : List ℕ) → path_text (path_to above n) ≡ path_prefix above ++ n
+  text-below [] n = refl
+  text-below (a ∷ p) n = sym (of_designs.paths_grow a p n)
 
-pub prefix-below : (above : Path) (n : List ℕ) → path_prefix (path_to above n) ≡ (path_prefix above ++ n) ++ codes "."
-prefix-below [] n = refl
-prefix-below (a ∷ p) n = ap (λ l. l ++ codes ".") (sym (dotted_more a p n))
+  pub prefix-below : (above : Path) (n : List ℕ) → path_prefix (path_to above n) ≡ (path_prefix above ++ n) ++ codes "."
+  prefix-below [] n = refl
+  prefix-below (a ∷ p) n = ap (λ l. l ++ codes ".") (sym (of_designs.paths_grow a p n))
 
 module _ (d : Design) (all : List Placed) (are : ArePlaced d all) where
   scope_there : (k : ℕ) (p : Placed) → slice_get all k ≡ Some p → (s : Scope) × IsScopeAt d k s

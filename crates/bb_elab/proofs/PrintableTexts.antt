@@ -4,29 +4,25 @@ use Rattle.std.specs.Prelude.{codes, decimal, option_map, option_to_list, nat_lt
 use Rattle.std.proofs.lemmas.Option.{same_Some}
 use Rattle.std.specs.List.{AllByRecursion}
 use Rattle.std.specs.Fmt.{digits, digits_onto, digit_glyph}
-use Rattle.bb_bits.specs.Names.{same_name}
+use Rattle.bb_bits.specs.Names.{same_name, IsPrintable}
 use Rattle.bb_ast.specs.declared.expr.Op.{Op}
 use Rattle.bb_ast.specs.declared.module.Port.{Port}
 use Rattle.bb_ast.specs.declared.module.Range.{Range}
 use Rattle.bb_ast.specs.Folds.{of_operands, of_arms, of_parts}
-use Rattle.bb_ast.specs.Formed.{IsPrintable, IsFormedExpression, AreFormedOperands, AreFormedArms, AreFormedParts, IsFormedPair, IsFormedAssignment, IsFormedGate, IsFormedConns, IsFormedCall, IsFormedBody, IsFormedHead, IsFormed}
+use Rattle.bb_ast.specs.Formed.{IsFormedExpression, AreFormedOperands, AreFormedArms, AreFormedParts, IsFormedPair, IsFormedAssignment, IsFormedGate, IsFormedConns, IsFormedCall, IsFormedBody, IsFormedHead, IsFormed}
 use Rattle.bb_ast.specs.Names.{naming, names_in}
-use Rattle.bb_ast.specs.Syntax.{Expression, Net, Bit as BitOf, Part, Sized, Plain, Not, Chain, Cond, Concat, Repeat, Operands, no_operand, operand, Arms, no_arm, arm, Parts, no_part, part}
-use Rattle.bb_ast.specs.Syntax.{PlainConns, Order, Named, PlainBody, Ports, Nets, Regs, Supply, Assign, Gates, Calls, Always, PlainItem, PlainHead, PlainModule}
-use Rattle.bb_expr.specs.declared.net.NetInfo.{NetInfo}
-use Rattle.bb_expr.specs.Declarations.{Declaration, port_declaration, declared_by_head, declared_by, declarations, is_declared, names_in_optional, names_in_conns, implicit_places, implicit_names}
-use Rattle.bb_expr.specs.Nets.{net_names, net_of, nets_of, is_empty}
-use Rattle.bb_expr.specs.Spots.{module_named}
-use Rattle.bb_expr.specs.Walks.{once}
-use Rattle.bb_elab.specs.Hierarchy.{Path, Design, Scope, Instance, instance_of, instances_in, instances_of, root, children, below, instances, scopes, boxes, is_box, is_top, path_to, too_low}
-use Rattle.bb_elab.specs.ListLaws.{IsBounded}
-use Rattle.bb_elab.specs.NetBits.{Bit, bits_of_net, scope_bits, net_order}
-use Rattle.bb_elab.specs.Texts.{path_text, path_prefix, index_at, index_text, net_bit_text, range_at, bit_text}
-use Rattle.bb_elab.proofs.AllowedDesigns.{each_of}
-use Rattle.bb_elab.proofs.CauseDecisions.{from_flat, from_map}
-use Rattle.bb_elab.proofs.SoundSpots.{source_there}
-use Rattle.bb_elab.proofs.TopLaws.{contains_cases, kept_from, none_in_nil}
-use Rattle.bb_elab.proofs.WorldExists.{from_find, from_filter_map}
+use Rattle.bb_ast.specs.Syntax.{Expression, Net, Bit as BitOf, Part, Sized, Plain, Not, Chain, Cond, Concat, Repeat, Operands, no_operand, operand, Arms, no_arm, arm, Parts, no_part, part, PlainConns, Order, Named, PlainBody, Ports, Nets, Regs, Supply, Assign, Gates, Calls, Always, PlainItem, PlainHead, PlainModule}
+use Rattle.bb_names.specs.declared.net.NetInfo.{NetInfo}
+use Rattle.bb_names.specs.Declarations.{Declaration, port_declaration, declared_by_head, declared_by, declarations, is_declared, names_in_optional, names_in_conns, implicit_places, implicit_names}
+use Rattle.bb_names.specs.Nets.{net_names, net_of, nets_of, is_empty}
+use Rattle.bb_names.specs.Spots.{module_named}
+use Rattle.bb_bits.specs.Earlier.{once}
+use Rattle.bb_design.specs.Hierarchy.{Path, Design, Scope, Instance, instance_of, instances_in, instances_of, root, children, below, instances, scopes, boxes, is_box, is_top, path_to, too_low}
+use Rattle.bb_design.specs.Allowed.{IsBounded}
+use Rattle.bb_design.specs.NetBits.{Bit, bits_of_net, scope_bits, net_order}
+use Rattle.bb_design.specs.Texts.{path_text, path_prefix, index_at, index_text, net_bit_text, range_at, bit_text}
+use Rattle.bb_lists.proofs.Members.{each_of, from_flat, from_map, contains_cases, kept_from, none_in_nil, from_find, from_filter_map}
+use Rattle.bb_design.specs.DesignLaws.{DesignLaws}
 
 -- what holds of each element
 
@@ -242,7 +238,7 @@ below_formed (suc n) text formed s there all c has =
     by x here rest (inl same) = subst (λ (y : Scope). AllByRecursion IsPrintable y.path) same here
     by x here rest (inr more) = rest more
 
-module _ (d : Design) (bounded : IsBounded d) where
+module _ (of_designs : DesignLaws) (d : Design) (bounded : IsBounded d) where
   scope_formed : (s : Scope) → Contains (scopes d) s → AllByRecursion IsPrintable s.path
   scope_formed s has = by (contains_cases (root d) (instances d) s has)
     where
@@ -255,7 +251,7 @@ module _ (d : Design) (bounded : IsBounded d) where
       let s = from_flat scope_bits (scopes d) b has in
       let net = from_flat (bits_of_net s.0.path) (nets_of s.0.source) b s.2 in
       let place = from_map (λ i. record { path = s.0.path; net = net.0.name; place = i }) _ b net.2 in
-      let name = net_formed s.0.source (each_of IsFormed d.text bounded.formed s.0.source (source_there d s.0 bounded.top s.1)) net.0 net.1 in
+      let name = net_formed s.0.source (each_of IsFormed d.text bounded.formed s.0.source (of_designs.of_text d s.0 bounded.top s.1)) net.0 net.1 in
       let path = scope_formed s.0 s.1 in
       subst (λ (c : Bit). IsPrintable (bit_text d c)) place.2
       (ahead (path_prefix s.0.path) (net_bit_text net.0.name (range_at d (record { path = s.0.path; net = net.0.name; place = place.0 })) place.0) (prefix_formed s.0.path path)

@@ -4,25 +4,29 @@ use Rattle.std.proofs.lemmas.List.Elements.{All-contains}
 use Rattle.std.proofs.lemmas.Option.{slice_get_within}
 use Rattle.std.specs.Prelude.{slice_get, Result, Ok, Err, IfOk}
 use Rattle.bb_ast.specs.Syntax.{PlainModule}
-use Rattle.bb_expr.specs.Checked.{HasText}
+use Rattle.bb_names.specs.Checked.{HasText}
 use Rattle.bb_net.specs.Loose.{LooseList, IsLoose}
-use Rattle.bb_elab.specs.declared.stored.Stored.{Stored}
-use Rattle.bb_elab.specs.Hierarchy.{Design}
-use Rattle.bb_elab.specs.ListLaws.{IsBounded, ListsAreLoose}
-use Rattle.bb_elab.specs.NetBits.{Bit, net_order}
-use Rattle.bb_elab.specs.Placements.{IsStoredAt, AreStored, AreReads}
-use Rattle.bb_elab.specs.Places.{Lowering, IsLowering, IsListOf}
-use Rattle.bb_elab.specs.Reading.{IsRead}
-use Rattle.bb_elab.specs.ReadPlaces.{AreTimed}
-use Rattle.bb_elab.specs.Refusals.{AreDrivenOnce}
-use Rattle.bb_elab.specs.Registers.{registers, cut_bits}
+use Rattle.bb_blast.specs.declared.stored.Stored.{Stored}
+use Rattle.bb_design.specs.Hierarchy.{Design}
+use Rattle.bb_cells.specs.ListLaws.{ListsAreLoose}
+use Rattle.bb_design.specs.Allowed.{IsBounded}
+use Rattle.bb_design.specs.NetBits.{Bit, net_order}
+use Rattle.bb_blast.specs.Placements.{IsStoredAt, AreStored}
+use Rattle.bb_elab.specs.DrivenNumbers.{AreReads}
+use Rattle.bb_cells.specs.Places.{Lowering, IsLowering, IsListOf}
+use Rattle.bb_design.specs.Reading.{IsRead}
+use Rattle.bb_elab.specs.StoredNumbers.{AreTimed}
+use Rattle.bb_design.specs.Refusals.{AreDrivenOnce}
+use Rattle.bb_design.specs.Registers.{registers, cut_bits}
 use Rattle.bb_elab.specs.Stages.{IsReadable}
-use Rattle.bb_elab.proofs.CauseDecisions.{all_from}
-use Rattle.bb_elab.proofs.ListFronts.{front_fits}
+use Rattle.bb_lists.proofs.Members.{all_from}
 use Rattle.bb_elab.proofs.ReadBits.{zip_there}
 use Rattle.bb_elab.proofs.TimedRegisters.{are_timed}
+use Rattle.bb_design.specs.DesignLaws.{DesignLaws}
+use Rattle.bb_cells.specs.CellLaws.{CellLaws}
+use Rattle.bb_blast.specs.ModuleLaws.{ModuleLaws}
 
-module _ (text : List PlainModule) (l : LooseList) (stored : List Stored) (bits : ℕ) (x : (d : Design) × IsReadable text d l stored bits) (first : ℕ) (is : first ≡ 2 + l.inputs) where
+module _ (of_cells : CellLaws) (text : List PlainModule) (l : LooseList) (stored : List Stored) (bits : ℕ) (x : (d : Design) × IsReadable text d l stored bits) (first : ℕ) (is : first ≡ 2 + l.inputs) where
   -- the clocks have their places in the list
   pub clocks_there : All (λ (x : Stored). first + x.clock < length l.cells) stored
   clocks_there = by x
@@ -31,11 +35,11 @@ module _ (text : List PlainModule) (l : LooseList) (stored : List Stored) (bits 
       by (d, ok) = all_from (λ (x : Stored). first + x.clock < length l.cells) stored (λ x has.
           let r = zip_there (IsStoredAt d) stored (registers d) x ok.registers has in
           let within = slice_get_within (net_order d) x.clock r.2.clock.0 r.2.clock.2 in
-          omega (arith, within, is, ok.listed.2.inputs, front_fits d ok.listed.0 l ok.listed.2))
+          omega (arith, within, is, ok.listed.2.inputs, of_cells.nets_fit d ok.listed.0 l ok.listed.2))
 
   -- and so have all bits
   pub bits_fit : first + bits ≤ length l.cells
-  bits_fit = let ok = x.1 in omega (arith, is, ok.count, ok.listed.2.inputs, front_fits x.0 ok.listed.0 l ok.listed.2)
+  bits_fit = let ok = x.1 in omega (arith, is, ok.count, ok.listed.2.inputs, of_cells.nets_fit x.0 ok.listed.0 l ok.listed.2)
 
   pub cells_few : length l.cells < 2 ^ 32
   cells_few = x.1.listed.2.fits
@@ -51,22 +55,23 @@ pub three : {A E : Type 0} {P Q R S : A → Type 0} (r : Result A E) → IfOk r 
 three (Ok x) p q r next = next x p q r
 three (Err e) p q r next = tt
 
--- a bit is read where its place is marked
-pub reads_are : (text : List PlainModule) (l : LooseList) (stored : List Stored) (bits : ℕ) (first : ℕ) → first ≡ 2 + l.inputs → HasText text → (reads : List Bool) → length reads ≡ bits
-    → ((d : Design) (lowering : Lowering) → IsBounded d → IsLowering d lowering → IsListOf d lowering l → AreStored d stored → first ≡ 2 + length (cut_bits d)
-    → (k : ℕ) (b : Bit) → slice_get (net_order d) k ≡ Some b → get_or reads k false ≡ true → IsRead d b)
-    → ((d : Design) (lowering : Lowering) → IsBounded d → AreDrivenOnce d → IsLowering d lowering → IsListOf d lowering l → first ≡ 2 + length (cut_bits d) → AreTimed d (map (λ (x : Stored). x.clock) stored)
-    → (k : ℕ) (b : Bit) → slice_get (net_order d) k ≡ Some b → k < bits → IsRead d b → get_or reads k false ≡ true)
-    → (d : Design) → IsReadable text d l stored bits → AreReads d reads
-reads_are text l stored bits first is read reads long only all d ok =
-    let lowering = ok.listed.0 in
-    let list = ok.listed.2 in
-    let at : first ≡ 2 + length (cut_bits d) = is ∙ ap (λ n. 2 + n) list.inputs in
-    let timed = are_timed d ok.bounded ok.once (subst HasText (sym ok.of_text) read) stored ok.registers in
-    record {
-      count = long ∙ ok.count;
-      each = λ k b there. (
-        only d lowering ok.bounded ok.listed.1 list ok.registers at k b there,
-        all d lowering ok.bounded ok.once ok.listed.1 list at timed k b there (omega (arith, slice_get_within (net_order d) k b there, ok.count)),
-      );
-    }
+module _ (of_designs : DesignLaws) (of_modules : ModuleLaws) where
+  -- a bit is read where its place is marked
+  pub reads_are : (text : List PlainModule) (l : LooseList) (stored : List Stored) (bits : ℕ) (first : ℕ) → first ≡ 2 + l.inputs → HasText text → (reads : List Bool) → length reads ≡ bits
+      → ((d : Design) (lowering : Lowering) → IsBounded d → IsLowering d lowering → IsListOf d lowering l → AreStored d stored → first ≡ 2 + length (cut_bits d)
+      → (k : ℕ) (b : Bit) → slice_get (net_order d) k ≡ Some b → get_or reads k false ≡ true → IsRead d b)
+      → ((d : Design) (lowering : Lowering) → IsBounded d → AreDrivenOnce d → IsLowering d lowering → IsListOf d lowering l → first ≡ 2 + length (cut_bits d) → AreTimed d (map (λ (x : Stored). x.clock) stored)
+      → (k : ℕ) (b : Bit) → slice_get (net_order d) k ≡ Some b → k < bits → IsRead d b → get_or reads k false ≡ true)
+      → (d : Design) → IsReadable text d l stored bits → AreReads d reads
+  reads_are text l stored bits first is read reads long only all d ok =
+      let lowering = ok.listed.0 in
+      let list = ok.listed.2 in
+      let at : first ≡ 2 + length (cut_bits d) = is ∙ ap (λ n. 2 + n) list.inputs in
+      let timed = are_timed of_designs of_modules d ok.bounded ok.once (subst HasText (sym ok.of_text) read) stored ok.registers in
+      record {
+        count = long ∙ ok.count;
+        each = λ k b there. (
+          only d lowering ok.bounded ok.listed.1 list ok.registers at k b there,
+          all d lowering ok.bounded ok.once ok.listed.1 list at timed k b there (omega (arith, slice_get_within (net_order d) k b there, ok.count)),
+        );
+      }

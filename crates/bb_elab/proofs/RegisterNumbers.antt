@@ -5,24 +5,25 @@ use Rattle.std.specs.Option.{option_map_or}
 use Rattle.std.specs.List.{AllZip, cons_option, enumerate_from, filter_map, find, flat_map}
 use Rattle.std.proofs.lemmas.Grind.{flat_map-append}
 use Rattle.bb_ast.specs.Syntax.{PlainAlways}
-use Rattle.bb_elab.specs.declared.outline.Part.{Part}
-use Rattle.bb_elab.specs.declared.outline.Outline.{Outline}
-use Rattle.bb_elab.specs.declared.placed.Placed.{Placed}
-use Rattle.bb_elab.specs.declared.stored.Stored.{Stored}
-use Rattle.bb_elab.specs.Hierarchy.{Design, Scope, scopes, is_box}
-use Rattle.bb_elab.specs.NetBits.{Bit, same_bit, net_order, written_bits}
-use Rattle.bb_elab.specs.Constructs.{Construct, Assignment, GateInstance, Register, SupplyNet, InputConnection, OutputConnection, BoxContents, body_constructs, constructs_at}
-use Rattle.bb_elab.specs.DrivenNumbers.{numbers_from}
-use Rattle.bb_elab.specs.Outlines.{AreAt, AreBitsIn, IsPartOf, IsOutline}
-use Rattle.bb_elab.specs.Placements.{IsScopeAt, IsPlacedAt, ArePlaced, AreOutlined, IsStoredAt, AreStored}
-use Rattle.bb_elab.specs.Registers.{RegisterBit, stored_at, stored}
+use Rattle.bb_blast.specs.declared.outline.Part.{Part}
+use Rattle.bb_blast.specs.declared.outline.Outline.{Outline}
+use Rattle.bb_blast.specs.declared.placed.Placed.{Placed}
+use Rattle.bb_blast.specs.declared.stored.Stored.{Stored}
+use Rattle.bb_design.specs.Hierarchy.{Design, Scope, scopes, is_box}
+use Rattle.bb_design.specs.NetBits.{Bit, same_bit, net_order, written_bits, scope_bits}
+use Rattle.bb_design.specs.Constructs.{Construct, Assignment, GateInstance, Register, SupplyNet, InputConnection, OutputConnection, BoxContents, body_constructs, constructs_at}
+use Rattle.bb_bits.specs.Places.{numbers_from, AreAt}
+use Rattle.bb_blast.specs.Outlines.{AreBitsIn, IsPartOf, IsOutline}
+use Rattle.bb_blast.specs.Placements.{IsScopeAt, IsPlacedAt, ArePlaced, AreOutlined, IsStoredAt, AreStored}
+use Rattle.bb_design.specs.Registers.{RegisterBit, stored_at, stored}
 use Rattle.bb_elab.specs.StoredNumbers.{stored_from, part_stored, scope_stored, IsStorable, MayBeNoted, AreNotes}
-use Rattle.bb_elab.proofs.CalleeLaw.{got}
-use Rattle.bb_elab.proofs.DistinctBits.{IsDistinct}
+use Rattle.bb_lists.proofs.Places.{got, head_same}
+use Rattle.bb_bits.specs.Closures.{IsDistinct}
 use Rattle.bb_elab.proofs.Tallies.{test_same}
-use Rattle.bb_elab.proofs.NumberedLists.{zip_all, zip_by, AreNumbered, zip_numbered, zip_flat_zip, head_same}
-use Rattle.bb_elab.proofs.ScopeBits.{at_scope_bits}
-use Rattle.bb_elab.specs.declared.outline.Part.TheVariants as part
+use Rattle.bb_lists.proofs.Zips.{zip_all, zip_by, AreNumbered, zip_numbered, zip_flat_zip}
+use Rattle.bb_blast.specs.declared.outline.Part.TheVariants as part
+use Rattle.bb_lists.proofs.FlatPlaces.{at_flat, flat_longer, flat_fits}
+use Rattle.bb_design.specs.DesignLaws.{DesignLaws}
 
 flat_flat : {A B C : Type 0} (f : B → List C) (g : A → List B) (xs : List A) → flat_map f (flat_map g xs) ≡ flat_map (λ x. flat_map f (g x)) xs
 flat_flat f g [] = refl
@@ -53,8 +54,8 @@ module _ (d : Design) (k : ℕ) (s : Scope) (p : Placed) (here : IsScopeAt d k s
   registers_at : (r : PlainAlways) (left : List ℕ) (clock : ℕ) (falling : Bool) → AreBitsIn s.source left (λ z. written_bits z r.left) → AreBitsIn s.source (clock ∷ []) (λ z. written_bits z r.clock) → falling ≡ r.falling
       → AllZip (IsStoredAt d) (stored_from p.first left clock falling) (stored_at (s, Register r))
   registers_at r left clock falling bits clocks edge =
-      let c = one_bit (slice_get (net_order d) (p.first + clock)) (written_bits s r.clock) (at_scope_bits d k s p.first here is.first (clock ∷ []) (written_bits s r.clock) (clocks s.path)) in
-      registers_from d s r p.first clock c.0 c.1 c.2 falling edge 0 left (written_bits s r.left) (at_scope_bits d k s p.first here is.first left (written_bits s r.left) (bits s.path))
+      let c = one_bit (slice_get (net_order d) (p.first + clock)) (written_bits s r.clock) (at_flat scope_bits (scopes d) k s here p.first is.first (clock ∷ []) (written_bits s r.clock) (clocks s.path)) in
+      registers_from d s r p.first clock c.0 c.1 c.2 falling edge 0 left (written_bits s r.left) (at_flat scope_bits (scopes d) k s here p.first is.first left (written_bits s r.left) (bits s.path))
 
   part_zip : (part : Part) (c : Construct) → IsPartOf d.text s.source part c → AllZip (IsStoredAt d) (part_stored p part) (stored_at (s, c))
   part_zip (part.Assignment left right) (Assignment l r) at = tt
@@ -115,7 +116,7 @@ module _ (d : Design) (k : ℕ) (s : Scope) (p : Placed) (here : IsScopeAt d k s
 storable : (d : Design) (x : Stored) (r : RegisterBit) → IsStoredAt d x r → IsStorable (length (net_order d)) x
 storable d x r at = ((got (net_order d) x.bit r.bit r.bit at.bit).0, (got (net_order d) x.clock at.clock.0 at.clock.0 at.clock.2).0)
 
-module _ (d : Design) (all : List Placed) (outlines : List Outline) (placed : ArePlaced d all) (outlined : AreOutlined d all outlines) where
+module _ (of_designs : DesignLaws) (d : Design) (all : List Placed) (outlines : List Outline) (placed : ArePlaced d all) (outlined : AreOutlined d all outlines) where
   each_zip : (p : Placed) (s : Scope) → AreNumbered all (scopes d) p s → AllZip (IsStoredAt d) (scope_stored outlines p) (flat_map (λ c. stored_at (s, c)) (constructs_at d.text s))
   each_zip p s z = let o = outlined z.0 s p z.2 z.1 in scope_zip d z.0 s p z.2 (placed.each z.0 s p z.2 z.1) outlines o.0 o.1 o.2
 
@@ -150,7 +151,7 @@ module _ (d : Design) (all : List Placed) (outlines : List Outline) (placed : Ar
     both_found k b at [] [] zipped = tt
     both_found k b at [] (r ∷ rs) zipped = absurd zipped
     both_found k b at (x ∷ xs) [] zipped = absurd zipped
-    both_found k b at (x ∷ xs) (r ∷ rs) zipped = by (x.bit == k) (same_bit b r.bit) (test_same (net_order d) distinct k x.bit b r.bit at zipped.0.bit) (both_found k b at xs rs zipped.1)
+    both_found k b at (x ∷ xs) (r ∷ rs) zipped = by (x.bit == k) (same_bit b r.bit) (test_same of_designs (net_order d) distinct k x.bit b r.bit at zipped.0.bit) (both_found k b at xs rs zipped.1)
       where
         by : (t u : Bool) → t ≡ u → AreBoth (find (λ y. y.bit == k) xs) (find (λ q. same_bit b q.bit) rs) → AreBoth (if t then Some x else find (λ y. y.bit == k) xs) (if u then Some r else find (λ q. same_bit b q.bit) rs)
         by true true e rest = zipped.0

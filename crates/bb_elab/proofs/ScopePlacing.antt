@@ -6,36 +6,32 @@ use Rattle.std.proofs.lemmas.List.{length-map, drop_all, take_all}
 use Rattle.std.proofs.lemmas.List.Elements.{All-contains}
 use Rattle.std.proofs.lemmas.Option.{slice_get_read}
 use Rattle.bb_ast.specs.Syntax.{PlainModule}
-use Rattle.bb_expr.specs.Nets.{nets_of, is_empty}
-use Rattle.bb_expr.specs.Ranges.{range_width}
-use Rattle.bb_elab.specs.declared.placed.Placed.{Placed}
+use Rattle.bb_names.specs.Nets.{nets_of, is_empty}
+use Rattle.bb_names.specs.Ranges.{range_width}
+use Rattle.bb_blast.specs.declared.placed.Placed.{Placed}
 use Rattle.bb_elab.specs.declared.scopes.Placing.{Placing}
-use Rattle.bb_elab.specs.declared.sketch.Sketch.{Sketch}
-use Rattle.bb_elab.specs.Callees.{callees}
-use Rattle.bb_elab.specs.Hierarchy.{Design, Instance, Path, Scope, root, path_to, instances_of, children, below, instances, scopes, is_top, is_box}
-use Rattle.bb_elab.specs.NetBits.{scope_bits}
-use Rattle.bb_elab.specs.Placements.{IsScopeAt, IsInstanceAt, IsChildAt, IsPlacedAt, ArePlaced}
-use Rattle.bb_elab.specs.Refusals.{design_on}
-use Rattle.bb_elab.specs.Placings.{IsAdded, with_children, bits_before, AreSketched, MayBePlaced, IsNext, IsPlacedNext}
-use Rattle.bb_elab.specs.Sketches.{IsSketch}
-use Rattle.bb_elab.proofs.CalledInstances.{place_of, source_of, child, there_at, stands, meant, children_are, called_here}
-use Rattle.bb_elab.proofs.CalleeLaw.{got}
-use Rattle.bb_elab.proofs.ListedData.{zip_append}
-use Rattle.bb_elab.proofs.DepthWalks.{list_here}
-use Rattle.bb_elab.proofs.RecursiveNames.{called as called_lists, some_at}
-use Rattle.bb_elab.proofs.TopLaws.{contains_cases}
-use Rattle.bb_elab.proofs.NumberedLists.{drop_first, drop_at, take_at, get_behind, set_behind, get_set_other, same_or_less, some_same, zip_at, map_at}
-use Rattle.bb_elab.proofs.ScopeBits.{bits_long, bits_after, bits_fit}
-use Rattle.bb_elab.proofs.InstanceNames.{in_front}
-use Rattle.bb_elab.proofs.CauseDecisions.{less_or_not}
+use Rattle.bb_hier.specs.declared.sketch.Sketch.{Sketch}
+use Rattle.bb_design.specs.Callees.{callees, place_of, source_of, child, called as called_lists}
+use Rattle.bb_design.specs.Hierarchy.{Design, Instance, Path, Scope, root, path_to, instances_of, children, below, instances, scopes, is_top, is_box}
+use Rattle.bb_design.specs.NetBits.{scope_bits}
+use Rattle.bb_elab.specs.Placings.{bits_before, IsAdded, with_children, AreSketched, MayBePlaced, IsNext, IsPlacedNext}
+use Rattle.bb_blast.specs.Placements.{IsScopeAt, IsInstanceAt, IsChildAt, IsPlacedAt, ArePlaced}
+use Rattle.bb_design.specs.Refusals.{design_on}
+use Rattle.bb_hier.specs.Sketches.{IsSketch}
+use Rattle.bb_lists.proofs.Places.{there_at, got, list_here, some_at, drop_first, drop_at, take_at, get_behind, set_behind, get_set_other, some_same, map_at, in_front}
+use Rattle.bb_lists.proofs.Zips.{zip_append, zip_at}
+use Rattle.bb_lists.proofs.Members.{contains_cases}
+use Rattle.bb_lists.proofs.Orders.{same_or_less, less_or_not}
 use Rattle.std.proofs.lemmas.Slice.Zip.{AllZip-long}
-use Rattle.bb_elab.specs.declared.placed.Instance as placed
+use Rattle.bb_blast.specs.declared.placed.Instance as placed
+use Rattle.bb_lists.proofs.FlatPlaces.{at_flat, flat_longer, flat_fits}
+use Rattle.bb_design.specs.DesignLaws.{DesignLaws}
 
 cut_off : (a b : ℕ) → a ≤ b → min a b ≡ a
 cut_off a b le = omega arith
 
 -- what stands next, and what there is room for
-module _ (d : Design) (called : List (List ℕ)) (sketches : List Sketch) (start : Placing) (place : ℕ) (instance : Option placed.Instance) (levels : ℕ) (s : Scope) (rest : List Scope)
+module _ (of_designs : DesignLaws) (d : Design) (called : List (List ℕ)) (sketches : List Sketch) (start : Placing) (place : ℕ) (instance : Option placed.Instance) (levels : ℕ) (s : Scope) (rest : List Scope)
     (next : IsNext d called sketches start place instance levels s rest) where
   abbrev n : ℕ
   n = length start.scopes.items
@@ -67,8 +63,8 @@ module _ (d : Design) (called : List (List ℕ)) (sketches : List Sketch) (start
 
   pub fits : (sketch : Sketch) → IsSketch s.source sketch → (sketch.bits ≡ length (scope_bits s)) × (start.bits + sketch.bits < 2 ^ 32)
   fits sketch is =
-      let room = bits_fit d n s here in
-      let long = bits_long s.path (nets_of s.source) in
+      let room = flat_fits scope_bits (scopes d) n s here in
+      let long = of_designs.net_bits s.path (nets_of s.source) in
       let small = next.may.small.0 in
       let same : sketch.bits ≡ length (scope_bits s) = is.bits ∙ cut_off (sum_by (λ net. range_width net.range) (nets_of s.source)) (2 ^ 64 - 1) (omega (arith, room, long, small)) ∙ sym long in
       (same, omega (arith, same, room, small, next.bits))
@@ -96,7 +92,7 @@ box_told : (d : Design) (k : ℕ) (s : Scope) (instance : Option placed.Instance
 box_told d k s None empty at is = ap (λ p. not (is_top p) && is_empty s.source) (sym at.1)
 box_told d k s (Some i) empty at is = is ∙ ap (λ b. not b && is_empty s.source) (sym (ap is_top at.3 ∙ path_down at.1.path i.name))
 
-module _ (d : Design) (called : List (List ℕ)) (sketches : List Sketch) (start : Placing) (place : ℕ) (instance : Option placed.Instance) (levels : ℕ) (s : Scope) (rest : List Scope)
+module _ (of_designs : DesignLaws) (d : Design) (called : List (List ℕ)) (sketches : List Sketch) (start : Placing) (place : ℕ) (instance : Option placed.Instance) (levels : ℕ) (s : Scope) (rest : List Scope)
     (next : IsNext d called sketches start place instance levels s rest) where
   abbrev m : ℕ
   m = length start.scopes.items
@@ -116,7 +112,7 @@ module _ (d : Design) (called : List (List ℕ)) (sketches : List Sketch) (start
   one_level (suc l) some = ap (λ j. flat_map (λ c. c ∷ below j d.text c) (children d.text s)) (omega arith)
 
   below_here : below levels d.text s ≡ flat_map each_below (map (child d.text s) (instances_of s.source))
-  below_here = one_level levels (some_levels d called sketches start place instance levels s rest next) ∙ ap (flat_map each_below) (children_are d.text next.may.faultless s.source source_here s refl)
+  below_here = one_level levels (some_levels of_designs d called sketches start place instance levels s rest next) ∙ ap (flat_map each_below) ((of_designs.instances d.text next.may.faultless s.source source_here).children s refl)
 
   one_longer : (xs : List Placed) (p : Placed) → length (xs ++ p ∷ []) ≡ length xs + 1
   one_longer xs p = length-append xs (p ∷ [])
@@ -124,10 +120,10 @@ module _ (d : Design) (called : List (List ℕ)) (sketches : List Sketch) (start
   pub placing_starts : (now : Placing) (sketch : Sketch) (p : Placed) → IsSketch s.source sketch → now.scopes.items ≡ start.scopes.items ++ p ∷ [] → now.bits ≡ start.bits + sketch.bits → IsAdded sketch start.bits place instance p
       → (inside : List ℕ) → inside ≡ [] → IsPlacing d start now place instance levels s rest inside 0
   placing_starts now sketch p is grows bits added inside none =
-      let f = first d called sketches start place instance levels s rest next in
+      let f = first of_designs d called sketches start place instance levels s rest next in
       let long : length now.scopes.items ≡ m + 1 = ap length grows ∙ one_longer start.scopes.items p in
-      let at = here d called sketches start place instance levels s rest next in
-      let width = (fits d called sketches start place instance levels s rest next sketch is).0 in
+      let at = here of_designs d called sketches start place instance levels s rest next in
+      let width = (fits of_designs d called sketches start place instance levels s rest next sketch is).0 in
       record {
         own = p;
         more = [];
@@ -138,7 +134,7 @@ module _ (d : Design) (called : List (List ℕ)) (sketches : List Sketch) (start
         begins = added.first;
         within = omega (arith, long, f.0);
         behind = ap (λ k. drop k (scopes d)) long ∙ f.2 ∙ ap (λ l. l ++ rest) below_here;
-        bits = bits ∙ ap₂ ◌+◌ next.bits width ∙ sym (bits_after d m s at) ∙ ap (bits_before d) (sym long);
+        bits = bits ∙ ap₂ ◌+◌ next.bits width ∙ sym (flat_longer scope_bits (scopes d) m s at) ∙ ap (bits_before d) (sym long);
         children = subst (λ l. AllZip (IsChildAt d s) l []) (sym none) tt;
         each = λ j r q lt scope got_q. absurd (omega (arith, lt, long, (got now.scopes.items j q q got_q).0));
       }
@@ -164,13 +160,13 @@ module _ (d : Design) (called : List (List ℕ)) (sketches : List Sketch) (start
       sketched = next.sketched;
       behind = behind_now;
       bits = placing.bits;
-      source = ap (slice_get d.text) to ∙ stands d.text next.may.faultless s.source source_here i in_scope;
-      is = (omega (arith, is, longer), s, ap (slice_get (scopes d)) is ∙ here d called sketches start place instance levels s rest next, ap (path_to s.path) (sym named));
-      long = omega (arith, next.long, length-append s.path (i.name ∷ []), some_levels d called sketches start place instance levels s rest next);
+      source = ap (slice_get d.text) to ∙ (of_designs.instances d.text next.may.faultless s.source source_here).stands i in_scope;
+      is = (omega (arith, is, longer), s, ap (slice_get (scopes d)) is ∙ here of_designs d called sketches start place instance levels s rest next, ap (path_to s.path) (sym named));
+      long = omega (arith, next.long, length-append s.path (i.name ∷ []), some_levels of_designs d called sketches start place instance levels s rest next);
     }
 
     is_child : (number : ℕ) → number ≡ length now.scopes.items → IsChildAt d s number i
-    is_child number is = (source_of d.text s.source i, meant d.text next.may.faultless s.source source_here i in_scope, ap (slice_get (scopes d)) is ∙ child_here)
+    is_child number is = (source_of d.text s.source i, (of_designs.instances d.text next.may.faultless s.source source_here).meant i in_scope, ap (slice_get (scopes d)) is ∙ child_here)
 
     pub placing_goes : (new : Placing) (number : ℕ) (more : List ℕ) → IsPlacedNext d now new number (left_from (k + 1)) → more ≡ inside ++ number ∷ [] → IsPlacing d start new place instance levels s rest more (k + 1)
     placing_goes new number more done pushed = record {
@@ -228,19 +224,19 @@ module _ (d : Design) (called : List (List ℕ)) (sketches : List Sketch) (start
       by : (j : ℕ) (r : Scope) (q : Placed) → IsScopeAt d j r → slice_get new.scopes.items j ≡ Some q → (j ≡ m) ⊎ (m < j) → IsPlacedAt d j r q
       by j r q scope got_q (inl same) =
           let is_own : own ≡ q = some_same own q (sym (get_behind start.scopes.items own placing.more) ∙ ap (λ l. slice_get l m) (sym grows) ∙ ap (slice_get new.scopes.items) (sym same) ∙ got_q) in
-          let is_s : s ≡ r = some_same s r (sym (here d called sketches start place instance levels s rest next) ∙ ap (slice_get (scopes d)) (sym same) ∙ scope) in
+          let is_s : s ≡ r = some_same s r (sym (here of_designs d called sketches start place instance levels s rest next) ∙ ap (slice_get (scopes d)) (sym same) ∙ scope) in
           subst (λ z. IsPlacedAt d z r q) (sym same) (subst (IsPlacedAt d m r) is_own (at_own r is_s))
       by j r q scope got_q (inr behind) =
           placing.each j r q behind scope (ap (λ l. slice_get l j) placing.grows ∙ get_set_other start.scopes.items placing.own own placing.more j (λ e. omega (arith, e, behind)) ∙ ap (λ l. slice_get l j) (sym grows) ∙ got_q)
 
 -- the instances of a scope with their modules, as they stand in the lists
-module _ (d : Design) (lists : List (Vec ℕ Global)) (sketches : List Sketch) (start : Placing) (place : ℕ) (instance : Option placed.Instance) (levels : ℕ) (s : Scope) (rest : List Scope)
+module _ (of_designs : DesignLaws) (d : Design) (lists : List (Vec ℕ Global)) (sketches : List Sketch) (start : Placing) (place : ℕ) (instance : Option placed.Instance) (levels : ℕ) (s : Scope) (rest : List Scope)
     (next : IsNext d (map (λ list. list.items) lists) sketches start place instance levels s rest) (list : Vec ℕ Global) (is : list ≡ get_or lists place list) where
   pub targets_here : list.items ≡ map (place_of d.text) (instances_of s.source)
   targets_here =
       let there = there_at d.text place s.source next.source in
-      let lt : place < length lists = omega (arith, list_there d (map (λ list. list.items) lists) sketches start place instance levels s rest next, length-map lists (λ list. list.items)) in
-      sym (list_here lists place list list.items (called_lists d.text) next.sketched.lists lt is refl) ∙ called_here d.text next.may.faultless s.source there place next.source
+      let lt : place < length lists = omega (arith, list_there of_designs d (map (λ list. list.items) lists) sketches start place instance levels s rest next, length-map lists (λ list. list.items)) in
+      sym (list_here lists place list list.items (called_lists d.text) next.sketched.lists lt is refl) ∙ (of_designs.instances d.text next.may.faultless s.source there).called place next.source
 
   pub as_many : length list.items ≡ length (instances_of s.source)
   as_many = ap length targets_here ∙ length-map (instances_of s.source) (place_of d.text)

@@ -6,19 +6,17 @@ use Rattle.std.proofs.lemmas.Bool.Decides.{nat_tests}
 use Rattle.std.proofs.lemmas.Grind.{flat_map-append}
 use Rattle.std.proofs.lemmas.List.{map-append, take_all, drop_all}
 use Rattle.std.proofs.lemmas.List.Elements.{All-contains}
-use Rattle.bb_elab.specs.Hierarchy.{Design}
-use Rattle.bb_elab.specs.NetBits.{Bit, same_bit, net_order}
-use Rattle.bb_elab.specs.Drivers.{driven_bits}
-use Rattle.bb_elab.specs.DrivenNumbers.{IsTally, times}
-use Rattle.bb_elab.specs.Outlines.{AreAt}
-use Rattle.bb_elab.specs.Placements.{AreCounts}
-use Rattle.bb_elab.proofs.CalleeLaw.{got}
-use Rattle.bb_elab.proofs.CauseDecisions.{all_from}
-use Rattle.bb_elab.proofs.DistinctBits.{IsDistinct, one_place}
-use Rattle.bb_elab.proofs.ListSteps.{item_there, front_more}
-use Rattle.bb_elab.proofs.ReadingLaw.{into_flat}
-use Rattle.bb_elab.proofs.WorldLaws.{same_bit_is, same_bit_self}
-use Rattle.bb_elab.proofs.NumberedLists.{some_same}
+use Rattle.bb_design.specs.Hierarchy.{Design}
+use Rattle.bb_design.specs.NetBits.{Bit, same_bit, net_order}
+use Rattle.bb_design.specs.Drivers.{driven_bits}
+use Rattle.bb_elab.specs.DrivenNumbers.{IsTally, times, AreCounts}
+use Rattle.bb_bits.specs.Places.{AreAt}
+use Rattle.bb_lists.proofs.Places.{got, some_same}
+use Rattle.bb_lists.proofs.Members.{all_from, into_flat}
+use Rattle.bb_lists.proofs.Apart.{one_place}
+use Rattle.bb_bits.specs.Closures.{IsDistinct}
+use Rattle.bb_lists.proofs.Turns.{item_there, front_more}
+use Rattle.bb_design.specs.DesignLaws.{DesignLaws}
 
 -- these numbers have been counted besides
 abbrev pub TalliesMore : List ℕ → List ℕ → List ℕ → Type 0
@@ -58,7 +56,7 @@ pub not_same : (n k : ℕ) → n ≡ k → (n == k) ≡ false → ⊥
 not_same n k same e = grind (arith, nat_tests, same, e)
 
 -- bits that stand at one place each are counted at their numbers
-module _ (all : List Bit) (distinct : IsDistinct all) where
+module _ (of_designs : DesignLaws) (all : List Bit) (distinct : IsDistinct all) where
   pub test_same : (k n : ℕ) (b x : Bit) → slice_get all k ≡ Some b → slice_get all n ≡ Some x → (n == k) ≡ same_bit b x
   test_same k n b x at here = by (n == k) refl (same_bit b x) refl
     where
@@ -68,9 +66,9 @@ module _ (all : List Bit) (distinct : IsDistinct all) where
       by true e false f =
           let same : n ≡ k = grind (arith, nat_tests, e) in
           let bits : b ≡ x = some_same b x (sym at ∙ ap (slice_get all) (sym same) ∙ here) in
-          absurd (true≢false (sym (same_bit_self b) ∙ ap (same_bit b) bits ∙ f))
+          absurd (true≢false (sym (((of_designs.told_apart b b).1 refl)) ∙ ap (same_bit b) bits ∙ f))
       by false e true f =
-          let bits : b ≡ x = same_bit_is b x f in
+          let bits : b ≡ x = (of_designs.told_apart b x).0 f in
           let same : n ≡ k = one_place all distinct n k x here (at ∙ ap Some bits) in
           absurd (not_same n k same e)
 
@@ -89,8 +87,9 @@ module _ (all : List Bit) (distinct : IsDistinct all) where
       longer true false e rest = absurd (true≢false e)
       longer false true e rest = absurd (true≢false (sym e))
 
-pub counts_told : (d : Design) (counts numbers : List ℕ) → IsDistinct (net_order d) → AreAt (net_order d) numbers (driven_bits d) → length counts ≡ length (net_order d) → IsTally numbers counts → AreCounts d counts
-counts_told d counts numbers distinct at long tally = record {
-  count = long;
-  each = λ k b here. tally k (omega (arith, (got (net_order d) k b b here).0, long)) ∙ ap (min 2) (times_same (net_order d) distinct k b here numbers (driven_bits d) at);
-}
+module _ (of_designs : DesignLaws) where
+  pub counts_told : (d : Design) (counts numbers : List ℕ) → IsDistinct (net_order d) → AreAt (net_order d) numbers (driven_bits d) → length counts ≡ length (net_order d) → IsTally numbers counts → AreCounts d counts
+  counts_told d counts numbers distinct at long tally = record {
+    count = long;
+    each = λ k b here. tally k (omega (arith, (got (net_order d) k b b here).0, long)) ∙ ap (min 2) (times_same of_designs (net_order d) distinct k b here numbers (driven_bits d) at);
+  }

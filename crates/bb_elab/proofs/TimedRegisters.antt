@@ -1,64 +1,60 @@
 -- The clock of each register is that of a register bit: something is written at an edge, and to each bit by one item.
 use Rattle.std.proofs.Common.{◌≡◌, ◌≢◌, ◌⊎◌, ℕ, ◌≤◌, Bool, true, false, if◌then◌else◌, List, [], ◌∷◌, ◌++◌, map, length, AllPairs, Contains, Some, sym, ap, ◌∙◌, subst, inl, inr, arith}
 use Rattle.std.proofs.lemmas.List.{map-append}
-use Rattle.std.proofs.lemmas.List.Elements.{All-contains}
+use Rattle.std.proofs.lemmas.List.Elements.{All-contains, Contains-append_right}
 use Rattle.std.specs.Prelude.{slice_get}
 use Rattle.std.specs.List.{AllZip, find, flat_map, enumerate_from}
 use Rattle.bb_ast.specs.Syntax.{PlainAlways, PlainItem}
-use Rattle.bb_expr.specs.Checked.{HasText}
-use Rattle.bb_elab.specs.declared.stored.Stored.{Stored}
-use Rattle.bb_elab.specs.Constructs.{Construct, Assignment, GateInstance, Register, SupplyNet, InputConnection, OutputConnection, BoxContents, parts, body_constructs}
-use Rattle.bb_elab.specs.Drivers.{Drive, driven, Free, drives, drives_at, driven_bits}
-use Rattle.bb_elab.specs.Hierarchy.{Design, Scope, scopes, is_box}
-use Rattle.bb_elab.specs.ListLaws.{IsBounded}
-use Rattle.bb_elab.specs.NetBits.{Bit, same_bit, net_order, top_inputs, written_bits}
-use Rattle.bb_elab.specs.Placements.{IsStoredAt, AreStored}
-use Rattle.bb_elab.specs.ReadPlaces.{AreTimed}
-use Rattle.bb_elab.specs.Refusals.{AreDrivenOnce}
-use Rattle.bb_elab.specs.Registers.{RegisterBit, stored, stored_at, registers}
-use Rattle.bb_elab.proofs.AllowedDesigns.{bits_there}
-use Rattle.bb_elab.proofs.CauseDecisions.{from_flat, from_map}
-use Rattle.bb_elab.proofs.DataPlaces.{apart_right}
-use Rattle.bb_elab.proofs.GivenDrives.{part_driven}
-use Rattle.bb_elab.proofs.Levels.{contains-map}
-use Rattle.bb_elab.proofs.ListedSources.{part_of}
-use Rattle.bb_elab.proofs.NextStates.{stored_by}
-use Rattle.bb_elab.proofs.RegisterItems.{HasLeft, read_left}
-use Rattle.bb_elab.proofs.ReadingLaw.{into_flat}
-use Rattle.bb_elab.proofs.RegisterCounts.{always_item}
-use Rattle.bb_elab.proofs.SoundSpots.{source_there}
-use Rattle.bb_elab.proofs.TopLaws.{contains_here, contains_there, contains_cases, none_in_nil}
-use Rattle.bb_elab.proofs.WorldExists.{apart_append, from_numbered, from_find, from_filter_map}
-use Rattle.bb_elab.proofs.WorldLaws.{numbered_there, stored_register}
+use Rattle.bb_names.specs.Checked.{HasText}
+use Rattle.bb_blast.specs.declared.stored.Stored.{Stored}
+use Rattle.bb_design.specs.Constructs.{Construct, Assignment, GateInstance, Register, SupplyNet, InputConnection, OutputConnection, BoxContents, parts, body_constructs}
+use Rattle.bb_design.specs.Drivers.{Drive, driven, Free, drives, drives_at, driven_bits}
+use Rattle.bb_design.specs.Hierarchy.{Design, Scope, scopes, is_box}
+use Rattle.bb_design.specs.Allowed.{IsBounded}
+use Rattle.bb_design.specs.NetBits.{Bit, same_bit, net_order, top_inputs, written_bits}
+use Rattle.bb_blast.specs.Placements.{IsStoredAt, AreStored}
+use Rattle.bb_elab.specs.StoredNumbers.{AreTimed}
+use Rattle.bb_design.specs.Refusals.{AreDrivenOnce}
+use Rattle.bb_design.specs.Registers.{RegisterBit, stored, stored_at, registers}
+use Rattle.bb_lists.proofs.Members.{from_flat, from_map, contains-map, into_flat, contains_here, contains_there, contains_cases, none_in_nil, from_find, from_filter_map}
+use Rattle.bb_lists.proofs.Apart.{apart_right, apart_append}
+use Rattle.bb_blast.specs.ModuleLaws.{HasLeft, ModuleLaws}
+use Rattle.bb_lists.proofs.Numbered.{from_numbered, numbered_there}
+use Rattle.bb_design.specs.DesignLaws.{DesignLaws}
 
--- two constructs that drive one bit are the same
-pub same_part : (ps : List (Scope × Construct)) → AllPairs ◌≢◌ (map (λ (x : Drive). x.bit) (flat_map drives_at ps)) → (p q : Scope × Construct) → Contains ps p → Contains ps q
-    → (b : Bit) → Contains (map (λ (x : Drive). x.bit) (drives_at p)) b → Contains (map (λ (x : Drive). x.bit) (drives_at q)) b → p ≡ q
-same_part [] apart p q has_p has_q b in_p in_q = absurd (none_in_nil {A = Scope × Construct} p has_p)
-same_part (z ∷ ps) apart p q has_p has_q b in_p in_q = by (contains_cases {A = Scope × Construct} z ps p has_p) (contains_cases {A = Scope × Construct} z ps q has_q) (λ one two. same_part ps (apart_right first rest split) p q one two b in_p in_q)
-  where
-    first : List Bit
-    first = map (λ (x : Drive). x.bit) (drives_at z)
+-- what a part drives is driven in the design
+part_drives : (d : Design) (part : Scope × Construct) → Contains (parts d) part → (z : Drive) → Contains (drives_at part) z → Contains (drives d) z
+part_drives d part has z at = Contains-append_right (map (driven Free) (top_inputs d)) (flat_map drives_at (parts d)) z (into_flat drives_at (parts d) part z has at)
 
-    rest : List Bit
-    rest = map (λ (x : Drive). x.bit) (flat_map drives_at ps)
+module _ (of_designs : DesignLaws) (of_modules : ModuleLaws) where
+  -- two constructs that drive one bit are the same
+  pub same_part : (ps : List (Scope × Construct)) → AllPairs ◌≢◌ (map (λ (x : Drive). x.bit) (flat_map drives_at ps)) → (p q : Scope × Construct) → Contains ps p → Contains ps q
+      → (b : Bit) → Contains (map (λ (x : Drive). x.bit) (drives_at p)) b → Contains (map (λ (x : Drive). x.bit) (drives_at q)) b → p ≡ q
+  same_part [] apart p q has_p has_q b in_p in_q = absurd (none_in_nil {A = Scope × Construct} p has_p)
+  same_part (z ∷ ps) apart p q has_p has_q b in_p in_q = by (contains_cases {A = Scope × Construct} z ps p has_p) (contains_cases {A = Scope × Construct} z ps q has_q) (λ one two. same_part ps (apart_right first rest split) p q one two b in_p in_q)
+    where
+      first : List Bit
+      first = map (λ (x : Drive). x.bit) (drives_at z)
 
-    split : AllPairs ◌≢◌ (first ++ rest)
-    split = subst (AllPairs ◌≢◌) (map-append (λ (x : Drive). x.bit) (drives_at z) (flat_map drives_at ps)) apart
+      rest : List Bit
+      rest = map (λ (x : Drive). x.bit) (flat_map drives_at ps)
 
-    later : (r : Scope × Construct) → Contains ps r → Contains (map (λ (x : Drive). x.bit) (drives_at r)) b → Contains rest b
-    later r has inside =
-        let x = from_map (λ (x : Drive). x.bit) (drives_at r) b inside in
-        subst (Contains rest) x.2 (contains-map (λ (x : Drive). x.bit) (flat_map drives_at ps) x.0 (into_flat drives_at ps r x.0 has x.1))
+      split : AllPairs ◌≢◌ (first ++ rest)
+      split = subst (AllPairs ◌≢◌) (map-append (λ (x : Drive). x.bit) (drives_at z) (flat_map drives_at ps)) apart
 
-    here : (r : Scope × Construct) → z ≡ r → Contains (map (λ (x : Drive). x.bit) (drives_at r)) b → Contains first b
-    here r same inside = subst (λ (u : Scope × Construct). Contains (map (λ (x : Drive). x.bit) (drives_at u)) b) (sym same) inside
+      later : (r : Scope × Construct) → Contains ps r → Contains (map (λ (x : Drive). x.bit) (drives_at r)) b → Contains rest b
+      later r has inside =
+          let x = from_map (λ (x : Drive). x.bit) (drives_at r) b inside in
+          subst (Contains rest) x.2 (contains-map (λ (x : Drive). x.bit) (flat_map drives_at ps) x.0 (into_flat drives_at ps r x.0 has x.1))
 
-    by : (z ≡ p) ⊎ Contains ps p → (z ≡ q) ⊎ Contains ps q → (Contains ps p → Contains ps q → p ≡ q) → p ≡ q
-    by (inl one) (inl two) more = sym one ∙ two
-    by (inl one) (inr two) more = absurd (apart_append first rest b split (here p one in_p) (later q two in_q))
-    by (inr one) (inl two) more = absurd (apart_append first rest b split (here q two in_q) (later p one in_p))
-    by (inr one) (inr two) more = more one two
+      here : (r : Scope × Construct) → z ≡ r → Contains (map (λ (x : Drive). x.bit) (drives_at r)) b → Contains first b
+      here r same inside = subst (λ (u : Scope × Construct). Contains (map (λ (x : Drive). x.bit) (drives_at u)) b) (sym same) inside
+
+      by : (z ≡ p) ⊎ Contains ps p → (z ≡ q) ⊎ Contains ps q → (Contains ps p → Contains ps q → p ≡ q) → p ≡ q
+      by (inl one) (inl two) more = sym one ∙ two
+      by (inl one) (inr two) more = absurd (apart_append first rest b split (here p one in_p) (later q two in_q))
+      by (inr one) (inl two) more = absurd (apart_append first rest b split (here q two in_q) (later p one in_p))
+      by (inr one) (inr two) more = more one two
 
 -- a bit that is stored is driven there
 stored_drives : (part : Scope × Construct) (r : RegisterBit) → Contains (stored_at part) r → Contains (map (λ (x : Drive). x.bit) (drives_at part)) r.bit
@@ -100,14 +96,14 @@ only_one xs b c is has = by (contains_cases c [] b (subst (λ l. Contains l b) i
     by (inl same) = same
     by (inr none) = absurd (none_in_nil b none)
 
-module _ (d : Design) (bounded : IsBounded d) (once : AreDrivenOnce d) where
+module _ (of_designs : DesignLaws) (of_modules : ModuleLaws) (d : Design) (bounded : IsBounded d) (once : AreDrivenOnce d) where
   apart : AllPairs ◌≢◌ (map (λ (x : Drive). x.bit) (flat_map drives_at (parts d)))
   apart = apart_right (map (λ (x : Drive). x.bit) (map (driven Free) (top_inputs d))) (map (λ (x : Drive). x.bit) (flat_map drives_at (parts d)))
       (subst (AllPairs ◌≢◌) (map-append (λ (x : Drive). x.bit) (map (driven Free) (top_inputs d)) (flat_map drives_at (parts d))) once)
 
   -- a register has a bit
   has_left : HasText d.text → (s : Scope) (a : PlainAlways) → Contains (parts d) (s, Register a) → 1 ≤ length (written_bits s a.left)
-  has_left read s a has = let p = part_of d s (Register a) has in by p.0 (is_box s) p.1
+  has_left read s a has = let p = of_designs.part_of d s (Register a) has in by p.0 (is_box s) p.1
     where
       box_is_none : BoxContents ≡ Register a → ⊥
       box_is_none e = cc
@@ -120,8 +116,8 @@ module _ (d : Design) (bounded : IsBounded d) (once : AreDrivenOnce d) where
           either (inr none) = none_in_nil (Register a) none
       by there false h =
           let item = from_flat (λ (item : PlainItem). body_constructs d.text item.body) s.source.items (Register a) h in
-          let left = read_left read.0 d.text read.2 s.source (source_there d s bounded.top there) item.0 item.1 in
-          subst HasLeft (always_item d.text s item.0.body a item.2) left s
+          let left = of_modules.left_sides read.0 d.text read.2 s.source (of_designs.of_text d s bounded.top there) item.0 item.1 in
+          subst HasLeft (of_designs.always_item d.text item.0.body a item.2) left s
 
   pub are_timed : HasText d.text → (all : List Stored) → AreStored d all → AreTimed d (map (λ (x : Stored). x.clock) all)
   are_timed read all are s a has b clock =
@@ -130,14 +126,14 @@ module _ (d : Design) (bounded : IsBounded d) (once : AreDrivenOnce d) where
       let i = numbered_there 0 (written_bits s a.left) c first.1 in
       let make : ℕ × Bit → RegisterBit = λ y. record { scope = s; item = a; place = y.0; bit = y.1 } in
       let here = contains-map make (enumerate_from 0 (written_bits s a.left)) (i.0, c) i.1 in
-      let drive = part_driven d (s, Register a) has (driven Free c) (contains-map (driven Free) (written_bits s a.left) c first.1) in
-      let net = All-contains (Contains (net_order d)) (driven_bits d) c (bits_there d bounded).driven (contains-map (λ (x : Drive). x.bit) (drives d) (driven Free c) drive) in
-      let q = stored_register d (make (i.0, c)) (into_flat stored_at (parts d) (s, Register a) (make (i.0, c)) has here) net in
+      let drive = part_drives d (s, Register a) has (driven Free c) (contains-map (driven Free) (written_bits s a.left) c first.1) in
+      let net = All-contains (Contains (net_order d)) (driven_bits d) c (of_designs.bits_there d bounded).driven (contains-map (λ (x : Drive). x.bit) (drives d) (driven Free c) drive) in
+      let q = of_designs.stored_register d (make (i.0, c)) (into_flat stored_at (parts d) (s, Register a) (make (i.0, c)) has here) net in
       let from = from_filter_map (λ b. find (λ r. same_bit b r.bit) (stored d)) (net_order d) q.0 q.1 in
       let found = from_find (λ r. same_bit from.0 r.bit) (stored d) q.0 from.2 in
       let part = from_flat stored_at (parts d) q.0 found.0 in
-      let same = same_part (parts d) apart (s, Register a) part.0 has part.1 c (stored_drives (s, Register a) (make (i.0, c)) here) (subst (Contains (map (λ (x : Drive). x.bit) (drives_at part.0))) q.2 (stored_drives part.0 q.0 part.2)) in
-      let is : written_bits s a.clock ≡ written_bits q.0.scope q.0.item.clock = ap clock_bits (same ∙ stored_by part.0 q.0 part.2) in
+      let same = same_part of_designs of_modules (parts d) apart (s, Register a) part.0 has part.1 c (stored_drives (s, Register a) (make (i.0, c)) here) (subst (Contains (map (λ (x : Drive). x.bit) (drives_at part.0))) q.2 (stored_drives part.0 q.0 part.2)) in
+      let is : written_bits s a.clock ≡ written_bits q.0.scope q.0.item.clock = ap clock_bits (same ∙ (of_designs.stores part.0).always q.0 part.2) in
       let x = zip_back (IsStoredAt d) all (registers d) q.0 are q.1 in
       let at = x.2.clock in
       let equal : at.0 ≡ b = only_one (written_bits s a.clock) b at.0 (is ∙ at.1) clock in

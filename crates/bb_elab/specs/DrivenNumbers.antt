@@ -1,20 +1,20 @@
 -- No clause of a public call rests on this file: it says what functions inside the crate find.
 -- The driven bits of a design by their numbers, each as often as it is driven: those of the inputs of the top, and then those of
 -- the constructs, scope by scope.
-use Rattle.std.specs.Prelude.{◌≡◌, ℕ, ◌+◌, ◌<◌, ◌==◌, min, false, if◌then◌else◌, List, [], ◌∷◌, ◌++◌, map, length, All, Some, slice_get, slice_index_or}
+use Rattle.std.specs.Prelude.{◌≡◌, ℕ, ◌+◌, ◌<◌, ◌==◌, min, false, if◌then◌else◌, List, [], ◌∷◌, ◌++◌, map, length, All, Some, slice_get, slice_index_or, Bool}
 use Rattle.std.specs.List.{filter, flat_map}
 use Rattle.std.specs.Option.{option_map_or}
-use Rattle.bb_elab.specs.declared.outline.Part.{Part}
-use Rattle.bb_elab.specs.declared.outline.Part.TheVariants as part
-use Rattle.bb_elab.specs.declared.outline.Outline.{Outline}
-use Rattle.bb_elab.specs.declared.placed.Placed.{Placed}
-use Rattle.bb_elab.specs.Closures.{IsFirst}
-use Rattle.bb_elab.specs.Hierarchy.{Design}
-use Rattle.bb_elab.specs.NetBits.{Bit, net_order}
-
--- the numbers of bits of a scope in the design, where its first has this number
-abbrev pub numbers_from : ℕ → List ℕ → List ℕ
-numbers_from first bits = map (λ x. first + x) bits
+use Rattle.bb_blast.specs.declared.outline.Part.{Part}
+use Rattle.bb_blast.specs.declared.outline.Part.TheVariants as part
+use Rattle.bb_blast.specs.declared.outline.Outline.{Outline}
+use Rattle.bb_blast.specs.declared.placed.Placed.{Placed}
+use Rattle.bb_bits.specs.Closures.{IsFirst}
+use Rattle.bb_design.specs.Hierarchy.{Design}
+use Rattle.bb_design.specs.NetBits.{Bit, net_order, same_bit}
+use Rattle.bb_bits.specs.Places.{numbers_from, AreAt}
+use Rattle.std.specs.Bool.{Decides}
+use Rattle.bb_design.specs.Drivers.{driven_bits}
+use Rattle.bb_design.specs.Reading.{IsRead}
 
 -- the number of the first bit of the scope of an instance
 abbrev pub first_inside : List Placed → Placed → ℕ → ℕ
@@ -72,3 +72,21 @@ IsTally numbers counts = (k : ℕ) → k < length counts → slice_index_or coun
 -- the bit with a number is the first in net order of which it holds
 abbrev pub IsFirstAt : Design → (Bit → Type 0) → ℕ → Type 0
 IsFirstAt d P k = (b : Bit) × (slice_get (net_order d) k ≡ Some b) × IsFirst P (net_order d) b
+
+-- the bits with these numbers
+abbrev pub AreBitsAt : Design → List ℕ → List Bit → Type 0
+AreBitsAt d numbers bits = AreAt (net_order d) numbers bits
+
+-- how often a bit is driven
+abbrev pub times_driven : Design → Bit → ℕ
+times_driven d b = length (filter (same_bit b) (driven_bits d))
+
+-- for each bit how often it is driven, where 2 stands for more
+pub record AreCounts (d : Design) (counts : List ℕ) : Type 0 where
+  pub count : length counts ≡ length (net_order d)
+  pub each : (k : ℕ) (b : Bit) → slice_get (net_order d) k ≡ Some b → slice_index_or counts k 0 ≡ min 2 (times_driven d b)
+
+-- for each bit whether it is read
+pub record AreReads (d : Design) (marks : List Bool) : Type 0 where
+  pub count : length marks ≡ length (net_order d)
+  pub each : (k : ℕ) (b : Bit) → slice_get (net_order d) k ≡ Some b → Decides (slice_index_or marks k false) (IsRead d b)

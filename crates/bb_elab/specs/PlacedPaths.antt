@@ -1,9 +1,9 @@
 -- No clause of a public call rests on this file: it says what functions inside the crate find.
 -- The paths of scopes by numbers.
 use Rattle.std.specs.Prelude.{◌≡◌, ℕ, ◌+◌, ◌<◌, ◌≤◌, List, [], IfSome, None, Some, slice_get}
-use Rattle.bb_elab.specs.declared.placed.Instance as placed
-use Rattle.bb_elab.specs.declared.placed.Placed.{Placed}
-use Rattle.bb_elab.specs.Hierarchy.{Path, path_to}
+use Rattle.bb_blast.specs.declared.placed.Instance as placed
+use Rattle.bb_blast.specs.declared.placed.Placed.{Placed}
+use Rattle.bb_design.specs.Hierarchy.{Path, path_to}
 
 -- a path leads to the scope with a number
 pub data IsPathAt (all : List Placed) : ℕ → Path → Type 0 where

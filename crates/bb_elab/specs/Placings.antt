@@ -4,17 +4,17 @@ use Rattle.std.specs.Prelude.{◌≡◌, ℕ, ◌+◌, ◌<◌, ◌≤◌, ◌&&
 use Rattle.std.specs.Global.{Global}
 use Rattle.std.specs.List.{AllZip, flat_map}
 use Rattle.bb_ast.specs.Syntax.{PlainModule}
-use Rattle.bb_expr.specs.Faults.{IsSound}
-use Rattle.bb_elab.specs.declared.placed.Instance as placed
-use Rattle.bb_elab.specs.declared.placed.Placed.{Placed}
+use Rattle.bb_names.specs.Faults.{IsSound}
+use Rattle.bb_blast.specs.declared.placed.Instance as placed
+use Rattle.bb_blast.specs.declared.placed.Placed.{Placed}
 use Rattle.bb_elab.specs.declared.scopes.Placing.{Placing}
-use Rattle.bb_elab.specs.declared.sketch.Sketch.{Sketch}
-use Rattle.bb_elab.specs.Callees.{callees}
-use Rattle.bb_elab.specs.Hierarchy.{Design, Scope, below, scopes}
-use Rattle.bb_elab.specs.NetBits.{scope_bits}
-use Rattle.bb_elab.specs.Placements.{IsScopeAt, IsInstanceAt, IsPlacedAt}
-use Rattle.bb_elab.specs.Refusals.{IsShallow, IsSmall}
-use Rattle.bb_elab.specs.Sketches.{IsSketch}
+use Rattle.bb_hier.specs.declared.sketch.Sketch.{Sketch}
+use Rattle.bb_design.specs.Callees.{callees}
+use Rattle.bb_design.specs.Hierarchy.{Design, Scope, below, scopes}
+use Rattle.bb_design.specs.NetBits.{scope_bits}
+use Rattle.bb_blast.specs.Placements.{IsScopeAt, IsInstanceAt, IsPlacedAt}
+use Rattle.bb_design.specs.Refusals.{IsShallow, IsSmall}
+use Rattle.bb_hier.specs.Sketches.{IsSketch}
 
 -- a scope of a module as it is placed: with these bits before it, and without those in it
 pub record IsAdded (sketch : Sketch) (bits place : ℕ) (instance : Option placed.Instance) (p : Placed) : Type 0 where

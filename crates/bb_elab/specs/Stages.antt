@@ -5,32 +5,20 @@ use Rattle.bb_ast.specs.Syntax.{PlainModule}
 use Rattle.bb_net.specs.Loose.{LooseList}
 use Rattle.bb_net.specs.Netlists.{Netlist, IsNetlist}
 use Rattle.bb_net.specs.Orders.{IsOrderOf}
-use Rattle.bb_elab.specs.declared.fault.ElabFault.{ElabFault}
+use Rattle.bb_design.specs.declared.fault.ElabFault.{ElabFault}
 use Rattle.bb_elab.specs.declared.growing.Grown.{Grown}
-use Rattle.bb_elab.specs.declared.outline.Outline.{Outline}
-use Rattle.bb_elab.specs.declared.placed.Placed.{Placed}
-use Rattle.bb_elab.specs.declared.stored.Stored.{Stored}
-use Rattle.bb_elab.specs.Hierarchy.{Design}
-use Rattle.bb_elab.specs.ListLaws.{IsBounded}
-use Rattle.bb_elab.specs.NetBits.{net_order}
-use Rattle.bb_elab.specs.Placements.{ArePlaced, AreOutlined, AreCounts, AreStored}
-use Rattle.bb_elab.specs.Places.{Lowering, IsLowering, IsListOf}
-use Rattle.bb_elab.specs.Refusals.{IsHierarchy, AreDrivenOnce, AreDriven, IsAcyclic, Cause, fault_of, IsTold, design_on}
-
--- it holds of the design of a text with the module at a place on top
-abbrev pub AtTop : List PlainModule → ℕ → (Design → Type 0) → Type 0
-AtTop text top P = (t : PlainModule) → slice_get text top ≡ Some t → P (design_on text t)
-
--- a cause holds, and the fault tells it
-pub record TellsOf (d : Design) (cause : Cause) (fault : ElabFault) : Type 0 where
-  pub name : List ℕ
-  pub is : fault ≡ fault_of cause name
-  pub told : IsTold d cause name
-
--- it is neither recursive nor too deep nor too large
-pub record IsFinite (d : Design) : Type 0 where
-  pub hierarchy : IsHierarchy d
-  pub bounded : IsBounded d
+use Rattle.bb_blast.specs.declared.outline.Outline.{Outline}
+use Rattle.bb_blast.specs.declared.placed.Placed.{Placed}
+use Rattle.bb_blast.specs.declared.stored.Stored.{Stored}
+use Rattle.bb_design.specs.Hierarchy.{Design}
+use Rattle.bb_design.specs.Allowed.{IsBounded}
+use Rattle.bb_design.specs.NetBits.{net_order}
+use Rattle.bb_blast.specs.Placements.{ArePlaced, AreOutlined, AreStored}
+use Rattle.bb_elab.specs.DrivenNumbers.{AreCounts}
+use Rattle.bb_cells.specs.Places.{Lowering, IsLowering, IsListOf}
+use Rattle.bb_design.specs.Refusals.{IsHierarchy, AreDrivenOnce, AreDriven, IsAcyclic, Cause, fault_of, IsTold, design_on}
+use Rattle.bb_design.specs.CauseLaws.{TellsOf}
+use Rattle.bb_hier.specs.Finite.{AtTop, IsFinite}
 
 -- its scopes, the constructs of its modules, its drivers and its registers are found, and no bit is driven twice
 pub record AreGrown (d : Design) (placed : List Placed) (outlines : List Outline) (counts : List ℕ) (stored : List Stored) : Type 0 where

@@ -1,23 +1,25 @@
 //! The cells of a design in order; it is refused where a read bit has no driver or bits are on a loop.
 
 ghost use Rattle.std.specs.Prelude.{◌≡◌, ◌⊎◌, map, IfOk, IfErr, OnOk};
-ghost use Rattle.bb_expr.specs.Checked.{syntax};
-ghost use Rattle.bb_elab.specs.declared.fault.ElabFault.TheVariants.{NoMemory};
-ghost use Rattle.bb_elab.specs.Hierarchy.{Design};
-ghost use Rattle.bb_elab.specs.Refusals.{AreDriven, IsAcyclic, NoDriver, Cycle, IsRefusalOf};
+ghost use Rattle.bb_names.specs.Checked.{syntax};
+ghost use Rattle.bb_design.specs.declared.fault.ElabFault.TheVariants.{NoMemory};
+ghost use Rattle.bb_design.specs.Hierarchy.{Design};
+ghost use Rattle.bb_design.specs.Refusals.{AreDriven, IsAcyclic, NoDriver, Cycle, IsRefusalOf};
+ghost use Rattle.bb_design.specs.CauseLaws.{TellsOf};
 ghost use Rattle.bb_net.specs.Netlists.{IsNetlist};
 ghost use Rattle.bb_net.specs.Orders.{IsOrderOf};
-ghost use Rattle.bb_elab.specs.Stages.{HasGrown, IsListed, TellsOf, AreArranged};
+ghost use Rattle.bb_elab.specs.Stages.{HasGrown, IsListed, AreArranged};
 
-use crate::fault::ElabFault;
 use crate::growing::Grown;
-use crate::list_laws::lists_are_loose;
-use crate::listing::list_cells;
-use crate::loop_laws::{least_walks_are_first_loops, lists_without_walks};
 use crate::reads::bits_read;
 use crate::texts::bit_name;
 use crate::undriven::first_undriven;
-use bb_expr::Checked;
+use bb_blast::list_cells;
+use bb_cells::list_laws::lists_are_loose;
+use bb_cells::loop_laws::{least_walks_are_first_loops, lists_without_walks};
+use bb_design::ElabFault;
+use bb_design::laws::laws_of_designs;
+use bb_names::Checked;
 use bb_net::{Loose, NetFault, Ordered, order, order_has_no_walk};
 use std::alloc::Global;
 
@@ -98,6 +100,7 @@ pub(crate) fn arrange(
     ensures arranged { IfOk result (λ a. (d : Design) → HasGrown (map syntax checked.now) d grown.now → AreArranged d a.list a.ordered.net a.ordered.boxes.items) }
     ensures fault { IfErr result (λ fault. (fault ≡ NoMemory) ⊎ ((d : Design) → HasGrown (map syntax checked.now) d grown.now → IsRefusalOf d fault)) }
 {
+    laws_of_designs();
     let list = list_cells(alloc, &grown.placed, &grown.outlines, &grown.stored)?;
     drive_all(alloc, checked, grown, &list)?;
     let ordered = put_in_order(alloc, checked, grown, &list)?;

@@ -2,18 +2,18 @@
 
 ghost use Rattle.std.specs.Prelude.{◌≡◌, ◌≤◌, ◌<◌, ◌+◌, ◌-◌, ℕ, Some, length, slice_get};
 ghost use Rattle.std.specs.List.{slice_index_or};
-ghost use Rattle.bb_expr.specs.declared.net.NetInfo.{NetInfo};
-ghost use Rattle.bb_expr.specs.Ranges.{range_width};
-ghost use Rattle.bb_elab.specs.declared.placed.Placed.{Placed};
-ghost use Rattle.bb_elab.specs.Outlines.{net_start};
-ghost use Rattle.bb_elab.specs.Outlining.{bit_count};
-ghost use Rattle.bb_elab.specs.Hierarchy.{Design, Scope};
-ghost use Rattle.bb_elab.specs.NetBits.{Bit, net_order, scope_bits};
+ghost use Rattle.bb_names.specs.declared.net.NetInfo.{NetInfo};
+ghost use Rattle.bb_names.specs.Ranges.{range_width};
+ghost use Rattle.bb_blast.specs.declared.placed.Placed.{Placed};
+ghost use Rattle.bb_blast.specs.Outlines.{net_start};
+ghost use Rattle.bb_blast.specs.Outlining.{bit_count};
+ghost use Rattle.bb_design.specs.Hierarchy.{Design, Scope};
+ghost use Rattle.bb_design.specs.NetBits.{Bit, net_order, scope_bits};
 ghost use Rattle.bb_elab.specs.PlacedPaths.{IsLastBelow};
-ghost use Rattle.bb_elab.specs.Placements.{IsScopeAt, ArePlaced};
+ghost use Rattle.bb_blast.specs.Placements.{IsScopeAt, ArePlaced};
 
-use crate::placed::Placed;
-use bb_expr::NetInfo;
+use bb_blast::Placed;
+use bb_names::NetInfo;
 
 // The last scope of which the first bit has no greater number, where the first scope is one.
 fn last_below(placed: &[Placed], number: u32) -> usize

@@ -2,24 +2,23 @@
 
 ghost use Rattle.std.specs.Prelude.{◌≡◌, ◌⊎◌, ◌<◌, ◌^◌, All, length, map, IfOk, IfErr};
 ghost use Rattle.std.specs.List.{AllZip};
-ghost use Rattle.bb_expr.specs.Checked.{syntax};
-ghost use Rattle.bb_elab.specs.declared.fault.ElabFault.TheVariants.{NoMemory as out_of_memory};
-ghost use Rattle.bb_elab.specs.Hierarchy.{Design, Scope, boxes};
-ghost use Rattle.bb_elab.specs.Placements.{IsScopeAt, ArePlaced};
-ghost use Rattle.bb_elab.specs.Refusals.{BoxTexts, IsAbsent, box_paths};
-ghost use Rattle.bb_elab.specs.Stages.{HasGrown, TellsOf};
-ghost use Rattle.bb_elab.specs.Stands.{box_number, box_texts};
+ghost use Rattle.bb_names.specs.Checked.{syntax};
+ghost use Rattle.bb_design.specs.declared.fault.ElabFault.TheVariants.{NoMemory as out_of_memory};
+ghost use Rattle.bb_design.specs.Hierarchy.{Design, Scope, boxes};
+ghost use Rattle.bb_blast.specs.Placements.{IsScopeAt, ArePlaced};
+ghost use Rattle.bb_design.specs.Refusals.{BoxTexts, IsAbsent, box_paths};
+ghost use Rattle.bb_design.specs.CauseLaws.{TellsOf};
+ghost use Rattle.bb_elab.specs.Stages.{HasGrown};
+ghost use Rattle.bb_cells.specs.Stands.{box_number, box_texts};
 
-use crate::box_cells::moved;
-use crate::fault::ElabFault;
 use crate::growing::Grown;
 use crate::naming::pin_names;
-use crate::part_cells::outline_of;
-use crate::placed::Placed;
 use crate::repeats::first_repeat;
 use crate::texts::path_name;
 use bb_bits::{Name, NoMemory};
-use bb_expr::Checked;
+use bb_blast::{Placed, moved, outline_of};
+use bb_design::ElabFault;
+use bb_names::Checked;
 use bb_net::BoxName;
 use std::alloc::Global;
 

@@ -5,16 +5,16 @@
 ghost use Rattle.std.specs.Prelude.{◌≡◌, ◌+◌, ◌<◌, ◌^◌, ℕ, Some, slice_get, length, IfSome, IfNone};
 ghost use Rattle.bb_net.specs.Orders.{IsSource};
 ghost use Rattle.bb_elab.specs.CopyEnds.{AreEnds};
-ghost use Rattle.bb_elab.specs.Hierarchy.{Design};
-ghost use Rattle.bb_elab.specs.ListLaws.{IsBounded};
-ghost use Rattle.bb_elab.specs.NetBits.{Bit, net_order, top_inputs};
-ghost use Rattle.bb_elab.specs.Places.{Lowering, IsLowering, IsListOf};
-ghost use Rattle.bb_elab.specs.Refusals.{AreDrivenOnce};
-ghost use Rattle.bb_elab.specs.Registers.{cut_bits};
-ghost use Rattle.bb_elab.specs.Stands.{IsClock};
+ghost use Rattle.bb_design.specs.Hierarchy.{Design};
+ghost use Rattle.bb_design.specs.Allowed.{IsBounded};
+ghost use Rattle.bb_design.specs.NetBits.{Bit, net_order, top_inputs};
+ghost use Rattle.bb_cells.specs.Places.{Lowering, IsLowering, IsListOf};
+ghost use Rattle.bb_design.specs.Refusals.{AreDrivenOnce};
+ghost use Rattle.bb_design.specs.Registers.{cut_bits};
+ghost use Rattle.bb_cells.specs.Stands.{IsClock};
 
 use crate::copy_ends::end_of;
-use crate::list_laws::lists_are_loose;
+use bb_cells::list_laws::{laws_of_cells, lists_are_loose};
 use bb_net::Loose;
 
 // The number of the input at a place, if it is below a limit. Inputs stand behind the two constants.
@@ -45,6 +45,7 @@ pub(crate) fn clock_input(
         → slice_get (net_order d) clock ≡ Some b → first ≡ 2 + length (cut_bits d) → limit ≡ length (top_inputs d) → IsSource n list.now (first + clock) source
         → IsClock d b result }
 {
+    laws_of_cells();
     lists_are_loose();
     input_at(end_of(list, ends, first + clock), limit)
 }

@@ -7,6 +7,7 @@ ghost use Rattle.bb_net.specs.declared.loose.LooseCell.TheVariants.{Const, Copy}
 ghost use Rattle.bb_elab.specs.CopyEnds.{EndsAt, AreEnds};
 
 use bb_bits::NoMemory;
+use bb_cells::list_laws::laws_of_cells;
 use bb_net::{Loose, LooseCell};
 use std::alloc::Global;
 
@@ -36,6 +37,7 @@ fn followed(list: &Loose, ends: &[Option<u32>], place: u32) -> u32
     requires ends { AreEnds list.now ends.now }
     ensures end { EndsAt list.now place result }
 {
+    laws_of_cells();
     let cells = list.cells();
     let mut at = place;
     for _step in 0..cells.len() {

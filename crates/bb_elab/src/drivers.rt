@@ -4,18 +4,19 @@
 
 ghost use Rattle.std.specs.Prelude.{◌≡◌, ◌+◌, ◌<◌, ◌++◌, ◌∷◌, [], ℕ, List, All, Some, length, slice_get, IfNone, IfOk, IfSome};
 ghost use Rattle.std.specs.List.{flat_map};
-ghost use Rattle.bb_elab.specs.declared.outline.Outline.{Outline};
-ghost use Rattle.bb_elab.specs.declared.placed.Placed.{Placed};
-ghost use Rattle.bb_elab.specs.DrivenNumbers.{numbers_from, top_numbers, part_numbers, scope_numbers, driven_numbers, IsInside, MayCountInputs, MayBeCounted, IsTally, IsFirstAt};
-ghost use Rattle.bb_elab.specs.Hierarchy.{Design};
-ghost use Rattle.bb_elab.specs.ListLaws.{IsBounded};
-ghost use Rattle.bb_elab.specs.NetBits.{net_order};
-ghost use Rattle.bb_elab.specs.Placements.{ArePlaced, AreOutlined, AreCounts};
-ghost use Rattle.bb_elab.specs.Refusals.{AreDrivenOnce, IsDrivenTwice};
+ghost use Rattle.bb_blast.specs.declared.outline.Outline.{Outline};
+ghost use Rattle.bb_blast.specs.declared.placed.Placed.{Placed};
+ghost use Rattle.bb_elab.specs.DrivenNumbers.{top_numbers, part_numbers, scope_numbers, driven_numbers, IsInside, MayCountInputs, MayBeCounted, IsTally, IsFirstAt, AreCounts};
+ghost use Rattle.bb_bits.specs.Places.{numbers_from};
+ghost use Rattle.bb_design.specs.Hierarchy.{Design};
+ghost use Rattle.bb_design.specs.Allowed.{IsBounded};
+ghost use Rattle.bb_design.specs.NetBits.{net_order};
+ghost use Rattle.bb_blast.specs.Placements.{ArePlaced, AreOutlined};
+ghost use Rattle.bb_design.specs.Refusals.{AreDrivenOnce, IsDrivenTwice};
 
-use crate::outline::{Outline, Part};
-use crate::placed::Placed;
 use bb_bits::NoMemory;
+use bb_blast::{Outline, Part, Placed};
+use bb_design::laws::laws_of_designs;
 use bb_expr::laws::{made_has_value, net_names_differ, values_have_width};
 use std::alloc::Global;
 
@@ -125,6 +126,7 @@ pub(crate) fn bit_count(placed: &[Placed], outlines: &[Outline]) -> usize
     requires design { (d : Design) × ArePlaced d placed.now × AreOutlined d placed.now outlines.now }
     ensures bits { (d : Design) → ArePlaced d placed.now → AreOutlined d placed.now outlines.now → result ≡ length (net_order d) }
 {
+    laws_of_designs();
     bits_through(&placed[placed.len() - 1], outlines)
 }
 
@@ -137,6 +139,7 @@ pub(crate) fn driver_counts(
     requires design { (d : Design) × ArePlaced d placed.now × AreOutlined d placed.now outlines.now × IsBounded d }
     ensures counts { IfOk result (λ counts. (d : Design) → ArePlaced d placed.now → AreOutlined d placed.now outlines.now → IsBounded d → AreCounts d counts.items) }
 {
+    laws_of_designs();
     values_have_width();
     made_has_value();
     net_names_differ();
@@ -150,6 +153,7 @@ pub(crate) fn first_driven_twice(counts: &[u8]) -> Option<usize>
     ensures some { IfSome result (λ k. (d : Design) → AreCounts d counts.now → IsFirstAt d (IsDrivenTwice d) k) }
     ensures none { IfNone result ((d : Design) → IsBounded d → AreCounts d counts.now → AreDrivenOnce d) }
 {
+    laws_of_designs();
     for k in 0..counts.len() {
         if counts[k] >= 2 {
             return Some(k);

@@ -1,21 +1,21 @@
 //! The flat netlist of a checked source, or the first cause for which it is refused.
 
 ghost use Rattle.std.specs.Prelude.{◌≡◌, ◌⊎◌, ◌<◌, length, map, IfOk, IfErr, MatchResult, option_copied};
-ghost use Rattle.bb_expr.specs.Checked.{syntax};
-ghost use Rattle.bb_elab.specs.declared.fault.ElabFault.{ElabFault};
-ghost use Rattle.bb_elab.specs.declared.fault.ElabFault.TheVariants.{NoMemory};
-ghost use Rattle.bb_elab.specs.Refusals.{IsFirstRefusal, IsRefusalOf, IsSoundDesign, IsSoundText};
-ghost use Rattle.bb_elab.specs.Stages.{AtTop};
-ghost use Rattle.bb_elab.specs.Stands.{StandsFor, StandsForText};
+ghost use Rattle.bb_names.specs.Checked.{syntax};
+ghost use Rattle.bb_design.specs.declared.fault.ElabFault.{ElabFault};
+ghost use Rattle.bb_design.specs.declared.fault.ElabFault.TheVariants.{NoMemory};
+ghost use Rattle.bb_design.specs.Refusals.{IsFirstRefusal, IsRefusalOf, IsSoundDesign, IsSoundText};
+ghost use Rattle.bb_hier.specs.Finite.{AtTop};
+ghost use Rattle.bb_cells.specs.Stands.{StandsFor, StandsForText};
 
 use crate::arranging::arrange;
-use crate::fault::ElabFault;
 use crate::finishing::finish;
-use crate::flat::Flat;
 use crate::growing::grow;
-use crate::hierarchy::hierarchy;
-use crate::top::place_of_top;
-use bb_expr::Checked;
+use bb_design::ElabFault;
+use bb_design::laws::laws_of_designs;
+use bb_hier::{hierarchy, place_of_top};
+use bb_names::Checked;
+use bb_net::Flat;
 use std::alloc::Global;
 
 // The flat netlist of the design with the module at a place on top.
@@ -44,6 +44,7 @@ pub fn elaborate(alloc: Global, checked: &Checked, top: Option<&[u8]>) -> Result
     ensures only_fault { (first : ElabFault) → IsFirstRefusal (map syntax checked.now) (option_copied top.entry) first
         → MatchResult result (λ flat. ⊥) (λ fault. (fault ≡ first) ⊎ (fault ≡ NoMemory)) }
 {
+    laws_of_designs();
     let Some(top) = place_of_top(alloc, checked, top)? else {
         return Err(ElabFault::NoTop);
     };

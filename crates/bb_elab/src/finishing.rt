@@ -1,22 +1,23 @@
 //! The flat netlist of a design whose cells are in order, or the first two things that have one text.
 
 ghost use Rattle.std.specs.Prelude.{◌≡◌, ◌⊎◌, map, IfOk, IfErr};
-ghost use Rattle.bb_expr.specs.Checked.{syntax};
-ghost use Rattle.bb_elab.specs.declared.fault.ElabFault.TheVariants.{NoMemory};
-ghost use Rattle.bb_elab.specs.Hierarchy.{Design};
-ghost use Rattle.bb_elab.specs.Refusals.{IsRefusalOf, IsSoundDesign};
+ghost use Rattle.bb_names.specs.Checked.{syntax};
+ghost use Rattle.bb_design.specs.declared.fault.ElabFault.TheVariants.{NoMemory};
+ghost use Rattle.bb_design.specs.Hierarchy.{Design};
+ghost use Rattle.bb_design.specs.Refusals.{IsRefusalOf, IsSoundDesign};
 ghost use Rattle.bb_elab.specs.Stages.{HasGrown, AreArranged};
-ghost use Rattle.bb_elab.specs.Stands.{StandsFor};
+ghost use Rattle.bb_cells.specs.Stands.{StandsFor};
 
 use crate::arranging::Arranged;
 use crate::box_names::{box_names, boxes_apart};
-use crate::fault::ElabFault;
-use crate::flat::Flat;
 use crate::growing::Grown;
-use crate::list_laws::standing_nets_are_flat;
 use crate::port_names::ports_apart;
 use crate::register_names::{named_registers, registers_apart};
-use bb_expr::Checked;
+use bb_cells::list_laws::standing_nets_are_flat;
+use bb_design::ElabFault;
+use bb_design::laws::laws_of_designs;
+use bb_names::Checked;
+use bb_net::Flat;
 use std::alloc::Global;
 
 /// The flat netlist.
@@ -32,6 +33,7 @@ pub(crate) fn finish(
     ensures fault { IfErr result (λ fault. (fault ≡ NoMemory) ⊎ ((d : Design) → HasGrown (map syntax checked.now) d grown.now
         → AreArranged d arranged.list arranged.ordered.net arranged.ordered.boxes.items → IsRefusalOf d fault)) }
 {
+    laws_of_designs();
     standing_nets_are_flat();
     let boxed = boxes_apart(alloc, checked, grown)?;
     let texts = registers_apart(alloc, checked, grown)?;

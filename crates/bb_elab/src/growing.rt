@@ -1,22 +1,21 @@
 //! The scopes, the drivers and the registers of a design by numbers; it is refused where a bit is driven twice.
 
 ghost use Rattle.std.specs.Prelude.{◌≡◌, ◌⊎◌, ◌<◌, ℕ, map, length, Some, slice_get, IfOk, IfErr};
-ghost use Rattle.bb_expr.specs.Checked.{syntax};
-ghost use Rattle.bb_elab.specs.declared.fault.ElabFault.TheVariants.{NoMemory};
-ghost use Rattle.bb_elab.specs.Callees.{callees};
-ghost use Rattle.bb_elab.specs.Refusals.{TwoDrivers, IsRefusalOf};
-ghost use Rattle.bb_elab.specs.Stages.{AtTop, IsFinite, AreGrown};
+ghost use Rattle.bb_names.specs.Checked.{syntax};
+ghost use Rattle.bb_design.specs.declared.fault.ElabFault.TheVariants.{NoMemory};
+ghost use Rattle.bb_design.specs.Callees.{callees};
+ghost use Rattle.bb_design.specs.Refusals.{TwoDrivers, IsRefusalOf};
+ghost use Rattle.bb_elab.specs.Stages.{AreGrown};
+ghost use Rattle.bb_hier.specs.Finite.{AtTop, IsFinite};
 
 use crate::drivers::{bit_count, driver_counts, first_driven_twice};
-use crate::fault::ElabFault;
-use crate::outline::Outline;
-use crate::outlining::outlines_of;
-use crate::placed::Placed;
 use crate::registers::stored_bits;
 use crate::scopes::place_scopes;
-use crate::stored::Stored;
 use crate::texts::bit_name;
-use bb_expr::Checked;
+use bb_blast::{Outline, Placed, Stored, outlines_of};
+use bb_design::ElabFault;
+use bb_design::laws::laws_of_designs;
+use bb_names::Checked;
 use std::alloc::Global;
 
 /// A design by numbers.
@@ -45,6 +44,7 @@ pub(crate) fn grow(
     ensures grown { IfOk result (λ g. AtTop (map syntax checked.now) top (λ d. AreGrown d g.placed.items g.outlines.items g.counts.items g.stored.items)) }
     ensures fault { IfErr result (λ fault. (fault ≡ NoMemory) ⊎ AtTop (map syntax checked.now) top (λ d. IsRefusalOf d fault)) }
 {
+    laws_of_designs();
     let placed = place_scopes(alloc, checked, called, top)?;
     let outlines = outlines_of(alloc, checked, &placed)?;
     let counts = driver_counts(alloc, &placed, &outlines)?;

@@ -2,19 +2,18 @@
 
 ghost use Rattle.std.specs.Prelude.{◌≡◌, ◌<◌, List, All, length, map, IfOk};
 ghost use Rattle.bb_ast.specs.Syntax.{PlainModule};
-ghost use Rattle.bb_expr.specs.Checked.{syntax};
-ghost use Rattle.bb_elab.specs.Hierarchy.{Design};
-ghost use Rattle.bb_elab.specs.NetBits.{Bit, net_order, top_inputs, top_outputs};
-ghost use Rattle.bb_elab.specs.Placements.{AreBitsAt};
+ghost use Rattle.bb_names.specs.Checked.{syntax};
+ghost use Rattle.bb_design.specs.Hierarchy.{Design};
+ghost use Rattle.bb_design.specs.NetBits.{Bit, net_order, top_inputs, top_outputs};
+ghost use Rattle.bb_elab.specs.DrivenNumbers.{AreBitsAt};
 ghost use Rattle.bb_elab.specs.Stages.{HasGrown};
-ghost use Rattle.bb_elab.specs.Texts.{bit_text, pin_text};
+ghost use Rattle.bb_design.specs.Texts.{bit_text, pin_text};
 
 use crate::growing::Grown;
-use crate::outline::Outline;
-use crate::part_cells::outline_of;
 use crate::texts::{bit_name, pin_name};
 use bb_bits::{Name, NoMemory};
-use bb_expr::Checked;
+use bb_blast::{Outline, outline_of};
+use bb_names::Checked;
 use std::alloc::Global;
 
 /// The texts of the bits with these numbers.

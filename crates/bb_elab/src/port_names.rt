@@ -1,18 +1,19 @@
 //! The texts of the ports of the top; a design is refused where two inputs or two outputs have the same.
 
 ghost use Rattle.std.specs.Prelude.{◌≡◌, ◌⊎◌, map, IfOk, IfErr};
-ghost use Rattle.bb_expr.specs.Checked.{syntax};
-ghost use Rattle.bb_elab.specs.declared.fault.ElabFault.TheVariants.{NoMemory as out_of_memory};
-ghost use Rattle.bb_elab.specs.Hierarchy.{Design};
-ghost use Rattle.bb_elab.specs.Refusals.{PortTexts, IsAbsent, input_texts, output_texts};
-ghost use Rattle.bb_elab.specs.Stages.{HasGrown, TellsOf};
+ghost use Rattle.bb_names.specs.Checked.{syntax};
+ghost use Rattle.bb_design.specs.declared.fault.ElabFault.TheVariants.{NoMemory as out_of_memory};
+ghost use Rattle.bb_design.specs.Hierarchy.{Design};
+ghost use Rattle.bb_design.specs.Refusals.{PortTexts, IsAbsent, input_texts, output_texts};
+ghost use Rattle.bb_design.specs.CauseLaws.{TellsOf};
+ghost use Rattle.bb_elab.specs.Stages.{HasGrown};
 
-use crate::fault::ElabFault;
 use crate::growing::Grown;
 use crate::naming::{bit_names, top_outline};
 use crate::repeats::first_repeat;
 use bb_bits::{Name, NoMemory};
-use bb_expr::Checked;
+use bb_design::ElabFault;
+use bb_names::Checked;
 use std::alloc::Global;
 
 /// The texts of the bits of the input ports and of the output ports of the top, each in net order.

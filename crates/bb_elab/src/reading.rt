@@ -7,18 +7,21 @@
 ghost use Rattle.std.specs.Prelude.{◌≡◌, ◌⊎◌, ◌+◌, ◌<◌, ◌≤◌, ◌^◌, ◌++◌, Some, slice_get, true, false, ℕ, List, Bool, All, Contains, length, map, take, drop, slice_index_or, IfOk, OnOk};
 ghost use Rattle.std.specs.List.{flat_map};
 ghost use Rattle.bb_net.specs.Loose.{IsLoose};
-ghost use Rattle.bb_elab.specs.Hierarchy.{Design};
-ghost use Rattle.bb_elab.specs.ListLaws.{IsBounded};
-ghost use Rattle.bb_elab.specs.NetBits.{Bit, net_order};
-ghost use Rattle.bb_elab.specs.Placements.{AreStored};
-ghost use Rattle.bb_elab.specs.Places.{Lowering, IsLowering, IsListOf};
-ghost use Rattle.bb_elab.specs.Reading.{IsRead};
-ghost use Rattle.bb_elab.specs.ReadPlaces.{read_by, read_places, copy_steps, FollowsAt, IsReadPlace, AreClosed, AreTimed};
-ghost use Rattle.bb_elab.specs.Refusals.{AreDrivenOnce};
-ghost use Rattle.bb_elab.specs.Registers.{cut_bits};
+ghost use Rattle.bb_design.specs.Hierarchy.{Design};
+ghost use Rattle.bb_design.specs.Allowed.{IsBounded};
+ghost use Rattle.bb_design.specs.NetBits.{Bit, net_order};
+ghost use Rattle.bb_blast.specs.Placements.{AreStored};
+ghost use Rattle.bb_cells.specs.Places.{Lowering, IsLowering, IsListOf};
+ghost use Rattle.bb_design.specs.Reading.{IsRead};
+ghost use Rattle.bb_cells.specs.ReadPlaces.{read_by, read_places, copy_steps, FollowsAt, IsReadPlace, AreClosed};
+ghost use Rattle.bb_elab.specs.StoredNumbers.{AreTimed};
+ghost use Rattle.bb_design.specs.Refusals.{AreDrivenOnce};
+ghost use Rattle.bb_design.specs.Registers.{cut_bits};
 
-use crate::stored::Stored;
 use bb_bits::NoMemory;
+use bb_blast::Stored;
+use bb_cells::list_laws::laws_of_cells;
+use bb_design::laws::laws_of_designs;
 use bb_net::{BoxPins, Loose, LooseCell};
 use std::alloc::Global;
 
@@ -28,6 +31,7 @@ fn copied(cells: &[LooseCell], place: usize) -> usize
     ensures copied { (result ≡ place) ⊎ Contains (copy_steps cells.now) (place, result) }
     ensures only { (k : ℕ) → Contains (copy_steps cells.now) (place, k) → k ≡ result }
 {
+    laws_of_cells();
     match cells[place] {
         LooseCell::Copy(of) => of as usize,
         _ => place,
@@ -149,6 +153,7 @@ fn read_marks(
         → IfOk result (λ marks. (k : ℕ) → IsReadPlace list.now (map (λ x. first + x.clock) stored.now) k → slice_index_or marks.items k false ≡ true) }
     ensures only { IfOk result (λ marks. (k : ℕ) → slice_index_or marks.items k false ≡ true → IsReadPlace list.now (map (λ x. first + x.clock) stored.now) k) }
 {
+    laws_of_cells();
     let cells = list.cells();
     let places = places_read(alloc, list, stored, first)?;
     let mut marks = vec![in alloc; false; cells.len()]?;
@@ -186,6 +191,8 @@ pub(crate) fn read_bits(
         → IfOk result (λ reads. (d : Design) (lowering : Lowering) → IsBounded d → AreDrivenOnce d → IsLowering d lowering → IsListOf d lowering list.now → first ≡ 2 + length (cut_bits d) → AreTimed d (map (λ x. x.clock) stored.now)
         → (k : ℕ) (b : Bit) → slice_get (net_order d) k ≡ Some b → k < count → IsRead d b → slice_index_or reads.items k false ≡ true) }
 {
+    laws_of_designs();
+    laws_of_cells();
     let marks = read_marks(alloc, list, stored, first)?;
     let reads = part_of(alloc, &marks, first as usize, count as usize)?;
     Ok(reads)

@@ -4,16 +4,18 @@
 //! names, these are the clocks of all registers.
 
 ghost use Rattle.std.specs.Prelude.{map, IfOk};
-ghost use Rattle.bb_expr.specs.Checked.{syntax};
-ghost use Rattle.bb_elab.specs.Hierarchy.{Design};
-ghost use Rattle.bb_elab.specs.Placements.{AreReads};
+ghost use Rattle.bb_names.specs.Checked.{syntax};
+ghost use Rattle.bb_design.specs.Hierarchy.{Design};
+ghost use Rattle.bb_elab.specs.DrivenNumbers.{AreReads};
 ghost use Rattle.bb_elab.specs.Stages.{IsReadable};
 
-use crate::list_laws::lists_are_loose;
 use crate::reading::read_bits;
-use crate::stored::Stored;
 use bb_bits::NoMemory;
-use bb_expr::Checked;
+use bb_blast::Stored;
+use bb_blast::laws::laws_of_modules;
+use bb_cells::list_laws::{laws_of_cells, lists_are_loose};
+use bb_design::laws::laws_of_designs;
+use bb_names::Checked;
 use bb_net::Loose;
 use std::alloc::Global;
 
@@ -28,6 +30,9 @@ pub(crate) fn bits_read(
     requires design { (d : Design) × IsReadable (map syntax checked.now) d list.now stored.now bits }
     ensures reads { IfOk result (λ read. (d : Design) → IsReadable (map syntax checked.now) d list.now stored.now bits → AreReads d read.items) }
 {
+    laws_of_designs();
+    laws_of_cells();
+    laws_of_modules();
     lists_are_loose();
     // What is checked comes from a text.
     let _modules = checked.modules();

@@ -2,32 +2,32 @@
 
 ghost use Rattle.std.specs.Prelude.{◌≡◌, ◌⊎◌, ◌+◌, ◌<◌, ◌^◌, ℕ, List, All, length, map, IfOk, IfErr};
 ghost use Rattle.std.specs.List.{AllZip};
-ghost use Rattle.bb_expr.specs.Checked.{syntax};
+ghost use Rattle.bb_names.specs.Checked.{syntax};
 ghost use Rattle.bb_net.specs.Netlists.{Netlist};
-ghost use Rattle.bb_elab.specs.declared.fault.ElabFault.TheVariants.{NoMemory as out_of_memory};
+ghost use Rattle.bb_design.specs.declared.fault.ElabFault.TheVariants.{NoMemory as out_of_memory};
 ghost use Rattle.bb_elab.specs.CopyEnds.{AreEnds};
-ghost use Rattle.bb_elab.specs.Hierarchy.{Design};
-ghost use Rattle.bb_elab.specs.ListLaws.{IsBounded};
-ghost use Rattle.bb_elab.specs.NetBits.{top_inputs};
-ghost use Rattle.bb_elab.specs.Placements.{IsStoredAt, AreStored};
-ghost use Rattle.bb_elab.specs.Refusals.{RegisterTexts, AreDrivenOnce, IsAbsent, register_texts};
-ghost use Rattle.bb_elab.specs.Registers.{RegisterBit, registers, cut_bits};
-ghost use Rattle.bb_elab.specs.Stages.{HasGrown, TellsOf, AreArranged};
-ghost use Rattle.bb_elab.specs.Stands.{IsRegister};
-ghost use Rattle.bb_elab.specs.Texts.{bit_text};
+ghost use Rattle.bb_design.specs.Hierarchy.{Design};
+ghost use Rattle.bb_design.specs.Allowed.{IsBounded};
+ghost use Rattle.bb_design.specs.NetBits.{top_inputs};
+ghost use Rattle.bb_blast.specs.Placements.{IsStoredAt, AreStored};
+ghost use Rattle.bb_design.specs.Refusals.{RegisterTexts, AreDrivenOnce, IsAbsent, register_texts};
+ghost use Rattle.bb_design.specs.CauseLaws.{TellsOf};
+ghost use Rattle.bb_design.specs.Registers.{RegisterBit, registers, cut_bits};
+ghost use Rattle.bb_elab.specs.Stages.{HasGrown, AreArranged};
+ghost use Rattle.bb_cells.specs.Stands.{IsRegister};
+ghost use Rattle.bb_design.specs.Texts.{bit_text};
 
 use crate::clocks::clock_input;
 use crate::copy_ends::no_ends;
-use crate::fault::ElabFault;
-use crate::flat::Reg;
 use crate::growing::Grown;
 use crate::naming::{bit_names, top_outline};
 use crate::repeats::first_repeat;
-use crate::sources::{behind, count_of};
-use crate::stored::Stored;
 use bb_bits::{Name, NoMemory};
-use bb_expr::Checked;
-use bb_net::Loose;
+use bb_blast::{Stored, behind, count_of};
+use bb_cells::list_laws::laws_of_cells;
+use bb_design::ElabFault;
+use bb_names::Checked;
+use bb_net::{Loose, Reg};
 use std::alloc::Global;
 
 // The numbers of the bits of registers.
@@ -76,6 +76,7 @@ fn register(
     ensures register { (d : Design) (net : Netlist) (numbers : List ℕ) → IsBounded d → AreDrivenOnce d → AreArranged d list.now net numbers
         → first ≡ 2 + length (cut_bits d) → limit ≡ length (top_inputs d) → (r : RegisterBit) → IsStoredAt d stored.now r → text ≡ bit_text d r.bit → IsRegister d r result }
 {
+    laws_of_cells();
     Reg {
         text,
         falling: stored.falling,
@@ -118,6 +119,7 @@ pub(crate) fn named_registers(
     ensures registers { IfOk result (λ regs. (d : Design) (net : Netlist) (numbers : List ℕ) → HasGrown (map syntax checked.now) d grown.now → AreArranged d list.now net numbers
         → texts.items ≡ register_texts d → AllZip (IsRegister d) (registers d) regs.items) }
 {
+    laws_of_cells();
     let top = top_outline(grown);
     let limit = count_of(&top.inputs)?;
     let first = behind(2, list.input_count())?;

@@ -4,17 +4,16 @@
 
 ghost use Rattle.std.specs.Prelude.{◌≡◌, ◌^◌, ◌<◌, ◌++◌, ◌∷◌, [], List, All, None, length, replicate, IfOk};
 ghost use Rattle.std.specs.List.{filter_map, flat_map};
-ghost use Rattle.bb_elab.specs.declared.stored.Stored.{Stored};
-ghost use Rattle.bb_elab.specs.Hierarchy.{Design};
-ghost use Rattle.bb_elab.specs.ListLaws.{IsBounded};
-ghost use Rattle.bb_elab.specs.NetBits.{net_order};
-ghost use Rattle.bb_elab.specs.Placements.{ArePlaced, AreOutlined, AreStored};
+ghost use Rattle.bb_blast.specs.declared.stored.Stored.{Stored};
+ghost use Rattle.bb_design.specs.Hierarchy.{Design};
+ghost use Rattle.bb_design.specs.Allowed.{IsBounded};
+ghost use Rattle.bb_design.specs.NetBits.{net_order};
+ghost use Rattle.bb_blast.specs.Placements.{ArePlaced, AreOutlined, AreStored};
 ghost use Rattle.bb_elab.specs.StoredNumbers.{stored_from, part_stored, scope_stored, IsStorable, MayBeNoted, AreNotes};
 
-use crate::outline::{Outline, Part};
-use crate::placed::Placed;
-use crate::stored::Stored;
 use bb_bits::NoMemory;
+use bb_blast::{Outline, Part, Placed, Stored};
+use bb_design::laws::laws_of_designs;
 use bb_expr::laws::net_names_differ;
 use std::alloc::Global;
 
@@ -132,6 +131,7 @@ pub(crate) fn stored_bits(
     requires design { (d : Design) × ArePlaced d placed.now × AreOutlined d placed.now outlines.now × IsBounded d × (bits ≡ length (net_order d)) }
     ensures stored { IfOk result (λ all. (d : Design) → ArePlaced d placed.now → AreOutlined d placed.now outlines.now → IsBounded d → bits ≡ length (net_order d) → AreStored d all.items) }
 {
+    laws_of_designs();
     net_names_differ();
     let mut notes = no_notes(alloc, bits)?;
     note_scopes(&mut notes, placed, outlines);

@@ -1,7 +1,7 @@
 //! The first text of a list that stands there already.
 
 ghost use Rattle.std.specs.Prelude.{◌≢◌, AllPairs, IfNone, IfOk, IfSome};
-ghost use Rattle.bb_elab.specs.Closures.{IsFirstRepeat};
+ghost use Rattle.bb_bits.specs.Closures.{IsFirstRepeat};
 
 use bb_bits::{Name, NoMemory};
 use indexmap::IndexSet;

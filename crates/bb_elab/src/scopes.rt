@@ -5,18 +5,19 @@
 
 ghost use Rattle.std.specs.Prelude.{◌≡◌, ◌+◌, ◌^◌, ◌<◌, ◌++◌, ◌∷◌, [], List, Some, length, map, slice_get, slice_set, IfOk, OnOk};
 ghost use Rattle.bb_ast.specs.Syntax.{PlainModule};
-ghost use Rattle.bb_expr.specs.Checked.{syntax};
-ghost use Rattle.bb_elab.specs.declared.placed.Placed.{Placed};
-ghost use Rattle.bb_elab.specs.Callees.{callees};
-ghost use Rattle.bb_elab.specs.Hierarchy.{Design, Scope};
-ghost use Rattle.bb_elab.specs.Placements.{ArePlaced};
-ghost use Rattle.bb_elab.specs.Refusals.{IsShallow, IsSmall, design_on};
+ghost use Rattle.bb_names.specs.Checked.{syntax};
+ghost use Rattle.bb_blast.specs.declared.placed.Placed.{Placed};
+ghost use Rattle.bb_design.specs.Callees.{callees};
+ghost use Rattle.bb_design.specs.Hierarchy.{Design, Scope};
+ghost use Rattle.bb_blast.specs.Placements.{ArePlaced};
+ghost use Rattle.bb_design.specs.Refusals.{IsShallow, IsSmall, design_on};
 ghost use Rattle.bb_elab.specs.Placings.{IsAdded, IsNext, IsPlacedNext, with_children};
 
-use crate::placed::{Instance, Placed};
-use crate::sketch::{Sketch, sketches};
 use bb_bits::NoMemory;
-use bb_expr::Checked;
+use bb_blast::{Instance, Placed};
+use bb_design::laws::laws_of_designs;
+use bb_hier::{Sketch, sketches};
+use bb_names::Checked;
 use std::alloc::Global;
 
 /// The scopes so far, and how many bits they have.
@@ -92,6 +93,7 @@ fn place_scope(
     ensures placed { IfOk result (λ number. (d : Design) (s : Scope) (rest : List Scope) → IsNext d (map (λ list. list.items) called.now) sketches.now placing.old place instance levels s rest
         → IsPlacedNext d placing.old placing.new number rest) }
 {
+    laws_of_designs();
     let sketch = &sketches[place];
     let targets = &called[place];
     let number = add_scope(alloc, sketch, placing, place, instance)?;

@@ -3,21 +3,22 @@
 //! A path is told from its end upwards, since a scope knows the scope in which it stands.
 
 ghost use Rattle.std.specs.Prelude.{◌≡◌, ◌<◌, ◌++◌, Some, decimal, length, map, slice_get, IfOk, OnOk};
-ghost use Rattle.bb_expr.specs.Checked.{module_facts, syntax, IsChecked};
-ghost use Rattle.bb_expr.specs.Ranges.{range_width};
-ghost use Rattle.bb_elab.specs.declared.placed.Placed.{Placed};
-ghost use Rattle.bb_elab.specs.Hierarchy.{Path, Design, Scope};
-ghost use Rattle.bb_elab.specs.NetBits.{Bit, net_order};
+ghost use Rattle.bb_names.specs.Checked.{module_facts, syntax, IsChecked};
+ghost use Rattle.bb_names.specs.Ranges.{range_width};
+ghost use Rattle.bb_blast.specs.declared.placed.Placed.{Placed};
+ghost use Rattle.bb_design.specs.Hierarchy.{Path, Design, Scope};
+ghost use Rattle.bb_design.specs.NetBits.{Bit, net_order};
 ghost use Rattle.bb_elab.specs.PlacedPaths.{IsPathAt, AreRooted};
-ghost use Rattle.bb_elab.specs.Placements.{IsScopeAt, ArePlaced, AreOutlined};
-ghost use Rattle.bb_elab.specs.Texts.{path_prefix, path_text, index_text, net_bit_text, bit_text, pin_text};
+ghost use Rattle.bb_blast.specs.Placements.{IsScopeAt, ArePlaced, AreOutlined};
+ghost use Rattle.bb_design.specs.Texts.{path_prefix, path_text, index_text, net_bit_text, bit_text, pin_text};
 
 use crate::bit_places::{net_of_bit, scope_of_bit};
-use crate::outline::Outline;
-use crate::placed::Placed;
 use bb_ast::Range;
 use bb_bits::{Name, NoMemory};
-use bb_expr::{Checked, CheckedModule, NetInfo};
+use bb_blast::laws::laws_of_modules;
+use bb_blast::{Outline, Placed};
+use bb_design::laws::laws_of_designs;
+use bb_names::{Checked, CheckedModule, NetInfo};
 use std::alloc::Global;
 
 // Puts what stands before the names of the nets of a scope behind a text. Recursion goes as deep as the scope stands.
@@ -27,6 +28,7 @@ fn add_prefix(placed: &[Placed], scope: usize, text: &mut Vec<u8>) -> Result<(),
     requires there { scope < length placed.now }
     ensures { (path : Path) → IsPathAt placed.now scope path → OnOk result (text.new.items ≡ text.old.items ++ path_prefix path) }
 {
+    laws_of_designs();
     let at = &placed[scope];
     if let Some(instance) = &at.instance {
         add_prefix(placed, instance.scope as usize, text)?;
@@ -42,6 +44,7 @@ fn add_path(placed: &[Placed], scope: usize, text: &mut Vec<u8>) -> Result<(), N
     requires there { scope < length placed.now }
     ensures path { (path : Path) → IsPathAt placed.now scope path → OnOk result (text.new.items ≡ text.old.items ++ path_text path) }
 {
+    laws_of_designs();
     let at = &placed[scope];
     if let Some(instance) = &at.instance {
         add_prefix(placed, instance.scope as usize, text)?;
@@ -132,6 +135,8 @@ fn add_pin(
     ensures pin { (d : Design) → d.text ≡ map syntax checked.now → ArePlaced d placed.now → AreOutlined d placed.now outlines.now
         → (b : Bit) → slice_get (net_order d) number ≡ Some b → OnOk result (text.new.items ≡ text.old.items ++ pin_text d b) }
 {
+    laws_of_designs();
+    laws_of_modules();
     let scope = scope_of_bit(placed, number);
     let at = &placed[scope];
     let module = scope_of_module(checked, at.module);

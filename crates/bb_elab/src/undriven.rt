@@ -1,11 +1,12 @@
 //! Bits that are read and have no driver.
 
 ghost use Rattle.std.specs.Prelude.{◌≡◌, ℕ, length, IfSome, IfNone};
-ghost use Rattle.bb_elab.specs.DrivenNumbers.{IsFirstAt};
-ghost use Rattle.bb_elab.specs.Hierarchy.{Design};
-ghost use Rattle.bb_elab.specs.ListLaws.{IsBounded};
-ghost use Rattle.bb_elab.specs.Placements.{AreCounts, AreReads};
-ghost use Rattle.bb_elab.specs.Refusals.{IsUndriven, AreDriven};
+ghost use Rattle.bb_elab.specs.DrivenNumbers.{IsFirstAt, AreCounts, AreReads};
+ghost use Rattle.bb_design.specs.Hierarchy.{Design};
+ghost use Rattle.bb_design.specs.Allowed.{IsBounded};
+ghost use Rattle.bb_design.specs.Refusals.{IsUndriven, AreDriven};
+
+use bb_design::laws::laws_of_designs;
 
 /// The number of the first bit that is read and has no driver, if there is one.
 pub(crate) fn first_undriven(counts: &[u8], read: &[bool]) -> Option<usize>
@@ -13,6 +14,7 @@ pub(crate) fn first_undriven(counts: &[u8], read: &[bool]) -> Option<usize>
     ensures some { IfSome result (λ k. (d : Design) → IsBounded d → AreCounts d counts.now → AreReads d read.now → IsFirstAt d (IsUndriven d) k) }
     ensures none { IfNone result ((d : Design) → IsBounded d → AreCounts d counts.now → AreReads d read.now → AreDriven d) }
 {
+    laws_of_designs();
     for k in 0..counts.len() {
         if read[k] && counts[k] == 0 {
             return Some(k);

@@ -6,9 +6,9 @@ use Rattle.std.proofs.lemmas.List.Elements.{All-from_recursion}
 use Rattle.std.proofs.lemmas.List.Sums.{sum-map}
 use Rattle.bb_ast.specs.declared.expr.Op.{Op}
 use Rattle.bb_ast.specs.Syntax.{Expression, Not, Chain, Cond, Concat, Repeat, operands, arms, parts}
-use Rattle.bb_expr.specs.Widths.{own_width, greatest}
+use Rattle.bb_names.specs.Widths.{own_width, greatest}
+use Rattle.bb_names.specs.Checked.{ModuleFacts}
 use Rattle.bb_expr.specs.Cells.{is_odd, cell_count}
-use Rattle.bb_expr.specs.Checked.{ModuleFacts}
 use Rattle.bb_expr.specs.Fit.{AreFit, ranges_in}
 use Rattle.bb_expr.specs.Growing.{most_steps}
 use Rattle.bb_expr.specs.Shares.{own_cells, operand_cells, arm_cells}

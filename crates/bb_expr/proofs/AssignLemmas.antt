@@ -8,9 +8,9 @@ use Rattle.std.specs.List.{AllByRecursion, list_all, range_with_len}
 use Rattle.bb_ast.specs.Syntax.{Expression, Net, Bit, Part, Sized, Plain, Not, Chain, Cond, Concat, Repeat, Parts, no_part, part}
 use Rattle.bb_ast.specs.Folds.{of_parts}
 use Rattle.bb_ast.specs.Assignable.{assigning, is_assignable}
+use Rattle.bb_names.specs.Ranges.{distance, range_width, place_of}
+use Rattle.bb_names.specs.Widths.{Ranges, own_width, widths}
 use Rattle.bb_expr.specs.Lists.{extended}
-use Rattle.bb_expr.specs.Ranges.{distance, range_width, place_of}
-use Rattle.bb_expr.specs.Widths.{Ranges, own_width, widths}
 use Rattle.bb_expr.specs.Terms.{Const, Net as NetTerm}
 use Rattle.bb_expr.specs.Cells.{made, makes, net_terms, part_bits, part_cells}
 use Rattle.bb_expr.specs.FitLaws.{IsNetBit, AssignableIsNets}

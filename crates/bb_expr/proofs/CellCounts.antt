@@ -7,8 +7,8 @@ use Rattle.bb_ast.specs.declared.expr.Op.{Op}
 use Rattle.bb_ast.specs.declared.expr.Op.TheVariants as ops
 use Rattle.bb_ast.specs.Syntax.{Expression, Net, Bit, Part, Sized, Plain, Not, Chain, Cond, Concat, Repeat, Operands, no_operand, operand, Arms, no_arm, arm, Parts, no_part, part}
 use Rattle.bb_ast.specs.Folds.{of_operands, of_arms, of_parts}
+use Rattle.bb_names.specs.Widths.{Ranges, greatest, own_width, widths, Operand, alone}
 use Rattle.bb_expr.specs.Lists.{bitwise}
-use Rattle.bb_expr.specs.Widths.{Ranges, greatest, own_width, widths, Operand, alone}
 use Rattle.bb_expr.specs.Values.{Bits}
 use Rattle.bb_expr.specs.Terms.{Term, And, Or, Xor}
 use Rattle.bb_expr.specs.Cells.{Made, made, makes, inverted, operated, chained, any_from, any_bit, selected, arm_made, arms_made, part_cells, is_odd, op_cells, counts, cell_count}

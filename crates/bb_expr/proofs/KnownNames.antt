@@ -9,12 +9,12 @@ use Rattle.std.proofs.lemmas.List.{map-id}
 use Rattle.std.proofs.lemmas.List.Elements.{All-from_recursion}
 use Rattle.std.proofs.lemmas.List.Folds.{list_any-append}
 use Rattle.std.proofs.lemmas.Slice.Eq.{bytes_eq-Decides}
-use Rattle.bb_bits.specs.Names.{same_name}
+use Rattle.bb_bits.specs.Names.{same_name, placed}
 use Rattle.bb_ast.specs.Syntax.{PlainModule}
-use Rattle.bb_expr.specs.Walks.{once, has_name}
-use Rattle.bb_expr.specs.Declarations.{Declaration, declarations, is_declared, is_instance, implicit_names, is_known}
-use Rattle.bb_expr.specs.Nets.{net_names, net_of, placed}
-use Rattle.bb_expr.specs.Checked.{ModuleFacts, syntax, HasNets}
+use Rattle.bb_bits.specs.Earlier.{once, has_name}
+use Rattle.bb_names.specs.Declarations.{Declaration, declarations, is_declared, is_instance, implicit_names, is_known}
+use Rattle.bb_names.specs.Nets.{net_names, net_of}
+use Rattle.bb_names.specs.Checked.{ModuleFacts, syntax, HasNets}
 use Rattle.bb_expr.specs.Fit.{HasNet}
 use Rattle.bb_expr.specs.FitLaws.{NetNamesDiffer}
 use Rattle.bb_expr.proofs.Booleans.{either, or-true}

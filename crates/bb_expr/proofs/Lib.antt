@@ -1,4 +1,3 @@
-pub mod FaultLaws
 pub mod ValueLemmas
 pub mod MadeValue
 pub mod CellCounts
@@ -27,15 +26,3 @@ pub mod NetBitLemmas
 pub mod WalkLemmas
 pub mod AskLemmas
 pub mod NameLemmas
-pub mod Searches
-pub mod SummaryLemmas
-pub mod Noting
-pub mod OnceLemmas
-pub mod ClashLemmas
-pub mod IndexLemmas
-pub mod ExpressionViews
-pub mod DeclaredLists
-pub mod NetLemmas
-pub mod WidthLemmas
-pub mod Answering
-pub mod NetCounts

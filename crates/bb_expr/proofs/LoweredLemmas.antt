@@ -7,10 +7,10 @@ use Rattle.std.proofs.lemmas.List.FromFn.{length-enumerate_from, get_or-enumerat
 use Rattle.std.proofs.lemmas.Simd.{map-map}
 use Rattle.std.proofs.lemmas.List.Sorted.{IsPermutation-refl}
 use Rattle.bb_ast.specs.Syntax.{Expression}
-use Rattle.bb_expr.specs.declared.net.NetInfo.{NetInfo}
+use Rattle.bb_names.specs.declared.net.NetInfo.{NetInfo}
+use Rattle.bb_names.specs.Widths.{Ranges, own_width}
 use Rattle.bb_expr.specs.declared.step.BitStep.{BitStep}
 use Rattle.bb_expr.specs.declared.step.BitStep.TheVariants as steps
-use Rattle.bb_expr.specs.Widths.{Ranges, own_width}
 use Rattle.bb_expr.specs.Terms.{bit_of}
 use Rattle.bb_expr.specs.Cells.{made}
 use Rattle.bb_expr.specs.Lowered.{Reads, term_at, IsUsed, IsLowered, HasValue}

@@ -8,9 +8,9 @@ use Rattle.bb_ast.specs.declared.expr.Op.TheVariants as ops
 use Rattle.bb_ast.specs.Syntax.{Expression, Net, Bit, Part, Sized, Plain, Not, Chain, Cond, Concat, Repeat, Operands, no_operand, operand, Arms, no_arm, arm, Parts, no_part, part}
 use Rattle.bb_ast.specs.Folds.{of_operands, of_arms, of_parts}
 use Rattle.bb_bits.specs.Numbers.{bits_of}
+use Rattle.bb_names.specs.Ranges.{distance, range_width, place_of}
+use Rattle.bb_names.specs.Widths.{Ranges, greatest, own_width, widths, Operand, alone}
 use Rattle.bb_expr.specs.Lists.{extended, copies, bitwise}
-use Rattle.bb_expr.specs.Ranges.{distance, range_width, place_of}
-use Rattle.bb_expr.specs.Widths.{Ranges, greatest, own_width, widths, Operand, alone}
 use Rattle.bb_expr.specs.Values.{Bits, value, values, op_bit, chosen, complemented}
 use Rattle.bb_expr.specs.Terms.{Term, Const, Net as NetTerm, And, Or, Xor, bit_of}
 use Rattle.bb_expr.specs.Cells.{Made, made, makes, net_terms, inverted, operated, chained, any_from, any_bit, selected, arms_made, is_odd}

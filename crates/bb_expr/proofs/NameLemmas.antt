@@ -7,7 +7,7 @@ use Rattle.bb_ast.specs.Syntax.{Expression, Net, Bit, Part, Sized, Plain, Not, C
 use Rattle.bb_ast.specs.Folds.{of_operands, of_arms, of_parts}
 use Rattle.bb_ast.specs.Names.{naming, names_in}
 use Rattle.bb_parse.specs.Laws.{SourcesAreFormed}
-use Rattle.bb_expr.specs.Checked.{ModuleFacts}
+use Rattle.bb_names.specs.Checked.{ModuleFacts}
 use Rattle.bb_expr.specs.Standing.{gathering, expressions_in}
 use Rattle.bb_expr.specs.Fit.{HasNet, IsFit, AreFit}
 use Rattle.bb_expr.specs.FitLaws.{NamesAreNets}

@@ -6,9 +6,9 @@ use Rattle.std.proofs.lemmas.List.Elements.{All-from_recursion, recursion_from_A
 use Rattle.bb_ast.specs.declared.expr.Op.{Op}
 use Rattle.bb_ast.specs.Syntax.{Expression, Not, Chain, Cond, Concat, Repeat, operands, arms, parts}
 use Rattle.bb_ast.specs.Folds.{of_operands, of_arms, of_parts}
-use Rattle.bb_expr.specs.Widths.{Ranges, greatest, widths, own_width}
-use Rattle.bb_expr.specs.Faults.{widest}
-use Rattle.bb_expr.specs.Checked.{ModuleFacts}
+use Rattle.bb_names.specs.Widths.{Ranges, greatest, widths, own_width}
+use Rattle.bb_names.specs.Faults.{widest}
+use Rattle.bb_names.specs.Checked.{ModuleFacts}
 use Rattle.bb_expr.specs.Standing.{gathering, expressions_in}
 use Rattle.bb_expr.specs.Fit.{IsFit, AreFit, ranges_in}
 use Rattle.bb_expr.proofs.ListLemmas.{all-front, all-back}

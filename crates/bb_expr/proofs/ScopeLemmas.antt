@@ -4,9 +4,9 @@ use Rattle.std.specs.Prelude.{IsSomeAnd, slice_get}
 use Rattle.std.specs.Option.{option_and_then, option_map_or}
 use Rattle.std.proofs.lemmas.List.{length-map}
 use Rattle.bb_ast.specs.Syntax.{Expression}
-use Rattle.bb_expr.specs.declared.checked.CheckedModule.{CheckedModule}
-use Rattle.bb_expr.specs.Declarations.{range_of}
-use Rattle.bb_expr.specs.Checked.{ModuleFacts, module_facts, syntax, IsChecked}
+use Rattle.bb_names.specs.declared.checked.CheckedModule.{CheckedModule}
+use Rattle.bb_names.specs.Declarations.{range_of}
+use Rattle.bb_names.specs.Checked.{ModuleFacts, module_facts, syntax, IsChecked}
 use Rattle.bb_expr.specs.Standing.{StandsAt, nets_at, ranges_at}
 use Rattle.bb_expr.specs.Fit.{AreFit, ranges_in}
 use Rattle.bb_expr.specs.FitLaws.{StandingIsFit}

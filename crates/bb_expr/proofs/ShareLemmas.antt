@@ -9,7 +9,7 @@ use Rattle.bb_ast.specs.declared.expr.Op.{Op}
 use Rattle.bb_ast.specs.declared.expr.Op.TheVariants as ops
 use Rattle.bb_ast.specs.Syntax.{Expression, Chain, Cond, Concat, Repeat, operands, arms, parts}
 use Rattle.bb_ast.specs.Folds.{of_operands, of_arms, of_parts}
-use Rattle.bb_expr.specs.Widths.{Ranges, Operand, alone}
+use Rattle.bb_names.specs.Widths.{Ranges, Operand, alone}
 use Rattle.bb_expr.specs.Cells.{is_odd, op_cells, counts, cell_count}
 use Rattle.bb_expr.specs.Shares.{own_cells, operand_cells, arm_cells}
 use Rattle.bb_expr.proofs.CellCounts.{count_seen}

@@ -8,7 +8,7 @@ use Rattle.bb_ast.specs.Syntax.{PlainConns, Order, Named, PlainBody, Ports, Nets
 use Rattle.bb_ast.specs.Folds.{fold_by, of_operands, of_arms, of_parts}
 use Rattle.bb_ast.specs.Formed.{IsFormedExpression, IsFormedConns, IsFormedBody, IsFormed}
 use Rattle.bb_parse.specs.Laws.{SourcesAreFormed}
-use Rattle.bb_expr.specs.Checked.{ModuleFacts, syntax, HasNets}
+use Rattle.bb_names.specs.Checked.{ModuleFacts, syntax, HasNets}
 use Rattle.bb_expr.specs.Standing.{gathering, expressions_in, conns_expressions, item_expressions, StandsIn, StandsAt}
 use Rattle.bb_expr.specs.Fit.{IsFit, AreFit}
 use Rattle.bb_expr.specs.FitLaws.{StandingIsFit, PartsStand}

@@ -7,9 +7,9 @@ use Rattle.std.specs.List.{flat_map, list_any, range_with_len}
 use Rattle.bb_ast.specs.Syntax.{Expression, Net, Bit, Part, Sized, Plain, Not, Chain, Cond, Concat, Repeat, Operands, no_operand, operand, Arms, no_arm, arm, Parts, no_part, part}
 use Rattle.bb_ast.specs.Folds.{of_operands, of_arms, of_parts}
 use Rattle.bb_bits.specs.Numbers.{bits_of}
+use Rattle.bb_names.specs.Ranges.{distance, range_width, place_of}
+use Rattle.bb_names.specs.Widths.{Ranges, greatest, own_width, widths, Operand, alone}
 use Rattle.bb_expr.specs.Lists.{extended, copies, bitwise}
-use Rattle.bb_expr.specs.Ranges.{distance, range_width, place_of}
-use Rattle.bb_expr.specs.Widths.{Ranges, greatest, own_width, widths, Operand, alone}
 use Rattle.bb_expr.specs.Values.{Bits, value, values, net_bits, op_bit, chosen, complemented}
 use Rattle.bb_expr.specs.Laws.{ValuesHaveWidth}
 

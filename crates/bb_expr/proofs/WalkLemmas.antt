@@ -8,11 +8,11 @@ use Rattle.std.proofs.lemmas.List.Sums.{sum_by-cons}
 use Rattle.bb_ast.specs.declared.expr.Op.{Op}
 use Rattle.bb_ast.specs.Syntax.{Expression, Chain, Cond, Concat, Repeat, Not, operands, arms, parts}
 use Rattle.bb_ast.specs.Folds.{of_operands, of_parts}
-use Rattle.bb_expr.specs.declared.net.NetInfo.{NetInfo}
+use Rattle.bb_names.specs.declared.net.NetInfo.{NetInfo}
+use Rattle.bb_names.specs.Widths.{Ranges, own_width}
 use Rattle.bb_expr.specs.declared.step.BitStep.{BitStep}
 use Rattle.bb_expr.specs.Lists.{copies, extended}
 use Rattle.bb_expr.specs.Terms.{Const}
-use Rattle.bb_expr.specs.Widths.{Ranges, own_width}
 use Rattle.bb_expr.specs.Cells.{Made, made, makes, chained, operated, arm_made, part_bits, part_cells, is_odd, cell_count}
 use Rattle.bb_expr.specs.Growing.{Adds, beside, chained_on, arms_on, widened, complemented}
 use Rattle.bb_expr.specs.Shares.{own_cells}

@@ -8,10 +8,10 @@ use Rattle.bb_ast.specs.declared.expr.Op.TheVariants as ops
 use Rattle.bb_ast.specs.Syntax.{Expression}
 use Rattle.bb_ast.specs.Folds.{Cases}
 use Rattle.bb_bits.specs.Numbers.{bits_of}
+use Rattle.bb_names.specs.Ranges.{distance, range_width, place_of}
+use Rattle.bb_names.specs.Widths.{Ranges, Operand, alone, fold_at}
 use Rattle.bb_expr.specs.Lists.{extended, copies, bitwise}
-use Rattle.bb_expr.specs.Ranges.{distance, range_width, place_of}
 use Rattle.bb_expr.specs.Terms.{Term, Const, Net, Not, And, Or, Xor, Mux}
-use Rattle.bb_expr.specs.Widths.{Ranges, Operand, alone, fold_at}
 
 -- an odd number of complements is one, an even number none
 abbrev pub is_odd : ℕ → Bool

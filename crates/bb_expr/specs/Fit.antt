@@ -5,12 +5,12 @@ use Rattle.std.specs.Prelude.{◌≡◌, ◌≤◌, ℕ, true, List, Some, slice
 use Rattle.std.specs.Map.{lookup}
 use Rattle.bb_bits.specs.Names.{same_name}
 use Rattle.bb_ast.specs.Syntax.{Expression, Net, Bit, Part, Repeat}
-use Rattle.bb_expr.specs.declared.net.NetInfo.{NetInfo}
-use Rattle.bb_expr.specs.Ranges.{has_bits}
-use Rattle.bb_expr.specs.Widths.{Ranges, own_width}
-use Rattle.bb_expr.specs.Declarations.{range_of}
-use Rattle.bb_expr.specs.Faults.{widest}
-use Rattle.bb_expr.specs.Checked.{ModuleFacts, syntax}
+use Rattle.bb_names.specs.declared.net.NetInfo.{NetInfo}
+use Rattle.bb_names.specs.Ranges.{has_bits}
+use Rattle.bb_names.specs.Widths.{Ranges, own_width}
+use Rattle.bb_names.specs.Declarations.{range_of}
+use Rattle.bb_names.specs.Faults.{widest}
+use Rattle.bb_names.specs.Checked.{ModuleFacts, syntax}
 use Rattle.bb_expr.specs.Standing.{expressions_in}
 
 -- the ranges of the nets of a module

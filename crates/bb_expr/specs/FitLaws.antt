@@ -4,10 +4,10 @@ use Rattle.std.specs.List.{AllPairs}
 use Rattle.bb_ast.specs.Syntax.{Expression, PlainModule}
 use Rattle.bb_ast.specs.Assignable.{is_assignable}
 use Rattle.bb_ast.specs.Names.{names_in}
-use Rattle.bb_expr.specs.Nets.{nets_of}
-use Rattle.bb_expr.specs.Checked.{ModuleFacts, IsChecked}
+use Rattle.bb_names.specs.Nets.{nets_of}
+use Rattle.bb_names.specs.Checked.{ModuleFacts, IsChecked}
+use Rattle.bb_names.specs.Widths.{Ranges, own_width}
 use Rattle.bb_expr.specs.Standing.{expressions_in, StandsAt}
-use Rattle.bb_expr.specs.Widths.{Ranges, own_width}
 use Rattle.bb_expr.specs.Terms.{Term, Net}
 use Rattle.bb_expr.specs.Cells.{made}
 use Rattle.bb_expr.specs.Fit.{HasNet, AreFit}

@@ -3,14 +3,14 @@
 use Rattle.std.specs.Prelude.{◌≡◌, ◌<◌, ◌≤◌, ℕ, ◌+◌, ◌*◌, false, true, List, [], ◌∷◌, ◌++◌, map, length, All, slice_index_or}
 use Rattle.std.specs.List.{range_with_len, flat_map}
 use Rattle.std.specs.List.Sorted.{IsPermutation}
-use Rattle.bb_expr.specs.declared.net.NetInfo.{NetInfo}
+use Rattle.bb_names.specs.declared.net.NetInfo.{NetInfo}
 use Rattle.bb_expr.specs.declared.step.BitStep.{BitStep}
 use Rattle.bb_expr.specs.declared.step.BitStep.TheVariants as steps
 use Rattle.bb_ast.specs.Syntax.{Expression}
 use Rattle.bb_ast.specs.declared.expr.Op.{Op}
 use Rattle.bb_ast.specs.declared.expr.Op.TheVariants as ops
+use Rattle.bb_names.specs.Widths.{Ranges, own_width}
 use Rattle.bb_expr.specs.Lists.{extended, bitwise}
-use Rattle.bb_expr.specs.Widths.{Ranges, own_width}
 use Rattle.bb_expr.specs.Terms.{Term, Const, And, Or, Xor}
 use Rattle.bb_expr.specs.Cells.{Made, made, inverted, any_bit, operated, chained, arm_made}
 use Rattle.bb_expr.specs.Lowered.{Reads, IsUsed, is_operator, operators, term_at}

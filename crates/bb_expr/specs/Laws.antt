@@ -1,25 +1,11 @@
--- Laws that a reader expects of these definitions.
-use Rattle.std.specs.Prelude.{◌≡◌, ◌⊎◌, ◌≤◌, ◌+◌, ℕ, true, false, List, ◌++◌, map, length, replicate}
-use Rattle.bb_ast.specs.Syntax.{Expression, PlainModule}
-use Rattle.bb_expr.specs.declared.fault.NameFault.{NameFault}
+-- Laws that a reader expects of values and cells.
+use Rattle.std.specs.Prelude.{◌≡◌, ◌≤◌, ◌+◌, ℕ, true, false, ◌++◌, map, length, replicate}
+use Rattle.bb_ast.specs.Syntax.{Expression}
+use Rattle.bb_names.specs.Widths.{Ranges, own_width}
 use Rattle.bb_expr.specs.Cells.{made, cell_count}
-use Rattle.bb_expr.specs.Faults.{IsSound, IsFirstFault}
 use Rattle.bb_expr.specs.Steady.{is_steady}
 use Rattle.bb_expr.specs.Terms.{bit_of}
 use Rattle.bb_expr.specs.Values.{Bits, value}
-use Rattle.bb_expr.specs.Widths.{Ranges, own_width}
-
--- a source is sound, or it has a first fault
-abbrev pub SoundOrFault : Type 0
-SoundOrFault = (text : List PlainModule) → IsSound text ⊎ ((fault : NameFault) × IsFirstFault text fault)
-
--- and not both
-abbrev pub NotSoundAndFault : Type 0
-NotSoundAndFault = (text : List PlainModule) (fault : NameFault) → IsSound text → IsFirstFault text fault → ⊥
-
--- there is one first fault at most
-abbrev pub FirstFaultsAreOne : Type 0
-FirstFaultsAreOne = (text : List PlainModule) (e f : NameFault) → IsFirstFault text e → IsFirstFault text f → e ≡ f
 
 -- a value has as many bits as its context
 abbrev pub ValuesHaveWidth : Type 0

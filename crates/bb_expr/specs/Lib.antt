@@ -1,16 +1,8 @@
 pub mod Lists
-pub mod Ranges
-pub mod Widths
 pub mod Values
 pub mod Terms
 pub mod Cells
-pub mod Walks
-pub mod Declarations
-pub mod Nets
-pub mod Spots
-pub mod Faults
 pub mod Lowered
-pub mod Checked
 pub mod Standing
 pub mod Steady
 pub mod Fit
@@ -18,8 +10,3 @@ pub mod FitLaws
 pub mod Shares
 pub mod Growing
 pub mod Laws
-pub mod Summaries
-pub mod Implicit
-pub mod Indexed
-pub mod Firsts
-pub mod NetLists

@@ -4,11 +4,11 @@ use Rattle.std.specs.List.{filter_map, enumerate_from}
 use Rattle.std.specs.List.Sorted.{IsPermutation}
 use Rattle.std.specs.Option.{option_map_or}
 use Rattle.bb_ast.specs.Syntax.{Expression}
-use Rattle.bb_expr.specs.declared.net.NetInfo.{NetInfo}
+use Rattle.bb_names.specs.declared.net.NetInfo.{NetInfo}
+use Rattle.bb_names.specs.Ranges.{range_width}
+use Rattle.bb_names.specs.Widths.{Ranges}
 use Rattle.bb_expr.specs.declared.step.BitStep.{BitStep}
 use Rattle.bb_expr.specs.declared.step.BitStep.TheVariants as steps
-use Rattle.bb_expr.specs.Ranges.{range_width}
-use Rattle.bb_expr.specs.Widths.{Ranges}
 use Rattle.bb_expr.specs.Values.{Bits, value}
 use Rattle.bb_expr.specs.Terms.{Term, Const, Net, Not, And, Or, Xor, Mux, bit_of}
 use Rattle.bb_expr.specs.Cells.{made}

@@ -4,10 +4,10 @@ use Rattle.std.specs.List.{flat_map}
 use Rattle.std.specs.Option.{option_and_then, option_map_or}
 use Rattle.bb_ast.specs.Syntax.{Expression, PlainConns, Order, Named, PlainBody, Nets, Assign, Gates, Calls, Always, PlainModule}
 use Rattle.bb_ast.specs.Folds.{Cases, fold_by}
-use Rattle.bb_expr.specs.declared.net.NetInfo.{NetInfo}
-use Rattle.bb_expr.specs.Widths.{Ranges}
-use Rattle.bb_expr.specs.Declarations.{range_of}
-use Rattle.bb_expr.specs.Checked.{ModuleFacts, syntax}
+use Rattle.bb_names.specs.declared.net.NetInfo.{NetInfo}
+use Rattle.bb_names.specs.Widths.{Ranges}
+use Rattle.bb_names.specs.Declarations.{range_of}
+use Rattle.bb_names.specs.Checked.{ModuleFacts, syntax}
 
 abbrev pub gathering : Cases (List Expression) (List Expression)
 gathering = record {

@@ -1,18 +1,18 @@
-//! How many cells expressions make.
+//! How many cells expressions make: they are counted before any is made, so that what is too large is refused first.
 
 ghost use Rattle.std.specs.Prelude.{◌≡◌, ◌≤◌, ◌+◌, ◌*◌, ◌-◌, ◌^◌, min, map, sum_by, All};
 ghost use Rattle.bb_ast.specs.Views.{expression, operand_view, arm_view};
+ghost use Rattle.bb_names.specs.Checked.{module_facts};
+ghost use Rattle.bb_names.specs.Widths.{own_width};
 ghost use Rattle.bb_expr.specs.Cells.{is_odd, op_cells, cell_count};
-ghost use Rattle.bb_expr.specs.Checked.{module_facts};
 ghost use Rattle.bb_expr.specs.Fit.{AreFit, ranges_in};
 ghost use Rattle.bb_expr.specs.Shares.{capped, own_cells, operand_cells, arm_cells};
 ghost use Rattle.bb_expr.specs.Standing.{StandsAt, ranges_at};
-ghost use Rattle.bb_expr.specs.Widths.{own_width};
 
-use crate::checked::{Checked, CheckedModule};
 use crate::laws;
 use crate::width::width_of;
 use bb_ast::{Expr, Op};
+use bb_names::{Checked, CheckedModule};
 
 /// The number of cells that an expression of a module makes at a width that is at least its own, or 2^64 - 1 where it is greater.
 pub fn cells(checked: &Checked, module: u32, expr: &Expr, width: u32) -> u64

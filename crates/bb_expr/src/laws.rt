@@ -1,24 +1,7 @@
-//! Laws of these definitions. Each function has a law as its contract and does nothing.
+//! Laws of widths, values and cells, and of what stands in a checked module. Each function has a law as its contract.
 
-ghost use Rattle.bb_expr.specs.Laws.{SoundOrFault, NotSoundAndFault, FirstFaultsAreOne, ValuesHaveWidth, MadeHasValue, CellsAreCounted, WiderAddsZeros};
-
-/// A source is sound, or it has a first fault.
-#[tactic(auto, using(crate::proofs::FaultLaws::sound_or_fault))]
-pub fn sound_or_fault()
-    ensures { SoundOrFault }
-{}
-
-/// No source is sound and has a fault.
-#[tactic(auto, using(crate::proofs::FaultLaws::not_sound_and_fault))]
-pub fn not_sound_and_fault()
-    ensures { NotSoundAndFault }
-{}
-
-/// A source has one first fault at most.
-#[tactic(auto, using(crate::proofs::FaultLaws::first_faults_are_one))]
-pub fn first_faults_are_one()
-    ensures { FirstFaultsAreOne }
-{}
+ghost use Rattle.bb_expr.specs.Laws.{ValuesHaveWidth, MadeHasValue, CellsAreCounted, WiderAddsZeros};
+ghost use Rattle.bb_expr.specs.FitLaws.{StandingIsFit, NamesAreNets, PartsStand, NetNamesDiffer, AssignableIsNets};
 
 /// A value has as many bits as its context.
 #[tactic(auto, using(crate::proofs::ValueLemmas::values_have_width))]
@@ -43,8 +26,6 @@ pub fn cells_are_counted()
 pub fn wider_adds_zeros()
     ensures { WiderAddsZeros }
 {}
-
-ghost use Rattle.bb_expr.specs.FitLaws.{StandingIsFit, NamesAreNets, PartsStand, NetNamesDiffer, AssignableIsNets};
 
 /// What stands in a checked module is fit, with all that stands in it.
 pub fn standing_is_fit()

@@ -3,22 +3,21 @@
 ghost use Rattle.std.specs.Prelude.{◌≡◌, ◌≤◌, ◌+◌, ◌-◌, ◌*◌, ◌^◌, Bool, true, false, List, length, map, sum, sum_by, All, IfOk};
 ghost use Rattle.bb_ast.specs.Syntax.{Net, Part};
 ghost use Rattle.bb_ast.specs.Views.{expression, operand_view, arm_view};
-ghost use Rattle.bb_expr.specs.declared.net.NetInfo.{NetInfo};
+ghost use Rattle.bb_names.specs.declared.net.NetInfo.{NetInfo};
+ghost use Rattle.bb_names.specs.Checked.{module_facts};
+ghost use Rattle.bb_names.specs.Ranges.{has_bits, distance, range_width, place_of};
+ghost use Rattle.bb_names.specs.Widths.{own_width};
 ghost use Rattle.bb_expr.specs.declared.step.BitStep.{BitStep};
 ghost use Rattle.bb_expr.specs.Cells.{Made, without_cells, made, cell_count};
-ghost use Rattle.bb_expr.specs.Checked.{module_facts};
 ghost use Rattle.bb_expr.specs.Fit.{HasNet, AreFit, ranges_in};
 ghost use Rattle.bb_expr.specs.Growing.{Adds, beside, chained_on, arms_on, most_steps};
 ghost use Rattle.bb_expr.specs.Lists.{extended};
 ghost use Rattle.bb_expr.specs.Lowered.{IsLowered, HasValue};
-ghost use Rattle.bb_expr.specs.Ranges.{has_bits, distance, range_width, place_of};
 ghost use Rattle.bb_expr.specs.Shares.{own_cells, operand_cells, arm_cells};
 ghost use Rattle.bb_expr.specs.Standing.{StandsAt, nets_at, ranges_at};
 ghost use Rattle.bb_expr.specs.Terms.{Const};
-ghost use Rattle.bb_expr.specs.Widths.{own_width};
 
 use crate::cell_count::{cells, is_odd};
-use crate::checked::{Checked, CheckedModule};
 use crate::laws;
 use crate::operators::{any_bit, copied, inverted, operate, select};
 use crate::rows::{constants, extended, net_bits, number_bits};
@@ -27,6 +26,7 @@ use crate::step::{BitStep, Lowered};
 use crate::width::{range_width, total_width, width_of};
 use bb_ast::{Expr, Op, Range};
 use bb_bits::{Name, NoMemory};
+use bb_names::{Checked, CheckedModule};
 use std::alloc::Global;
 
 /// An expression of a module as steps on bits, at a width that is at least its own.
@@ -72,7 +72,6 @@ fn first_place(range: Option<Range>, index: u32) -> u32
     }
 }
 
-/// A whole net.
 fn net(
     alloc: Global,
     scope: &CheckedModule,
@@ -91,7 +90,6 @@ fn net(
     extended(alloc, steps, &bits, width)
 }
 
-/// The bits of a net from an index to another.
 fn part(
     alloc: Global,
     scope: &CheckedModule,
@@ -114,7 +112,6 @@ fn part(
     extended(alloc, steps, &bits, width)
 }
 
-/// A number by its bits.
 fn number(
     alloc: Global,
     steps: &mut Vec<BitStep>,

@@ -2,7 +2,7 @@
 
 ghost use Rattle.std.specs.Prelude.{◌≡◌, ◌≤◌, ◌+◌, ◌-◌, ◌*◌, ◌^◌, ◌∷◌, [], List, length, IfOk, OnOk, IsTrue, ◌↔◌};
 ghost use Rattle.bb_ast.specs.declared.expr.Op.TheVariants as ops;
-ghost use Rattle.bb_expr.specs.declared.net.NetInfo.{NetInfo};
+ghost use Rattle.bb_names.specs.declared.net.NetInfo.{NetInfo};
 ghost use Rattle.bb_expr.specs.declared.step.BitStep.{BitStep};
 ghost use Rattle.bb_expr.specs.Lists.{copies};
 ghost use Rattle.bb_expr.specs.Cells.{Made, operated, chained, op_cells, arm_made};

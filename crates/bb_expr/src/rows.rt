@@ -3,7 +3,7 @@
 ghost use Rattle.std.specs.Prelude.{◌≡◌, ◌<◌, ◌≤◌, ◌+◌, ◌-◌, ◌^◌, ◌++◌, ◌∷◌, [], List, length, map, IfOk, OnOk, nat_le, if◌then◌else◌};
 ghost use Rattle.std.specs.List.{range_with_len};
 ghost use Rattle.bb_bits.specs.Numbers.{bits_of};
-ghost use Rattle.bb_expr.specs.declared.net.NetInfo.{NetInfo};
+ghost use Rattle.bb_names.specs.declared.net.NetInfo.{NetInfo};
 ghost use Rattle.bb_expr.specs.declared.step.BitStep.{BitStep};
 ghost use Rattle.bb_expr.specs.declared.step.BitStep.TheVariants as of;
 ghost use Rattle.bb_expr.specs.Cells.{Made};

@@ -1,4 +1,4 @@
-//! Steps on bits.
+//! Steps on bits: what an expression comes to.
 
 /// One step of an expression: a constant, a bit of a net, or an operator on the bits of earlier steps.
 #[derive(Clone, Copy, Debug, PartialEq, Eq)]

@@ -2,16 +2,16 @@
 
 ghost use Rattle.std.specs.Prelude.{◌≡◌, ◌≤◌, map, sum, All};
 ghost use Rattle.bb_ast.specs.Views.{expression, operand_view, arm_view};
-ghost use Rattle.bb_expr.specs.Checked.{module_facts};
+ghost use Rattle.bb_names.specs.Checked.{module_facts};
+ghost use Rattle.bb_names.specs.Ranges.{distance, range_width};
+ghost use Rattle.bb_names.specs.Widths.{own_width, greatest};
 ghost use Rattle.bb_expr.specs.Fit.{AreFit, ranges_in};
-ghost use Rattle.bb_expr.specs.Ranges.{distance, range_width};
 ghost use Rattle.bb_expr.specs.Standing.{StandsAt, ranges_at};
-ghost use Rattle.bb_expr.specs.Widths.{own_width, greatest};
 
-use crate::checked::{Checked, CheckedModule};
 use crate::laws;
 use crate::scope::range_of;
 use bb_ast::{Expr, Op, Range};
+use bb_names::{Checked, CheckedModule};
 
 /// The width of an expression of a module by itself.
 pub fn own_width(checked: &Checked, module: u32, expr: &Expr) -> u32
@@ -53,7 +53,6 @@ pub(crate) fn width_of(scope: &CheckedModule, expr: &Expr) -> u32
     }
 }
 
-/// The greatest width among the right operands of a chain.
 #[cycle(width)]
 fn widest_operand(scope: &CheckedModule, rest: &[(Op, Expr)]) -> u32
     requires fit { All (λ x. AreFit (module_facts scope.now) x.1) (map operand_view rest.now) }
@@ -66,7 +65,6 @@ fn widest_operand(scope: &CheckedModule, rest: &[(Op, Expr)]) -> u32
     widest
 }
 
-/// The greatest width among the values of conditions.
 #[cycle(width)]
 fn widest_value(scope: &CheckedModule, all: &[(Expr, Expr)]) -> u32
     requires fit { All (λ x. AreFit (module_facts scope.now) x.1) (map arm_view all.now) }

@@ -4,16 +4,16 @@ use Rattle.std.proofs.Common.{◌≡◌, ◌⊎◌, ℕ, List, Option, Some, ref
 use Rattle.bb_ast.specs.Syntax.{PlainModule}
 use Rattle.std.specs.Prelude.{Result, Ok, Err, IfErr, IsErr, MatchResult}
 use Rattle.std.proofs.lemmas.Result.{IfErr-weaker}
-use Rattle.bb_elab.specs.declared.fault.ElabFault.{ElabFault}
-use Rattle.bb_elab.specs.declared.fault.ElabFault.TheVariants as elab
-use Rattle.bb_elab.specs.Flats.{FlatNet}
-use Rattle.bb_elab.specs.Stands.{StandsFor, StandsForText}
-use Rattle.bb_elab.specs.Hierarchy.{Design, top_of}
-use Rattle.bb_elab.specs.Laws.{NotSoundAndRefused, FirstRefusalsAreOne, SoundOrRefused}
-use Rattle.bb_elab.specs.Refusals.{design_on, IsSoundDesign, IsSoundText, IsFirstRefusal}
-use Rattle.bb_expr.specs.declared.fault.NameFault.{NameFault}
-use Rattle.bb_expr.specs.Faults.{IsSound, IsFirstFault}
-use Rattle.bb_expr.specs.Laws.{SoundOrFault, NotSoundAndFault, FirstFaultsAreOne}
+use Rattle.bb_design.specs.declared.fault.ElabFault.{ElabFault}
+use Rattle.bb_design.specs.declared.fault.ElabFault.TheVariants as elab
+use Rattle.bb_net.specs.Flats.{FlatNet}
+use Rattle.bb_cells.specs.Stands.{StandsFor, StandsForText}
+use Rattle.bb_design.specs.Hierarchy.{Design, top_of}
+use Rattle.bb_design.specs.Laws.{NotSoundAndRefused, FirstRefusalsAreOne, SoundOrRefused}
+use Rattle.bb_design.specs.Refusals.{design_on, IsSoundDesign, IsSoundText, IsFirstRefusal}
+use Rattle.bb_names.specs.declared.fault.NameFault.{NameFault}
+use Rattle.bb_names.specs.Faults.{IsSound, IsFirstFault}
+use Rattle.bb_names.specs.Laws.{SoundOrFault, NotSoundAndFault, FirstFaultsAreOne}
 use Rattle.bb_lex.specs.declared.token.Token.{Token as TextToken}
 use Rattle.bb_lex.specs.Cut.{AreTokens, IsBadOn}
 use Rattle.bb_lex.specs.Laws.{TokensAreOne, BadLinesAreOne, TokensOrBadLine, NotTokensAndBadLine}

@@ -4,16 +4,16 @@ use Rattle.std.specs.List.{list_any}
 use Rattle.std.specs.Prelude.{Result, Ok, Err, IfOk, IfErr, MatchResult}
 use Rattle.std.proofs.lemmas.List.Elements.{All-weaker}
 use Rattle.std.proofs.lemmas.Result.{IfErr-weaker}
-use Rattle.bb_elab.specs.Flats.{FlatNet}
-use Rattle.bb_elab.specs.Hierarchy.{Design}
-use Rattle.bb_elab.specs.ListLaws.{SoundTextsAreAllowed}
-use Rattle.bb_elab.specs.Stands.{StandsFor}
+use Rattle.bb_net.specs.Flats.{FlatNet}
+use Rattle.bb_design.specs.Hierarchy.{Design}
+use Rattle.bb_design.specs.Allowed.{SoundTextsAreAllowed}
+use Rattle.bb_cells.specs.Stands.{StandsFor}
 use Rattle.bb_match.specs.declared.fault.MatchFault.{MatchFault}
 use Rattle.bb_match.specs.declared.fault.MatchFault.TheVariants as pair
-use Rattle.bb_match.specs.AlikePairs.{PairsForDesignsAreAlike}
-use Rattle.bb_match.specs.DesignAgreement.{IsPairFor, NoTablesNoContents, SpelledContentsAgree, TablesSpellContents}
-use Rattle.bb_match.specs.DesignRefusals.{IsRefusalFor, DesignRefusalsAreOne}
-use Rattle.bb_match.specs.DesignRefusals as designs
+use Rattle.bb_agree.specs.AlikePairs.{PairsForDesignsAreAlike}
+use Rattle.bb_agree.specs.DesignAgreement.{IsPairFor, NoTablesNoContents, SpelledContentsAgree, TablesSpellContents}
+use Rattle.bb_agree.specs.DesignRefusals.{IsRefusalFor, DesignRefusalsAreOne}
+use Rattle.bb_agree.specs.DesignRefusals as designs
 use Rattle.bb_match.specs.Refusals.{IsFirstRefusal}
 use Rattle.bb_net.specs.Pairs.{NetPair, IsPair}
 use Rattle.bb_parse.specs.Laws.{SourcesAreFormed}
@@ -24,7 +24,8 @@ use Rattle.bb_rungs.specs.declared.verdict.Verdict.TheVariants as verdicts
 use Rattle.bb_rungs.specs.Laws.{ErrorsExcludeTables, RepairsAgree, ClimbsLeaveOpen, LeftOpenIsTold, DecidersDecide}
 use Rattle.bb_rungs.specs.LeftOpen.{LeavesOpen}
 use Rattle.bb_rungs.specs.Reports.{EndsWithTables, report_text, status_of, verdict_of}
-use Rattle.bb_rungs.specs.Rungs.{IsClimb, asked_rungs, is_error, is_repair}
+use Rattle.bb_options.specs.Rungs.{asked_rungs}
+use Rattle.bb_rungs.specs.Rungs.{IsClimb, is_error, is_repair}
 use Rattle.bb_ladder.specs.declared.answer.Answer.{Answer}
 use Rattle.bb_ladder.specs.declared.asked.Asked.{Asked}
 use Rattle.bb_ladder.specs.declared.refusal.Refusal.{Refusal}

@@ -1,8 +1,8 @@
 -- The faults of tokens, of statements, of names and of a design as faults of one side. Want of memory is one of its own.
-use Rattle.bb_elab.specs.declared.fault.ElabFault.{ElabFault}
-use Rattle.bb_elab.specs.declared.fault.ElabFault.TheVariants as elab
-use Rattle.bb_expr.specs.declared.fault.NameFault.{NameFault}
-use Rattle.bb_expr.specs.declared.fault.NameFault.TheVariants as name
+use Rattle.bb_design.specs.declared.fault.ElabFault.{ElabFault}
+use Rattle.bb_design.specs.declared.fault.ElabFault.TheVariants as elab
+use Rattle.bb_names.specs.declared.fault.NameFault.{NameFault}
+use Rattle.bb_names.specs.declared.fault.NameFault.TheVariants as name
 use Rattle.bb_lex.specs.declared.fault.LexFault.{LexFault}
 use Rattle.bb_lex.specs.declared.fault.LexFault.TheVariants as lex
 use Rattle.bb_parse.specs.declared.fault.ParseFault.{ParseFault}

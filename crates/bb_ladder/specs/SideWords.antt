@@ -1,9 +1,9 @@
 -- The words of a refusal: what is wrong, the line where the fault has one, and the name that is told where it has one.
 use Rattle.std.specs.Prelude.{ℕ, List, [], ◌++◌, codes}
-use Rattle.bb_elab.specs.declared.fault.ElabFault.{ElabFault}
-use Rattle.bb_elab.specs.declared.fault.ElabFault.TheVariants as elab
-use Rattle.bb_expr.specs.declared.fault.NameFault.{NameFault}
-use Rattle.bb_expr.specs.declared.fault.NameFault.TheVariants as name
+use Rattle.bb_design.specs.declared.fault.ElabFault.{ElabFault}
+use Rattle.bb_design.specs.declared.fault.ElabFault.TheVariants as elab
+use Rattle.bb_names.specs.declared.fault.NameFault.{NameFault}
+use Rattle.bb_names.specs.declared.fault.NameFault.TheVariants as name
 use Rattle.bb_ladder.specs.declared.side_fault.SideFault.{SideFault}
 use Rattle.bb_ladder.specs.declared.side_fault.SideFault.TheVariants.{Token, Statement, Deep, Unended, Named, Elaborated, NoMemory}
 use Rattle.bb_ladder.specs.Refusals.{at_line}

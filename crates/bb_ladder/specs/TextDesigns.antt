@@ -3,9 +3,9 @@
 -- and what stands below it are. A top may be named; without a name it is the one module that none instantiates.
 use Rattle.std.specs.Prelude.{◌≡◌, ◌⊎◌, ℕ, List, Option, Some}
 use Rattle.bb_ast.specs.Syntax.{PlainModule}
-use Rattle.bb_elab.specs.Hierarchy.{Design, top_of}
-use Rattle.bb_elab.specs.Refusals.{IsSoundDesign, IsFirstRefusal}
-use Rattle.bb_expr.specs.Faults.{IsSound, IsFirstFault}
+use Rattle.bb_design.specs.Hierarchy.{Design, top_of}
+use Rattle.bb_design.specs.Refusals.{IsSoundDesign, IsFirstRefusal}
+use Rattle.bb_names.specs.Faults.{IsSound, IsFirstFault}
 use Rattle.bb_lex.specs.Cut.{IsBadOn}
 use Rattle.bb_parse.specs.declared.fault.ParseFault.TheVariants as parse
 use Rattle.bb_parse.specs.Sources.{ReadsAs}

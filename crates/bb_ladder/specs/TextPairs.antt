@@ -5,11 +5,11 @@ use Rattle.std.specs.Prelude.{◌≡◌, ℕ, List, Option}
 use Rattle.bb_alike.specs.Alike.{ArePairsAlike}
 use Rattle.bb_bits.specs.Contents.{Contents}
 use Rattle.bb_bits.specs.Tables.{TableBits}
-use Rattle.bb_elab.specs.Hierarchy.{Design}
-use Rattle.bb_elab.specs.ListLaws.{IsAllowed}
-use Rattle.bb_elab.specs.Worlds.{FitDesign}
-use Rattle.bb_match.specs.DesignAgreement.{AreSpelled, ContentsAgree, IsPairFor, NoContentsAgree}
-use Rattle.bb_match.specs.DesignRefusals.{IsRefusalFor}
+use Rattle.bb_design.specs.Hierarchy.{Design}
+use Rattle.bb_design.specs.Allowed.{IsAllowed}
+use Rattle.bb_design.specs.Worlds.{FitDesign}
+use Rattle.bb_agree.specs.DesignAgreement.{AreSpelled, ContentsAgree, IsPairFor, NoContentsAgree}
+use Rattle.bb_agree.specs.DesignRefusals.{IsRefusalFor}
 use Rattle.bb_net.specs.Pairs.{NetPair}
 use Rattle.bb_net.specs.Values.{FitBoxes}
 use Rattle.bb_rungs.specs.LeftOpen.{AllLeaveOpen, SomeDecides}

@@ -3,7 +3,8 @@
 ghost use Rattle.std.specs.Prelude.{◌≡◌, ◌<◌, ◌⊎◌, List, length, IfOk};
 ghost use Rattle.bb_rungs.specs.declared.line.Line.{Line};
 ghost use Rattle.bb_rungs.specs.Reports.{report_text, status_of, verdict_of};
-ghost use Rattle.bb_rungs.specs.Rungs.{AreBounds, IsClimb};
+ghost use Rattle.bb_options.specs.Rungs.{AreBounds};
+ghost use Rattle.bb_rungs.specs.Rungs.{IsClimb};
 ghost use Rattle.bb_ladder.specs.declared.answer.TheConstants.{READ_LIMIT};
 ghost use Rattle.bb_ladder.specs.declared.refusal.Refusal.{Refusal};
 ghost use Rattle.bb_ladder.specs.RefusalLines.{refusal_line};

@@ -4,9 +4,9 @@
 //! is; then the two are laid beside each other.
 
 ghost use Rattle.std.specs.Prelude.{◌≡◌, ◌<◌, ◌⊎◌, ℕ, List, length, option_copied, IfOk, IfErr, MatchResult};
-ghost use Rattle.bb_elab.specs.Hierarchy.{Design};
-ghost use Rattle.bb_elab.specs.Stands.{StandsFor};
-ghost use Rattle.bb_match.specs.DesignAgreement.{IsPairFor};
+ghost use Rattle.bb_design.specs.Hierarchy.{Design};
+ghost use Rattle.bb_cells.specs.Stands.{StandsFor};
+ghost use Rattle.bb_agree.specs.DesignAgreement.{IsPairFor};
 ghost use Rattle.bb_net.specs.Pairs.{NetPair, IsPair};
 ghost use Rattle.bb_ladder.specs.declared.answer.TheConstants.{READ_LIMIT};
 ghost use Rattle.bb_ladder.specs.declared.asked.Asked.{Asked};
@@ -19,9 +19,8 @@ use crate::refusal::{Refusal, of_imp, of_pair, of_spec};
 use crate::side::flat_of;
 use crate::text_laws::{no_pair_and_refusal, refusals_are_one};
 use bb_bits::Name;
-use bb_elab::Flat;
 use bb_match::pair;
-use bb_net::Pair;
+use bb_net::{Flat, Pair};
 use std::alloc::Global;
 
 // The bytes of a top's name, if it has one.

@@ -5,10 +5,10 @@
 
 ghost use Rattle.std.specs.Prelude.{◌≡◌, ◌<◌, ◌⊎◌, ℕ, List, Option, map, length, IfOk, IfErr, MatchResult, option_copied};
 ghost use Rattle.bb_ast.specs.Views.{source_view};
-ghost use Rattle.bb_elab.specs.Hierarchy.{Design};
-ghost use Rattle.bb_elab.specs.Stands.{StandsFor};
-ghost use Rattle.bb_expr.specs.Checked.{syntax};
-ghost use Rattle.bb_expr.specs.Faults.{IsSound};
+ghost use Rattle.bb_design.specs.Hierarchy.{Design};
+ghost use Rattle.bb_cells.specs.Stands.{StandsFor};
+ghost use Rattle.bb_names.specs.Checked.{syntax};
+ghost use Rattle.bb_names.specs.Faults.{IsSound};
 ghost use Rattle.bb_parse.specs.Sources.{ReadsAs};
 ghost use Rattle.bb_ladder.specs.declared.answer.TheConstants.{READ_LIMIT};
 ghost use Rattle.bb_ladder.specs.declared.side_fault.SideFault.{SideFault};
@@ -17,8 +17,8 @@ ghost use Rattle.bb_ladder.specs.TextDesigns.{IsDesignOf, IsSideFault, TextDesig
 use crate::side_fault::SideFault;
 use bb_ast::Source;
 use bb_elab::{Flat, elaborate};
-use bb_expr::{Checked, check};
 use bb_lex::tokens;
+use bb_names::{Checked, check};
 use bb_parse::source;
 use std::alloc::Global;
 
@@ -81,9 +81,9 @@ pub fn side_faults_are_one()
     bb_parse::laws::faults_are_one();
     bb_parse::laws::not_source_and_fault();
     bb_parse::laws::texts_read_once();
-    bb_expr::laws::first_faults_are_one();
-    bb_expr::laws::not_sound_and_fault();
-    bb_elab::laws::first_refusals_are_one();
+    bb_names::laws::first_faults_are_one();
+    bb_names::laws::not_sound_and_fault();
+    bb_design::laws::first_refusals_are_one();
 }
 
 /// No text has a design and a fault.
@@ -94,8 +94,8 @@ pub fn not_design_and_fault()
     bb_lex::laws::not_tokens_and_bad_line();
     bb_parse::laws::not_source_and_fault();
     bb_parse::laws::texts_read_once();
-    bb_expr::laws::not_sound_and_fault();
-    bb_elab::laws::not_sound_and_refused();
+    bb_names::laws::not_sound_and_fault();
+    bb_design::laws::not_sound_and_refused();
 }
 
 /// A text has a design or a fault.
@@ -104,6 +104,6 @@ pub fn design_or_fault()
 {
     bb_lex::laws::tokens_or_bad_line();
     bb_parse::laws::source_or_fault();
-    bb_expr::laws::sound_or_fault();
-    bb_elab::laws::sound_or_refused();
+    bb_names::laws::sound_or_fault();
+    bb_design::laws::sound_or_refused();
 }

@@ -1,9 +1,9 @@
 //! Why the text of one side is refused: the first thing that is wrong with it, on the way from its bytes to a flat netlist.
 
 use bb_bits::NoMemory;
-use bb_elab::ElabFault;
-use bb_expr::NameFault;
+use bb_design::ElabFault;
 use bb_lex::LexFault;
+use bb_names::NameFault;
 use bb_parse::ParseFault;
 
 /// Why a text is refused.

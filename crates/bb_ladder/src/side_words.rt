@@ -7,8 +7,8 @@ ghost use Rattle.bb_ladder.specs.SideWords.{design_words, fault_words, name_word
 
 use crate::side_fault::SideFault;
 use bb_bits::{Name, NoMemory};
-use bb_elab::ElabFault;
-use bb_expr::NameFault;
+use bb_design::ElabFault;
+use bb_names::NameFault;
 use itoa::Buffer;
 
 // Appends a word and a line of the text.

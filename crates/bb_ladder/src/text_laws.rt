@@ -6,11 +6,11 @@ ghost use Rattle.bb_ladder.specs.TextAnswers.{ErrorsRefute, RepairsFinish, OpenA
 ghost use Rattle.bb_ladder.specs.TextPairs.{DesignsAreAllowed, NotPairAndRefusal, RefusalsAreOne, TextPairsAreAlike};
 
 use crate::side::{not_design_and_fault, side_faults_are_one, text_designs_are_one};
-use bb_elab::list_laws::sound_texts_are_allowed;
-use bb_match::laws::{
+use bb_agree::laws::{
     design_refusals_are_one, no_tables_no_contents, not_pair_and_refusal,
     pairs_for_designs_are_alike, spelled_contents_agree, tables_spell_contents,
 };
+use bb_design::laws::sound_texts_are_allowed;
 use bb_parse::laws::sources_are_formed;
 use bb_rungs::{
     alike_pairs_are_decided, alike_pairs_are_left_open, alike_reports_are_one, climbs_leave_open,

@@ -1,7 +1,7 @@
 //! What the words of the command line ask for, with names of modules that outlive them.
 
 ghost use Rattle.std.specs.Prelude.{◌≡◌, ◌⊎◌, map, option_copied, string_bytes, IfErr, IfOk, None, Some};
-ghost use Rattle.bb_rungs.specs.Rungs.{AreBounds};
+ghost use Rattle.bb_options.specs.Rungs.{AreBounds};
 ghost use Rattle.bb_ladder.specs.Answers.{question_of};
 
 use crate::asked::Asked;

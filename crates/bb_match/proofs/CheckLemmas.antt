@@ -2,9 +2,9 @@
 use Rattle.std.proofs.Common.{◌≡◌, ◌⊎◌, ℕ, List, ◌∷◌, Result, Ok, Err, refl, sym, subst, inl, inr}
 use Rattle.std.specs.Prelude.{IfErr, IfOk, IsErrAnd, MatchResult, OnOk}
 use Rattle.bb_net.specs.Pairs.{BoxTexts}
-use Rattle.bb_elab.specs.declared.flat.Reg.{Reg}
-use Rattle.bb_elab.specs.Closures.{IsFirst}
-use Rattle.bb_elab.specs.Flats.{FlatNet}
+use Rattle.bb_net.specs.declared.flat.Reg.{Reg}
+use Rattle.bb_bits.specs.Closures.{IsFirst}
+use Rattle.bb_net.specs.Flats.{FlatNet}
 use Rattle.bb_match.specs.declared.fault.MatchFault.{MatchFault}
 use Rattle.bb_match.specs.declared.fault.MatchFault.TheVariants.{NoMemory}
 use Rattle.bb_match.specs.declared.fault.MatchFault.TheVariants as faults

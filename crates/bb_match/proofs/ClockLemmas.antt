@@ -5,12 +5,12 @@ use Rattle.std.proofs.lemmas.List.{length-map, get_or-map, get_or_default}
 use Rattle.std.proofs.lemmas.Option.{slice_get_within, get_or_from_slice_get}
 use Rattle.std.proofs.lemmas.Slice.Eq.{bytes_eq-Decides}
 use Rattle.bb_bits.specs.Names.{same_name}
-use Rattle.bb_elab.specs.declared.flat.Reg.{Reg}
-use Rattle.bb_elab.specs.Flats.{FlatNet}
-use Rattle.bb_match.specs.CutPoints.{register_texts, clock_text}
+use Rattle.bb_net.specs.declared.flat.Reg.{Reg}
+use Rattle.bb_net.specs.Flats.{FlatNet}
+use Rattle.bb_net.specs.CutPoints.{register_texts, clock_text}
 use Rattle.bb_match.specs.Places.{ArePlaces, place_of}
 use Rattle.bb_match.specs.Refusals.{IsClockedApart, IsClockedAlike}
-use Rattle.bb_match.proofs.Firsts.{less_or_same}
+use Rattle.bb_lists.proofs.Orders.{less_or_same}
 use Rattle.bb_match.proofs.Decisions.{decide_bool, decide_optional}
 use Rattle.bb_match.proofs.PlaceLemmas.{place_right}
 

@@ -6,14 +6,16 @@ use Rattle.std.proofs.lemmas.List.Elements.{All-contains, All-cons, All-nil, All
 use Rattle.std.proofs.lemmas.Slice.Eq.{bytes_eq-Decides}
 use Rattle.bb_bits.specs.Names.{same_name}
 use Rattle.bb_net.specs.Pairs.{BoxTexts}
-use Rattle.bb_elab.specs.declared.flat.Reg.{Reg}
-use Rattle.bb_elab.specs.Closures.{IsFirst}
-use Rattle.bb_elab.specs.Flats.{FlatNet}
+use Rattle.bb_net.specs.declared.flat.Reg.{Reg}
+use Rattle.bb_bits.specs.Closures.{IsFirst}
+use Rattle.bb_net.specs.Flats.{FlatNet}
 use Rattle.bb_match.specs.declared.fault.MatchFault.{MatchFault}
-use Rattle.bb_match.specs.CutPoints.{register_texts, clock_text}
+use Rattle.bb_net.specs.CutPoints.{register_texts, clock_text}
 use Rattle.bb_match.specs.Refusals.{IsMissing, IsFirstMissing, AreAmong, HasNoClock, IsFirstWithoutClock, HaveClocks, IsClockedApart, IsFirstClockedApart, IsClockedAlike, AreClockedAlike, most_pins, input_and_pin_count, Cause, Box, SpecInput, SpecOutput, ImpInput, ImpOutput, SpecRegister, ImpRegister, SpecClock, ImpClock, Clocks, Pins, rank, fault_of, IsTold, IsAbsent, Fit, IsFirstRefusal}
 use Rattle.bb_match.specs.Laws.{FitOrRefused}
-use Rattle.bb_match.proofs.Firsts.{less_or_same, first_there, contains_here, contains_there, contains_cases, none_in_nil}
+use Rattle.bb_lists.proofs.Orders.{less_or_same}
+use Rattle.bb_lists.proofs.Firsts.{first_there}
+use Rattle.bb_lists.proofs.Members.{contains_here, contains_there, contains_cases, none_in_nil}
 use Rattle.bb_match.proofs.RefusalLaws.{none_is_not_some, cause_at, at_rank}
 
 -- equality of texts

@@ -1,17 +1,10 @@
-pub mod AlikePairs
 pub mod CheckLemmas
 pub mod ClockLemmas
 pub mod Decisions
-pub mod DesignAgreements
-pub mod Firsts
 pub mod Loops
-pub mod NamedVectors
 pub mod PairExists
 pub mod PairLaws
 pub mod PairLemmas
 pub mod PickLemmas
 pub mod PlaceLemmas
-pub mod RearrangedFormulas
 pub mod RefusalLaws
-pub mod SpelledContents
-pub mod TakenAlike

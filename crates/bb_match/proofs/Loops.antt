@@ -2,7 +2,7 @@
 use Rattle.std.proofs.Common.{◌≡◌, ℕ, false, Option, Some, None, is_some, true≢false, zero, suc, ◌+◌, ◌<◌, List, [], ◌∷◌, ◌++◌, take, drop, length, get_or, All, refl, sym, ap, ◌∙◌, arith}
 use Rattle.std.proofs.lemmas.List.{take_more}
 use Rattle.std.proofs.lemmas.List.Elements.{All-contains, All-push}
-use Rattle.bb_elab.specs.Closures.{IsFirst}
+use Rattle.bb_bits.specs.Closures.{IsFirst}
 
 pub split_at : {A : Type 0} (xs : List A) (i : ℕ) (x : A) → i < length xs → x ≡ get_or xs i x → xs ≡ take i xs ++ x ∷ drop (suc i) xs
 split_at (y ∷ ys) zero x lt at = ap (λ z. z ∷ ys) (sym at)

@@ -12,8 +12,8 @@ use Rattle.bb_net.specs.Netlists.{Netlist, IsNetlist, cell_at, first_cells}
 use Rattle.bb_net.specs.Orders.{moved_pins}
 use Rattle.bb_net.specs.Pairs.{NetPair}
 use Rattle.bb_net.specs.Rearrangements.{IsRearranged, moved_cell, new_input, new_place}
-use Rattle.bb_elab.specs.Flats.{FlatNet, IsFlat}
-use Rattle.bb_match.specs.CutPoints.{cut_inputs, cut_outputs}
+use Rattle.bb_net.specs.Flats.{FlatNet, IsFlat}
+use Rattle.bb_net.specs.CutPoints.{cut_inputs, cut_outputs}
 use Rattle.bb_match.specs.Refusals.{Fit, ImpInput, ImpRegister, SpecOutput, SpecRegister}
 use Rattle.bb_match.specs.Pairing.{Picks, IsPairOf}
 use Rattle.bb_match.proofs.PairLemmas.{inputs_below, numbers_count, numbers_there, pair_of, pair_with}

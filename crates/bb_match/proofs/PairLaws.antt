@@ -1,6 +1,6 @@
 -- Two netlists have one pair: places in lists without repetition are fixed by what stands there, and each place of the new
 -- netlist is the new place of a cell.
-use Rattle.std.proofs.Common.{◌≡◌, ◌≢◌, ℕ, zero, suc, ◌+◌, ◌<◌, ◌≤◌, false, List, [], ◌∷◌, ◌++◌, map, length, get_or, All, AllPairs, Contains, refl, sym, ap, ap₂, subst, ◌∙◌, inl, inr, arith}
+use Rattle.std.proofs.Common.{◌≡◌, ◌≢◌, ℕ, zero, suc, ◌+◌, ◌<◌, ◌≤◌, false, List, [], ◌∷◌, ◌++◌, map, length, get_or, All, AllPairs, Contains, refl, sym, ap, subst, ◌∙◌, inl, inr, arith}
 use Rattle.std.specs.Prelude.{slice_get, Some}
 use Rattle.std.proofs.lemmas.Bool.{cases_lt}
 use Rattle.std.proofs.lemmas.List.{get_or-map, get_or_default, get_or_past, length-map, same_lists}
@@ -12,21 +12,18 @@ use Rattle.bb_net.specs.declared.cell.Cell.TheVariants.{Const}
 use Rattle.bb_net.specs.Netlists.{Netlist, Pins, cell_at}
 use Rattle.bb_net.specs.Pairs.{NetPair}
 use Rattle.bb_net.specs.Rearrangements.{IsRearranged, new_place}
-use Rattle.bb_elab.specs.Flats.{FlatNet, IsFlat}
-use Rattle.bb_elab.specs.Worlds.{TopInput, State, TopOutput, NextState}
-use Rattle.bb_match.specs.CutPoints.{register_texts, cut_inputs, cut_outputs}
+use Rattle.bb_net.specs.Flats.{FlatNet, IsFlat}
+use Rattle.bb_net.specs.CutPoints.{TopInput, State, TopOutput, NextState, register_texts, cut_inputs, cut_outputs}
 use Rattle.bb_match.specs.Refusals.{AreAmong, Fit, SpecInput, SpecRegister}
 use Rattle.bb_match.specs.Pairing.{Picks, IsPairOf}
-use Rattle.bb_match.proofs.Firsts.{less_or_same}
+use Rattle.bb_lists.proofs.Apart.{pairs_tail}
+use Rattle.bb_lists.proofs.Picked.{one_place, picked_at, same_places}
 use Rattle.bb_match.proofs.PairLemmas.{input_count, inputs_below, same_inputs, mk_pair}
 
 -- lists without repetition
 
 pairs_head : {A : Type 0} (R : A → A → Type 0) (x : A) (xs : List A) → AllPairs R (x ∷ xs) → All (R x) xs
 pairs_head R x xs all k d lt = all 0 (suc k) d (omega arith) (omega (arith, lt))
-
-pub pairs_tail : {A : Type 0} (R : A → A → Type 0) (x : A) (xs : List A) → AllPairs R (x ∷ xs) → AllPairs R xs
-pairs_tail R x xs all i j d lt within = all (suc i) (suc j) d (omega (arith, lt)) (omega (arith, within))
 
 apart_both : {A : Type 0} (xs ys : List A) → AllPairs ◌≢◌ xs → AllPairs ◌≢◌ ys → All (λ x. All (λ y. x ≢ y) ys) xs → AllPairs ◌≢◌ (xs ++ ys)
 apart_both [] ys a b cross = b
@@ -49,36 +46,6 @@ pub outputs_apart : (f : FlatNet) → IsFlat f → AllPairs ◌≢◌ (cut_outpu
 outputs_apart f flat =
     apart_both (map TopOutput f.outs) (map NextState (register_texts f)) (apart_map TopOutput (λ a b e. cc e) f.outs flat.apart.outs) (apart_map NextState (λ a b e. cc e) (register_texts f) flat.apart.regs)
     (cross_map TopOutput NextState (λ a b e. cc e) f.outs (register_texts f))
-
-pub one_place : {A : Type 0} (xs : List A) (i j : ℕ) (x : A) → AllPairs ◌≢◌ xs → slice_get xs i ≡ Some x → slice_get xs j ≡ Some x → i ≡ j
-one_place xs i j x apart at_i at_j = elim (less_or_same i j) [
-  | inl h ↦ absurd (apart i j x h (slice_get_within xs j x at_j) (get_or_from_slice_get xs i x x at_i ∙ sym (get_or_from_slice_get xs j x x at_j)))
-  | inr more ↦ elim more [ inl h ↦ absurd (apart j i x h (slice_get_within xs i x at_i) (get_or_from_slice_get xs j x x at_j ∙ sym (get_or_from_slice_get xs i x x at_i))) | inr e ↦ e ]
-]
-
--- what is picked fixes the places
-
-module _ {A : Type 0} (xs : List A) where
-  head_pick : (p : ℕ) (ps : List ℕ) (u : A) (us : List A) → Picks xs (p ∷ ps) (u ∷ us) → slice_get xs p ≡ Some u
-  head_pick p ps u us e = cc e
-
-  tail_picks : (p : ℕ) (ps : List ℕ) (u : A) (us : List A) → Picks xs (p ∷ ps) (u ∷ us) → Picks xs ps us
-  tail_picks p ps u us e = cc e
-
-  pub same_places : (ps qs : List ℕ) (us : List A) → AllPairs ◌≢◌ xs → Picks xs ps us → Picks xs qs us → ps ≡ qs
-  same_places [] [] us apart a b = refl
-  same_places [] (q ∷ qs) us apart a b = cc (a, b)
-  same_places (p ∷ ps) [] us apart a b = cc (a, b)
-  same_places (p ∷ ps) (q ∷ qs) [] apart a b = cc a
-  same_places (p ∷ ps) (q ∷ qs) (u ∷ us) apart a b =
-      ap₂ (λ z l. z ∷ l) (one_place xs p q u apart (head_pick p ps u us a) (head_pick q qs u us b)) (same_places ps qs us apart (tail_picks p ps u us a) (tail_picks q qs u us b))
-
-  pub picked_at : (ps : List ℕ) (us : List A) (j : ℕ) (u : A) → Picks xs ps us → slice_get us j ≡ Some u → (p : ℕ) × (slice_get ps j ≡ Some p) × (slice_get xs p ≡ Some u)
-  picked_at [] [] j u a at = absurd (omega (arith, slice_get_within [] j u at))
-  picked_at [] (v ∷ us) j u a at = cc a
-  picked_at (p ∷ ps) [] j u a at = absurd (omega (arith, slice_get_within [] j u at))
-  picked_at (p ∷ ps) (v ∷ us) zero u a at = (p, refl, head_pick p ps v us a ∙ at)
-  picked_at (p ∷ ps) (v ∷ us) (suc j) u a at = picked_at ps us j u (tail_picks p ps v us a) at
 
 -- inputs, or outputs, whose texts stand among those of another netlist stand among its
 

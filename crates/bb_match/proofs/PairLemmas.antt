@@ -11,12 +11,10 @@ use Rattle.bb_net.specs.Netlists.{Netlist, Pins, first_cells, IsNetlist}
 use Rattle.bb_net.specs.Orders.{moved_pins}
 use Rattle.bb_net.specs.Pairs.{NetPair, BoxTexts, NamesPins, pin_count, AreBeside, AreSmall}
 use Rattle.bb_net.specs.Rearrangements.{IsRearranged, new_place}
-use Rattle.bb_elab.specs.declared.flat.Reg.{Reg}
-use Rattle.bb_elab.specs.Flats.{FlatNet, IsFlat}
-use Rattle.bb_elab.specs.Worlds.{CutInput, TopInput, State, CutOutput, TopOutput, NextState}
-use Rattle.bb_match.specs.CutPoints.{register_texts, cut_inputs, cut_outputs}
-use Rattle.bb_match.specs.Refusals.{Box, SpecInput, SpecOutput, ImpInput, SpecRegister, ImpRegister, Fit}
-use Rattle.bb_match.specs.Refusals.{Pins as TooManyPins}
+use Rattle.bb_net.specs.declared.flat.Reg.{Reg}
+use Rattle.bb_net.specs.Flats.{FlatNet, IsFlat}
+use Rattle.bb_net.specs.CutPoints.{CutInput, TopInput, State, CutOutput, TopOutput, NextState, register_texts, cut_inputs, cut_outputs}
+use Rattle.bb_match.specs.Refusals.{Box, SpecInput, SpecOutput, ImpInput, SpecRegister, ImpRegister, Fit, Pins as TooManyPins}
 use Rattle.bb_match.specs.Places.{ArePlaces, place_of}
 use Rattle.bb_match.specs.Pairing.{Picks, IsPairOf, input_text, output_name}
 use Rattle.bb_match.proofs.PlaceLemmas.{place_fits}

@@ -3,13 +3,14 @@ use Rattle.std.proofs.Common.{◌≡◌, ◌⊎◌, ℕ, zero, suc, ◌<◌, Lis
 use Rattle.std.specs.Prelude.{IsSome}
 use Rattle.std.proofs.lemmas.List.Elements.{All-contains}
 use Rattle.bb_net.specs.Pairs.{BoxTexts}
-use Rattle.bb_elab.specs.declared.flat.Reg.{Reg}
-use Rattle.bb_elab.specs.Flats.{FlatNet}
+use Rattle.bb_net.specs.declared.flat.Reg.{Reg}
+use Rattle.bb_net.specs.Flats.{FlatNet}
 use Rattle.bb_match.specs.declared.fault.MatchFault.TheVariants as faults
-use Rattle.bb_match.specs.CutPoints.{register_texts}
+use Rattle.bb_net.specs.CutPoints.{register_texts}
 use Rattle.bb_match.specs.Refusals.{IsMissing, IsFirstMissing, AreAmong, HasNoClock, IsFirstWithoutClock, HaveClocks, IsClockedApart, IsClockedAlike, Cause, Box, SpecInput, SpecOutput, ImpInput, ImpOutput, SpecRegister, ImpRegister, SpecClock, ImpClock, Clocks, Pins, rank, fault_of, IsTold, IsAbsent}
 use Rattle.bb_match.specs.Laws.{NotFitAndRefused, FirstRefusalsAreOne}
-use Rattle.bb_match.proofs.Firsts.{less_or_same, first_there, first_one}
+use Rattle.bb_lists.proofs.Orders.{less_or_same}
+use Rattle.bb_lists.proofs.Firsts.{first_there, first_one}
 
 pub none_is_not_some : {A : Type 0} (o : Option A) → o ≡ None → IsSome o → ⊥
 none_is_not_some None e h = true≢false (sym h)

@@ -1,7 +1,8 @@
--- Laws of refusals and of pairs.
-use Rattle.std.specs.Prelude.{◌≡◌, ◌⊎◌}
+-- Laws of refusals, of pairs and of cut points.
+use Rattle.std.specs.Prelude.{◌≡◌, ◌≢◌, ◌⊎◌, All, AllPairs, Contains}
+use Rattle.bb_net.specs.CutPoints.{cut_inputs, cut_outputs}
 use Rattle.bb_net.specs.Pairs.{NetPair}
-use Rattle.bb_elab.specs.Flats.{FlatNet, IsFlat}
+use Rattle.bb_net.specs.Flats.{FlatNet, IsFlat}
 use Rattle.bb_match.specs.declared.fault.MatchFault.{MatchFault}
 use Rattle.bb_match.specs.Refusals.{Fit, IsFirstRefusal}
 use Rattle.bb_match.specs.Pairing.{IsPairOf}
@@ -25,3 +26,15 @@ PairsAreOne = (spec imp : FlatNet) (p q : NetPair) → IsFlat spec → IsFlat im
 -- two netlists that fit have a pair
 abbrev pub FittingHavePair : Type 0
 FittingHavePair = (spec imp : FlatNet) → IsFlat spec → IsFlat imp → Fit spec imp → (p : NetPair) × IsPairOf spec imp p
+
+-- nothing stands twice among the cut inputs of a flat netlist, nor among its cut outputs
+pub record HasCutsApart (f : FlatNet) : Type 0 where
+  pub inputs : AllPairs ◌≢◌ (cut_inputs f)
+  pub outputs : AllPairs ◌≢◌ (cut_outputs f)
+
+abbrev pub FlatNetsHaveCutsApart : Type 0
+FlatNetsHaveCutsApart = (f : FlatNet) → IsFlat f → HasCutsApart f
+
+-- where two netlists fit, each cut output of the implementation is one of the specification
+abbrev pub FittingNetsHaveTheirOutputs : Type 0
+FittingNetsHaveTheirOutputs = (spec imp : FlatNet) → Fit spec imp → All (Contains (cut_outputs spec)) (cut_outputs imp)

@@ -1,7 +1,3 @@
-pub mod AlikePairs
-pub mod CutPoints
-pub mod DesignAgreement
-pub mod DesignRefusals
 pub mod Laws
 pub mod Pairing
 pub mod Places

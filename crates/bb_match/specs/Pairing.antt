@@ -5,9 +5,8 @@ use Rattle.std.specs.Prelude.{◌≡◌, ℕ, List, map, true, false, Some, slic
 use Rattle.bb_net.specs.declared.pair.OutName.{OutName}
 use Rattle.bb_net.specs.Pairs.{NetPair}
 use Rattle.bb_net.specs.Rearrangements.{IsRearranged}
-use Rattle.bb_elab.specs.Flats.{FlatNet}
-use Rattle.bb_elab.specs.Worlds.{CutInput, TopInput, State, CutOutput, TopOutput, NextState}
-use Rattle.bb_match.specs.CutPoints.{cut_inputs, cut_outputs}
+use Rattle.bb_net.specs.Flats.{FlatNet}
+use Rattle.bb_net.specs.CutPoints.{CutInput, TopInput, State, CutOutput, TopOutput, NextState, cut_inputs, cut_outputs}
 use Rattle.bb_match.specs.Refusals.{Fit}
 
 abbrev pub input_text : CutInput → List ℕ

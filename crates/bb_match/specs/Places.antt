@@ -4,8 +4,8 @@ use Rattle.std.specs.Prelude.{◌≡◌, ℕ, List, All, Some, IsSome, slice_get
 use Rattle.std.specs.Option.{unwrap_or}
 use Rattle.std.specs.Map.{lookup}
 use Rattle.bb_bits.specs.Names.{same_name}
-use Rattle.bb_elab.specs.Flats.{FlatNet}
-use Rattle.bb_match.specs.CutPoints.{register_texts}
+use Rattle.bb_net.specs.Flats.{FlatNet}
+use Rattle.bb_net.specs.CutPoints.{register_texts}
 
 -- each place is one at which the text stands, and each text of the list has one
 pub record ArePlaces (texts : List (List ℕ)) (entries : List (List ℕ × ℕ)) : Type 0 where

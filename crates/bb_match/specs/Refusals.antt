@@ -4,12 +4,12 @@
 -- name. For each cause stands here when it holds and which name is told of it, and beside it what holds where it does not.
 use Rattle.std.specs.Prelude.{◌≡◌, ◌≢◌, ◌⊎◌, ℕ, ◌+◌, ◌<◌, ◌≤◌, List, [], ◌∷◌, All, Contains, IsSome, None}
 use Rattle.bb_net.specs.Pairs.{BoxTexts, pin_count}
-use Rattle.bb_elab.specs.declared.flat.Reg.{Reg}
-use Rattle.bb_elab.specs.Closures.{IsFirst}
-use Rattle.bb_elab.specs.Flats.{FlatNet}
+use Rattle.bb_net.specs.declared.flat.Reg.{Reg}
+use Rattle.bb_bits.specs.Closures.{IsFirst}
+use Rattle.bb_net.specs.Flats.{FlatNet}
 use Rattle.bb_match.specs.declared.fault.MatchFault.{MatchFault}
 use Rattle.bb_match.specs.declared.fault.MatchFault.TheVariants as faults
-use Rattle.bb_match.specs.CutPoints.{register_texts, clock_text}
+use Rattle.bb_net.specs.CutPoints.{register_texts, clock_text}
 
 -- texts of one list that the other lacks
 

@@ -1,10 +1,10 @@
 //! The causes for which two netlists are refused, tried in their order.
 ghost use Rattle.std.specs.Prelude.{◌≡◌, ◌⊎◌, ◌∷◌, ◌+◌, ◌<◌, ◌≤◌, [], ℕ, List, All, IsSome, IfErr, OnOk};
 ghost use Rattle.bb_net.specs.Pairs.{BoxTexts, pin_count};
-ghost use Rattle.bb_elab.specs.Closures.{IsFirst};
-ghost use Rattle.bb_elab.specs.declared.flat.Reg.{Reg};
+ghost use Rattle.bb_bits.specs.Closures.{IsFirst};
+ghost use Rattle.bb_net.specs.declared.flat.Reg.{Reg};
 ghost use Rattle.bb_match.specs.declared.fault.MatchFault.TheVariants as faults;
-ghost use Rattle.bb_match.specs.CutPoints.{register_texts};
+ghost use Rattle.bb_net.specs.CutPoints.{register_texts};
 ghost use Rattle.bb_match.specs.Places.{ArePlaces, IsIndexOf};
 ghost use Rattle.bb_match.specs.Refusals.{AreAmong, AreClockedAlike, Fit, HasNoClock, IsFirstClockedApart, IsFirstMissing, IsFirstRefusal, most_pins};
 
@@ -14,8 +14,7 @@ use crate::index::Index;
 use crate::pins::are_too_many;
 use crate::places::{Places, first_missing};
 use bb_bits::Name;
-use bb_elab::{Flat, Reg};
-use bb_net::{BoxName, Net};
+use bb_net::{BoxName, Flat, Net, Reg};
 
 // Refuses a box.
 fn check_boxes(boxes: &[BoxName]) -> Result<(), MatchFault>

@@ -1,14 +1,14 @@
 //! The edges and clocks of registers.
 ghost use Rattle.std.specs.Prelude.{◌≡◌, ◌↔◌, All, IsTrue, IsSome, IfSome, IfNone, MatchBool, option_map};
-ghost use Rattle.bb_elab.specs.declared.flat.Reg.{Reg};
-ghost use Rattle.bb_elab.specs.Closures.{IsFirst};
-ghost use Rattle.bb_match.specs.CutPoints.{register_texts, clock_text};
+ghost use Rattle.bb_net.specs.declared.flat.Reg.{Reg};
+ghost use Rattle.bb_bits.specs.Closures.{IsFirst};
+ghost use Rattle.bb_net.specs.CutPoints.{register_texts, clock_text};
 ghost use Rattle.bb_match.specs.Places.{ArePlaces};
 ghost use Rattle.bb_match.specs.Refusals.{HasNoClock, IsClockedApart, IsClockedAlike, AreClockedAlike};
 
 use crate::places::{Places, place_of};
 use bb_bits::Name;
-use bb_elab::{Flat, Reg};
+use bb_net::{Flat, Reg};
 
 /// The first register whose clock is no input.
 pub(crate) fn first_without_clock(regs: &[Reg]) -> Option<&Reg>

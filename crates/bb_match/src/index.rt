@@ -4,7 +4,7 @@ ghost use Rattle.bb_match.specs.Places.{IsIndexOf};
 
 use crate::places::{Places, places_of};
 use bb_bits::{Name, NoMemory};
-use bb_elab::{Flat, Reg};
+use bb_net::{Flat, Reg};
 use std::alloc::Global;
 
 /// The texts of a flat netlist's registers, and the places of all its texts.

@@ -1,8 +1,7 @@
 //! Two netlists that fit, joined as a pair.
 ghost use Rattle.std.specs.Prelude.{◌≡◌, ◌≤◌, ◌++◌, length, map, IfOk, OnOk};
-ghost use Rattle.bb_elab.specs.Flats.{IsFlat};
-ghost use Rattle.bb_elab.specs.Worlds.{TopOutput, NextState};
-ghost use Rattle.bb_match.specs.CutPoints.{register_texts, cut_inputs, cut_outputs};
+ghost use Rattle.bb_net.specs.Flats.{IsFlat};
+ghost use Rattle.bb_net.specs.CutPoints.{TopOutput, NextState, register_texts, cut_inputs, cut_outputs};
 ghost use Rattle.bb_match.specs.Pairing.{IsPairOf, Picks, output_name};
 ghost use Rattle.bb_match.specs.Places.{IsIndexOf};
 ghost use Rattle.bb_match.specs.Refusals.{Fit};
@@ -10,8 +9,7 @@ ghost use Rattle.bb_match.specs.Refusals.{Fit};
 use crate::index::Index;
 use crate::places::places_behind;
 use bb_bits::{Name, NoMemory};
-use bb_elab::{Flat, FlatParts, Reg};
-use bb_net::{OutName, Pair};
+use bb_net::{Flat, FlatParts, OutName, Pair, Reg};
 use std::alloc::Global;
 
 /// The numbers that the inputs of the implementation have in the specification.

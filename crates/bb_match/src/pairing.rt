@@ -1,7 +1,7 @@
 //! A specification and an implementation as one pair, or the first cause for which they are refused.
 
 ghost use Rattle.std.specs.Prelude.{◌≡◌, ◌⊎◌, ◌≤◌, length, IfOk, IfErr, MatchResult};
-ghost use Rattle.bb_elab.specs.Flats.{IsFlat};
+ghost use Rattle.bb_net.specs.Flats.{IsFlat};
 ghost use Rattle.bb_match.specs.declared.fault.MatchFault.{MatchFault};
 ghost use Rattle.bb_match.specs.declared.fault.MatchFault.TheVariants.{NoMemory};
 ghost use Rattle.bb_match.specs.Pairing.{IsPairOf};
@@ -11,8 +11,7 @@ use crate::checking::check;
 use crate::fault::MatchFault;
 use crate::index::index_of;
 use crate::joining::{input_numbers, joined, output_picks};
-use bb_elab::Flat;
-use bb_net::Pair;
+use bb_net::{Flat, Pair};
 use std::alloc::Global;
 
 /// The pair of a specification and an implementation, whose netlists are moved into it, or the first cause for which they are

@@ -1,6 +1,8 @@
 pub mod Agreement
 pub mod Completions
 pub mod Conditions
+pub mod CutPoints
+pub mod Flats
 pub mod Loose
 pub mod NetFaults
 pub mod Netlists

@@ -1,4 +1,4 @@
-//! Netlists of numbered cells with boxes whose contents are open, and the values of their cells.
+//! Netlists of numbered cells with boxes whose contents are open, the values of their cells, and the texts of what they have.
 #![tactic(auto)]
 
 mod advancing;
@@ -7,6 +7,7 @@ mod build;
 mod cell;
 mod components;
 mod conditions;
+mod flat;
 mod loose;
 mod net;
 mod numbering;
@@ -23,6 +24,7 @@ mod walks;
 
 pub use cell::Cell;
 pub use conditions::{choices_are_tables, conditions_hold_or_not, conditions_weaken, hit_or_none};
+pub use flat::{Flat, FlatParts, Reg};
 pub use loose::{Loose, LooseCell};
 pub use net::{BoxPins, Net};
 pub use ordering::{NetFault, Ordered, order, order_has_no_walk, order_keeps_values};

@@ -5,7 +5,6 @@ pub mod ExpressionReads
 pub mod FormedLaws
 pub mod ItemLaws
 pub mod ItemReads
-pub mod LawProofs
 pub mod ListLaws
 pub mod Loops
 pub mod Marks

@@ -10,13 +10,14 @@ use Rattle.bb_rungs.specs.declared.line.Evidence.TheVariants.{Vector, NoChoices,
 use Rattle.bb_rungs.specs.declared.line.Line.{Line}
 use Rattle.bb_rungs.specs.declared.line.Said.{Said}
 use Rattle.bb_rungs.specs.declared.line.Said.TheVariants.{Error, Nothing, Repair, Nodes, Clauses, Wide}
-use Rattle.bb_rungs.specs.declared.options.Options.{Options}
-use Rattle.bb_rungs.specs.declared.rung.Rung.{Rung}
-use Rattle.bb_rungs.specs.declared.rung.Rung.TheVariants.{Expand}
+use Rattle.bb_options.specs.declared.options.Options.{Options}
+use Rattle.bb_options.specs.declared.rung.Rung.{Rung}
+use Rattle.bb_options.specs.declared.rung.Rung.TheVariants.{Expand}
 use Rattle.bb_rungs.specs.AlikePairs.{AreToldAlike, AlikeReportsAreOne, AlikeClimbsSayAlike}
 use Rattle.bb_rungs.specs.Laws.{ClimbsSayAlike}
 use Rattle.bb_rungs.specs.Reports.{details, input_line, rung_line, told_output}
-use Rattle.bb_rungs.specs.Rungs.{MaySay, TooWide, ClausesTooMany, Decided, Climbs, Top, End, Step, asked_rungs, ends, rung_name}
+use Rattle.bb_options.specs.Rungs.{asked_rungs, rung_name}
+use Rattle.bb_rungs.specs.Rungs.{MaySay, TooWide, ClausesTooMany, Decided, Climbs, Top, End, Step, ends}
 use Rattle.bb_rungs.specs.TableLines.{table_lines}
 use Rattle.bb_rungs.proofs.AlikeShared.{PairLaws, Share, alike_itself, bits_alike, share, share_back}
 use Rattle.bb_rungs.proofs.AlikeTold.{IsRefuted, told_or_refuted}

@@ -8,7 +8,7 @@ use Rattle.std.proofs.lemmas.List.Elements.{All-weaker, Contains-append_cases, C
 use Rattle.std.proofs.lemmas.Simd.{map-map}
 use Rattle.bb_bits.specs.Truth.{Truth, IsBeadOfAny}
 use Rattle.bb_sym.specs.Plain.{Function, table, tables, one_of}
-use Rattle.bb_rungs.specs.declared.options.Options.{Options}
+use Rattle.bb_options.specs.declared.options.Options.{Options}
 use Rattle.bb_rungs.specs.Rungs.{AreTooMany}
 
 -- functions that agree have one table

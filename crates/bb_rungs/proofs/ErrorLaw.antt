@@ -12,11 +12,12 @@ use Rattle.bb_expand.specs.declared.expanded.Expanded.TheVariants as expanded
 use Rattle.bb_input.specs.declared.InputAnswer.TheVariants as choices
 use Rattle.bb_rungs.specs.declared.line.Line.{Line}
 use Rattle.bb_rungs.specs.declared.line.Said.{Said}
-use Rattle.bb_rungs.specs.declared.options.Options.{Options}
-use Rattle.bb_rungs.specs.declared.rung.Rung.{Rung}
-use Rattle.bb_rungs.specs.declared.rung.Rung.TheVariants.{Ternary, Symbolic, Local, Output, Input, Expand}
+use Rattle.bb_options.specs.declared.options.Options.{Options}
+use Rattle.bb_options.specs.declared.rung.Rung.{Rung}
+use Rattle.bb_options.specs.declared.rung.Rung.TheVariants.{Ternary, Symbolic, Local, Output, Input, Expand}
 use Rattle.bb_rungs.specs.Laws.{ErrorsExcludeTables}
-use Rattle.bb_rungs.specs.Rungs.{MaySay, Hit, NoHit, TooMany, Finding, Without, ChoicesTooMany, Answered, TooWide, ClausesTooMany, Decided, Climbs, Top, End, Step, rank, says_error, is_error, tried}
+use Rattle.bb_options.specs.Rungs.{rank}
+use Rattle.bb_rungs.specs.Rungs.{MaySay, Hit, NoHit, TooMany, Finding, Without, ChoicesTooMany, Answered, TooWide, ClausesTooMany, Decided, Climbs, Top, End, Step, says_error, is_error, tried}
 
 -- the laws on which this rests
 pub record Weakens : Type 0 where

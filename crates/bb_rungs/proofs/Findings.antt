@@ -19,8 +19,8 @@ use Rattle.bb_rungs.specs.declared.line.Line.{Line}
 use Rattle.bb_rungs.specs.declared.line.Said.{Said}
 use Rattle.bb_rungs.specs.declared.line.Evidence.TheVariants.{Vector}
 use Rattle.bb_rungs.specs.declared.line.Said.TheVariants.{Error}
-use Rattle.bb_rungs.specs.declared.options.Options.{Options}
-use Rattle.bb_rungs.specs.declared.rung.Rung.{Rung}
+use Rattle.bb_options.specs.declared.options.Options.{Options}
+use Rattle.bb_options.specs.declared.rung.Rung.{Rung}
 use Rattle.bb_rungs.specs.Rungs.{AreTooMany, MayFind, Finding, TooMany, Without, MayHit, MayExpand, Decided, MaySay, Hit, Climbs, End, Step, ends, tried, told, told_expanded}
 
 some_one : {A : Type 0} (a b : A) → Some a ≡ Some b → a ≡ b

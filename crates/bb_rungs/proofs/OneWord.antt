@@ -13,9 +13,9 @@ use Rattle.bb_input.specs.Laws.{IsSameAnswer, OneAnswer}
 use Rattle.bb_rungs.specs.declared.line.Evidence.TheVariants.{Vector}
 use Rattle.bb_rungs.specs.declared.line.Said.{Said}
 use Rattle.bb_rungs.specs.declared.line.Said.TheVariants.{Error}
-use Rattle.bb_rungs.specs.declared.options.Options.{Options}
-use Rattle.bb_rungs.specs.declared.rung.Rung.{Rung}
-use Rattle.bb_rungs.specs.declared.rung.Rung.TheVariants.{Ternary, Symbolic, Local, Output, Input, Expand}
+use Rattle.bb_options.specs.declared.options.Options.{Options}
+use Rattle.bb_options.specs.declared.rung.Rung.{Rung}
+use Rattle.bb_options.specs.declared.rung.Rung.TheVariants.{Ternary, Symbolic, Local, Output, Input, Expand}
 use Rattle.bb_rungs.specs.Reports.{result_name, details, told_output, input_line}
 use Rattle.bb_rungs.specs.Rungs.{MaySay, MayHit, Hit, NoHit, MayFind, TooMany, Finding, Without, MayChoose, ChoicesTooMany, Answered, MayExpand, TooWide, ClausesTooMany, Decided, says_error, says_repair, told_answer, tried}
 use Rattle.bb_rungs.specs.TableLines.{table_lines}

@@ -10,13 +10,14 @@ use Rattle.bb_expand.specs.declared.expanded.Expanded.TheVariants as expanded
 use Rattle.bb_input.specs.declared.InputAnswer.TheVariants as choices
 use Rattle.bb_rungs.specs.declared.line.Line.{Line}
 use Rattle.bb_rungs.specs.declared.line.Said.{Said}
-use Rattle.bb_rungs.specs.declared.options.Options.{Options}
-use Rattle.bb_rungs.specs.declared.rung.Rung.{Rung}
-use Rattle.bb_rungs.specs.declared.rung.Rung.TheVariants.{Ternary, Symbolic, Local, Output, Input, Expand}
+use Rattle.bb_options.specs.declared.options.Options.{Options}
+use Rattle.bb_options.specs.declared.rung.Rung.{Rung}
+use Rattle.bb_options.specs.declared.rung.Rung.TheVariants.{Ternary, Symbolic, Local, Output, Input, Expand}
 use Rattle.bb_rungs.specs.declared.verdict.Verdict.TheVariants as verdicts
 use Rattle.bb_rungs.specs.Laws.{ClimbsLeaveOpen, LeftOpenIsTold, DecidersDecide}
 use Rattle.bb_rungs.specs.LeftOpen.{Decides, LeavesOpen}
-use Rattle.bb_rungs.specs.Rungs.{asked_rungs, MaySay, Hit, NoHit, TooMany, Finding, Without, ChoicesTooMany, Answered, TooWide, ClausesTooMany, Decided, Climbs, Top, End, Step, says_error, says_repair, is_error, is_repair}
+use Rattle.bb_options.specs.Rungs.{asked_rungs}
+use Rattle.bb_rungs.specs.Rungs.{MaySay, Hit, NoHit, TooMany, Finding, Without, ChoicesTooMany, Answered, TooWide, ClausesTooMany, Decided, Climbs, Top, End, Step, says_error, says_repair, is_error, is_repair}
 use Rattle.bb_rungs.proofs.ErrorLaw.{contained}
 use Rattle.bb_rungs.proofs.StayLaw.{known_not_right}
 

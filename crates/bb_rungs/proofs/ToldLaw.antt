@@ -13,9 +13,9 @@ use Rattle.bb_expand.specs.declared.expanded.Expanded.TheVariants as expanded
 use Rattle.bb_input.specs.declared.InputAnswer.TheVariants as choices
 use Rattle.bb_rungs.specs.declared.line.Line.{Line}
 use Rattle.bb_rungs.specs.declared.line.Said.{Said}
-use Rattle.bb_rungs.specs.declared.options.Options.{Options}
-use Rattle.bb_rungs.specs.declared.rung.Rung.{Rung}
-use Rattle.bb_rungs.specs.declared.rung.Rung.TheVariants.{Ternary, Symbolic, Local, Output, Input, Expand}
+use Rattle.bb_options.specs.declared.options.Options.{Options}
+use Rattle.bb_options.specs.declared.rung.Rung.{Rung}
+use Rattle.bb_options.specs.declared.rung.Rung.TheVariants.{Ternary, Symbolic, Local, Output, Input, Expand}
 use Rattle.bb_rungs.specs.Laws.{ClimbsAreTold}
 use Rattle.bb_rungs.specs.Rungs.{MaySay, Hit, NoHit, TooMany, Finding, Without, ChoicesTooMany, Answered, TooWide, ClausesTooMany, Decided, Climbs, Top, End, Step, SaidTells, Tells, TellTables, texts_at, tried}
 

@@ -8,9 +8,9 @@ use Rattle.bb_rungs.specs.declared.line.Evidence.TheVariants.{Vector, NoChoices,
 use Rattle.bb_rungs.specs.declared.line.Line.{Line}
 use Rattle.bb_rungs.specs.declared.line.Said.{Said}
 use Rattle.bb_rungs.specs.declared.line.Said.TheVariants.{Error, Nothing, Repair, Nodes, Clauses, Wide}
-use Rattle.bb_rungs.specs.declared.options.Options.{Options}
-use Rattle.bb_rungs.specs.declared.rung.Rung.{Rung}
-use Rattle.bb_rungs.specs.declared.rung.Rung.TheVariants.{Expand}
+use Rattle.bb_options.specs.declared.options.Options.{Options}
+use Rattle.bb_options.specs.declared.rung.Rung.{Rung}
+use Rattle.bb_options.specs.declared.rung.Rung.TheVariants.{Expand}
 use Rattle.bb_rungs.specs.LeftOpen.{LeavesOpen, Decides}
 use Rattle.bb_rungs.specs.Reports.{rung_line, line_text}
 use Rattle.bb_rungs.specs.Rungs.{IsClimb, MaySay}

@@ -8,7 +8,7 @@ use Rattle.bb_net.specs.Pairs.{NetPair, IsPair}
 use Rattle.bb_net.specs.Values.{FitBoxes}
 use Rattle.bb_rungs.specs.declared.line.Line.{Line}
 use Rattle.bb_rungs.specs.declared.line.Said.TheVariants.{Nothing}
-use Rattle.bb_rungs.specs.declared.options.Options.{Options}
+use Rattle.bb_options.specs.declared.options.Options.{Options}
 use Rattle.bb_rungs.specs.declared.verdict.Verdict.TheVariants as verdicts
 use Rattle.bb_rungs.specs.LeftOpen.{AllLeaveOpen, SomeDecides}
 use Rattle.bb_rungs.specs.Reports.{EndsWithTables, report_text, rung_line, verdict_of}

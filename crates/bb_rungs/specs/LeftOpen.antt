@@ -8,10 +8,11 @@ use Rattle.bb_sym.specs.Functions.{symbolic_functions, local_functions, output_f
 use Rattle.bb_input.specs.Answers.{IsFinishable}
 use Rattle.bb_input.specs.InputFunctions.{input_functions}
 use Rattle.bb_expand.specs.ClauseCounts.{clause_total}
-use Rattle.bb_rungs.specs.declared.options.Options.{Options}
-use Rattle.bb_rungs.specs.declared.rung.Rung.{Rung}
-use Rattle.bb_rungs.specs.declared.rung.Rung.TheVariants.{Ternary, Symbolic, Local, Output, Input, Expand}
-use Rattle.bb_rungs.specs.Rungs.{AreTooMany, asked_rungs, tried}
+use Rattle.bb_options.specs.declared.options.Options.{Options}
+use Rattle.bb_options.specs.declared.rung.Rung.{Rung}
+use Rattle.bb_options.specs.declared.rung.Rung.TheVariants.{Ternary, Symbolic, Local, Output, Input, Expand}
+use Rattle.bb_options.specs.Rungs.{asked_rungs}
+use Rattle.bb_rungs.specs.Rungs.{AreTooMany, tried}
 
 abbrev pub LeavesOpen : NetPair → Options → Rung → Type 0
 LeavesOpen p o Ternary = MayBeRightAmong p.spec p.imp (tried p o)

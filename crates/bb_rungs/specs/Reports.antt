@@ -11,11 +11,11 @@ use Rattle.bb_rungs.specs.declared.line.Line.{Line}
 use Rattle.bb_rungs.specs.declared.line.Proof.{Proof}
 use Rattle.bb_rungs.specs.declared.line.Said.{Said}
 use Rattle.bb_rungs.specs.declared.line.Said.TheVariants.{Error, Nothing, Repair, Nodes, Clauses, Wide}
-use Rattle.bb_rungs.specs.declared.options.Options.{Options}
+use Rattle.bb_options.specs.declared.options.Options.{Options}
 use Rattle.bb_rungs.specs.declared.verdict.Verdict.{Verdict}
 use Rattle.bb_rungs.specs.declared.verdict.Verdict.TheVariants as verdicts
 pub use Rattle.bb_rungs.specs.Rungs.{is_error, is_repair}
-use Rattle.bb_rungs.specs.Rungs.{rung_name}
+use Rattle.bb_options.specs.Rungs.{rung_name}
 use Rattle.bb_rungs.specs.TableLines.{bit_text, table_lines}
 
 abbrev pub result_name : Said → List ℕ

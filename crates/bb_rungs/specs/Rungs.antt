@@ -1,11 +1,15 @@
--- The checks of the ladder in their order, and what each may say of a pair. A check by diagrams says that it needs too many nodes
--- exactly where its functions have more beads than it may hold; the expansion over all vectors, that its tables are too wide or its
--- clauses too many, exactly where they are.
-use Rattle.std.specs.Prelude.{◌≡◌, ℕ, ◌≤◌, ◌<◌, ◌^◌, ◌&&◌, ◌||◌, Bool, true, false, not, nat_le, List, [], ◌∷◌, length, Option, Some, None, Result, Ok, Err, IfSome, codes}
-use Rattle.std.specs.List.{filter, slice_index_or}
+-- What each check of the ladder may say of a pair, and the checks one after another. A check by diagrams says that it needs too many
+-- nodes exactly where its functions have more beads than it may hold; the expansion over all vectors, that its tables are too wide or
+-- its clauses too many, exactly where they are.
+use Rattle.std.specs.Prelude.{◌≡◌, ℕ, ◌≤◌, ◌<◌, ◌^◌, ◌&&◌, ◌||◌, Bool, true, false, not, List, [], ◌∷◌, length, Option, Some, None, Result, Ok, Err, IfSome}
+use Rattle.std.specs.List.{slice_index_or}
 use Rattle.bb_bits.specs.Tables.{TableBits}
 use Rattle.bb_bits.specs.Truth.{Truth, IsBeadOfAny}
 use Rattle.bb_bits.specs.TruthSets.{HasMoreThan}
+use Rattle.bb_options.specs.declared.options.Options.{Options}
+use Rattle.bb_options.specs.declared.rung.Rung.{Rung}
+use Rattle.bb_options.specs.declared.rung.Rung.TheVariants.{Ternary, Symbolic, Local, Output, Input, Expand}
+use Rattle.bb_options.specs.Rungs.{asked_rungs}
 use Rattle.bb_net.specs.Conditions.{IsKnownWrong, MayBeRight, MayBeRightAmong, IsFirstHit, MayBeRightEverywhere, IsAlwaysWrong, EachSometimesRight, HasAlwaysWrong, AllSometimesRight}
 use Rattle.bb_net.specs.Completions.{HaveSmallTables, table_bits}
 use Rattle.bb_net.specs.Pairs.{NetPair, BoxTexts}
@@ -29,35 +33,6 @@ use Rattle.bb_rungs.specs.declared.line.Evidence.TheVariants.{Vector, NoChoices,
 use Rattle.bb_rungs.specs.declared.line.Line.{Line}
 use Rattle.bb_rungs.specs.declared.line.Said.{Said}
 use Rattle.bb_rungs.specs.declared.line.Said.TheVariants.{Error, Nothing, Repair, Nodes, Clauses, Wide}
-use Rattle.bb_rungs.specs.declared.options.Options.{Options}
-use Rattle.bb_rungs.specs.declared.rung.Rung.{Rung}
-use Rattle.bb_rungs.specs.declared.rung.Rung.TheVariants.{Ternary, Symbolic, Local, Output, Input, Expand}
-
-abbrev pub rank : Rung → ℕ
-rank Ternary = 0
-rank Symbolic = 1
-rank Local = 2
-rank Output = 3
-rank Input = 4
-rank Expand = 5
-
-abbrev pub rung_name : Rung → List ℕ
-rung_name Ternary = codes "ternary"
-rung_name Symbolic = codes "symbolic"
-rung_name Local = codes "local"
-rung_name Output = codes "output"
-rung_name Input = codes "input"
-rung_name Expand = codes "expand"
-
-abbrev pub all_rungs : List Rung
-all_rungs = Ternary ∷ Symbolic ∷ Local ∷ Output ∷ Input ∷ Expand ∷ []
-
--- those from one to another
-abbrev pub is_asked : Options → Rung → Bool
-is_asked o r = nat_le (rank o.from) (rank r) && nat_le (rank r) (rank o.to)
-
-abbrev pub asked_rungs : Options → List Rung
-asked_rungs o = filter (is_asked o) all_rungs
 
 -- what a check by diagrams answers, told as what it says
 abbrev pub told : Result (Option Found) RungFault → Option Said
@@ -103,16 +78,6 @@ SaidTells p (Repair tables) = TellTables p tables.items
 SaidTells p Nodes = Unit {0}
 SaidTells p Clauses = Unit {0}
 SaidTells p Wide = Unit {0}
-
--- the bounds are in their ranges, and the first check does not stand behind the last
-pub record AreBounds (o : Options) : Type 0 where
-  pub order : rank o.from ≤ rank o.to
-  pub seed : 1 ≤ o.seed
-  pub patterns : o.patterns ≤ 4096
-  pub nodes : o.nodes ≤ 50000000
-  pub cache_least : 1 ≤ o.cache
-  pub cache_most : o.cache ≤ 1048576
-  pub clauses : o.clauses ≤ 8000000
 
 -- functions have more beads than a check may hold
 abbrev pub AreTooMany : Options → List Truth → Type 0

@@ -1,17 +1,17 @@
 //! The checks of a pair, one after another.
 
 ghost use Rattle.std.specs.Prelude.{◌≡◌, [], ◌∷◌, ◌++◌, if◌then◌else◌, Some, IfOk, OnOk};
-ghost use Rattle.bb_rungs.specs.declared.rung.Rung.TheVariants as rungs;
-ghost use Rattle.bb_rungs.specs.Rungs.{AreBounds, IsClimb, MayHit, MaySay, asked_rungs, ends, is_asked, told};
+ghost use Rattle.bb_options.specs.declared.rung.Rung.TheVariants as rungs;
+ghost use Rattle.bb_options.specs.Rungs.{AreBounds, asked_rungs, is_asked};
+ghost use Rattle.bb_rungs.specs.Rungs.{IsClimb, MayHit, MaySay, ends, told};
 
 use crate::line::{Evidence, Line, Proof, Said};
-use crate::options::Options;
-use crate::rung::Rung;
 use crate::verdict::{is_error, is_repair};
 use bb_bits::NoMemory;
 use bb_expand::{ExpandFault, Expanded, expand};
 use bb_input::{InputAnswer, input};
 use bb_net::Pair;
+use bb_options::{Options, Rung};
 use bb_sym::{Found, RungFault, local, output, symbolic};
 use bb_tern::laws::patterns_are_vectors;
 use bb_tern::{patterns, simulate};

@@ -6,10 +6,8 @@ mod bits;
 mod climbing;
 mod laws;
 mod line;
-mod options;
 mod proof_lines;
 mod reporting;
-mod rung;
 mod table_lines;
 mod verdict;
 
@@ -17,13 +15,12 @@ pub use alike_laws::{
     alike_climbs_say_alike, alike_pairs_are_decided, alike_pairs_are_left_open,
     alike_pairs_are_told, alike_reports_are_one,
 };
+pub use bb_options::{Options, Rung};
 pub use climbing::climb;
 pub use laws::{
     climbs_are_told, climbs_leave_open, climbs_say_alike, deciders_decide, errors_exclude_tables,
     errors_stay, left_open_is_told, lines_fix_tables, repairs_agree, texts_fix_tables,
 };
 pub use line::{Evidence, Line, Proof, Said};
-pub use options::Options;
 pub use reporting::report;
-pub use rung::Rung;
 pub use verdict::{Verdict, verdict_of};

@@ -1,8 +1,8 @@
 //! What a check says.
 
-use crate::rung::Rung;
 use bb_bits::Table;
 use bb_cnf::{Cnf, Refutation};
+use bb_options::Rung;
 use bb_sym::Found;
 
 /// The expansion of a pair over some vectors, and a refutation of its clauses.

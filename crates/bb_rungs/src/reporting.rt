@@ -7,12 +7,12 @@ ghost use Rattle.bb_rungs.specs.Rungs.{Tells, EvidenceTells, SaidTells};
 
 use crate::bits::push_bit;
 use crate::line::{Evidence, Line, Said};
-use crate::options::Options;
 use crate::proof_lines::push_proof;
 use crate::table_lines::push_tables;
 use crate::verdict::{Verdict, verdict_of};
 use bb_bits::{Name, NoMemory};
 use bb_net::{OutName, Pair};
+use bb_options::Options;
 use bb_sym::Found;
 use std::alloc::Global;
 

@@ -1,10 +1,10 @@
 -- A text that is the name of no check.
 use Rattle.std.proofs.Common.{◌≡◌, Bool, true, false, List, [], ◌∷◌, ℕ, None, refl, sym}
-use Rattle.std.specs.Prelude.{Option, find}
+use Rattle.std.specs.Prelude.{find}
 use Rattle.std.specs.Str.{bytes_eq}
 use Rattle.std.proofs.lemmas.Slice.Eq.{bytes_eq-Decides}
-use Rattle.bb_rungs.specs.declared.rung.Rung.{Rung}
-use Rattle.bb_rungs.specs.Rungs.{all_rungs, rung_name}
+use Rattle.bb_options.specs.declared.rung.Rung.{Rung}
+use Rattle.bb_options.specs.Rungs.{all_rungs, rung_name}
 use Rattle.bb_words.specs.Asked.{rung_named}
 
 other : (name text : List ℕ) → (text ≡ name → ⊥) → bytes_eq name text ≡ false

@@ -2,9 +2,9 @@
 use Rattle.std.proofs.Common.{◌≡◌, ◌≢◌, ℕ, ◌≤◌, Bool, true, false, List, [], ◌∷◌, Option, None, Some, if◌then◌else◌, arith, codes, refl, subst}
 use Rattle.std.specs.Prelude.{IfOk, Result, Ok, Err, nat_le}
 use Rattle.clap.specs.Words.{Row, first_of}
-use Rattle.bb_rungs.specs.declared.options.Options.{Options}
-use Rattle.bb_rungs.specs.declared.rung.Rung.TheVariants.{Ternary, Expand}
-use Rattle.bb_rungs.specs.Rungs.{AreBounds, rank}
+use Rattle.bb_options.specs.declared.options.Options.{Options}
+use Rattle.bb_options.specs.declared.rung.Rung.TheVariants.{Ternary, Expand}
+use Rattle.bb_options.specs.Rungs.{AreBounds, rank}
 use Rattle.bb_words.specs.Asked.{Request, asked, asked_options, asked_request, file, given, name, request_of, rung_named, top, value_or}
 use Rattle.bb_words.specs.Commands.{found_in, is_taken}
 use Rattle.bb_words.specs.declared.asked.Asked.{Asked}

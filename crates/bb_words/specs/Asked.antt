@@ -3,10 +3,10 @@
 use Rattle.std.specs.Prelude.{ℕ, Bool, false, nat_le, List, [], ◌∷◌, Option, Some, None, if◌then◌else◌, option_and_then, option_map, option_copied, find, codes}
 use Rattle.std.specs.Str.{bytes_eq}
 use Rattle.clap.specs.Words.{Row, first_of}
-use Rattle.bb_rungs.specs.declared.options.Options.{Options}
-use Rattle.bb_rungs.specs.declared.rung.Rung.{Rung}
-use Rattle.bb_rungs.specs.declared.rung.Rung.TheVariants.{Ternary, Expand}
-use Rattle.bb_rungs.specs.Rungs.{all_rungs, rank, rung_name}
+use Rattle.bb_options.specs.declared.options.Options.{Options}
+use Rattle.bb_options.specs.declared.rung.Rung.{Rung}
+use Rattle.bb_options.specs.declared.rung.Rung.TheVariants.{Ternary, Expand}
+use Rattle.bb_options.specs.Rungs.{all_rungs, rank, rung_name}
 use Rattle.bb_words.specs.Commands.{found_in, is_taken}
 use Rattle.bb_words.specs.Numbers.{number_within}
 use Rattle.bb_words.specs.declared.asked.Asked.{Asked}

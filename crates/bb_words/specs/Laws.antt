@@ -1,7 +1,7 @@
 -- Laws of what words ask for.
-use Rattle.std.specs.Prelude.{◌≡◌, ◌≢◌, ◌==◌, ℕ, ◌≤◌, Bool, true, false, not, List, [], ◌∷◌, None, Some}
-use Rattle.bb_rungs.specs.declared.rung.Rung.TheVariants.{Ternary, Expand}
-use Rattle.bb_rungs.specs.Rungs.{AreBounds}
+use Rattle.std.specs.Prelude.{◌≡◌, ◌≢◌, ◌==◌, ℕ, Bool, true, false, not, List, [], ◌∷◌, None, Some}
+use Rattle.bb_options.specs.declared.rung.Rung.TheVariants.{Ternary, Expand}
+use Rattle.bb_options.specs.Rungs.{AreBounds}
 use Rattle.bb_words.specs.Asked.{Request, asked}
 
 -- each name that has to be given is not empty, each number is within its bounds, and so is the order of the checks

@@ -1,6 +1,6 @@
 //! What the words ask for, and why they ask for nothing.
 
-use bb_rungs::Options;
+use bb_options::Options;
 use std::alloc::AllocError;
 
 /// What the words ask for. The names are parts of the words.

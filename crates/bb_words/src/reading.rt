@@ -2,13 +2,13 @@
 
 ghost use Rattle.std.specs.Prelude.{◌≡◌, ◌⊎◌, map, option_map, string_bytes, IfOk, IfErr, None, Some};
 ghost use Rattle.clap.specs.Words.{found_of, rows_of};
-ghost use Rattle.bb_rungs.specs.Rungs.{AreBounds};
+ghost use Rattle.bb_options.specs.Rungs.{AreBounds};
 ghost use Rattle.bb_words.specs.Asked.{asked, asked_options, asked_request, request_of};
 
 use crate::asked::{Asked, WordsFault};
 use crate::command::{parse, value};
 use crate::value::{file, is_true, number_or, rung_or, small_or, top};
-use bb_rungs::{Options, Rung};
+use bb_options::{Options, Rung};
 use clap::ArgMatches;
 use clap::error::ErrorKind;
 use std::alloc::Global;

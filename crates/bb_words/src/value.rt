@@ -5,7 +5,7 @@ ghost use Rattle.bb_words.specs.Asked.{file, is_true, name, rung_named, top, val
 ghost use Rattle.bb_words.specs.Numbers.{number_within};
 
 use crate::number::{number_within, small_within};
-use bb_rungs::Rung;
+use bb_options::Rung;
 
 // A name, which is not empty.
 fn name(text: &str) -> Option<&str>

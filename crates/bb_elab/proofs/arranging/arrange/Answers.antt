@@ -1,8 +1,8 @@
 use Rattle.std.proofs.Common.{◌≡◌, ◌⊎◌, map}
-use Rattle.bb_expr.specs.Checked.{syntax}
-use Rattle.bb_elab.specs.declared.fault.ElabFault.TheVariants.{NoMemory}
-use Rattle.bb_elab.specs.Hierarchy.{Design}
-use Rattle.bb_elab.specs.Refusals.{IsRefusalOf}
+use Rattle.bb_names.specs.Checked.{syntax}
+use Rattle.bb_design.specs.declared.fault.ElabFault.TheVariants.{NoMemory}
+use Rattle.bb_design.specs.Hierarchy.{Design}
+use Rattle.bb_design.specs.Refusals.{IsRefusalOf}
 use Rattle.bb_elab.specs.Stages.{HasGrown}
 use Rattle.bb_elab.proofs.ArrangedLists.{for_list, listed_at, first_undriven_cause, first_loop_cause, told_on, if_err}
 use Rattle.bb_elab.proofs.arranging.arrange.Goals as goal
@@ -23,7 +23,7 @@ returns-in_err-drive_all-clause-fault c =
     let g = c.args.grown.now in
     let at = listed_at text g c.deref.result.now c.deref-2.result.now c.deref-3.result.now c.deref.ensures.value c.deref-2.ensures.value c.deref-3.ensures.value c.in_ok-list.list c.in_ok-list.ensures.list in
     let here : (c.in_err-drive_all.field-0.0 ≡ NoMemory) ⊎ ((d : Design) → HasGrown text d g → IsRefusalOf d c.in_err-drive_all.field-0.0) =
-    told_on c.in_err-drive_all.ensures.fault (λ tells d has. first_undriven_cause d c.in_err-drive_all.field-0.0 has.finite has.grown.once (tells d has (at d has))) in
+    told_on c.in_err-drive_all.ensures.fault (λ tells d has. first_undriven_cause c.laws_of_designs.ensures d c.in_err-drive_all.field-0.0 has.finite has.grown.once (tells d has (at d has))) in
     if_err c.from_residual-in_err-drive_all.result (λ fault. (fault ≡ NoMemory) ⊎ ((d : Design) → HasGrown text d g → IsRefusalOf d fault)) c.in_err-drive_all.field-0.0 c.from_residual-in_err-drive_all.ensures.1 here
 
 pub put_in_order-requires : goal.put_in_order-requires
@@ -39,7 +39,7 @@ returns-in_err-ordered-clause-fault c =
     let g = c.args.grown.now in
     let at = listed_at text g c.deref.result.now c.deref-2.result.now c.deref-3.result.now c.deref.ensures.value c.deref-2.ensures.value c.deref-3.ensures.value c.in_ok-list.list c.in_ok-list.ensures.list in
     let here : (c.in_err-ordered.field-0.0 ≡ NoMemory) ⊎ ((d : Design) → HasGrown text d g → IsRefusalOf d c.in_err-ordered.field-0.0) =
-    told_on c.in_err-ordered.ensures.fault (λ tells d has. first_loop_cause d c.in_err-ordered.field-0.0 has.finite has.grown.once (c.in_ok-drive_all.ensures.driven d has (at d has)) (tells d has (at d has))) in
+    told_on c.in_err-ordered.ensures.fault (λ tells d has. first_loop_cause c.laws_of_designs.ensures d c.in_err-ordered.field-0.0 has.finite has.grown.once (c.in_ok-drive_all.ensures.driven d has (at d has)) (tells d has (at d has))) in
     if_err c.from_residual-in_err-ordered.result (λ fault. (fault ≡ NoMemory) ⊎ ((d : Design) → HasGrown text d g → IsRefusalOf d fault)) c.in_err-ordered.field-0.0 c.from_residual-in_err-ordered.ensures.1 here
 
 pub returns-clause-arranged : goal.returns-clause-arranged

@@ -1,13 +1,13 @@
 use Rattle.std.proofs.Common.{◌≡◌, Some, map, length, inr, sym, ◌∙◌, ap, subst, arith}
 use Rattle.std.specs.Prelude.{slice_get}
-use Rattle.bb_expr.specs.Checked.{syntax}
-use Rattle.bb_elab.specs.DrivenNumbers.{IsFirstAt}
-use Rattle.bb_elab.specs.Hierarchy.{Design}
-use Rattle.bb_elab.specs.ListLaws.{IsBounded}
-use Rattle.bb_elab.specs.NetBits.{Bit, net_order}
-use Rattle.bb_elab.specs.Placements.{ArePlaced, AreOutlined, AreCounts, AreReads}
-use Rattle.bb_elab.specs.Refusals.{IsUndriven, AreDriven}
-use Rattle.bb_elab.specs.Texts.{bit_text}
+use Rattle.bb_names.specs.Checked.{syntax}
+use Rattle.bb_elab.specs.DrivenNumbers.{IsFirstAt, AreCounts, AreReads}
+use Rattle.bb_design.specs.Hierarchy.{Design}
+use Rattle.bb_design.specs.Allowed.{IsBounded}
+use Rattle.bb_design.specs.NetBits.{Bit, net_order}
+use Rattle.bb_blast.specs.Placements.{ArePlaced, AreOutlined}
+use Rattle.bb_design.specs.Refusals.{IsUndriven, AreDriven}
+use Rattle.bb_design.specs.Texts.{bit_text}
 use Rattle.bb_elab.proofs.ArrangedLists.{for_reads, reads_seen, as_many, few, number_there, for_name, undriven, all_are}
 use Rattle.bb_elab.proofs.arranging.drive_all.Goals as goal
 

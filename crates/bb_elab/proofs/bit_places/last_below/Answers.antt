@@ -1,6 +1,6 @@
 use Rattle.std.proofs.Common.{length, refl, sym, ap, ◌∙◌, arith}
 use Rattle.std.proofs.lemmas.Option.{slice_get_read, same_Some}
-use Rattle.bb_elab.specs.declared.placed.Placed.{Placed}
+use Rattle.bb_blast.specs.declared.placed.Placed.{Placed}
 use Rattle.bb_elab.proofs.bit_places.last_below.Goals as goal
 
 pub loop-low-preserved-then-placed-middle : goal.loop-low-preserved-then-placed-middle

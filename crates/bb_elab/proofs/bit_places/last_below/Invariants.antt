@@ -1,6 +1,6 @@
 use Rattle.std.proofs.Common.{◌≡◌, ◌<◌, ◌≤◌, ◌-◌, Some, length}
 use Rattle.std.specs.Prelude.{slice_get}
-use Rattle.bb_elab.specs.declared.placed.Placed.{Placed}
+use Rattle.bb_blast.specs.declared.placed.Placed.{Placed}
 use Rattle.bb_elab.proofs.bit_places.last_below.Given as goal
 
 abbrev pub invariant-loop-low : goal.invariant-loop-low

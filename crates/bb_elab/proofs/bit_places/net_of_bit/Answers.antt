@@ -4,11 +4,11 @@ use Rattle.std.specs.List.{slice_index_or}
 use Rattle.std.proofs.lemmas.List.{take_all}
 use Rattle.std.proofs.lemmas.List.Sums.{sum_by_more}
 use Rattle.std.proofs.lemmas.Option.{get_or_from_slice_get}
-use Rattle.bb_expr.specs.declared.net.NetInfo.{NetInfo}
-use Rattle.bb_expr.specs.Ranges.{range_width}
-use Rattle.bb_elab.specs.Outlines.{net_start}
-use Rattle.bb_elab.specs.Outlining.{bit_count}
-use Rattle.bb_elab.proofs.ModuleCells.{less_or_past}
+use Rattle.bb_names.specs.declared.net.NetInfo.{NetInfo}
+use Rattle.bb_names.specs.Ranges.{range_width}
+use Rattle.bb_blast.specs.Outlines.{net_start}
+use Rattle.bb_blast.specs.Outlining.{bit_count}
+use Rattle.bb_lists.proofs.Orders.{less_or_past}
 use Rattle.bb_elab.proofs.bit_places.net_of_bit.Goals as goal
 
 module _ (nets : List NetInfo) (starts : List ℕ) (each : (k : ℕ) → k < length nets → slice_get starts k ≡ Some (net_start nets k)) (k : ℕ) (lt : k < length nets) (net : NetInfo) (there : slice_get nets k ≡ Some net) where

@@ -2,10 +2,10 @@ use Rattle.std.proofs.Common.{◌≡◌, ◌<◌, ◌⊎◌, map, length, subst,
 use Rattle.std.specs.Prelude.{slice_get, option_copied, IfSome}
 use Rattle.std.specs.Option.{option_and_then}
 use Rattle.std.proofs.lemmas.List.{length-map}
-use Rattle.bb_expr.specs.Checked.{syntax}
-use Rattle.bb_elab.specs.declared.fault.ElabFault.TheVariants.{NoMemory}
-use Rattle.bb_elab.specs.Hierarchy.{top_of}
-use Rattle.bb_elab.specs.Refusals.{IsFirstRefusal}
+use Rattle.bb_names.specs.Checked.{syntax}
+use Rattle.bb_design.specs.declared.fault.ElabFault.TheVariants.{NoMemory}
+use Rattle.bb_design.specs.Hierarchy.{top_of}
+use Rattle.bb_design.specs.Refusals.{IsFirstRefusal}
 use Rattle.bb_elab.proofs.ArrangedLists.{if_err, match_err}
 use Rattle.bb_elab.proofs.ElaboratedTexts.{may_refuse, only_memory, only_first, stands_for_text, sound_text, not_refused}
 use Rattle.bb_elab.proofs.elaborating.elaborate.Goals as goal
@@ -17,7 +17,7 @@ returns-in_err-flat-clause-fault c =
     let within = subst (λ o. IfSome o (λ k. k < length c.args.checked.now)) c.in-Some.is c.in_ok-top.ensures.there in
     let lt : c.in-Some.top < length text = omega (arith, within, length-map c.args.checked.now syntax) in
     let place : slice_get text c.in-Some.top ≡ top_of text name = subst (λ o. option_and_then (slice_get text) o ≡ top_of text name) c.in-Some.is c.in_ok-top.ensures.place in
-    if_err c.from_residual-in_err-flat.result (λ fault. (fault ≡ NoMemory) ⊎ IsFirstRefusal text name fault) c.in_err-flat.field-0.0 c.from_residual-in_err-flat.ensures.1 (may_refuse text name c.in-Some.top lt place c.in_err-flat.field-0.0 c.in_err-flat.ensures.fault)
+    if_err c.from_residual-in_err-flat.result (λ fault. (fault ≡ NoMemory) ⊎ IsFirstRefusal text name fault) c.in_err-flat.field-0.0 c.from_residual-in_err-flat.ensures.1 (may_refuse c.laws_of_designs.ensures text name c.in-Some.top lt place c.in_err-flat.field-0.0 c.in_err-flat.ensures.fault)
 
 pub returns-in_err-flat-clause-only_sound : goal.returns-in_err-flat-clause-only_sound
 returns-in_err-flat-clause-only_sound c =
@@ -26,7 +26,7 @@ returns-in_err-flat-clause-only_sound c =
     let within = subst (λ o. IfSome o (λ k. k < length c.args.checked.now)) c.in-Some.is c.in_ok-top.ensures.there in
     let lt : c.in-Some.top < length text = omega (arith, within, length-map c.args.checked.now syntax) in
     let place : slice_get text c.in-Some.top ≡ top_of text name = subst (λ o. option_and_then (slice_get text) o ≡ top_of text name) c.in-Some.is c.in_ok-top.ensures.place in
-    λ sound. if_err c.from_residual-in_err-flat.result (λ fault. fault ≡ NoMemory) c.in_err-flat.field-0.0 c.from_residual-in_err-flat.ensures.1 (only_memory text name c.in-Some.top lt place c.in_err-flat.field-0.0 c.in_err-flat.ensures.fault sound)
+    λ sound. if_err c.from_residual-in_err-flat.result (λ fault. fault ≡ NoMemory) c.in_err-flat.field-0.0 c.from_residual-in_err-flat.ensures.1 (only_memory c.laws_of_designs.ensures text name c.in-Some.top lt place c.in_err-flat.field-0.0 c.in_err-flat.ensures.fault sound)
 
 pub returns-in_err-flat-clause-only_fault : goal.returns-in_err-flat-clause-only_fault
 returns-in_err-flat-clause-only_fault c =
@@ -35,7 +35,7 @@ returns-in_err-flat-clause-only_fault c =
     let within = subst (λ o. IfSome o (λ k. k < length c.args.checked.now)) c.in-Some.is c.in_ok-top.ensures.there in
     let lt : c.in-Some.top < length text = omega (arith, within, length-map c.args.checked.now syntax) in
     let place : slice_get text c.in-Some.top ≡ top_of text name = subst (λ o. option_and_then (slice_get text) o ≡ top_of text name) c.in-Some.is c.in_ok-top.ensures.place in
-    λ first is. match_err c.from_residual-in_err-flat.result (λ fault. (fault ≡ first) ⊎ (fault ≡ NoMemory)) c.in_err-flat.field-0.0 c.from_residual-in_err-flat.ensures.1 (only_first text name c.in-Some.top lt place c.in_err-flat.field-0.0 c.in_err-flat.ensures.fault first is)
+    λ first is. match_err c.from_residual-in_err-flat.result (λ fault. (fault ≡ first) ⊎ (fault ≡ NoMemory)) c.in_err-flat.field-0.0 c.from_residual-in_err-flat.ensures.1 (only_first c.laws_of_designs.ensures text name c.in-Some.top lt place c.in_err-flat.field-0.0 c.in_err-flat.ensures.fault first is)
 
 pub returns-clause-ok : goal.returns-clause-ok
 returns-clause-ok c =
@@ -44,7 +44,7 @@ returns-clause-ok c =
     let within = subst (λ o. IfSome o (λ k. k < length c.args.checked.now)) c.in-Some.is c.in_ok-top.ensures.there in
     let lt : c.in-Some.top < length text = omega (arith, within, length-map c.args.checked.now syntax) in
     let place : slice_get text c.in-Some.top ≡ top_of text name = subst (λ o. option_and_then (slice_get text) o ≡ top_of text name) c.in-Some.is c.in_ok-top.ensures.place in
-    stands_for_text text name c.in-Some.top lt place c.in_ok-flat.flat c.in_ok-flat.ensures.ok
+    stands_for_text c.laws_of_designs.ensures text name c.in-Some.top lt place c.in_ok-flat.flat c.in_ok-flat.ensures.ok
 
 pub returns-clause-sound : goal.returns-clause-sound
 returns-clause-sound c =
@@ -53,7 +53,7 @@ returns-clause-sound c =
     let within = subst (λ o. IfSome o (λ k. k < length c.args.checked.now)) c.in-Some.is c.in_ok-top.ensures.there in
     let lt : c.in-Some.top < length text = omega (arith, within, length-map c.args.checked.now syntax) in
     let place : slice_get text c.in-Some.top ≡ top_of text name = subst (λ o. option_and_then (slice_get text) o ≡ top_of text name) c.in-Some.is c.in_ok-top.ensures.place in
-    sound_text text name c.in-Some.top lt place c.in_ok-flat.flat c.in_ok-flat.ensures.ok
+    sound_text c.laws_of_designs.ensures text name c.in-Some.top lt place c.in_ok-flat.flat c.in_ok-flat.ensures.ok
 
 pub returns-clause-only_fault : goal.returns-clause-only_fault
 returns-clause-only_fault c =
@@ -62,4 +62,4 @@ returns-clause-only_fault c =
     let within = subst (λ o. IfSome o (λ k. k < length c.args.checked.now)) c.in-Some.is c.in_ok-top.ensures.there in
     let lt : c.in-Some.top < length text = omega (arith, within, length-map c.args.checked.now syntax) in
     let place : slice_get text c.in-Some.top ≡ top_of text name = subst (λ o. option_and_then (slice_get text) o ≡ top_of text name) c.in-Some.is c.in_ok-top.ensures.place in
-    not_refused text name c.in-Some.top lt place c.in_ok-flat.flat c.in_ok-flat.ensures.ok
+    not_refused c.laws_of_designs.ensures text name c.in-Some.top lt place c.in_ok-flat.flat c.in_ok-flat.ensures.ok

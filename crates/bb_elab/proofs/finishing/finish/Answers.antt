@@ -1,12 +1,12 @@
 use Rattle.std.proofs.Common.{◌≡◌, ◌⊎◌, map, sym, ap, ◌∙◌, subst}
 use Rattle.std.specs.List.{AllZip}
-use Rattle.bb_expr.specs.Checked.{syntax}
-use Rattle.bb_elab.specs.declared.fault.ElabFault.TheVariants.{NoMemory}
-use Rattle.bb_elab.specs.Hierarchy.{Design, boxes}
-use Rattle.bb_elab.specs.Placements.{IsScopeAt}
-use Rattle.bb_elab.specs.Refusals.{IsRefusalOf}
+use Rattle.bb_names.specs.Checked.{syntax}
+use Rattle.bb_design.specs.declared.fault.ElabFault.TheVariants.{NoMemory}
+use Rattle.bb_design.specs.Hierarchy.{Design, boxes}
+use Rattle.bb_blast.specs.Placements.{IsScopeAt}
+use Rattle.bb_design.specs.Refusals.{IsRefusalOf}
 use Rattle.bb_elab.specs.Stages.{HasGrown, AreArranged}
-use Rattle.bb_elab.specs.Stands.{StandsFor, box_number, box_texts}
+use Rattle.bb_cells.specs.Stands.{StandsFor, box_number, box_texts}
 use Rattle.bb_elab.proofs.ArrangedLists.{told_on, if_err}
 use Rattle.bb_elab.proofs.FinishedNets.{boxes_refused, registers_refused, ports_refused, numbers_within, is_sound, stands, is_flat}
 use Rattle.bb_elab.proofs.NamedBits.{scopes_within}
@@ -18,7 +18,7 @@ returns-in_err-boxed-clause-fault c =
     let a = c.args.arranged in
     let fault = c.in_err-boxed.field-0.0 in
     let here : (fault ≡ NoMemory) ⊎ ((d : Design) → HasGrown text d c.args.grown.now → AreArranged d a.list a.ordered.net a.ordered.boxes.items → IsRefusalOf d fault) =
-    told_on c.in_err-boxed.ensures.fault (λ tells d has are. boxes_refused text d c.args.grown.now has a.list a.ordered.net a.ordered.boxes.items are fault (tells d has)) in
+    told_on c.in_err-boxed.ensures.fault (λ tells d has are. boxes_refused c.laws_of_designs.ensures text d c.args.grown.now has a.list a.ordered.net a.ordered.boxes.items are fault (tells d has)) in
     if_err c.from_residual.result (λ fault. (fault ≡ NoMemory) ⊎ ((d : Design) → HasGrown (map syntax c.args.checked.now) d c.args.grown.now → AreArranged d c.args.arranged.list c.args.arranged.ordered.net c.args.arranged.ordered.boxes.items → IsRefusalOf d fault)) fault c.from_residual.ensures.1 here
 
 pub returns-in_err-texts-clause-fault : goal.returns-in_err-texts-clause-fault
@@ -27,7 +27,7 @@ returns-in_err-texts-clause-fault c =
     let a = c.args.arranged in
     let fault = c.in_err-texts.field-0.0 in
     let here : (fault ≡ NoMemory) ⊎ ((d : Design) → HasGrown text d c.args.grown.now → AreArranged d a.list a.ordered.net a.ordered.boxes.items → IsRefusalOf d fault) =
-    told_on c.in_err-texts.ensures.fault (λ tells d has are. registers_refused text d c.args.grown.now has a.list a.ordered.net a.ordered.boxes.items are (c.in_ok-boxed.ensures.apart d has) fault (tells d has)) in
+    told_on c.in_err-texts.ensures.fault (λ tells d has are. registers_refused c.laws_of_designs.ensures text d c.args.grown.now has a.list a.ordered.net a.ordered.boxes.items are (c.in_ok-boxed.ensures.apart d has) fault (tells d has)) in
     if_err c.from_residual-in_err-texts.result (λ fault. (fault ≡ NoMemory) ⊎ ((d : Design) → HasGrown (map syntax c.args.checked.now) d c.args.grown.now → AreArranged d c.args.arranged.list c.args.arranged.ordered.net c.args.arranged.ordered.boxes.items → IsRefusalOf d fault)) fault c.from_residual-in_err-texts.ensures.1 here
 
 pub returns-in_err-ports-clause-fault : goal.returns-in_err-ports-clause-fault
@@ -36,7 +36,7 @@ returns-in_err-ports-clause-fault c =
     let a = c.args.arranged in
     let fault = c.in_err-ports.field-0.0 in
     let here : (fault ≡ NoMemory) ⊎ ((d : Design) → HasGrown text d c.args.grown.now → AreArranged d a.list a.ordered.net a.ordered.boxes.items → IsRefusalOf d fault) =
-    told_on c.in_err-ports.ensures.fault (λ tells d has are. ports_refused text d c.args.grown.now has a.list a.ordered.net a.ordered.boxes.items are (c.in_ok-boxed.ensures.apart d has) (c.in_ok-texts.ensures.apart d has) fault (tells d has)) in
+    told_on c.in_err-ports.ensures.fault (λ tells d has are. ports_refused c.laws_of_designs.ensures text d c.args.grown.now has a.list a.ordered.net a.ordered.boxes.items are (c.in_ok-boxed.ensures.apart d has) (c.in_ok-texts.ensures.apart d has) fault (tells d has)) in
     if_err c.from_residual-in_err-ports.result (λ fault. (fault ≡ NoMemory) ⊎ ((d : Design) → HasGrown (map syntax c.args.checked.now) d c.args.grown.now → AreArranged d c.args.arranged.list c.args.arranged.ordered.net c.args.arranged.ordered.boxes.items → IsRefusalOf d fault)) fault c.from_residual-in_err-ports.ensures.1 here
 
 pub box_names-requires-clause-scopes : goal.box_names-requires-clause-scopes
@@ -50,7 +50,7 @@ box_names-requires-clause-there c =
     let given = c.requires.design in
     let d = given.0 in
     let a = c.args.arranged in
-    numbers_within (map syntax c.args.checked.now) d c.args.grown.now given.1 a.list a.ordered.net a.ordered.boxes.items given.2 c.deref.result.now
+    numbers_within c.laws_of_designs.ensures (map syntax c.args.checked.now) d c.args.grown.now given.1 a.list a.ordered.net a.ordered.boxes.items given.2 c.deref.result.now
     (subst (λ l. AllZip (IsScopeAt d) l (boxes d)) (sym c.deref.ensures.value) (c.in_ok-boxed.ensures.boxed d given.1)) c.deref-2.result.now c.deref-2.ensures.value
 
 pub of-requires : goal.of-requires
@@ -64,7 +64,7 @@ of-requires c =
     let boxed = subst (λ l. AllZip (IsScopeAt d) l (boxes d)) (sym c.deref.ensures.value) (c.in_ok-boxed.ensures.boxed d given.1) in
     let named = c.in_ok-boxes.ensures.names d given.1 boxed ∙ ap (map (λ b. box_texts d (box_number d b))) c.deref-2.ensures.value in
     record {
-      flat = is_flat text d g given.1 a.list a.ordered.net a.ordered.boxes.items given.2 (c.in_ok-boxed.ensures.apart d given.1) (c.in_ok-texts.ensures.apart d given.1) (c.in_ok-ports.ensures.apart d given.1)
+      flat = is_flat c.laws_of_designs.ensures text d g given.1 a.list a.ordered.net a.ordered.boxes.items given.2 (c.in_ok-boxed.ensures.apart d given.1) (c.in_ok-texts.ensures.apart d given.1) (c.in_ok-ports.ensures.apart d given.1)
           c.in_ok-ports.ports.ins.items c.in_ok-regs.regs.items c.in_ok-ports.ports.outs.items c.in_ok-boxes.boxes.items (c.in_ok-ports.ensures.ins d given.1) regs (c.in_ok-ports.ensures.outs d given.1) named c.standing_nets_are_flat.ensures;
     }
 
@@ -76,8 +76,8 @@ returns-clause-stands c = λ d has are.
     let regs = c.in_ok-regs.ensures.registers d a.ordered.net a.ordered.boxes.items has are (c.in_ok-texts.ensures.texts d has) in
     let boxed = subst (λ l. AllZip (IsScopeAt d) l (boxes d)) (sym c.deref.ensures.value) (c.in_ok-boxed.ensures.boxed d has) in
     let named = c.in_ok-boxes.ensures.names d has boxed ∙ ap (map (λ b. box_texts d (box_number d b))) c.deref-2.ensures.value in (
-      subst (StandsFor d) (sym c.of.ensures.flat) (stands text d g has a.list a.ordered.net a.ordered.boxes.items are (c.in_ok-boxed.ensures.apart d has) (c.in_ok-texts.ensures.apart d has) (c.in_ok-ports.ensures.apart d has)
+      subst (StandsFor d) (sym c.of.ensures.flat) (stands c.laws_of_designs.ensures text d g has a.list a.ordered.net a.ordered.boxes.items are (c.in_ok-boxed.ensures.apart d has) (c.in_ok-texts.ensures.apart d has) (c.in_ok-ports.ensures.apart d has)
           c.in_ok-ports.ports.ins.items c.in_ok-regs.regs.items c.in_ok-ports.ports.outs.items c.in_ok-boxes.boxes.items (c.in_ok-ports.ensures.ins d has) regs (c.in_ok-ports.ensures.outs d has) named),
-      is_sound text d g has a.list a.ordered.net a.ordered.boxes.items are (c.in_ok-boxed.ensures.apart d has) (c.in_ok-texts.ensures.apart d has) (c.in_ok-ports.ensures.apart d has)
+      is_sound c.laws_of_designs.ensures text d g has a.list a.ordered.net a.ordered.boxes.items are (c.in_ok-boxed.ensures.apart d has) (c.in_ok-texts.ensures.apart d has) (c.in_ok-ports.ensures.apart d has)
           c.in_ok-ports.ports.ins.items c.in_ok-regs.regs.items c.in_ok-ports.ports.outs.items c.in_ok-boxes.boxes.items (c.in_ok-ports.ensures.ins d has) regs (c.in_ok-ports.ensures.outs d has) named,
     )

@@ -1,14 +1,14 @@
 use Rattle.std.proofs.Common.{◌≡◌, ◌<◌, Some, inr, map, length, subst, arith}
 use Rattle.std.specs.Prelude.{slice_get, IfNone}
 use Rattle.std.proofs.lemmas.List.{length-map}
-use Rattle.bb_expr.specs.Checked.{syntax}
-use Rattle.bb_elab.specs.DrivenNumbers.{IsFirstAt}
-use Rattle.bb_elab.specs.Hierarchy.{Design}
-use Rattle.bb_elab.specs.NetBits.{Bit, net_order}
-use Rattle.bb_elab.specs.Texts.{bit_text}
-use Rattle.bb_elab.specs.Placements.{ArePlaced, AreOutlined, AreCounts, AreStored}
-use Rattle.bb_elab.specs.ListLaws.{IsBounded}
-use Rattle.bb_elab.specs.Refusals.{IsSmall, IsDrivenTwice, AreDrivenOnce}
+use Rattle.bb_names.specs.Checked.{syntax}
+use Rattle.bb_elab.specs.DrivenNumbers.{IsFirstAt, AreCounts}
+use Rattle.bb_design.specs.Hierarchy.{Design}
+use Rattle.bb_design.specs.NetBits.{Bit, net_order}
+use Rattle.bb_design.specs.Texts.{bit_text}
+use Rattle.bb_blast.specs.Placements.{ArePlaced, AreOutlined, AreStored}
+use Rattle.bb_design.specs.Allowed.{IsBounded}
+use Rattle.bb_design.specs.Refusals.{IsSmall, IsDrivenTwice, AreDrivenOnce}
 use Rattle.bb_elab.proofs.Growth.{for_outlines, for_counts, for_bits, for_registers, few, for_name, twice, grown}
 use Rattle.bb_elab.proofs.growing.grow.Goals as goal
 
@@ -16,14 +16,14 @@ pub outlines_of-requires : goal.outlines_of-requires
 outlines_of-requires c =
     let text = map syntax c.args.checked.now in
     let lt : c.args.top < length text = omega (arith, c.requires.top, length-map c.args.checked.now syntax) in
-    record { design = for_outlines text c.args.top lt c.requires.finite c.in_ok-placed.placed.items c.in_ok-placed.ensures.placed c.deref.result.now c.deref.ensures.value }
+    record { design = for_outlines c.laws_of_designs.ensures text c.args.top lt c.requires.finite c.in_ok-placed.placed.items c.in_ok-placed.ensures.placed c.deref.result.now c.deref.ensures.value }
 
 pub driver_counts-requires : goal.driver_counts-requires
 driver_counts-requires c =
     let text = map syntax c.args.checked.now in
     let lt : c.args.top < length text = omega (arith, c.requires.top, length-map c.args.checked.now syntax) in
     let made = subst (λ p. (d : Design) → d.text ≡ text → ArePlaced d p → IsSmall d → AreOutlined d p c.in_ok-outlines.outlines.items) c.deref.ensures.value c.in_ok-outlines.ensures.outlined in
-    record { design = for_counts text c.args.top lt c.requires.finite c.in_ok-placed.placed.items c.in_ok-placed.ensures.placed c.in_ok-outlines.outlines.items made c.deref-2.result.now c.deref-3.result.now c.deref-2.ensures.value c.deref-3.ensures.value }
+    record { design = for_counts c.laws_of_designs.ensures text c.args.top lt c.requires.finite c.in_ok-placed.placed.items c.in_ok-placed.ensures.placed c.in_ok-outlines.outlines.items made c.deref-2.result.now c.deref-3.result.now c.deref-2.ensures.value c.deref-3.ensures.value }
 
 pub overflow_cast-number : goal.overflow_cast-number
 overflow_cast-number c =
@@ -36,7 +36,7 @@ overflow_cast-number c =
     let counted = subst (λ o. (d : Design) → ArePlaced d placed → AreOutlined d placed o → IsBounded d → AreCounts d counts) c.deref-3.ensures.value
     (subst (λ p. (d : Design) → ArePlaced d p → AreOutlined d p c.deref-3.result.now → IsBounded d → AreCounts d counts) c.deref-2.ensures.value c.in_ok-counts.ensures.counts) in
     let found = subst (λ all. (d : Design) → AreCounts d all → IsFirstAt d (IsDrivenTwice d) c.in-Some.number) c.deref-4.ensures.value c.in-Some.ensures.some in
-    let low = few text c.args.top lt c.requires.finite placed c.in_ok-placed.ensures.placed outlines made counts counted c.in-Some.number found in
+    let low = few c.laws_of_designs.ensures text c.args.top lt c.requires.finite placed c.in_ok-placed.ensures.placed outlines made counts counted c.in-Some.number found in
     omega (arith, low)
 
 pub bit_name-requires : goal.bit_name-requires
@@ -50,7 +50,7 @@ bit_name-requires c =
     let counted = subst (λ o. (d : Design) → ArePlaced d placed → AreOutlined d placed o → IsBounded d → AreCounts d counts) c.deref-3.ensures.value
     (subst (λ p. (d : Design) → ArePlaced d p → AreOutlined d p c.deref-3.result.now → IsBounded d → AreCounts d counts) c.deref-2.ensures.value c.in_ok-counts.ensures.counts) in
     let found = subst (λ all. (d : Design) → AreCounts d all → IsFirstAt d (IsDrivenTwice d) c.in-Some.number) c.deref-4.ensures.value c.in-Some.ensures.some in
-    record { design = for_name text c.args.top lt c.requires.finite placed c.in_ok-placed.ensures.placed outlines made counts counted c.in-Some.number found c.deref-in-Some.result.now c.deref-in-Some-2.result.now c.deref-in-Some.ensures.value c.deref-in-Some-2.ensures.value }
+    record { design = for_name c.laws_of_designs.ensures text c.args.top lt c.requires.finite placed c.in_ok-placed.ensures.placed outlines made counts counted c.in-Some.number found c.deref-in-Some.result.now c.deref-in-Some-2.result.now c.deref-in-Some.ensures.value c.deref-in-Some-2.ensures.value }
 
 pub returns-in-Some-clause-fault : goal.returns-in-Some-clause-fault
 returns-in-Some-clause-fault c =
@@ -65,7 +65,7 @@ returns-in-Some-clause-fault c =
     let found = subst (λ all. (d : Design) → AreCounts d all → IsFirstAt d (IsDrivenTwice d) c.in-Some.number) c.deref-4.ensures.value c.in-Some.ensures.some in
     let named = subst (λ o. (d : Design) → d.text ≡ text → ArePlaced d placed → AreOutlined d placed o → (b : Bit) → slice_get (net_order d) c.in-Some.number ≡ Some b → c.in_ok-bit_name.field-0 ≡ bit_text d b) c.deref-in-Some-2.ensures.value
     (subst (λ p. (d : Design) → d.text ≡ text → ArePlaced d p → AreOutlined d p c.deref-in-Some-2.result.now → (b : Bit) → slice_get (net_order d) c.in-Some.number ≡ Some b → c.in_ok-bit_name.field-0 ≡ bit_text d b) c.deref-in-Some.ensures.value c.in_ok-bit_name.ensures.name) in
-    inr (twice text c.args.top lt c.requires.finite placed c.in_ok-placed.ensures.placed outlines made counts counted c.in-Some.number found c.in_ok-bit_name.field-0 named)
+    inr (twice c.laws_of_designs.ensures text c.args.top lt c.requires.finite placed c.in_ok-placed.ensures.placed outlines made counts counted c.in-Some.number found c.in_ok-bit_name.field-0 named)
 
 pub bit_count-requires : goal.bit_count-requires
 bit_count-requires c =
@@ -74,7 +74,7 @@ bit_count-requires c =
     let placed = c.in_ok-placed.placed.items in
     let outlines = c.in_ok-outlines.outlines.items in
     let made = subst (λ p. (d : Design) → d.text ≡ text → ArePlaced d p → IsSmall d → AreOutlined d p outlines) c.deref.ensures.value c.in_ok-outlines.ensures.outlined in
-    record { design = for_bits text c.args.top lt c.requires.finite placed c.in_ok-placed.ensures.placed outlines made c.deref-7.result.now c.deref-8.result.now c.deref-7.ensures.value c.deref-8.ensures.value }
+    record { design = for_bits c.laws_of_designs.ensures text c.args.top lt c.requires.finite placed c.in_ok-placed.ensures.placed outlines made c.deref-7.result.now c.deref-8.result.now c.deref-7.ensures.value c.deref-8.ensures.value }
 
 pub stored_bits-requires : goal.stored_bits-requires
 stored_bits-requires c =
@@ -85,7 +85,7 @@ stored_bits-requires c =
     let made = subst (λ p. (d : Design) → d.text ≡ text → ArePlaced d p → IsSmall d → AreOutlined d p outlines) c.deref.ensures.value c.in_ok-outlines.ensures.outlined in
     let long = subst (λ o. (d : Design) → ArePlaced d placed → AreOutlined d placed o → c.bit_count.result ≡ length (net_order d)) c.deref-8.ensures.value
     (subst (λ p. (d : Design) → ArePlaced d p → AreOutlined d p c.deref-8.result.now → c.bit_count.result ≡ length (net_order d)) c.deref-7.ensures.value c.bit_count.ensures.bits) in
-    record { design = for_registers text c.args.top lt c.requires.finite placed c.in_ok-placed.ensures.placed outlines made c.deref-5.result.now c.deref-6.result.now c.deref-5.ensures.value c.deref-6.ensures.value c.bit_count.result long }
+    record { design = for_registers c.laws_of_designs.ensures text c.args.top lt c.requires.finite placed c.in_ok-placed.ensures.placed outlines made c.deref-5.result.now c.deref-6.result.now c.deref-5.ensures.value c.deref-6.ensures.value c.bit_count.result long }
 
 pub returns-clause-grown : goal.returns-clause-grown
 returns-clause-grown c =
@@ -102,4 +102,4 @@ returns-clause-grown c =
     let registers = subst (λ o. (d : Design) → ArePlaced d placed → AreOutlined d placed o → IsBounded d → c.bit_count.result ≡ length (net_order d) → AreStored d c.in_ok-stored.stored.items) c.deref-6.ensures.value
     (subst (λ p. (d : Design) → ArePlaced d p → AreOutlined d p c.deref-6.result.now → IsBounded d → c.bit_count.result ≡ length (net_order d) → AreStored d c.in_ok-stored.stored.items) c.deref-5.ensures.value c.in_ok-stored.ensures.stored) in
     let once = subst (λ all. (d : Design) → IsBounded d → AreCounts d all → AreDrivenOnce d) c.deref-4.ensures.value (subst (λ o. IfNone o ((d : Design) → IsBounded d → AreCounts d c.deref-4.result.now → AreDrivenOnce d)) c.in_default.is c.first_driven_twice.ensures.none) in
-    grown text c.args.top lt c.requires.finite placed c.in_ok-placed.ensures.placed outlines made counts counted c.in_ok-stored.stored.items once c.bit_count.result long registers
+    grown c.laws_of_designs.ensures text c.args.top lt c.requires.finite placed c.in_ok-placed.ensures.placed outlines made counts counted c.in_ok-stored.stored.items once c.bit_count.result long registers

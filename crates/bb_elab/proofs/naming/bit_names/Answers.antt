@@ -1,7 +1,7 @@
 use Rattle.std.proofs.Common.{map, ◌∙◌, refl}
-use Rattle.bb_expr.specs.Checked.{syntax}
-use Rattle.bb_elab.specs.NetBits.{net_order}
-use Rattle.bb_elab.specs.Texts.{bit_text}
+use Rattle.bb_names.specs.Checked.{syntax}
+use Rattle.bb_design.specs.NetBits.{net_order}
+use Rattle.bb_design.specs.Texts.{bit_text}
 use Rattle.bb_elab.proofs.ArrangedLists.{for_name}
 use Rattle.bb_elab.proofs.NamedBits.{named_more, named_all, text_seen}
 use Rattle.bb_elab.proofs.naming.bit_names.Goals as goal

@@ -1,10 +1,10 @@
 use Rattle.std.proofs.Common.{◌≡◌, List, map, take}
-use Rattle.bb_expr.specs.Checked.{syntax}
-use Rattle.bb_elab.specs.Hierarchy.{Design}
-use Rattle.bb_elab.specs.NetBits.{Bit}
-use Rattle.bb_elab.specs.Placements.{AreBitsAt}
+use Rattle.bb_names.specs.Checked.{syntax}
+use Rattle.bb_design.specs.Hierarchy.{Design}
+use Rattle.bb_design.specs.NetBits.{Bit}
+use Rattle.bb_elab.specs.DrivenNumbers.{AreBitsAt}
 use Rattle.bb_elab.specs.Stages.{HasGrown}
-use Rattle.bb_elab.specs.Texts.{bit_text}
+use Rattle.bb_design.specs.Texts.{bit_text}
 use Rattle.bb_elab.proofs.naming.bit_names.Given as goal
 
 abbrev pub invariant-loop-number : goal.invariant-loop-number

@@ -1,7 +1,7 @@
 use Rattle.std.proofs.Common.{length, refl, sym, ap, ◌∙◌, arith}
 use Rattle.std.specs.Prelude.{slice_get}
 use Rattle.std.proofs.lemmas.Option.{slice_get_read}
-use Rattle.bb_elab.specs.Hierarchy.{root}
+use Rattle.bb_design.specs.Hierarchy.{root}
 use Rattle.bb_elab.proofs.NamedScopes.{module_within, top_placed, top_inputs_at, top_outputs_at}
 use Rattle.bb_elab.proofs.naming.top_outline.Goals as goal
 

@@ -1,5 +1,5 @@
 use Rattle.std.proofs.Common.{◌≡◌, ◌+◌, ◌++◌, map, take}
-use Rattle.bb_elab.specs.declared.stored.Stored.{Stored}
+use Rattle.bb_blast.specs.declared.stored.Stored.{Stored}
 use Rattle.bb_elab.proofs.reading.add_clocks.Given as goal
 
 abbrev pub invariant-loop-register : goal.invariant-loop-register

@@ -1,4 +1,5 @@
-use Rattle.bb_elab.proofs.CopyMarks.{AreFollowed, unmarked}
+use Rattle.bb_elab.proofs.CopyMarks.{AreFollowed}
+use Rattle.bb_lists.proofs.Marks.{unmarked}
 use Rattle.bb_elab.proofs.reading.follow.Given as goal
 
 abbrev pub invariant-loop-place : goal.invariant-loop-place

@@ -1,12 +1,12 @@
 use Rattle.std.proofs.Common.{◌≡◌, ◌+◌, length, map, sym, ap, ◌∙◌, subst, arith}
 use Rattle.std.proofs.lemmas.List.{length-map}
 use Rattle.std.proofs.lemmas.Result.{IfOk-weaker}
-use Rattle.bb_expr.specs.Checked.{syntax}
-use Rattle.bb_elab.specs.NetBits.{net_order, top_inputs}
-use Rattle.bb_elab.specs.Placements.{IsStoredAt, AreStored}
-use Rattle.bb_elab.specs.Registers.{RegisterBit, registers, cut_bits}
-use Rattle.bb_elab.specs.Texts.{bit_text}
-use Rattle.bb_elab.proofs.FlatInvariants.{zip_length}
+use Rattle.bb_names.specs.Checked.{syntax}
+use Rattle.bb_design.specs.NetBits.{net_order, top_inputs}
+use Rattle.bb_blast.specs.Placements.{IsStoredAt, AreStored}
+use Rattle.bb_design.specs.Registers.{RegisterBit, registers, cut_bits}
+use Rattle.bb_design.specs.Texts.{bit_text}
+use Rattle.bb_lists.proofs.Zips.{zip_length}
 use Rattle.bb_elab.proofs.NamedBits.{at_long}
 use Rattle.bb_elab.proofs.NamedRegisters.{clocks_fit}
 use Rattle.bb_elab.proofs.register_names.named_registers.Goals as goal
@@ -25,7 +25,7 @@ registers-requires-clause-fits c =
     let given = c.requires.design in
     let d = given.0 in
     let first : c.in_ok-first.first ≡ 2 + length (cut_bits d) = omega (arith, c.in_ok-first.ensures.place, c.input_count.ensures, given.4.listed.inputs) in
-    clocks_fit d c.args.list.now given.1 given.2 given.4 c.in_ok-first.first first c.deref-2.result.now (subst (AreStored d) (sym c.deref-2.ensures.value) given.3.grown.registers)
+    clocks_fit c.laws_of_cells.ensures d c.args.list.now given.1 given.2 given.4 c.in_ok-first.first first c.deref-2.result.now (subst (AreStored d) (sym c.deref-2.ensures.value) given.3.grown.registers)
 
 pub returns : goal.returns
 returns c = record {

@@ -6,7 +6,7 @@ returns c = record {
   ends = c.clock_input.ensures.ends;
   register = λ d net numbers bounded once are first limit r stored text.
       let b = stored.clock in
-      let source = clock_source d c.args.list.now net numbers are c.args.first first c.args.stored.now.clock b.0 b.2 in
+      let source = clock_source c.laws_of_cells.ensures d c.args.list.now net numbers are c.args.first first c.args.stored.now.clock b.0 b.2 in
       record {
         text = text;
         falling = stored.falling;

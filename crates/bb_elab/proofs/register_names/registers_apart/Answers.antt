@@ -1,6 +1,6 @@
 use Rattle.std.proofs.Common.{map, refl, ap, ◌∙◌, inr}
-use Rattle.bb_elab.specs.declared.stored.Stored.{Stored}
-use Rattle.bb_elab.specs.Refusals.{register_texts}
+use Rattle.bb_blast.specs.declared.stored.Stored.{Stored}
+use Rattle.bb_design.specs.Refusals.{register_texts}
 use Rattle.bb_elab.proofs.NamedBits.{told_again, never_again}
 use Rattle.bb_elab.proofs.NamedRegisters.{numbers_below, texts_are}
 use Rattle.bb_elab.proofs.register_names.registers_apart.Goals as goal

@@ -2,12 +2,11 @@ use Rattle.std.proofs.Common.{[], ◌≡◌, ap, ◌∙◌, length, subst, sym}
 use Rattle.std.specs.Prelude.{All}
 use Rattle.std.specs.List.{filter_map}
 use Rattle.std.proofs.lemmas.Result.{IfOk-weaker}
-use Rattle.bb_elab.specs.Hierarchy.{Design}
-use Rattle.bb_elab.specs.ListLaws.{IsBounded}
-use Rattle.bb_elab.specs.NetBits.{net_order}
-use Rattle.bb_elab.specs.Placements.{ArePlaced, AreOutlined, AreStored}
+use Rattle.bb_design.specs.Hierarchy.{Design}
+use Rattle.bb_design.specs.Allowed.{IsBounded}
+use Rattle.bb_design.specs.NetBits.{net_order}
+use Rattle.bb_blast.specs.Placements.{ArePlaced, AreOutlined, AreStored}
 use Rattle.bb_elab.specs.StoredNumbers.{MayBeNoted}
-use Rattle.bb_elab.proofs.DistinctBits.{distinct_bits}
 use Rattle.bb_elab.proofs.RegisterNumbers.{notes_there, stored_told}
 use Rattle.bb_elab.proofs.StoredNotes.{no_notes_are}
 use Rattle.bb_elab.proofs.Tallies.{written_back}
@@ -16,7 +15,7 @@ use Rattle.bb_elab.proofs.registers.stored_bits.Goals as goal
 pub note_scopes-requires-clause-there : goal.note_scopes-requires-clause-there
 note_scopes-requires-clause-there c =
     let d = c.requires.design in
-    subst (λ n. All (MayBeNoted c.args.outlines.now n) c.args.placed.now) (sym (ap length c.deref_mut.ensures.value ∙ c.in_ok-notes.ensures.long ∙ d.4)) (notes_there d.0 c.args.placed.now c.args.outlines.now d.1 d.2)
+    subst (λ n. All (MayBeNoted c.args.outlines.now n) c.args.placed.now) (sym (ap length c.deref_mut.ensures.value ∙ c.in_ok-notes.ensures.long ∙ d.4)) (notes_there c.laws_of_designs.ensures d.0 c.args.placed.now c.args.outlines.now d.1 d.2)
 
 pub returns : goal.returns
 returns c = record {
@@ -28,7 +27,7 @@ returns c = record {
       let whole : length items ≡ length (net_order d) = c.in_ok-notes.ensures.long ∙ bits in
       let back : c.deref.result.now ≡ notes = c.deref.ensures.value ∙ written_back c.in_ok-notes.notes.len items notes long (sym (sym (ap length c.deref_mut.ensures.value) ∙ c.deref_mut.ensures.len)) in
       subst (AreStored d) (sym (is ∙ ap (filter_map (λ note. note)) back))
-      (stored_told d c.args.placed.now c.args.outlines.now placed outlined (distinct_bits c.net_names_differ.ensures d bounded.faultless bounded.top) notes (long ∙ whole)
+      (stored_told c.laws_of_designs.ensures d c.args.placed.now c.args.outlines.now placed outlined (c.laws_of_designs.ensures.distinct d bounded.faultless bounded.top) notes (long ∙ whole)
       (c.note_scopes.ensures.noted [] (no_notes_are c.deref_mut.result.now c.args.bits (c.deref_mut.ensures.value ∙ c.in_ok-notes.ensures.none)))))
       c.noted.ensures.noted;
 }

@@ -5,12 +5,12 @@ use Rattle.std.proofs.lemmas.List.{take_all}
 use Rattle.std.proofs.lemmas.List.Folds.{list_any-append}
 use Rattle.std.proofs.lemmas.Option.{slice_get_read}
 use Rattle.bb_bits.specs.Names.{same_name}
-use Rattle.bb_elab.specs.Closures.{IsFirstRepeat}
-use Rattle.bb_elab.proofs.KnownNets.{any_there}
+use Rattle.bb_bits.specs.Closures.{IsFirstRepeat}
+use Rattle.bb_lists.proofs.Members.{any_there, none_of}
 use Rattle.bb_elab.proofs.NamedBits.{taken-push}
-use Rattle.bb_elab.proofs.RecursiveNames.{split}
-use Rattle.bb_elab.proofs.SoundNames.{none_of, push_name}
-use Rattle.bb_elab.proofs.TopLemmas.{same_equal, same_self, any-inserted}
+use Rattle.bb_lists.proofs.Places.{split}
+use Rattle.bb_lists.proofs.Apart.{push_name}
+use Rattle.bb_lists.proofs.Names.{same_equal, same_self, any-inserted}
 use Rattle.bb_elab.proofs.repeats.first_repeat.Goals as goal
 
 -- the name stands there already

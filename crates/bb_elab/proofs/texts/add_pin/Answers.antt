@@ -2,21 +2,21 @@ use Rattle.std.proofs.Common.{◌≡◌, ◌-◌, ◌<◌, ◌++◌, ℕ, List, 
 use Rattle.std.specs.Prelude.{slice_get}
 use Rattle.std.proofs.lemmas.Option.{slice_get_read, slice_get_within, get_or_from_slice_get}
 use Rattle.std.proofs.lemmas.Result.{on_ok_weaker}
-use Rattle.bb_expr.specs.Checked.{ModuleFacts, module_facts, syntax}
-use Rattle.bb_elab.specs.declared.placed.Placed.{Placed}
-use Rattle.bb_elab.specs.Hierarchy.{Design, scopes}
-use Rattle.bb_elab.specs.NetBits.{net_order}
-use Rattle.bb_elab.specs.Outlines.{net_start}
-use Rattle.bb_elab.specs.Placements.{ArePlaced}
+use Rattle.bb_names.specs.Checked.{ModuleFacts, module_facts, syntax}
+use Rattle.bb_blast.specs.declared.placed.Placed.{Placed}
+use Rattle.bb_design.specs.Hierarchy.{Design, scopes}
+use Rattle.bb_design.specs.NetBits.{net_order}
+use Rattle.bb_blast.specs.Outlines.{net_start}
+use Rattle.bb_blast.specs.Placements.{ArePlaced}
 use Rattle.bb_elab.proofs.BitNames.{own_nets, starts_each, local_there, pin_named}
-use Rattle.bb_elab.proofs.OutlinedDesigns.{meant_at}
-use Rattle.bb_elab.proofs.RecursiveNames.{some_at}
+use Rattle.bb_lists.proofs.Places.{some_at}
 use Rattle.bb_elab.proofs.texts.add_pin.Goals as goal
+use Rattle.bb_blast.specs.ModuleLaws.{ModuleLaws}
 
-module_below : (checked : List ModuleFacts) (all : List Placed) (d : Design) → d.text ≡ map syntax checked → ArePlaced d all → (k : ℕ) (p : Placed) → slice_get all k ≡ Some p → p.module < length checked
-module_below checked all d text are k p there =
+module_below : ModuleLaws → (checked : List ModuleFacts) (all : List Placed) (d : Design) → d.text ≡ map syntax checked → ArePlaced d all → (k : ℕ) (p : Placed) → slice_get all k ≡ Some p → p.module < length checked
+module_below of_modules checked all d text are k p there =
     let s = some_at (scopes d) k (omega (arith, slice_get_within all k p there, are.count)) in
-    (meant_at checked p.module s.0.source (ap (λ l. slice_get l p.module) (sym text) ∙ (are.each k s.0 p s.1 there).source)).0
+    (of_modules.checked checked p.module s.0.source (ap (λ l. slice_get l p.module) (sym text) ∙ (are.each k s.0 p s.1 there).source)).0
 
 pub scope_of_module-module-requires : goal.scope_of_module-module-requires
 scope_of_module-module-requires c =
@@ -25,7 +25,7 @@ scope_of_module-module-requires c =
     let k = c.scope_of_bit-scope.result in
     let p = c.index-placed-scope.result in
     let there = slice_get_read all (length all) k p refl c.scope_of_bit-scope.ensures.there c.index-placed-scope.is in
-    record { there = module_below c.args.checked.now all d.0 d.1 d.2 k p there }
+    record { there = module_below c.laws_of_modules.ensures c.args.checked.now all d.0 d.1 d.2 k p there }
 
 pub outline_of_module-outline-requires : goal.outline_of_module-outline-requires
 outline_of_module-outline-requires c =
@@ -61,10 +61,10 @@ net_of_bit-k-requires c =
     let s = some_at (scopes d.0) k (omega (arith, slice_get_within all k p there, d.2.count)) in
     let b = some_at (net_order d.0) c.args.number d.4 in
     let bit = c.scope_of_bit-scope.ensures.bit d.0 d.2 s.0 s.1 p there b.0 b.1 in
-    let own = c.deref.ensures.value ∙ own_nets checked ok all c.args.outlines.now d.0 d.1 d.2 k s.0 s.1 p there (module_facts c.scope_of_module-module.result.now) c.scope_of_module-module.ensures.there in
+    let own = c.deref.ensures.value ∙ own_nets c.laws_of_designs.ensures c.laws_of_modules.ensures checked ok all c.args.outlines.now d.0 d.1 d.2 k s.0 s.1 p there (module_facts c.scope_of_module-module.result.now) c.scope_of_module-module.ensures.there in
     record {
-      starts = starts_each checked ok all c.args.outlines.now d.0 d.1 d.2 k s.0 s.1 p there d.3 c.outline_of_module-outline.result.now c.outline_of_module-outline.ensures.there c.deref.result.now c.deref-2.result.now own c.deref-2.ensures.value;
-      there = local_there checked ok all c.args.outlines.now d.0 d.1 d.2 k s.0 s.1 p there d.3 c.outline_of_module-outline.result.now c.outline_of_module-outline.ensures.there c.deref.result.now c.deref-2.result.now own c.deref-2.ensures.value (c.args.number - p.first) b.0 bit.1;
+      starts = starts_each c.laws_of_designs.ensures c.laws_of_modules.ensures checked ok all c.args.outlines.now d.0 d.1 d.2 k s.0 s.1 p there d.3 c.outline_of_module-outline.result.now c.outline_of_module-outline.ensures.there c.deref.result.now c.deref-2.result.now own c.deref-2.ensures.value;
+      there = local_there c.laws_of_designs.ensures c.laws_of_modules.ensures checked ok all c.args.outlines.now d.0 d.1 d.2 k s.0 s.1 p there d.3 c.outline_of_module-outline.result.now c.outline_of_module-outline.ensures.there c.deref.result.now c.deref-2.result.now own c.deref-2.ensures.value (c.args.number - p.first) b.0 bit.1;
     }
 
 pub index-requires : goal.index-requires
@@ -77,8 +77,8 @@ index-requires c =
     let there = slice_get_read all (length all) k p refl c.scope_of_bit-scope.ensures.there c.index-placed-scope.is in
     let ok = c.scope_of_module-module.ensures.checked in
     let s = some_at (scopes d.0) k (omega (arith, slice_get_within all k p there, d.2.count)) in
-    let own = c.deref.ensures.value ∙ own_nets checked ok all c.args.outlines.now d.0 d.1 d.2 k s.0 s.1 p there (module_facts c.scope_of_module-module.result.now) c.scope_of_module-module.ensures.there in
-    let each = starts_each checked ok all c.args.outlines.now d.0 d.1 d.2 k s.0 s.1 p there d.3 c.outline_of_module-outline.result.now c.outline_of_module-outline.ensures.there c.deref.result.now c.deref-2.result.now own c.deref-2.ensures.value in
+    let own = c.deref.ensures.value ∙ own_nets c.laws_of_designs.ensures c.laws_of_modules.ensures checked ok all c.args.outlines.now d.0 d.1 d.2 k s.0 s.1 p there (module_facts c.scope_of_module-module.result.now) c.scope_of_module-module.ensures.there in
+    let each = starts_each c.laws_of_designs.ensures c.laws_of_modules.ensures checked ok all c.args.outlines.now d.0 d.1 d.2 k s.0 s.1 p there d.3 c.outline_of_module-outline.result.now c.outline_of_module-outline.ensures.there c.deref.result.now c.deref-2.result.now own c.deref-2.ensures.value in
     let j = c.net_of_bit-k.result in
     let jt = c.net_of_bit-k.ensures.there in
     let here = each j jt in
@@ -94,8 +94,8 @@ overflow_sub-place c =
     let there = slice_get_read all (length all) k p refl c.scope_of_bit-scope.ensures.there c.index-placed-scope.is in
     let ok = c.scope_of_module-module.ensures.checked in
     let s = some_at (scopes d.0) k (omega (arith, slice_get_within all k p there, d.2.count)) in
-    let own = c.deref.ensures.value ∙ own_nets checked ok all c.args.outlines.now d.0 d.1 d.2 k s.0 s.1 p there (module_facts c.scope_of_module-module.result.now) c.scope_of_module-module.ensures.there in
-    let each = starts_each checked ok all c.args.outlines.now d.0 d.1 d.2 k s.0 s.1 p there d.3 c.outline_of_module-outline.result.now c.outline_of_module-outline.ensures.there c.deref.result.now c.deref-2.result.now own c.deref-2.ensures.value in
+    let own = c.deref.ensures.value ∙ own_nets c.laws_of_designs.ensures c.laws_of_modules.ensures checked ok all c.args.outlines.now d.0 d.1 d.2 k s.0 s.1 p there (module_facts c.scope_of_module-module.result.now) c.scope_of_module-module.ensures.there in
+    let each = starts_each c.laws_of_designs.ensures c.laws_of_modules.ensures checked ok all c.args.outlines.now d.0 d.1 d.2 k s.0 s.1 p there d.3 c.outline_of_module-outline.result.now c.outline_of_module-outline.ensures.there c.deref.result.now c.deref-2.result.now own c.deref-2.ensures.value in
     let j = c.net_of_bit-k.result in
     let jt = c.net_of_bit-k.ensures.there in
     let here = each j jt in
@@ -116,8 +116,8 @@ add_net_bit-requires c =
     let there = slice_get_read all (length all) k p refl c.scope_of_bit-scope.ensures.there c.index-placed-scope.is in
     let ok = c.scope_of_module-module.ensures.checked in
     let s = some_at (scopes d.0) k (omega (arith, slice_get_within all k p there, d.2.count)) in
-    let own = c.deref.ensures.value ∙ own_nets checked ok all c.args.outlines.now d.0 d.1 d.2 k s.0 s.1 p there (module_facts c.scope_of_module-module.result.now) c.scope_of_module-module.ensures.there in
-    let each = starts_each checked ok all c.args.outlines.now d.0 d.1 d.2 k s.0 s.1 p there d.3 c.outline_of_module-outline.result.now c.outline_of_module-outline.ensures.there c.deref.result.now c.deref-2.result.now own c.deref-2.ensures.value in
+    let own = c.deref.ensures.value ∙ own_nets c.laws_of_designs.ensures c.laws_of_modules.ensures checked ok all c.args.outlines.now d.0 d.1 d.2 k s.0 s.1 p there (module_facts c.scope_of_module-module.result.now) c.scope_of_module-module.ensures.there in
+    let each = starts_each c.laws_of_designs.ensures c.laws_of_modules.ensures checked ok all c.args.outlines.now d.0 d.1 d.2 k s.0 s.1 p there d.3 c.outline_of_module-outline.result.now c.outline_of_module-outline.ensures.there c.deref.result.now c.deref-2.result.now own c.deref-2.ensures.value in
     let j = c.net_of_bit-k.result in
     let jt = c.net_of_bit-k.ensures.there in
     let here = each j jt in
@@ -138,8 +138,8 @@ returns c = record {
       let there = slice_get_read all (length all) k p refl c.scope_of_bit-scope.ensures.there c.index-placed-scope.is in
       let ok = c.scope_of_module-module.ensures.checked in
       let s = some_at (scopes e) k (omega (arith, slice_get_within all k p there, are.count)) in
-      let own = c.deref.ensures.value ∙ own_nets checked ok all c.args.outlines.now e text are k s.0 s.1 p there (module_facts c.scope_of_module-module.result.now) c.scope_of_module-module.ensures.there in
-      let each = starts_each checked ok all c.args.outlines.now e text are k s.0 s.1 p there outlined c.outline_of_module-outline.result.now c.outline_of_module-outline.ensures.there c.deref.result.now c.deref-2.result.now own c.deref-2.ensures.value in
+      let own = c.deref.ensures.value ∙ own_nets c.laws_of_designs.ensures c.laws_of_modules.ensures checked ok all c.args.outlines.now e text are k s.0 s.1 p there (module_facts c.scope_of_module-module.result.now) c.scope_of_module-module.ensures.there in
+      let each = starts_each c.laws_of_designs.ensures c.laws_of_modules.ensures checked ok all c.args.outlines.now e text are k s.0 s.1 p there outlined c.outline_of_module-outline.result.now c.outline_of_module-outline.ensures.there c.deref.result.now c.deref-2.result.now own c.deref-2.ensures.value in
       let j = c.net_of_bit-k.result in
       let jt = c.net_of_bit-k.ensures.there in
       let here = each j jt in
@@ -151,6 +151,6 @@ returns c = record {
       let local = c.args.number - p.first in
       let place = local - c.index.result.now in
       on_ok_weaker c.add_net_bit.result (λ is. is ∙ ap (λ l. c.args.text.now.items ++ l)
-      (pin_named checked ok all c.args.outlines.now e text are k s.0 s.1 p there c.deref.result.now own j net at local place (omega (arith, within.0, start)) (omega (arith, within.0, within.1, start)) b (c.scope_of_bit-scope.ensures.bit e are s.0 s.1 p there b bit).1))
+      (pin_named c.laws_of_designs.ensures c.laws_of_modules.ensures checked ok all c.args.outlines.now e text are k s.0 s.1 p there c.deref.result.now own j net at local place (omega (arith, within.0, start)) (omega (arith, within.0, within.1, start)) b (c.scope_of_bit-scope.ensures.bit e are s.0 s.1 p there b bit).1))
       c.add_net_bit.ensures.bit;
 }

@@ -1,14 +1,14 @@
 use Rattle.std.proofs.Common.{◌≡◌, ◌-◌, ◌++◌, [], ℕ, List, Some, map, sym, ap, ◌∙◌, arith}
 use Rattle.std.specs.Prelude.{slice_get}
 use Rattle.std.proofs.lemmas.Result.{IfOk-weaker}
-use Rattle.bb_expr.specs.Checked.{syntax}
-use Rattle.bb_elab.specs.Hierarchy.{Path, Design, scopes}
-use Rattle.bb_elab.specs.NetBits.{Bit, net_order}
-use Rattle.bb_elab.specs.Placements.{ArePlaced, AreOutlined}
-use Rattle.bb_elab.specs.Texts.{path_prefix, bit_text, pin_text}
+use Rattle.bb_names.specs.Checked.{syntax}
+use Rattle.bb_design.specs.Hierarchy.{Path, Design, scopes}
+use Rattle.bb_design.specs.NetBits.{Bit, net_order}
+use Rattle.bb_blast.specs.Placements.{ArePlaced, AreOutlined}
+use Rattle.bb_design.specs.Texts.{path_prefix, bit_text, pin_text}
 use Rattle.bb_elab.proofs.BitNames.{own_path}
 use Rattle.bb_elab.proofs.PlacedPaths.{are_rooted, path_there}
-use Rattle.bb_elab.proofs.RecursiveNames.{some_at}
+use Rattle.bb_lists.proofs.Places.{some_at}
 use Rattle.bb_elab.proofs.texts.bit_name.Goals as goal
 
 pub add_prefix-requires-clause-rooted : goal.add_prefix-requires-clause-rooted

@@ -1,7 +1,7 @@
 use Rattle.std.proofs.Common.{◌≡◌, map, take}
 use Rattle.std.specs.Prelude.{sum_by}
 use Rattle.bb_ast.specs.Views.{expression, operand_view, arm_view}
-use Rattle.bb_expr.specs.Checked.{module_facts}
+use Rattle.bb_names.specs.Checked.{module_facts}
 use Rattle.bb_expr.specs.Fit.{ranges_in}
 use Rattle.bb_expr.specs.Shares.{capped, own_cells, operand_cells, arm_cells}
 use Rattle.bb_expr.proofs.cell_count.+cells.Given as goal

@@ -1,6 +1,6 @@
 use Rattle.std.proofs.Common.{◌∙◌, subst, All}
 use Rattle.std.proofs.lemmas.List.{take_all}
-use Rattle.bb_elab.specs.Closures.{IsFirst}
+use Rattle.bb_bits.specs.Closures.{IsFirst}
 use Rattle.bb_match.specs.Refusals.{IsClockedApart, IsClockedAlike}
 use Rattle.bb_match.proofs.ClockLemmas.{apart_not_alike}
 use Rattle.bb_match.proofs.Loops.{first_at, all_more}

@@ -1,5 +1,5 @@
 use Rattle.std.proofs.Common.{◌≡◌, ◌++◌, map}
-use Rattle.bb_elab.specs.Worlds.{NextState}
+use Rattle.bb_net.specs.CutPoints.{NextState}
 use Rattle.bb_match.specs.Pairing.{output_name}
 use Rattle.bb_match.proofs.joining.add_next_states.Given as goal
 

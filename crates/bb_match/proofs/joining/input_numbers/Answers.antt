@@ -1,5 +1,5 @@
 use Rattle.std.proofs.Common.{◌≡◌, ◌+◌, ◌++◌, map, length, ◌∙◌, arith}
-use Rattle.bb_match.specs.CutPoints.{cut_inputs}
+use Rattle.bb_net.specs.CutPoints.{cut_inputs}
 use Rattle.bb_match.specs.Pairing.{Picks}
 use Rattle.bb_match.specs.Places.{place_of}
 use Rattle.bb_match.proofs.CheckLemmas.{if_ok_weaker}

@@ -1,7 +1,7 @@
 use Rattle.std.proofs.Common.{◌<◌, ◌++◌, All, map, length, ◌∙◌, sym, ap, ap₂, subst}
 use Rattle.bb_net.specs.Pairs.{AreBeside, AreSmall}
 use Rattle.bb_net.specs.Rearrangements.{IsRearranged}
-use Rattle.bb_elab.specs.Worlds.{TopOutput, NextState}
+use Rattle.bb_net.specs.CutPoints.{TopOutput, NextState}
 use Rattle.bb_match.specs.Pairing.{IsPairOf, output_name}
 use Rattle.bb_match.proofs.PairLemmas.{numbers_count, numbers_there, picks_there, ins_texts, outs_texts, made_pair, beside, small, pair_of}
 use Rattle.bb_match.proofs.joining.joined.Goals as goal

@@ -1,6 +1,6 @@
 use Rattle.std.proofs.Common.{[], ◌++◌, sym, ◌∙◌, subst}
 use Rattle.std.proofs.lemmas.List.{append-nil, drop_all, get_or_default}
-use Rattle.bb_rungs.specs.declared.rung.Rung.TheVariants.{Ternary}
+use Rattle.bb_options.specs.declared.rung.Rung.TheVariants.{Ternary}
 use Rattle.bb_rungs.specs.Rungs.{Climbs, Top}
 use Rattle.bb_rungs.proofs.Findings.{climb_ends, climb_goes}
 use Rattle.bb_rungs.proofs.climbing.climb.Goals as goal

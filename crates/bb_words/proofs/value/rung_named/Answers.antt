@@ -1,6 +1,6 @@
 use Rattle.std.proofs.Common.{◌≡◌, sym}
-use Rattle.bb_rungs.specs.declared.rung.Rung.TheVariants.{Ternary, Symbolic, Local, Output, Input, Expand}
-use Rattle.bb_rungs.specs.Rungs.{rung_name}
+use Rattle.bb_options.specs.declared.rung.Rung.TheVariants.{Ternary, Symbolic, Local, Output, Input, Expand}
+use Rattle.bb_options.specs.Rungs.{rung_name}
 use Rattle.bb_words.proofs.RungNames.{no_rung}
 use Rattle.bb_words.proofs.value.rung_named.Goals as goal
 

@@ -1,0 +1,5 @@
+pub mod AlikePairs
+pub mod DesignAgreements
+pub mod NamedVectors
+pub mod SpelledContents
+pub mod TakenAlike

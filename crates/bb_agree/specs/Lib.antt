@@ -1,0 +1,3 @@
+pub mod AlikePairs
+pub mod DesignAgreement
+pub mod DesignRefusals

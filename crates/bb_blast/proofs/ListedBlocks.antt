@@ -1,0 +1,180 @@
+-- The constructs of a design one after another: their places are in a row, and their cells are those that the parts of the
+-- modules put there, scope by scope.
+use Rattle.std.proofs.Common.{◌≡◌, ℕ, zero, suc, ◌+◌, ◌-◌, Bool, true, false, if◌then◌else◌, List, [], ◌∷◌, ◌++◌, map, flat_map, take, length, All, Option, Some, None, refl, sym, ap, ◌∙◌, subst, arith, length-append, append_assoc, append-nil}
+use Rattle.std.specs.Prelude.{slice_get}
+use Rattle.std.specs.List.{fold, enumerate_from}
+use Rattle.std.specs.Option.{option_map_or}
+use Rattle.std.proofs.lemmas.List.{length-map, map-append}
+use Rattle.std.proofs.lemmas.List.Elements.{All-nil, All-cons}
+use Rattle.std.proofs.lemmas.List.Sums.{fold-append}
+use Rattle.bb_expr.specs.declared.step.Lowered.{Lowered}
+use Rattle.bb_net.specs.declared.loose.LooseCell.{LooseCell}
+use Rattle.bb_blast.specs.declared.outline.Outline.{Outline}
+use Rattle.bb_blast.specs.declared.outline.Part.{Part}
+use Rattle.bb_blast.specs.declared.placed.Placed.{Placed}
+use Rattle.bb_design.specs.Hierarchy.{Design, Scope}
+use Rattle.bb_design.specs.NetBits.{Bit}
+use Rattle.bb_design.specs.Constructs.{Construct, BoxContents}
+use Rattle.bb_blast.specs.Listing.{Sources, Site, Sheet, given_one, given_all, constant_place, site_of, with_part, with_parts, with_scope}
+use Rattle.bb_blast.specs.Outlines.{IsPartOf}
+use Rattle.bb_cells.specs.Places.{Place, Constant, Input, NetBit, Step, Joined, Inverted, BoxPin, Numbering, Lowering, Steps, IsLoweringOf, given_at, data_at, places_at}
+use Rattle.bb_blast.proofs.BitNumbers.{bit_number, IsSiteOf}
+use Rattle.bb_blast.proofs.ListedConstructs.{HasInputs, part_puts}
+use Rattle.bb_blast.proofs.ListedParts.{lowereds, steps_before, Puts, pair}
+use Rattle.bb_blast.proofs.PlacesInRow.{Entry, AreInRow, both_rows, no_row, cells_in}
+
+-- a part where it stands; a box has none
+pub record Block : Type 0 where
+  pub site : Site
+  pub item : Option Part
+
+abbrev pub nowhere : Site
+nowhere = record { first = 0; starts = []; inner = λ j. 0 }
+
+abbrev pub blocks_in : List Placed → Placed → Option Outline → List Block
+blocks_in placed p None = []
+blocks_in placed p (Some o) = map (λ q. record { site = site_of placed p o; item = Some q }) o.parts.items
+
+abbrev pub blocks_of : List Placed → List Outline → Placed → List Block
+blocks_of placed outlines p = if p.boxed then record { site = nowhere; item = None } ∷ [] else blocks_in placed p (slice_get outlines p.module)
+
+abbrev pub with_item : ℕ → ℕ → Site → Sheet → Option Part → Sheet
+with_item nets start site sheet None = sheet
+with_item nets start site sheet (Some q) = with_part nets start site sheet q
+
+abbrev pub with_block : ℕ → ℕ → Sheet → Block → Sheet
+with_block nets start sheet b = with_item nets start b.site sheet b.item
+
+fold_at : {A B : Type 0} (f : B → A → B) (a : B) (xs : List A) (k : ℕ) (x : A) → slice_get xs k ≡ Some x → fold f a (take (suc k) xs) ≡ f (fold f a (take k xs)) x
+fold_at f a [] k x e = absurd (grind (arith, e))
+fold_at f a (y ∷ ys) zero x e = let same : y ≡ x = grind (arith, e) in ap (f a) same
+fold_at f a (y ∷ ys) (suc k) x e = fold_at f (f a y) ys k x e
+
+module _ (nets start : ℕ) (placed : List Placed) (outlines : List Outline) where
+  parts_fold : (site : Site) (sheet : Sheet) (qs : List Part) → fold (with_part nets start site) sheet qs ≡ fold (with_block nets start) sheet (map (λ q. record { site = site; item = Some q }) qs)
+  parts_fold site sheet [] = refl
+  parts_fold site sheet (q ∷ qs) = parts_fold site (with_part nets start site sheet q) qs
+
+  scope_fold : (sheet : Sheet) (p : Placed) → with_scope nets start placed outlines sheet p ≡ fold (with_block nets start) sheet (blocks_of placed outlines p)
+  scope_fold sheet p = by p.boxed (slice_get outlines p.module)
+    where
+      by : (b : Bool) (o : Option Outline) → (if b then sheet else with_parts nets start placed p sheet o) ≡ fold (with_block nets start) sheet (if b then record { site = nowhere; item = None } ∷ [] else blocks_in placed p o)
+      by true o = refl
+      by false None = refl
+      by false (Some o) = parts_fold (site_of placed p o) sheet o.parts.items
+
+  pub scopes_fold : (sheet : Sheet) (ps : List Placed) → fold (with_scope nets start placed outlines) sheet ps ≡ fold (with_block nets start) sheet (flat_map (blocks_of placed outlines) ps)
+  scopes_fold sheet [] = refl
+  scopes_fold sheet (p ∷ ps) =
+      scopes_fold (with_scope nets start placed outlines sheet p) ps ∙ ap (λ z. fold (with_block nets start) z (flat_map (blocks_of placed outlines) ps)) (scope_fold sheet p)
+      ∙ sym (fold-append (with_block nets start) sheet (blocks_of placed outlines p) (flat_map (blocks_of placed outlines) ps))
+
+-- what a block stands for
+abbrev pub IsItemOf : Design → Site → Option Part → Scope × Construct → Type 0
+IsItemOf d site None (s, c) = c ≡ BoxContents
+IsItemOf d site (Some q) (s, c) = IsSiteOf d s site × IsPartOf d.text s.source q c
+
+abbrev pub IsBlockOf : Design → Block → Scope × Construct → Type 0
+IsBlockOf d b x = IsItemOf d b.site b.item x
+
+-- how the expressions of blocks are lowered
+abbrev pub block_lowereds : Option Part → List Lowered
+block_lowereds None = []
+block_lowereds (Some q) = lowereds q
+
+abbrev pub steps_of : Option Lowered → Steps
+steps_of None = record { all = []; bits = [] }
+steps_of (Some l) = record { all = l.steps.items; bits = l.bits.items }
+
+abbrev pub lowereds_at : List Block → ℕ → List Lowered
+lowereds_at bs k = option_map_or (λ b. block_lowereds b.item) (slice_get bs k) []
+
+unfoldable pub lowering_of : List Block → Lowering
+lowering_of bs k x = steps_of (slice_get (lowereds_at bs k) x)
+
+-- what a row of constructs puts between two sheets
+module _ (d : Design) (lowering : Lowering) (number : Numbering) (nets start : ℕ) (sheet_at : ℕ → Sheet) where
+  pub record PutAll (k : ℕ) (xs : List (Scope × Construct)) (last : Sheet) : Type 0 where
+    pub cells : last.cells ≡ (sheet_at k).cells ++ cells_in (flat_map (places_at lowering number) (enumerate_from k xs))
+    pub row : AreInRow number (start + length (sheet_at k).cells) (flat_map (places_at lowering number) (enumerate_from k xs))
+    pub sources : last.sources ≡ given_all (sheet_at k).sources (map (pair d lowering number nets start) (flat_map (given_at lowering) (enumerate_from k xs)))
+    pub next : last.next ≡ given_all (sheet_at k).next (map (pair d lowering number nets start) (flat_map (data_at lowering) (enumerate_from k xs)))
+    pub lowered : All (IsLoweringOf lowering) (enumerate_from k xs)
+
+  joined : (a b c : Sources) (xs ys : List (Bit × Place)) → b ≡ given_all a (map (pair d lowering number nets start) xs) → c ≡ given_all b (map (pair d lowering number nets start) ys)
+      → c ≡ given_all a (map (pair d lowering number nets start) (xs ++ ys))
+  joined a b c xs ys p q =
+      q ∙ ap (λ z. given_all z (map (pair d lowering number nets start) ys)) p ∙ sym (fold-append given_one a (map (pair d lowering number nets start) xs) (map (pair d lowering number nets start) ys))
+      ∙ ap (given_all a) (sym (map-append (pair d lowering number nets start) xs ys))
+
+  pub put_all : (k : ℕ) (xs : List (Scope × Construct)) → ((i : ℕ) (x : Scope × Construct) → slice_get xs i ≡ Some x → Puts d lowering number nets start (k + i, x) (sheet_at (k + i)) (sheet_at (suc (k + i))))
+      → PutAll k xs (sheet_at (k + length xs))
+  put_all k [] puts =
+      let same : k + 0 ≡ k = omega arith in
+      record {
+        cells = ap (λ n. (sheet_at n).cells) same ∙ sym (append-nil (sheet_at k).cells);
+        row = no_row number (start + length (sheet_at k).cells);
+        sources = ap (λ n. (sheet_at n).sources) same;
+        next = ap (λ n. (sheet_at n).next) same;
+        lowered = All-nil _;
+      }
+  put_all k (x ∷ xs) puts =
+      build (put_all (k + 1) xs (λ i y e. subst (λ n. Puts d lowering number nets start (n, y) (sheet_at n) (sheet_at (suc n))) (omega arith) (puts (suc i) y e)))
+    where
+      here : Puts d lowering number nets start (k, x) (sheet_at k) (sheet_at (k + 1))
+      here =
+          let one : suc k ≡ k + 1 = omega arith in
+          let none : k + 0 ≡ k = omega arith in
+          subst (λ n. Puts d lowering number nets start (k, x) (sheet_at k) (sheet_at n)) one
+          (subst (λ n. Puts d lowering number nets start (n, x) (sheet_at n) (sheet_at (suc n))) none (puts 0 x refl))
+
+      build : PutAll (k + 1) xs (sheet_at (k + 1 + length xs)) → PutAll k (x ∷ xs) (sheet_at (k + suc (length xs)))
+      build rest =
+          let first = places_at lowering number (k, x) in
+          let others = flat_map (places_at lowering number) (enumerate_from (k + 1) xs) in
+          let long : length (sheet_at (k + 1)).cells ≡ length (sheet_at k).cells + length first =
+          ap length here.cells ∙ length-append (sheet_at k).cells (cells_in first) ∙ ap (λ n. length (sheet_at k).cells + n) (length-map {B = LooseCell} first (λ (e : Entry). e.1)) in
+          subst (λ n. PutAll k (x ∷ xs) (sheet_at n)) (omega arith) (record {
+            cells = rest.cells ∙ ap (λ c. c ++ cells_in others) here.cells ∙ append_assoc (sheet_at k).cells (cells_in first) (cells_in others) ∙ ap (λ c. (sheet_at k).cells ++ c) (sym (map-append (λ (e : Entry). e.1) first others));
+            row = both_rows number (start + length (sheet_at k).cells) first others here.row (subst (λ n. AreInRow number n others) (omega (arith, long)) rest.row);
+            sources = joined (sheet_at k).sources (sheet_at (k + 1)).sources (sheet_at (k + 1 + length xs)).sources (given_at lowering (k, x)) (flat_map (given_at lowering) (enumerate_from (k + 1) xs)) here.sources rest.sources;
+            next = joined (sheet_at k).next (sheet_at (k + 1)).next (sheet_at (k + 1 + length xs)).next (data_at lowering (k, x)) (flat_map (data_at lowering) (enumerate_from (k + 1) xs)) here.next rest.next;
+            lowered = All-cons (IsLoweringOf lowering) (k, x) (enumerate_from (k + 1) xs) here.lowered rest.lowered;
+          })
+
+-- the blocks of a design
+module _ (d : Design) (bs : List Block) (nets start : ℕ) (first : Sheet) (pins_before : ℕ → ℕ) where
+  abbrev pub sheet_at : ℕ → Sheet
+  sheet_at k = fold (with_block nets start) first (take k bs)
+
+  unfoldable pub number_of : Numbering
+  number_of (Constant b) = constant_place b
+  number_of (Input i) = 2 + i
+  number_of (NetBit b) = nets + bit_number d b
+  number_of (Step k x j) = start + length (sheet_at k).cells + steps_before (lowereds_at bs k) x + j
+  number_of (Joined k zero) = 0
+  number_of (Joined k (suc x)) = start + length (sheet_at k).cells + steps_before (lowereds_at bs k) (length (lowereds_at bs k)) + x
+  number_of (Inverted k) = start + length (sheet_at k).cells + steps_before (lowereds_at bs k) (length (lowereds_at bs k)) + (length (lowereds_at bs k) - 1)
+  number_of (BoxPin b p) = start + pins_before b + p
+
+  pub block_puts : (k : ℕ) (b : Block) (s : Scope) (c : Construct) → slice_get bs k ≡ Some b → IsBlockOf d b (s, c) → HasInputs c
+      → Puts d (lowering_of bs) number_of nets start (k, (s, c)) (sheet_at k) (sheet_at (suc k))
+  unfolding number_of lowering_of
+  block_puts k b s c at is some = subst (Puts d (lowering_of bs) number_of nets start (k, (s, c)) (sheet_at k)) (sym (fold_at (with_block nets start) first bs k b at)) (by b.item refl is)
+    where
+      by : (o : Option Part) → b.item ≡ o → IsItemOf d b.site o (s, c) → Puts d (lowering_of bs) number_of nets start (k, (s, c)) (sheet_at k) (with_item nets start b.site (sheet_at k) o)
+      by None e same = subst (λ z. Puts d (lowering_of bs) number_of nets start (k, (s, z)) (sheet_at k) (sheet_at k)) (sym same) (record {
+        cells = sym (append-nil (sheet_at k).cells);
+        row = no_row number_of (start + length (sheet_at k).cells);
+        sources = refl;
+        next = refl;
+        lowered = All-nil _;
+      })
+      by (Some q) e stands =
+          let ls : lowereds_at bs k ≡ lowereds q = ap (λ (o : Option Block). option_map_or (λ (b : Block). block_lowereds b.item) o []) at ∙ ap block_lowereds e in
+          part_puts d (lowering_of bs) number_of nets start (λ b. refl) (λ b. refl) k s b.site stands.0 (sheet_at k) q c stands.1 (record {
+            is = λ x l there. ap (λ z. steps_of (slice_get z x)) ls ∙ ap steps_of there;
+            stands = λ x j. ap (λ z. start + length (sheet_at k).cells + steps_before z x + j) ls;
+            joins = λ i. ap (λ z. start + length (sheet_at k).cells + steps_before z (length z) + i) ls;
+            inverts = ap (λ z. start + length (sheet_at k).cells + steps_before z (length z) + (length z - 1)) ls;
+          }) some

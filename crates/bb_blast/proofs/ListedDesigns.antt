@@ -1,0 +1,277 @@
+-- The list of cells that is made by numbers is the list of cells of the design.
+use Rattle.std.proofs.Common.{◌≡◌, ℕ, suc, ◌+◌, ◌<◌, ◌^◌, Bool, true, false, List, [], ◌∷◌, ◌++◌, map, flat_map, take, length, replicate, Some, None, refl, sym, ap, ap₂, ◌∙◌, subst, arith, length-append}
+use Rattle.std.specs.Prelude.{slice_get}
+use Rattle.std.specs.List.{fold, enumerate_from, range_with_len}
+use Rattle.std.proofs.lemmas.List.{length-map, map-append, length-replicate, take_all}
+use Rattle.std.specs.List.Sorted.{IsPermutation}
+use Rattle.std.proofs.lemmas.List.Sorted.{IsPermutation-refl}
+use Rattle.std.proofs.lemmas.List.Sums.{fold-append}
+use Rattle.std.proofs.lemmas.Slice.Zip.{AllZip-long}
+use Rattle.std.proofs.lemmas.Option.{slice_get_within}
+use Rattle.bb_expr.specs.FitLaws.{NetNamesDiffer}
+use Rattle.bb_net.specs.declared.loose.LooseCell.{LooseCell}
+use Rattle.bb_net.specs.declared.loose.LooseCell.TheVariants as cell
+use Rattle.bb_net.specs.Loose.{LooseList}
+use Rattle.bb_blast.specs.declared.outline.Outline.{Outline}
+use Rattle.bb_blast.specs.declared.placed.Placed.{Placed}
+use Rattle.bb_blast.specs.declared.stored.Stored.{Stored}
+use Rattle.bb_design.specs.Hierarchy.{Design, root, boxes, scopes}
+use Rattle.bb_design.specs.NetBits.{Bit, scope_bits, net_order, input_bits, output_bits, top_inputs, top_outputs}
+use Rattle.bb_design.specs.Constructs.{parts}
+use Rattle.bb_blast.specs.Listing.{Sources, Sheet, Boxed, given_one, given_all, place_or_zero, in_row, constant_place, bit_count, input_numbers, boxed_in, sheet_on, cells_before, outs_of, finished, first_sources, listed}
+use Rattle.bb_design.specs.Allowed.{IsBounded}
+use Rattle.bb_blast.specs.Outlines.{IsOutline}
+use Rattle.bb_blast.specs.Placements.{ArePlaced, AreOutlined, AreStored, IsStoredAt}
+use Rattle.bb_cells.specs.Places.{Place, Constant, Input, NetBit, BoxPin, Numbering, Lowering, IsLowering, given_at, given_by_box, given, data_at, data_places, place_in, box_places, places_at, front_places, places, IsListOf}
+use Rattle.bb_design.specs.Registers.{RegisterBit, registers, cut_bits}
+use Rattle.bb_blast.proofs.BitNumbers.{bit_number, numbered, first_bits}
+use Rattle.bb_lists.proofs.Places.{there_at}
+use Rattle.bb_blast.proofs.GivenPlaces.{given_long, noted}
+use Rattle.bb_lists.proofs.Zips.{zip_other}
+use Rattle.bb_blast.proofs.ListedBlocks.{Block, IsBlockOf, with_block, blocks_of, scopes_fold, lowering_of, sheet_at, number_of, block_puts, PutAll, put_all}
+use Rattle.bb_blast.proofs.ListedBoxes.{PutsBoxes, boxes_put}
+use Rattle.bb_lists.proofs.Ranges.{length-range}
+use Rattle.bb_blast.proofs.ListedParts.{numbers_are, Puts, pair}
+use Rattle.bb_blast.proofs.ListedScopes.{has_inputs, blocks_are, boxes_are, counted}
+use Rattle.bb_blast.proofs.PlacesInRow.{Entry, AreInRow, both_rows, cells_in, rows_same, moved_row, row_of, same_zipped, cells_stand, map-same}
+use Rattle.bb_lists.proofs.Maps.{same_by_places, map-twice}
+use Rattle.bb_design.specs.DesignLaws.{DesignLaws}
+
+module _ (of_designs : DesignLaws) (names : NetNamesDiffer) (d : Design) (bounded : IsBounded d) (placed : List Placed) (are : ArePlaced d placed) (outlines : List Outline) (outlined : AreOutlined d placed outlines)
+    (stored : List Stored) (store : AreStored d stored) (p : Placed) (top : Outline) (first_at : slice_get placed 0 ≡ Some p) (top_at : slice_get outlines p.module ≡ Some top) (ins : List ℕ) (ins_are : ins ≡ input_numbers top stored)
+    (bits : ℕ) (bits_are : bits ≡ bit_count placed outlines) (nets : ℕ) (nets_are : nets ≡ 2 + length ins) (start : ℕ) (start_is : start ≡ nets + bits) where
+  abbrev boxed : Boxed
+  boxed = boxed_in nets start placed outlines (first_sources bits ins)
+
+  abbrev begun : Sheet
+  begun = record { cells = boxed.cells; sources = boxed.sources; next = replicate bits None }
+
+  abbrev blocks : List Block
+  blocks = flat_map (blocks_of placed outlines) placed
+
+  abbrev pins_before : ℕ → ℕ
+  pins_before n = length (flat_map output_bits (take n (boxes d)))
+
+  abbrev pub number : Numbering
+  number = number_of d blocks nets start begun pins_before
+
+  abbrev lowering : Lowering
+  lowering = lowering_of blocks
+
+  abbrev sheet : Sheet
+  sheet = sheet_on nets start placed outlines boxed (replicate bits None)
+
+  net_places : (b : Bit) → number (NetBit b) ≡ nets + bit_number d b
+  unfolding number_of
+  net_places b = refl
+
+  pins_stand : (n x : ℕ) → number (BoxPin n x) ≡ start + length (flat_map output_bits (take n (boxes d))) + x
+  unfolding number_of
+  pins_stand n x = refl
+
+  zero_is : number (Constant false) ≡ 0
+  unfolding number_of
+  zero_is = refl
+
+  constants_are : (b : Bool) → number (Constant b) ≡ constant_place b
+  unfolding number_of
+  constants_are b = refl
+
+  inputs_are : (i : ℕ) → number (Input i) ≡ 2 + i
+  unfolding number_of
+  inputs_are i = refl
+
+  top_outline : IsOutline d.text d.top top
+  top_outline =
+      let o = outlined 0 (root d) p refl first_at in
+      let same : o.0 ≡ top = grind (arith, o.1, top_at) in
+      subst (IsOutline d.text d.top) same o.2
+
+  -- the top begins with the first bit
+  top_first : (i : ℕ) (b : Bit) → slice_get (scope_bits (root d)) i ≡ Some b → bit_number d b ≡ 0 + i
+  top_first i b e = first_bits of_designs names d bounded placed are 0 (root d) p refl first_at i b e ∙ ap (λ n. n + i) (are.each 0 (root d) p refl first_at).first
+
+  bits_whole : bits ≡ length (net_order d)
+  bits_whole = bits_are ∙ counted of_designs names d bounded placed are outlines outlined
+
+  boxes_fit : PutsBoxes d lowering number nets start net_places 0 (boxes d) (record { cells = []; sources = first_sources bits ins; boxes = [] }) boxed
+  boxes_fit = boxes_put d lowering number nets start net_places outlines (boxes d) pins_stand (scopes d) placed [] (record { cells = []; sources = first_sources bits ins; boxes = [] }) are.count
+      (λ k s p at has. boxes_are of_designs names d bounded placed are outlines outlined lowering number nets start net_places (boxes d) pins_stand k s p at has)
+      (record { counted = refl; whole = refl; long = refl })
+
+  parts_fit : PutAll d lowering number nets start (sheet_at d blocks nets start begun pins_before) 0 (parts d) sheet
+  parts_fit =
+      subst (PutAll d lowering number nets start (sheet_at d blocks nets start begun pins_before) 0 (parts d)) last
+      (put_all d lowering number nets start (sheet_at d blocks nets start begun pins_before) 0 (parts d) (λ i x e.
+      let b = zip_other (IsBlockOf d) blocks (parts d) i x (blocks_are of_designs names d bounded placed are outlines outlined) e in
+      let none : i ≡ 0 + i = omega arith in
+      subst (λ n. Puts d lowering number nets start (n, x) (sheet_at d blocks nets start begun pins_before n) (sheet_at d blocks nets start begun pins_before (suc n))) none
+      (block_puts d blocks nets start begun pins_before i b.0 x.0 x.1 b.1 b.2 (has_inputs of_designs d bounded x.0 x.1 (there_at (parts d) i x e)))))
+    where
+      last : sheet_at d blocks nets start begun pins_before (0 + length (parts d)) ≡ sheet
+      last =
+          ap (fold (with_block nets start) begun) (take_all (0 + length (parts d)) blocks (omega (arith, AllZip-long (IsBlockOf d) blocks (parts d) (blocks_are of_designs names d bounded placed are outlines outlined))))
+          ∙ sym (scopes_fold nets start placed outlines begun placed)
+
+  abbrev noting : Bit × Place → ℕ × ℕ
+  noting = pair d lowering number nets start
+
+  -- what gives each bit
+
+  register_numbers : map (λ (x : Stored). 0 + x.bit) stored ≡ map (λ (r : RegisterBit). bit_number d r.bit) (registers d)
+  register_numbers = same_zipped (IsStoredAt d) (λ (x : Stored). 0 + x.bit) (λ (r : RegisterBit). bit_number d r.bit) stored (registers d) store (λ x r is. omega (arith, numbered of_designs names d bounded x.bit r.bit is.bit))
+
+  cut_numbers : map (λ i. 0 + i) ins ≡ map (bit_number d) (cut_bits d)
+  cut_numbers =
+      ap (map (λ i. 0 + i)) ins_are ∙ map-append (λ i. 0 + i) top.inputs.items (map (λ (x : Stored). x.bit) stored)
+      ∙ ap₂ ◌++◌ (sym (numbers_are (bit_number d) (scope_bits (root d)) 0 top_first top.inputs.items (input_bits (root d)) (top_outline.inputs [])))
+      (map-twice (λ (x : Stored). x.bit) (λ i. 0 + i) stored ∙ register_numbers ∙ sym (map-twice (λ (r : RegisterBit). r.bit) (bit_number d) (registers d)))
+      ∙ sym (map-append (bit_number d) (top_inputs d) (map (λ (r : RegisterBit). r.bit) (registers d)))
+
+  cut_long : length ins ≡ length (cut_bits d)
+  cut_long = sym (length-map ins (λ i. 0 + i)) ∙ ap length cut_numbers ∙ length-map (cut_bits d) (bit_number d)
+
+  abbrev given_inputs : List (Bit × Place)
+  given_inputs = map (λ x. (x.1, Input x.0)) (enumerate_from 0 (cut_bits d))
+
+  abbrev given_pins : List (Bit × Place)
+  given_pins = flat_map given_by_box (enumerate_from 0 (boxes d))
+
+  abbrev given_parts : List (Bit × Place)
+  given_parts = flat_map (given_at lowering) (enumerate_from 0 (parts d))
+
+  inputs_noted : in_row 0 ins 2 ≡ map noting given_inputs
+  inputs_noted =
+      rows_same (λ i. 0 + i) (bit_number d) (λ i. 2 + i) (λ i. number (Input i)) 0 ins (cut_bits d) cut_numbers (λ i. sym (inputs_are i))
+      ∙ sym (map-twice {B = Bit × Place} (λ (x : ℕ × Bit). (x.1, Input x.0)) noting (enumerate_from 0 (cut_bits d)))
+
+  joined : (xs ys : List (Bit × Place)) (a : Sources) → given_all (given_all a (map noting xs)) (map noting ys) ≡ given_all a (map noting (xs ++ ys))
+  joined xs ys a = sym (fold-append given_one a (map noting xs) (map noting ys)) ∙ ap (given_all a) (sym (map-append noting xs ys))
+
+  sources_are : sheet.sources ≡ given_all (replicate bits None) (map noting (given d lowering))
+  sources_are =
+      parts_fit.sources ∙ ap (λ a. given_all a (map noting given_parts)) (boxes_fit.sources ∙ ap (λ ws. given_all (given_all (replicate bits None) ws) (map noting given_pins)) inputs_noted ∙ joined given_inputs given_pins (replicate bits None))
+      ∙ joined (given_inputs ++ given_pins) given_parts (replicate bits None)
+
+  abbrev data_given : List (Bit × Place)
+  data_given = flat_map (data_at lowering) (enumerate_from 0 (parts d))
+
+  next_is : sheet.next ≡ given_all (replicate bits None) (map noting data_given)
+  next_is = parts_fit.next
+
+  sources_long : length sheet.sources ≡ length (net_order d)
+  sources_long = ap length sources_are ∙ given_long (map noting (given d lowering)) (replicate bits None) ∙ length-replicate bits None ∙ bits_whole
+
+  copies_are : map (λ x. cell.Copy (place_or_zero (Some x))) sheet.sources ≡ map (λ b. cell.Copy (number (place_in (given d lowering) b))) (net_order d)
+  copies_are = same_by_places (λ x. cell.Copy (place_or_zero (Some x))) (λ b. cell.Copy (number (place_in (given d lowering) b))) sheet.sources (net_order d) sources_long (λ k x b at has.
+      ap (λ z. cell.Copy (place_or_zero z)) (sym at ∙ ap (λ z. slice_get z k) sources_are)
+      ∙ ap cell.Copy (noted of_designs names d bounded lowering number nets start zero_is bits k b (omega (arith, slice_get_within (net_order d) k b has, bits_whole)) has (given d lowering)))
+
+  -- the front of the list
+
+  abbrev constant_entries : List Entry
+  constant_entries = (Constant false, cell.Const false) ∷ (Constant true, cell.Const true) ∷ []
+
+  abbrev input_entries : List Entry
+  input_entries = map (λ i. (Input i, cell.Input i)) (range_with_len 0 (length (cut_bits d)))
+
+  abbrev net_entries : List Entry
+  net_entries = map (λ b. (NetBit b, cell.Copy (number (place_in (given d lowering) b)))) (net_order d)
+
+  front_cells : cells_before (length ins) sheet.sources ≡ cells_in (front_places d lowering number)
+  front_cells =
+      ap (λ l. cell.Const false ∷ cell.Const true ∷ l) (ap₂ ◌++◌
+      (ap (λ n. map cell.Input (range_with_len 0 n)) cut_long ∙ sym (map-twice {B = Entry} (λ i. (Input i, cell.Input i)) (λ (e : Entry). e.1) (range_with_len 0 (length (cut_bits d)))))
+      (copies_are ∙ sym (map-twice {B = Entry} (λ b. (NetBit b, cell.Copy (number (place_in (given d lowering) b)))) (λ (e : Entry). e.1) (net_order d)))
+      ∙ sym (map-append (λ (e : Entry). e.1) input_entries net_entries))
+
+  inputs_long : length input_entries ≡ length ins
+  inputs_long = length-map {B = Entry} (range_with_len 0 (length (cut_bits d))) (λ i. (Input i, cell.Input i)) ∙ length-range 0 (length (cut_bits d)) ∙ sym cut_long
+
+  nets_long : length net_entries ≡ length (net_order d)
+  nets_long = length-map {B = Entry} (net_order d) (λ b. (NetBit b, cell.Copy (number (place_in (given d lowering) b))))
+
+  constant_row : AreInRow number 0 constant_entries
+  constant_row = record { row = ap₂ (λ (m n : ℕ). m ∷ n ∷ []) (constants_are false) (constants_are true) }
+
+  input_row : AreInRow number 2 input_entries
+  input_row = record {
+    row = map-twice {B = Entry} (λ i. (Input i, cell.Input i)) (λ (e : Entry). number e.0) (range_with_len 0 (length (cut_bits d))) ∙ map-same (λ i. number (Input i)) (λ i. 2 + i) inputs_are (range_with_len 0 (length (cut_bits d)))
+        ∙ moved_row 2 0 (length (cut_bits d)) ∙ ap (range_with_len 2) (cut_long_back ∙ sym inputs_long);
+  }
+    where
+      cut_long_back : length (cut_bits d) ≡ length ins
+      cut_long_back = sym cut_long
+
+  net_row : AreInRow number nets net_entries
+  net_row = record {
+    row = map-twice {B = Entry} (λ b. (NetBit b, cell.Copy (number (place_in (given d lowering) b)))) (λ (e : Entry). number e.0) (net_order d)
+        ∙ row_of (λ b. number (NetBit b)) (net_order d) nets (λ k b e. net_places b ∙ ap (λ n. nets + n) (numbered of_designs names d bounded k b e)) ∙ ap (range_with_len nets) (sym nets_long);
+  }
+
+  front_row : AreInRow number 0 (front_places d lowering number)
+  front_row = both_rows number 0 constant_entries (input_entries ++ net_entries) constant_row
+      (both_rows number 2 input_entries net_entries input_row (subst (λ n. AreInRow number n net_entries) (omega (arith, nets_are, inputs_long)) net_row))
+
+  front_long : length (front_places d lowering number) ≡ start
+  front_long = omega (arith, length-append input_entries net_entries, inputs_long, nets_long, nets_are, start_is, bits_whole)
+
+  -- the whole list
+
+  abbrev box_entries : List Entry
+  box_entries = flat_map box_places (enumerate_from 0 (boxes d))
+
+  abbrev part_entries : List Entry
+  part_entries = flat_map (places_at lowering number) (enumerate_from 0 (parts d))
+
+  box_long : length boxed.cells ≡ length box_entries
+  box_long = ap length boxes_fit.cells ∙ length-map {B = LooseCell} box_entries (λ (e : Entry). e.1)
+
+  all_row : AreInRow number 0 (places d lowering number)
+  all_row = both_rows number 0 (front_places d lowering number) (box_entries ++ part_entries) front_row
+      (both_rows number (0 + length (front_places d lowering number)) box_entries part_entries
+      (subst (λ n. AreInRow number n box_entries) (omega (arith, front_long)) boxes_fit.row) (subst (λ n. AreInRow number n part_entries) (omega (arith, front_long, box_long)) parts_fit.row))
+
+  cells_are : cells_before (length ins) sheet.sources ++ sheet.cells ≡ cells_in (places d lowering number)
+  cells_are =
+      ap₂ ◌++◌ front_cells (parts_fit.cells ∙ ap (λ c. c ++ cells_in part_entries) boxes_fit.cells ∙ sym (map-append (λ (e : Entry). e.1) box_entries part_entries))
+      ∙ sym (map-append (λ (e : Entry). e.1) (front_places d lowering number) (box_entries ++ part_entries))
+
+  outs_are : outs_of nets top stored sheet.next ≡ map (λ b. number (NetBit b)) (top_outputs d) ++ map number (data_places d lowering)
+  outs_are = ap₂ ◌++◌
+      (map-same (λ i. nets + i) (λ i. nets + (0 + i)) (λ i. omega arith) top.outputs.items ∙ sym (map-twice (λ i. 0 + i) (λ n. nets + n) top.outputs.items)
+      ∙ ap (map (λ n. nets + n)) (sym (numbers_are (bit_number d) (scope_bits (root d)) 0 top_first top.outputs.items (output_bits (root d)) (top_outline.outputs [])))
+      ∙ map-twice (bit_number d) (λ n. nets + n) (top_outputs d) ∙ map-same (λ b. nets + bit_number d b) (λ b. number (NetBit b)) (λ b. sym (net_places b)) (top_outputs d))
+      (same_zipped (IsStoredAt d) (λ (x : Stored). place_or_zero (slice_get sheet.next x.bit)) (λ (r : RegisterBit). number (place_in data_given r.bit)) stored (registers d) store (λ x r is.
+      ap (λ z. place_or_zero (slice_get z x.bit)) next_is
+      ∙ noted of_designs names d bounded lowering number nets start zero_is bits x.bit r.bit (omega (arith, slice_get_within (net_order d) x.bit r.bit is.bit, bits_whole)) is.bit data_given)
+      ∙ sym (map-twice (λ (r : RegisterBit). place_in data_given r.bit) number (registers d)))
+
+  pub is_lowering : IsLowering d lowering
+  is_lowering = parts_fit.lowered
+
+  pub is_list : length (cells_before (length ins) sheet.sources ++ sheet.cells) < 2 ^ 32 → IsListOf d lowering (finished (length ins) nets top stored boxed.boxes sheet)
+  is_list fits = record {
+    number = number;
+    inputs = cut_long;
+    front = front_row.row;
+    numbers = subst (IsPermutation (map (λ (x : Entry). number x.0) (places d lowering number))) (all_row.row ∙ ap (range_with_len 0) (sym (length-map {B = LooseCell} (places d lowering number) (λ (e : Entry). e.1)) ∙ ap length (sym cells_are)))
+        (IsPermutation-refl (map (λ (x : Entry). number x.0) (places d lowering number)));
+    cells = cells_stand number (places d lowering number) (finished (length ins) nets top stored boxed.boxes sheet) all_row cells_are;
+    boxes = boxes_fit.boxes;
+    outs = outs_are;
+    fits = fits;
+  }
+
+module _ (of_designs : DesignLaws) where
+  pub listed_is_list : NetNamesDiffer → (d : Design) (placed : List Placed) (outlines : List Outline) (stored : List Stored) (p : Placed) (top : Outline) (l : LooseList) → l ≡ listed placed outlines stored top → length l.cells < 2 ^ 32
+      → slice_get placed 0 ≡ Some p → slice_get outlines p.module ≡ Some top → ArePlaced d placed → AreOutlined d placed outlines → AreStored d stored → IsBounded d → (lowering : Lowering) × IsLowering d lowering × IsListOf d lowering l
+  listed_is_list names d placed outlines stored p top l is fits first_at top_at are outlined store bounded =
+      let ins = input_numbers top stored in
+      let bits = bit_count placed outlines in
+      let nets = 2 + length ins in (
+        lowering of_designs names d bounded placed are outlines outlined stored store p top first_at top_at ins refl bits refl nets refl (nets + bits) refl,
+        is_lowering of_designs names d bounded placed are outlines outlined stored store p top first_at top_at ins refl bits refl nets refl (nets + bits) refl,
+        subst (IsListOf d (lowering of_designs names d bounded placed are outlines outlined stored store p top first_at top_at ins refl bits refl nets refl (nets + bits) refl)) (sym is)
+            (is_list of_designs names d bounded placed are outlines outlined stored store p top first_at top_at ins refl bits refl nets refl (nets + bits) refl (subst (λ (z : LooseList). length z.cells < 2 ^ 32) is fits)),
+      )

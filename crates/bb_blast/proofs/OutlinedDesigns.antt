@@ -1,0 +1,176 @@
+-- The scopes of a small design by numbers tell of modules of which outlines can be made.
+use Rattle.std.proofs.Common.{◌≡◌, ◌⊎◌, ℕ, ◌+◌, ◌<◌, ◌≤◌, Bool, true, false, not, ◌&&◌, if◌then◌else◌, List, [], ◌∷◌, map, length, Contains, Option, Some, None, refl, sym, ap, ◌∙◌, subst, inl, inr, arith, true≢false, length-append}
+use Rattle.std.specs.Prelude.{All, IsSomeAnd, is_none, slice_get, sum_by}
+use Rattle.std.specs.List.{AllZip, flat_map, list_all}
+use Rattle.std.proofs.lemmas.List.{length-map}
+use Rattle.std.proofs.lemmas.List.Folds.{length-flat_map-take}
+use Rattle.std.proofs.lemmas.List.Sums.{get_or-le-sum_by, sum_by-cons}
+use Rattle.std.proofs.lemmas.Option.{slice_get_within, get_or_from_slice_get, same_Some}
+use Rattle.std.proofs.lemmas.Slice.Zip.{AllZip-long}
+use Rattle.bb_ast.specs.Syntax.{Expression, PlainConns, PlainBody, Ports, Nets, Regs, Supply, Assign, Gates, Calls, Always, PlainItem, PlainModule}
+use Rattle.bb_names.specs.Checked.{ModuleFacts, syntax, IsChecked}
+use Rattle.bb_names.specs.Declarations.{is_port}
+use Rattle.bb_names.specs.Nets.{nets_of, is_of_empty, is_empty}
+use Rattle.bb_names.specs.Spots.{module_named}
+use Rattle.bb_parse.specs.Laws.{TextsAreLong}
+use Rattle.bb_parse.specs.Sizes.{call_size, item_size, module_size}
+use Rattle.bb_blast.specs.declared.placed.Placed.{Placed}
+use Rattle.bb_design.specs.Constructs.{Construct, Assignment, GateInstance, Register, SupplyNet, InputConnection, OutputConnection, BoxContents, initial_construct, body_constructs, constructs_at, parts}
+use Rattle.bb_design.specs.Hierarchy.{Design, Scope, Instance, instance_of, instances_in, instances_of, scopes, path_to, is_top, is_box}
+use Rattle.bb_design.specs.NetBits.{scope_bits}
+use Rattle.bb_blast.specs.Outlining.{module_in, scope_of, module_constructs, bit_count, IsTargetAt, IsSited}
+use Rattle.bb_blast.specs.Placements.{IsScopeAt, IsPlacedAt, IsChildAt, ArePlaced}
+use Rattle.bb_design.specs.Reading.{cells_at}
+use Rattle.bb_design.specs.Refusals.{IsSmall}
+use Rattle.bb_design.specs.Sizes.{cell_count_at, cells_in, bits_and_instances}
+use Rattle.bb_lists.proofs.Places.{there_at, got-map, some_at}
+use Rattle.bb_lists.proofs.Members.{from_flat, contains-map, into_flat, none_in_nil, contains_cases}
+use Rattle.bb_blast.proofs.ModulePlaces.{module-is}
+use Rattle.bb_blast.proofs.NetNumbers.{bits-long}
+
+zip_weaker : {A B : Type 0} (R S : A → B → Type 0) → ((x : A) (y : B) → R x y → S x y) → (xs : List A) (ys : List B) → AllZip R xs ys → AllZip S xs ys
+zip_weaker R S to [] [] zip = tt
+zip_weaker R S to [] (y ∷ ys) zip = zip
+zip_weaker R S to (x ∷ xs) [] zip = zip
+zip_weaker R S to (x ∷ xs) (y ∷ ys) zip = (to x y zip.0, zip_weaker R S to xs ys zip.1)
+
+-- the module at a place of the text
+pub meant_at : (checked : List ModuleFacts) (k : ℕ) (m : PlainModule) → slice_get (map syntax checked) k ≡ Some m → (k < length checked) × (module_in checked k ≡ m)
+meant_at checked k m there =
+    let lt : k < length checked = omega (arith, slice_get_within (map syntax checked) k m there, length-map checked syntax) in
+    let f = some_at checked k lt in
+    (lt, module-is checked k f.0 f.1 ∙ same_Some (syntax f.0) m (sym (got-map syntax checked k f.0 f.1) ∙ there))
+
+-- no construct stands in an empty module
+all_true : {A : Type 0} (test : A → Bool) (xs : List A) → list_all test xs ≡ true → (x : A) → Contains xs x → test x ≡ true
+all_true test [] e x has = absurd (none_in_nil x has)
+all_true test (y ∷ ys) e x has = by (test y) refl e (contains_cases y ys x has) (all_true test ys)
+  where
+    by : (b : Bool) → test y ≡ b → (b && list_all test ys) ≡ true → (y ≡ x) ⊎ Contains ys x → (list_all test ys ≡ true → (z : _) → Contains ys z → test z ≡ true) → test x ≡ true
+    by true on h (inl same) rest = ap test (sym same) ∙ on
+    by true on h (inr more) rest = rest h x more
+    by false off h at rest = absurd (true≢false (sym h))
+
+and_first : (a b : Bool) → (a && b) ≡ true → a ≡ true
+and_first true b e = refl
+and_first false b e = absurd (true≢false (sym e))
+
+and_second : (a b : Bool) → (a && b) ≡ true → b ≡ true
+and_second true b e = e
+and_second false b e = absurd (true≢false (sym e))
+
+open_initial : (x : List ℕ × Option Expression) (port : Bool) → (is_none x.1 && port) ≡ true → (c : Construct) → Contains (initial_construct x) c → ⊥
+open_initial (n, None) port e c has = none_in_nil c has
+open_initial (n, Some y) port e c has = true≢false (sym e)
+
+open_body : (text : List PlainModule) (m : PlainModule) (body : PlainBody) → is_of_empty m body ≡ true → (c : Construct) → Contains (body_constructs text body) c → ⊥
+open_body text m (Ports port names) e c has = none_in_nil c has
+open_body text m (Nets range nets) e c has =
+    let x = from_flat initial_construct nets c has in
+    open_initial x.0 (is_port m x.0.0) (all_true (λ x. is_none x.1 && is_port m x.0) nets e x.0 x.1) c x.2
+open_body text m (Regs range names) e c has = none_in_nil c has
+open_body text m (Supply high range names) e c has = true≢false (sym e)
+open_body text m (Assign all) e c has = true≢false (sym e)
+open_body text m (Gates gate all) e c has = true≢false (sym e)
+open_body text m (Calls target calls) e c has = true≢false (sym e)
+open_body text m (Always r) e c has = true≢false (sym e)
+
+empty_none : (text : List PlainModule) (m : PlainModule) → is_empty m ≡ true → (c : Construct) → Contains (module_constructs text m) c → ⊥
+empty_none text m e c has =
+    let item = from_flat (λ item. body_constructs text item.body) m.items c has in
+    open_body text m item.0.body (all_true (λ (item : PlainItem). is_of_empty m item.body) m.items e item.0 item.1) c item.2
+
+-- how many cells a construct makes does not depend on the scope
+same_cells : (s : Scope) (c : Construct) → length (cells_at (scope_of s.source, c)) ≤ cell_count_at (s, c)
+same_cells s (Assignment left right) = omega arith
+same_cells s (GateInstance gate outs ins) = omega arith
+same_cells s (Register r) = omega arith
+same_cells s (SupplyNet high n) = omega arith
+same_cells s (InputConnection i pin e) = omega arith
+same_cells s (OutputConnection i pin e) = omega arith
+same_cells s BoxContents = omega arith
+
+le_sum : {A : Type 0} (f : A → ℕ) (xs : List A) (x : A) → Contains xs x → f x ≤ sum_by f xs
+le_sum f xs x has = subst (λ y. f y ≤ sum_by f xs) has.2 (get_or-le-sum_by f xs has.0 x has.1)
+
+module _ (d : Design) (k : ℕ) (s : Scope) (at : IsScopeAt d k s) where
+  bits_few : (limit : ℕ) → bits_and_instances d ≤ limit → bit_count (nets_of s.source) ≤ limit
+  bits_few limit small =
+      omega (arith, small, bits-long s.path (nets_of s.source), length-flat_map-take scope_bits (scopes d) k s (slice_get_within (scopes d) k s at), ap (λ (x : Scope). length (scope_bits x)) (get_or_from_slice_get (scopes d) k s s at))
+
+  cells_few : (limit : ℕ) → cells_in d ≤ limit → (c : Construct) → Contains (module_constructs d.text s.source) c → length (cells_at (scope_of s.source, c)) ≤ limit
+  cells_few limit small c has = by (is_box s) refl
+    where
+      by : (b : Bool) → is_box s ≡ b → length (cells_at (scope_of s.source, c)) ≤ limit
+      by true box = absurd (empty_none d.text s.source (and_second (not (is_top s.path)) (is_empty s.source) box) c has)
+      by false plain =
+          let here : constructs_at d.text s ≡ module_constructs d.text s.source = ap (λ b. if b then BoxContents ∷ [] else module_constructs d.text s.source) plain in
+          let part : Contains (parts d) (s, c) = into_flat (λ s. map (λ c. (s, c)) (constructs_at d.text s)) (scopes d) s (s, c) (there_at (scopes d) k s at) (contains-map (λ c. (s, c)) (constructs_at d.text s) c (subst (λ l. Contains l c) (sym here) has)) in
+          omega (arith, small, same_cells s c, le_sum cell_count_at (parts d) (s, c) part)
+
+-- a text has no more instances than bytes
+calls_few : (target : List ℕ) (calls : List (List ℕ × PlainConns)) → length (map (instance_of target) calls) ≤ sum_by call_size calls
+calls_few target [] = omega arith
+calls_few target (x ∷ xs) = omega (arith, calls_few target xs, sum_by-cons call_size x xs)
+
+body_few : (body : PlainBody) → length (instances_in body) ≤ item_size body
+body_few (Ports port names) = omega arith
+body_few (Nets range nets) = omega arith
+body_few (Regs range names) = omega arith
+body_few (Supply high range names) = omega arith
+body_few (Assign all) = omega arith
+body_few (Gates gate all) = omega arith
+body_few (Calls target calls) = calls_few target calls
+body_few (Always r) = omega arith
+
+items_few : (items : List PlainItem) → length (flat_map (λ item. instances_in item.body) items) ≤ sum_by (λ item. item_size item.body) items
+items_few [] = omega arith
+items_few (x ∷ xs) = omega (arith, length-append (instances_in x.body) (flat_map (λ (item : PlainItem). instances_in item.body) xs), body_few x.body, items_few xs, sum_by-cons (λ (item : PlainItem). item_size item.body) x xs)
+
+modules_few : (text : List PlainModule) → length text ≤ sum_by (λ m. 2 + module_size m) text
+modules_few [] = omega arith
+modules_few (m ∷ ms) = omega (arith, modules_few ms, sum_by-cons (λ (m : PlainModule). 2 + module_size m) m ms)
+
+module _ (checked : List ModuleFacts) (ok : IsChecked checked) (long : TextsAreLong) where
+  pub text_small : length checked ≤ 33554432
+  text_small = omega (arith, ok.read.1, long ok.read.0 (map syntax checked) ok.read.2, modules_few (map syntax checked), length-map checked syntax)
+
+  instances_small : (m : PlainModule) → Contains (map syntax checked) m → length (instances_of m) ≤ 33554432
+  instances_small m has = omega (arith, ok.read.1, long ok.read.0 (map syntax checked) ok.read.2, le_sum (λ (m : PlainModule). 2 + module_size m) (map syntax checked) m has, items_few m.items)
+
+  module _ (all : List Placed) (d : Design) (text : d.text ≡ map syntax checked) (are : ArePlaced d all) where
+    pub scope_there : (k : ℕ) (p : Placed) → slice_get all k ≡ Some p → (s : Scope) × IsScopeAt d k s × IsPlacedAt d k s p
+    scope_there k p e =
+        let s = some_at (scopes d) k (omega (arith, slice_get_within all k p e, are.count)) in
+        (s.0, s.1, are.each k s.0 p s.1 e)
+
+    pub source_meant : (k : ℕ) (s : Scope) (p : Placed) → IsScopeAt d k s → slice_get all k ≡ Some p → (p.module < length checked) × (module_in checked p.module ≡ s.source)
+    source_meant k s p at e = meant_at checked p.module s.source (ap (λ l. slice_get l p.module) (sym text) ∙ (are.each k s p at e).source)
+
+    child_target : (s : Scope) (k : ℕ) (i : Instance) → IsChildAt d s k i → IsTargetAt checked all k i
+    child_target s k i child =
+        let q = some_at all k (omega (arith, slice_get_within (scopes d) k _ child.2, are.count)) in
+        let meant = source_meant k (record { path = path_to s.path i.name; source = child.0 }) q.0 child.2 q.1 in
+        subst (λ o. IsSomeAnd o (λ (q : Placed). module_named (map syntax checked) i.target ≡ Some (module_in checked q.module))) (sym q.1)
+        (ap (λ l. module_named l i.target) (sym text) ∙ child.1 ∙ ap Some (sym meant.1))
+
+    pub all_sited : IsSmall d → All (IsSited checked all) all
+    all_sited small k e lt =
+        let p = some_at all k lt in
+        subst (IsSited checked all) (sym (get_or_from_slice_get all k p.0 e p.1)) (sited p.0 p.1)
+      where
+        sited : (p : Placed) → slice_get all k ≡ Some p → IsSited checked all p
+        sited p here =
+            let s = scope_there k p here in
+            let meant = source_meant k s.0 p s.1 here in
+            let children : AllZip (IsTargetAt checked all) p.children.items (instances_of s.0.source) = zip_weaker (IsChildAt d s.0) (IsTargetAt checked all) (child_target s.0) p.children.items (instances_of s.0.source) s.2.children in
+            let in_text : Contains (map syntax checked) s.0.source = there_at (map syntax checked) p.module s.0.source (ap (λ l. slice_get l p.module) (sym text) ∙ s.2.source) in
+            record {
+              there = meant.0;
+              modest = record {
+                bits = subst (λ m. bit_count (nets_of m) ≤ 1000000) (sym meant.1) (bits_few d k s.0 s.1 1000000 small.0);
+                cells = λ c has. subst (λ m. length (cells_at (scope_of m, c)) ≤ 2000000) (sym meant.1) (cells_few d k s.0 s.1 2000000 small.1 c (subst (λ t. Contains (module_constructs t s.0.source) c) (sym text) (subst (λ m. Contains (module_constructs (map syntax checked) m) c) meant.1 has)));
+              };
+              few = omega (arith, AllZip-long (IsTargetAt checked all) p.children.items (instances_of s.0.source) children, instances_small s.0.source in_text);
+              children = subst (λ m. AllZip (IsTargetAt checked all) p.children.items (instances_of m)) (sym meant.1) children;
+            }

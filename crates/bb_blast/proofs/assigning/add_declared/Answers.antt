@@ -1,0 +1,19 @@
+use Rattle.bb_blast.specs.declared.outline.Part.{Part}
+use Rattle.std.proofs.Common.{◌≡◌, List, ◌++◌, [], ◌∷◌, sym, ap, subst}
+use Rattle.std.specs.List.{AllZip}
+use Rattle.bb_ast.specs.Syntax.{Net}
+use Rattle.bb_ast.specs.Views.{expression, optional_view, named_view}
+use Rattle.bb_design.specs.Constructs.{Assignment, initial_construct}
+use Rattle.bb_blast.specs.Outlining.{IsPartAt}
+use Rattle.bb_lists.proofs.Turns.{zip_both}
+use Rattle.bb_blast.proofs.assigning.add_declared.Goals as goal
+
+pub returns-in_ok-push : goal.returns-in_ok-push
+returns-in_ok-push c =
+    let r = IsPartAt c.args.checked.now c.args.module in
+    let one = Assignment (Net c.args.net.now.0) (expression c.in-Some.right) in
+    let here : initial_construct (named_view c.args.net.now) ≡ one ∷ [] = ap (λ o. initial_construct (c.args.net.now.0, optional_view o)) c.in-Some.is in
+    record {
+      parts = λ before all. subst (λ l. AllZip r c.push.new.self.items (before ++ l)) (sym here) (subst (λ l. AllZip r l (before ++ one ∷ [])) (sym {A = List Part} c.in_ok-push.ensures.items)
+          (zip_both r c.args.parts.now.items before (c.in_ok-declared_assignment.field-0 ∷ []) (one ∷ []) all (c.in_ok-declared_assignment.ensures.part, tt)));
+    }

@@ -1,0 +1,14 @@
+use Rattle.std.proofs.Common.{◌++◌, ℕ, List, map, take}
+use Rattle.std.specs.List.{AllZip, flat_map}
+use Rattle.bb_ast.specs.Views.{call_view}
+use Rattle.bb_names.specs.Checked.{syntax}
+use Rattle.bb_names.specs.Spots.{module_named}
+use Rattle.bb_design.specs.Constructs.{Construct, connections}
+use Rattle.bb_design.specs.Hierarchy.{instance_of}
+use Rattle.bb_blast.specs.Outlining.{AreCallsAt, IsPartAt}
+use Rattle.bb_blast.proofs.calling.add_calls.Given as goal
+
+abbrev pub invariant-loop-k : goal.invariant-loop-k
+invariant-loop-k l = (n : List ℕ) → AreCallsAt l.checked l.module l.targets l.first (map (instance_of n) (map call_view l.calls))
+    → (before : List Construct) → AllZip (IsPartAt l.checked l.module) l.initial.parts.items before
+    → AllZip (IsPartAt l.checked l.module) l.parts.items (before ++ flat_map (connections (module_named (map syntax l.checked) n)) (map call_view (take l.k l.calls)))

@@ -1,0 +1,12 @@
+use Rattle.std.proofs.Common.{◌++◌, List, Some, map, take}
+use Rattle.std.specs.List.{AllZip}
+use Rattle.bb_ast.specs.Syntax.{Named}
+use Rattle.bb_ast.specs.Views.{named_view}
+use Rattle.bb_design.specs.Constructs.{Construct, connections}
+use Rattle.bb_design.specs.Hierarchy.{Instance}
+use Rattle.bb_blast.specs.Outlining.{IsCallAt, IsPartAt, module_in}
+use Rattle.bb_blast.proofs.calling.add_named.Given as goal
+
+abbrev pub invariant-loop-port : goal.invariant-loop-port
+invariant-loop-port l = (called : Instance) → IsCallAt l.checked l.module l.instance l.target called → (before : List Construct) → AllZip (IsPartAt l.checked l.module) l.initial.parts.items before
+    → AllZip (IsPartAt l.checked l.module) l.parts.items (before ++ connections (Some (module_in l.checked l.target)) (called.name, Named (map named_view (take l.port-index l.all))))

@@ -1,0 +1,7 @@
+use Rattle.std.proofs.Common.{[]}
+use Rattle.bb_names.specs.Checked.{module_facts, syntax}
+use Rattle.bb_blast.proofs.LeftBits.{bits_none}
+use Rattle.bb_blast.proofs.left_bits.left_bits.Goals as goal
+
+pub returns : goal.returns
+returns c = record { bits = c.in_ok-add_left.ensures (λ s. []) (bits_none (syntax (module_facts c.args.scope.now)) c.new-numbers.result.items c.new-numbers.ensures.items) }

@@ -1,0 +1,5 @@
+pub mod Listing
+pub mod ModuleLaws
+pub mod Outlines
+pub mod Outlining
+pub mod Placements

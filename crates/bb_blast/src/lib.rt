@@ -1,0 +1,31 @@
+//! A design as numbered bits, once for all instances of a module, and the cells of all its scopes as one list.
+#![tactic(auto)]
+
+mod assigning;
+mod box_cells;
+mod calling;
+mod connecting;
+mod expression_steps;
+mod gate_cells;
+mod gating;
+pub mod laws;
+mod left_bits;
+mod listing;
+mod module_parts;
+mod net_starts;
+mod outline;
+mod outlining;
+mod part_cells;
+mod placed;
+mod sources;
+mod step_cells;
+mod stored;
+
+pub use box_cells::moved;
+pub use listing::list_cells;
+pub use outline::{Outline, Part};
+pub use outlining::outlines_of;
+pub use part_cells::outline_of;
+pub use placed::{Instance, Placed};
+pub use sources::{behind, count_of};
+pub use stored::Stored;

@@ -1,0 +1,58 @@
+-- The list of cells of a design begins with the constants and the inputs.
+use Rattle.std.proofs.Common.{◌≡◌, ℕ, zero, suc, ◌+◌, ◌≤◌, true, false, List, [], ◌∷◌, ◌++◌, map, take, drop, length, get_or, Contains, refl, sym, ap, ap₂, ◌∙◌, arith, length-append}
+use Rattle.std.specs.List.{range_with_len}
+use Rattle.std.proofs.lemmas.List.{length-map}
+use Rattle.std.proofs.lemmas.List.Elements.{All-contains, Contains-append_left}
+use Rattle.std.proofs.lemmas.List.Sorted.{length_permutation}
+use Rattle.bb_net.specs.declared.loose.LooseCell.{LooseCell}
+use Rattle.bb_net.specs.declared.loose.LooseCell.TheVariants as cell
+use Rattle.bb_net.specs.Loose.{LooseList, loose_at}
+use Rattle.bb_design.specs.Hierarchy.{Design}
+use Rattle.bb_design.specs.NetBits.{net_order}
+use Rattle.bb_design.specs.Registers.{cut_bits}
+use Rattle.bb_cells.specs.Places.{Place, Constant, Input, NetBit, Numbering, Lowering, IsListOf, place_in, given, operator_places, places}
+use Rattle.bb_cells.specs.ListLaws.{ListsBegin}
+use Rattle.bb_lists.proofs.Members.{contains_here, contains_there}
+use Rattle.bb_lists.proofs.Ranges.{length-range}
+
+taken : (value : ℕ → LooseCell) (a : ℕ) (cells : List LooseCell) (n : ℕ) → n ≤ length cells → ((k : ℕ) → value (a + k) ≡ get_or cells k (cell.Const false)) → take n cells ≡ map value (range_with_len a n)
+taken value a [] zero fits h = refl
+taken value a (c ∷ cs) zero fits h = refl
+taken value a [] (suc n) fits h = absurd (omega (arith, fits))
+taken value a (c ∷ cs) (suc n) fits h = ap₂ ◌∷◌ (sym (ap value (omega arith) ∙ h 0)) (taken value (a + 1) cs n (omega (arith, fits)) (λ k. ap value (omega arith) ∙ h (suc k)))
+
+numbered_front : (value : ℕ → LooseCell) (number : Numbering) (xs ys : List (Place × LooseCell)) (a : ℕ) → map (λ x. number x.0) (xs ++ ys) ≡ range_with_len a (length (xs ++ ys)) → ((x : Place × LooseCell) → Contains (xs ++ ys) x → value (number x.0) ≡ x.1)
+    → map value (range_with_len a (length xs)) ≡ map (λ x. x.1) xs
+numbered_front value number [] ys a e h = refl
+numbered_front value number (x ∷ xs) ys a e h =
+    let here : number x.0 ≡ a = ap (λ l. get_or l 0 0) e in
+    ap₂ ◌∷◌ (ap value (sym here) ∙ h x (contains_here x (xs ++ ys))) (numbered_front value number xs ys (a + 1) (ap (drop 1) e) (λ y has. h y (contains_there x (xs ++ ys) y has)))
+
+input_cells : (ks : List ℕ) → map (λ (x : Place × LooseCell). x.1) (map (λ i. (Input i, cell.Input i)) ks) ≡ map cell.Input ks
+input_cells [] = refl
+input_cells (k ∷ ks) = ap (λ l. cell.Input k ∷ l) (input_cells ks)
+
+-- what stands in the front has its place in the list
+pub front_fits : (d : Design) (lowering : Lowering) (l : LooseList) → IsListOf d lowering l → (2 + length (cut_bits d)) + length (net_order d) ≤ length l.cells
+front_fits d lowering l list =
+    let n = length (cut_bits d) in
+    let inputs : List (Place × LooseCell) = map (λ i. (Input i, cell.Input i)) (range_with_len 0 n) in
+    let first : List (Place × LooseCell) = (Constant false, cell.Const false) ∷ (Constant true, cell.Const true) ∷ inputs in
+    let nets : List (Place × LooseCell) = map (λ b. (NetBit b, cell.Copy (list.number (place_in (given d lowering) b)))) (net_order d) in
+    let long : length first ≡ 2 + n = omega (arith, length-map {B = Place × LooseCell} (range_with_len 0 n) (λ i. (Input i, cell.Input i)), length-range 0 n) in
+    let bits : length nets ≡ length (net_order d) = length-map {B = Place × LooseCell} (net_order d) (λ b. (NetBit b, cell.Copy (list.number (place_in (given d lowering) b)))) in
+    let all : length (map (λ x. list.number x.0) (places d lowering list.number)) ≡ length l.cells = sym (length_permutation (map (λ x. list.number x.0) (places d lowering list.number)) (range_with_len 0 (length l.cells)) list.numbers) ∙ length-range 0 (length l.cells) in
+    omega (arith, all, long, bits, length-map (places d lowering list.number) (λ x. list.number x.0), length-append (first ++ nets) (operator_places d lowering list.number), length-append first nets)
+
+pub lists_begin : ListsBegin
+lists_begin d lowering l list =
+    let n = length (cut_bits d) in
+    let inputs : List (Place × LooseCell) = map (λ i. (Input i, cell.Input i)) (range_with_len 0 n) in
+    let first : List (Place × LooseCell) = (Constant false, cell.Const false) ∷ (Constant true, cell.Const true) ∷ inputs in
+    let nets : List (Place × LooseCell) = map (λ b. (NetBit b, cell.Copy (list.number (place_in (given d lowering) b)))) (net_order d) in
+    let long : length first ≡ l.inputs + 2 = omega (arith, length-map {B = Place × LooseCell} (range_with_len 0 n) (λ i. (Input i, cell.Input i)), length-range 0 n, list.inputs) in
+    let fits : l.inputs + 2 ≤ length l.cells = omega (arith, front_fits d lowering l list, list.inputs) in
+    taken (loose_at l) 0 l.cells (l.inputs + 2) fits (λ k. ap (loose_at l) (omega arith))
+    ∙ ap (λ k. map (loose_at l) (range_with_len 0 k)) (sym long)
+    ∙ numbered_front (loose_at l) list.number first nets 0 list.front (λ x has. All-contains (λ x. loose_at l (list.number x.0) ≡ x.1) (places d lowering list.number) x list.cells (Contains-append_left (first ++ nets) (operator_places d lowering list.number) x has))
+    ∙ ap (λ r. cell.Const false ∷ cell.Const true ∷ r) (input_cells (range_with_len 0 n) ∙ ap (λ k. map cell.Input (range_with_len 0 k)) (sym list.inputs))

@@ -1,0 +1,10 @@
+pub mod AlikeNets
+pub mod CellLaws
+pub mod ContentTables
+pub mod CopyLaws
+pub mod ListLaws
+pub mod LoopLaws
+pub mod NamingLaws
+pub mod Places
+pub mod ReadPlaces
+pub mod Stands

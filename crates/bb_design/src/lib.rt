@@ -1,0 +1,8 @@
+//! What a design is and means: the hierarchy of a checked source, its bits, drivers, reads, worlds and refusals, as definitions
+//! and laws.
+#![tactic(auto)]
+
+mod fault;
+pub mod laws;
+
+pub use fault::ElabFault;

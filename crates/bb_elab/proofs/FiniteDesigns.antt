@@ -1,0 +1,10 @@
+-- Of a finite design no cause before the drivers holds.
+use Rattle.bb_design.specs.Hierarchy.{Design}
+use Rattle.bb_design.specs.Refusals.{Recursion, Depth, Size}
+use Rattle.bb_design.specs.CauseLaws.{AreClear}
+use Rattle.bb_hier.specs.Finite.{IsFinite}
+use Rattle.bb_design.specs.DesignLaws.{DesignLaws}
+
+module _ (of_designs : DesignLaws) where
+  pub finite_clear : (d : Design) → IsFinite d → AreClear d 3
+  finite_clear d finite = (of_designs.causes d).next Size ((of_designs.causes d).next Depth ((of_designs.causes d).next Recursion ((of_designs.causes d).first) finite.hierarchy) finite.bounded.shallow) finite.bounded.small

@@ -1,7 +1,0 @@
-use Rattle.std.proofs.Common.{◌≡◌, ◌++◌, map}
-use Rattle.std.specs.List.{range_with_len}
-use Rattle.bb_net.specs.declared.loose.LooseCell.TheVariants as cell
-use Rattle.bb_elab.proofs.box_cells.add_outputs.Given as goal
-
-abbrev pub invariant-loop : goal.invariant-loop
-invariant-loop l = (l.cells.items ≡ l.initial.cells.items ++ map (cell.BoxOut l.b) (range_with_len 0 l.counter)) × (l.pin ≡ l.counter)

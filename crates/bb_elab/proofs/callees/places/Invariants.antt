@@ -1,9 +1,0 @@
-use Rattle.std.proofs.Common.{◌≡◌, ℕ, List, map, take}
-use Rattle.std.specs.Map.{lookup}
-use Rattle.bb_bits.specs.Names.{same_name}
-use Rattle.bb_expr.specs.Checked.{module_facts, syntax}
-use Rattle.bb_elab.specs.Callees.{place_named}
-use Rattle.bb_elab.proofs.callees.places.Given as goal
-
-abbrev pub invariant-loop-k : goal.invariant-loop-k
-invariant-loop-k l = (n : List ℕ) → lookup (same_name n) l.places.entries ≡ place_named (map syntax (map module_facts (take l.k l.modules))) n

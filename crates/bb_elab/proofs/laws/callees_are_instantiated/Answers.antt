@@ -1,5 +1,0 @@
-use Rattle.bb_elab.proofs.CalleeLaw.{callees_are_instantiated}
-use Rattle.bb_elab.proofs.laws.callees_are_instantiated.Goals as goal
-
-pub returns : goal.returns
-returns c = callees_are_instantiated

@@ -1,5 +1,0 @@
-use Rattle.bb_elab.proofs.RefusalLaws.{first_refusals_are_one}
-use Rattle.bb_elab.proofs.laws.first_refusals_are_one.Goals as goal
-
-pub returns : goal.returns
-returns c = first_refusals_are_one

@@ -1,5 +1,0 @@
-use Rattle.bb_elab.proofs.RefusalLaws.{not_sound_and_refused}
-use Rattle.bb_elab.proofs.laws.not_sound_and_refused.Goals as goal
-
-pub returns : goal.returns
-returns c = not_sound_and_refused

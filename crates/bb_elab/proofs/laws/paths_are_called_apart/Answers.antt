@@ -1,5 +1,0 @@
-use Rattle.bb_elab.proofs.TextLaws.{paths_are_called_apart}
-use Rattle.bb_elab.proofs.laws.paths_are_called_apart.Goals as goal
-
-pub returns : goal.returns
-returns c = paths_are_called_apart

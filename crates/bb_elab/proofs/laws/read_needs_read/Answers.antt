@@ -1,5 +1,0 @@
-use Rattle.bb_elab.proofs.ReadingLaw.{read_needs_read}
-use Rattle.bb_elab.proofs.laws.read_needs_read.Goals as goal
-
-pub returns : goal.returns
-returns c = read_needs_read

@@ -1,5 +1,0 @@
-use Rattle.bb_elab.proofs.SoundBits.{sound_bits_are_there}
-use Rattle.bb_elab.proofs.laws.sound_bits_are_there.Goals as goal
-
-pub returns : goal.returns
-returns c = sound_bits_are_there

@@ -1,5 +1,0 @@
-use Rattle.bb_elab.proofs.SoundConstructs.{sound_constructs_are_legal}
-use Rattle.bb_elab.proofs.laws.sound_constructs_are_legal.Goals as goal
-
-pub returns : goal.returns
-returns c = sound_constructs_are_legal

@@ -1,5 +1,0 @@
-use Rattle.bb_elab.proofs.NamedTops.{tops_are_meant}
-use Rattle.bb_elab.proofs.laws.tops_are_meant.Goals as goal
-
-pub returns : goal.returns
-returns c = tops_are_meant

@@ -1,5 +1,0 @@
-use Rattle.bb_elab.proofs.WorldExists.{vectors_have_worlds}
-use Rattle.bb_elab.proofs.laws.vectors_have_worlds.Goals as goal
-
-pub returns : goal.returns
-returns c = vectors_have_worlds

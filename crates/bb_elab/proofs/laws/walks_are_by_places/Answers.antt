@@ -1,5 +1,0 @@
-use Rattle.bb_elab.proofs.WalksByPlaces.{walks_are_by_places}
-use Rattle.bb_elab.proofs.laws.walks_are_by_places.Goals as goal
-
-pub returns : goal.returns
-returns c = walks_are_by_places

@@ -1,6 +1,0 @@
-use Rattle.std.proofs.Common.{◌≡◌, take}
-use Rattle.bb_elab.specs.Listing.{bit_count}
-use Rattle.bb_elab.proofs.listing.bit_count.Given as goal
-
-abbrev pub invariant-loop-scope : goal.invariant-loop-scope
-invariant-loop-scope l = l.count ≡ bit_count (take l.scope-index l.placed) l.outlines

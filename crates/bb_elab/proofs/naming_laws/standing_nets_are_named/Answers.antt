@@ -1,5 +1,0 @@
-use Rattle.bb_elab.proofs.StandingNames.{standing_nets_are_named}
-use Rattle.bb_elab.proofs.naming_laws.standing_nets_are_named.Goals as goal
-
-pub returns : goal.returns
-returns c = standing_nets_are_named

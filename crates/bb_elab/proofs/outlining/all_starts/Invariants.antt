@@ -1,8 +1,0 @@
-use Rattle.std.proofs.Common.{◌≡◌, ◌<◌, ℕ, Some, length, Vec, Global}
-use Rattle.std.specs.Prelude.{slice_get}
-use Rattle.bb_expr.specs.Nets.{nets_of}
-use Rattle.bb_elab.specs.Outlining.{AreStarts, module_in}
-use Rattle.bb_elab.proofs.outlining.all_starts.Given as goal
-
-abbrev pub invariant-loop-k : goal.invariant-loop-k
-invariant-loop-k l = record { long : length l.starts.items ≡ l.k; started : (m j : ℕ) → m < l.k → slice_get l.found m ≡ Some (Some j) → (v : Vec ℕ Global) × (slice_get l.starts.items m ≡ Some v) × AreStarts (nets_of (module_in l.checked m)) v.items }

@@ -1,7 +1,0 @@
-use Rattle.std.proofs.Common.{◌≡◌, map, drop}
-use Rattle.bb_expr.specs.Checked.{module_facts, syntax}
-use Rattle.bb_expr.specs.Spots.{module_named}
-use Rattle.bb_elab.proofs.top.place_named.Given as goal
-
-abbrev pub invariant-loop-k : goal.invariant-loop-k
-invariant-loop-k l = module_named (map syntax (map module_facts (drop l.k l.modules))) l.name ≡ module_named (map syntax (map module_facts l.modules)) l.name

@@ -1,9 +1,0 @@
-//! Laws that link copies in the list of cells of a design with copies of its bits. Each function has a law as its contract and
-//! does nothing.
-
-ghost use Rattle.bb_elab.specs.CopyLaws.{CopiesAreListed};
-
-/// Where a bit is a copy of another, so is its place in the list, and the other way round.
-pub fn copies_are_listed()
-    ensures { CopiesAreListed }
-{}

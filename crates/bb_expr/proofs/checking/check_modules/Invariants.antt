@@ -1,8 +1,0 @@
-use Rattle.std.proofs.Common.{◌≡◌, [], take, map}
-use Rattle.bb_ast.specs.Views.{module_view}
-use Rattle.bb_expr.specs.Faults.{module_faults}
-use Rattle.bb_expr.specs.Walks.{each_after}
-use Rattle.bb_expr.proofs.checking.check_modules.Given as goal
-
-abbrev pub invariant-loop-place : goal.invariant-loop-place
-invariant-loop-place l = each_after (module_faults (map module_view l.fn.source)) (map module_view (take l.place l.fn.source)) ≡ []

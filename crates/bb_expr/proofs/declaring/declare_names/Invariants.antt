@@ -1,7 +1,0 @@
-use Rattle.std.proofs.Common.{◌++◌, List, take, map}
-use Rattle.bb_expr.specs.Declarations.{Declaration}
-use Rattle.bb_expr.specs.Summaries.{named, Describes}
-use Rattle.bb_expr.proofs.declaring.declare_names.Given as goal
-
-abbrev pub invariant-loop-name : goal.invariant-loop-name
-invariant-loop-name l = (all : List Declaration) → Describes l.initial.declared.entries all → Describes l.declared.entries (all ++ map (λ n. named n l.fn.d) (take l.name-index l.names))

@@ -1,9 +1,0 @@
-use Rattle.std.proofs.Common.{◌≡◌, List, take, map}
-use Rattle.std.specs.List.{flat_map}
-use Rattle.bb_ast.specs.Syntax.{PlainModule}
-use Rattle.bb_ast.specs.Views.{module_view, expression}
-use Rattle.bb_expr.specs.Firsts.{noted, terminal_spots}
-use Rattle.bb_expr.proofs.faults.gates.look_at_terminals.Given as goal
-
-abbrev pub invariant-loop-terminal : goal.invariant-loop-terminal
-invariant-loop-terminal l = (text : List PlainModule) → l.found ≡ noted text (module_view l.fn.of) l.initial.found (flat_map (terminal_spots l.fn.gate l.fn.output) (map expression (take l.terminal-index l.terminals)))

@@ -1,7 +1,0 @@
-use Rattle.std.proofs.Common.{◌≡◌, ◌++◌, map}
-use Rattle.bb_ast.specs.Views.{module_view}
-use Rattle.bb_expr.specs.Nets.{net_of}
-use Rattle.bb_expr.proofs.nets.nets_in.Given as goal
-
-abbrev pub invariant-loop-name : goal.invariant-loop-name
-invariant-loop-name l = l.all.items ++ map (net_of (module_view l.fn.of)) l.name-iterator ≡ map (net_of (module_view l.fn.of)) l.initial.name-iterator

@@ -1,0 +1,19 @@
+pub mod CalleeLemmas
+mod CellSums
+pub mod CellTotals
+pub mod ConstructCounts
+pub mod DepthHeights
+pub mod DepthWalks
+pub mod HierarchySums
+pub mod InstanceNames
+pub mod MarkLemmas
+pub mod ModuleCells
+pub mod ModulesAt
+pub mod NarrowNets
+pub mod RecursionLemmas
+pub mod RecursionLoops
+pub mod RecursiveNames
+pub mod RegisterCounts
+pub mod SizeTotals
+pub mod StageRefusals
+pub mod TopLemmas

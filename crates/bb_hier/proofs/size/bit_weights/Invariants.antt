@@ -1,0 +1,9 @@
+use Rattle.std.proofs.Common.{◌≡◌, ◌+◌, map, take}
+use Rattle.bb_ast.specs.Syntax.{PlainModule}
+use Rattle.bb_names.specs.Checked.{module_facts, syntax}
+use Rattle.bb_expr.specs.Shares.{capped}
+use Rattle.bb_hier.specs.Weights.{bit_count}
+use Rattle.bb_hier.proofs.size.bit_weights.Given as goal
+
+abbrev pub invariant-loop-scope : goal.invariant-loop-scope
+invariant-loop-scope l = l.weights.items ≡ map (λ (m : PlainModule). capped (bit_count m + 1)) (map syntax (map module_facts (take l.scope-index l.modules)))

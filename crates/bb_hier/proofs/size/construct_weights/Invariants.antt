@@ -1,0 +1,10 @@
+use Rattle.std.proofs.Common.{◌≡◌, ◌<◌, ◌≤◌, ℕ, Some, map, length}
+use Rattle.std.specs.Prelude.{slice_get, slice_index_or}
+use Rattle.bb_ast.specs.Syntax.{PlainModule}
+use Rattle.bb_names.specs.Checked.{syntax}
+use Rattle.bb_expr.specs.Shares.{capped}
+use Rattle.bb_hier.specs.Weights.{construct_cells}
+use Rattle.bb_hier.proofs.size.construct_weights.Given as goal
+
+abbrev pub invariant-loop-place : goal.invariant-loop-place
+invariant-loop-place l = (length l.weights.items ≡ l.place) × ((k : ℕ) (m : PlainModule) → k < l.place → slice_get (map syntax l.checked) k ≡ Some m → slice_index_or l.bits k 0 ≤ 1000001 → slice_index_or l.weights.items k 0 ≡ capped (construct_cells m))

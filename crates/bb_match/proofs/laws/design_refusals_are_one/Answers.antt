@@ -1,5 +1,0 @@
-use Rattle.bb_match.proofs.TakenAlike.{design_refusals_are_one}
-use Rattle.bb_match.proofs.laws.design_refusals_are_one.Goals as goal
-
-pub returns : goal.returns
-returns c = design_refusals_are_one c.standing_nets_are_named.ensures c.standing_nets_are_named_alike.ensures

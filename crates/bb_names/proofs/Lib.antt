@@ -1,0 +1,13 @@
+pub mod FaultLaws
+pub mod Searches
+pub mod SummaryLemmas
+pub mod Noting
+pub mod OnceLemmas
+pub mod ClashLemmas
+pub mod IndexLemmas
+pub mod ExpressionViews
+pub mod DeclaredLists
+pub mod NetLemmas
+pub mod WidthLemmas
+pub mod Answering
+pub mod NetCounts

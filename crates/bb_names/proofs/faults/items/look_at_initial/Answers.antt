@@ -1,0 +1,17 @@
+use Rattle.std.proofs.Common.{◌∷◌, [], ap, sym, ◌∙◌}
+use Rattle.std.specs.Prelude.{None}
+use Rattle.bb_ast.specs.Views.{expression, optional_view, module_view}
+use Rattle.bb_names.specs.Firsts.{noted}
+use Rattle.bb_names.specs.Spots.{Driven, Read, Used, spots_in, initial_spots}
+use Rattle.bb_names.proofs.Noting.{noted-then}
+use Rattle.bb_names.proofs.faults.items.look_at_initial.Goals as goal
+
+pub returns : goal.returns
+returns c = record {
+  noted = λ text.
+      let m = module_view c.args.of.now in
+      let f = c.args.found.now in
+      let n = c.args.name.now in
+      noted-then text m f c.look_at_name.new.found c.look.new.found (Used Driven n None ∷ []) (spots_in Read (expression c.in-Some.value)) (c.in_ok-look_at_name.ensures.noted text) (c.in_ok-look.ensures.noted text)
+      ∙ ap (λ o. noted text m f (initial_spots (n, o))) (sym (ap optional_view c.in-Some.is));
+}

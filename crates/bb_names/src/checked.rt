@@ -1,0 +1,87 @@
+//! A source without faults: its modules with their nets.
+
+ghost use Rattle.std.specs.Prelude.{◌≡◌, ◌<◌, ◌^◌, length, map, IfOk};
+ghost use Rattle.bb_ast.specs.Views.{module_view};
+ghost use Rattle.bb_names.specs.Checked.{module_facts, syntax, HasText, HasNets, IsChecked};
+ghost use Rattle.bb_names.specs.Faults.{IsSound};
+ghost use Rattle.bb_names.specs.Nets.{net_names};
+
+use crate::indexed::IndexedModule;
+use crate::net::NetInfo;
+use crate::nets::{is_empty_module, nets_in};
+use crate::sources::IndexedSource;
+use bb_ast::Module;
+use bb_bits::{Name, NoMemory};
+use bb_parse::laws::texts_are_long;
+use indexmap::IndexMap;
+use std::alloc::Global;
+use std::marker::Model;
+
+/// A module with its nets in net order, the place of each net by its name, and whether the module is empty.
+#[derive(Drop)]
+pub struct CheckedModule {
+    pub module: Module,
+    pub nets: Vec<NetInfo>,
+    pub index: IndexMap<Name, u32>,
+    pub empty: bool,
+}
+
+/// The modules of a source without faults, in the order of the source.
+#[derive(Drop)]
+pub struct Checked {
+    modules: Vec<CheckedModule>,
+}
+
+impl Model for Checked {
+    ghost use Rattle.std.specs.Prelude.{List, map};
+    ghost use Rattle.std.specs.Coded.{codes};
+    ghost use Rattle.bb_ast.specs.contracts.expr.Expr as e;
+    ghost use Rattle.bb_names.specs.Checked.{ModuleFacts, module_facts, IsChecked};
+
+    ghost Value = { List ModuleFacts };
+
+    ghost coded = { Prim.hlevel (codes, e.the_row.coded) };
+
+    ghost view = { λ c. map module_facts c.modules.items };
+
+    ghost invariant = { λ c. IsChecked (map module_facts c.modules.items) };
+}
+
+fn checked_module(alloc: Global, of: IndexedModule) -> Result<CheckedModule, NoMemory>
+    requires few { length (net_names (module_view of)) < 2 ^ 32 }
+    ensures source { IfOk result (λ c. c.module ≡ of) }
+    ensures nets { IfOk result (λ c. HasNets (module_facts c)) }
+{
+    let nets = nets_in(alloc, &of)?;
+    let empty = is_empty_module(&of);
+    Ok(CheckedModule {
+        module: of.into_module(),
+        nets: nets.all,
+        index: nets.index,
+        empty,
+    })
+}
+
+impl Checked {
+    /// The modules of a source without faults.
+    pub(crate) fn new(alloc: Global, source: IndexedSource) -> Result<Checked, NoMemory>
+        requires read { HasText (map module_view source) }
+        requires sound { IsSound (map module_view source) }
+        ensures ok { IfOk result (λ checked. map syntax checked ≡ map module_view source) }
+    {
+        texts_are_long();
+        let mut modules = Vec::new(alloc);
+        for of in source.into_modules() {
+            modules.push(checked_module(alloc, of)?)?;
+        }
+        Ok(Checked { modules })
+    }
+
+    /// The modules, in the order of the source. Each is kept with its nets, and no rule on names is broken.
+    pub fn modules(&self) -> &[CheckedModule]
+        ensures modules { map module_facts result.now ≡ self.now }
+        ensures checked { IsChecked self.now }
+    {
+        &self.modules
+    }
+}

@@ -1,0 +1,213 @@
+//! Faults in an expression: its names, its selects, its parts and its width.
+ghost use Rattle.std.specs.Prelude.{◌≡◌, ◌++◌, ◌∷◌, [], ◌≤◌, ◌^◌, List, map, sum, OnOk, IfOk};
+ghost use Rattle.std.specs.List.{flat_map};
+ghost use Rattle.bb_ast.specs.Syntax.{PlainModule};
+ghost use Rattle.bb_ast.specs.Views.{expression, operand_view, arm_view, module_view};
+ghost use Rattle.bb_names.specs.Declarations.{direction_of, range_of};
+ghost use Rattle.bb_names.specs.Faults.{is_input_port, width_in};
+ghost use Rattle.bb_names.specs.Firsts.{noted, noted_width, use_of, inner_spots, spots_of_part, saturated};
+ghost use Rattle.bb_names.specs.Spots.{Used, is_plain, spots_in};
+ghost use Rattle.bb_names.specs.Widths.{greatest};
+
+use crate::faults::found::{Found, note, note_before, note_word};
+use crate::faults::roles::{Role, is_wrong_use};
+use crate::faults::selects::is_wrong_select;
+use crate::faults::widths::{bits_between, is_other_width, wider, width_of, word_of, word_where};
+use crate::indexed::{IndexedModule, NetFacts};
+use bb_ast::{Expr, Op};
+use bb_bits::{Name, NoMemory};
+use std::alloc::Global;
+
+/// Whether a name that is driven is that of an input port.
+fn is_driven_input(of: &IndexedModule, role: Role, name: &Name, facts: NetFacts) -> bool
+    requires { facts.dir ≡ direction_of (module_view of.now) name.now }
+    ensures { role ≡ Role.Driven → result ≡ is_input_port (module_view of.now) name.now }
+{
+    role == Role::Driven && of.is_input_port(name, facts)
+}
+
+/// Looks at a name that stands for a net, with the bits that are selected.
+pub(crate) fn look_at_name(
+    of: &IndexedModule,
+    role: Role,
+    name: &Name,
+    bits: Option<(u32, u32)>,
+    found: &mut Found,
+) -> Result<NetFacts, NoMemory>
+    ensures noted { (text : List PlainModule) → OnOk result (found.new ≡ noted text (module_view of.now) found.old (Used (use_of role) name.now bits ∷ [])) }
+    ensures range { IfOk result (λ facts. facts.range ≡ range_of (module_view of.now) name.now) }
+{
+    let facts = of.facts(name);
+    note(&mut found.unknown, !facts.known, name)?;
+    note(&mut found.select, is_wrong_select(facts.range, bits), name)?;
+    let input = is_driven_input(of, role, name, facts);
+    note(&mut found.role, is_wrong_use(role, facts, input), name)?;
+    Ok(facts)
+}
+
+/// Looks at an expression with all that stands in it, and gives its own width, at most 2^64 - 1.
+#[cycle(expression)]
+pub(crate) fn look(
+    alloc: Global,
+    of: &IndexedModule,
+    role: Role,
+    expr: &Expr,
+    found: &mut Found,
+) -> Result<u64, NoMemory>
+    ensures noted { (text : List PlainModule) → OnOk result (found.new ≡ noted text (module_view of.now) found.old (spots_in (use_of role) (expression expr.now))) }
+    ensures width { IfOk result (λ w. w ≡ saturated (width_in (module_view of.now) (expression expr.now))) }
+{
+    let free = found.width.is_none();
+    let width = look_inside(alloc, of, role, expr, found)?;
+    // The whole stands to the left of what is in it.
+    if free {
+        note_before(alloc, &mut found.width, word_of(expr, width))?;
+    }
+    Ok(width)
+}
+
+#[cycle(expression)]
+fn look_inside(
+    alloc: Global,
+    of: &IndexedModule,
+    role: Role,
+    expr: &Expr,
+    found: &mut Found,
+) -> Result<u64, NoMemory>
+    ensures noted { (text : List PlainModule) → OnOk result (found.new ≡ noted text (module_view of.now) found.old (inner_spots (use_of role) (expression expr.now))) }
+    ensures width { IfOk result (λ w. w ≡ saturated (width_in (module_view of.now) (expression expr.now))) }
+{
+    match expr {
+        Expr::Net(name) => Ok(width_of(look_at_name(of, role, name, None, found)?.range)),
+        Expr::Bit(name, i) => {
+            look_at_name(of, role, name, Some((*i, *i)), found)?;
+            Ok(1)
+        }
+        Expr::Part(name, i, j) => {
+            look_at_name(of, role, name, Some((*i, *j)), found)?;
+            Ok(bits_between(*i, *j))
+        }
+        Expr::Sized(bits) => Ok(bits.len() as u64),
+        Expr::Plain(_) => Ok(32),
+        Expr::Not(_, operand) => look(alloc, of, role, operand, found),
+        Expr::Chain(first, rest) => {
+            let width = look(alloc, of, role, first, found)?;
+            Ok(wider(width, look_at_operands(alloc, of, role, rest, found)?))
+        }
+        Expr::Cond(arms, last) => {
+            let width = look_at_arms(alloc, of, role, arms, found)?;
+            Ok(wider(width, look(alloc, of, role, last, found)?))
+        }
+        Expr::Concat(parts) => look_at_parts(alloc, of, role, parts, found),
+        Expr::Repeat(count, parts) => {
+            let width = look_at_parts(alloc, of, role, parts, found)?;
+            Ok(width.saturating_mul(u64::from(*count)))
+        }
+    }
+}
+
+/// The greatest width of the operands.
+#[cycle(expression)]
+fn look_at_operands(
+    alloc: Global,
+    of: &IndexedModule,
+    role: Role,
+    rest: &[(Op, Expr)],
+    found: &mut Found,
+) -> Result<u64, NoMemory>
+    ensures noted { (text : List PlainModule) → OnOk result (found.new ≡ noted text (module_view of.now) found.old (flat_map (λ x. spots_in (use_of role) x.1) (map operand_view rest.now))) }
+    ensures width { IfOk result (λ w. w ≡ saturated (greatest (map (λ x. width_in (module_view of.now) x.1) (map operand_view rest.now)))) }
+{
+    let mut width = 0;
+    for (_, operand) in rest {
+        width = wider(width, look(alloc, of, role, operand, found)?);
+    }
+    Ok(width)
+}
+
+/// The greatest width of the values.
+#[cycle(expression)]
+fn look_at_arms(
+    alloc: Global,
+    of: &IndexedModule,
+    role: Role,
+    arms: &[(Expr, Expr)],
+    found: &mut Found,
+) -> Result<u64, NoMemory>
+    ensures noted { (text : List PlainModule) → OnOk result (found.new ≡ noted text (module_view of.now) found.old (flat_map (λ x. spots_in (use_of role) x.0 ++ spots_in (use_of role) x.1) (map arm_view arms.now))) }
+    ensures width { IfOk result (λ w. w ≡ saturated (greatest (map (λ x. width_in (module_view of.now) x.1) (map arm_view arms.now)))) }
+{
+    let mut width = 0;
+    for (condition, value) in arms {
+        look(alloc, of, role, condition, found)?;
+        width = wider(width, look(alloc, of, role, value, found)?);
+    }
+    Ok(width)
+}
+
+fn is_number(expr: &Expr) -> bool
+    ensures { result ≡ is_plain (expression expr.now) }
+{
+    matches!(expr, Expr::Plain(_))
+}
+
+/// A part of a concatenation or replication: it is no plain number.
+#[cycle(expression)]
+fn look_at_part(
+    alloc: Global,
+    of: &IndexedModule,
+    role: Role,
+    part: &Expr,
+    found: &mut Found,
+) -> Result<u64, NoMemory>
+    ensures noted { (text : List PlainModule) → OnOk result (found.new ≡ noted text (module_view of.now) found.old (spots_of_part (use_of role) (expression part.now))) }
+    ensures width { IfOk result (λ w. w ≡ saturated (width_in (module_view of.now) (expression part.now))) }
+{
+    note_word(alloc, &mut found.width, is_number(part), b"decimal")?;
+    look(alloc, of, role, part, found)
+}
+
+/// The sum of the widths of the parts.
+#[cycle(expression)]
+fn look_at_parts(
+    alloc: Global,
+    of: &IndexedModule,
+    role: Role,
+    parts: &[Expr],
+    found: &mut Found,
+) -> Result<u64, NoMemory>
+    ensures noted { (text : List PlainModule) → OnOk result (found.new ≡ noted text (module_view of.now) found.old (flat_map (spots_of_part (use_of role)) (map expression parts.now))) }
+    ensures width { IfOk result (λ w. w ≡ saturated (sum (map (width_in (module_view of.now)) (map expression parts.now)))) }
+{
+    let mut width: u64 = 0;
+    for part in parts {
+        let more = look_at_part(alloc, of, role, part, found)?;
+        width = width.saturating_add(more);
+    }
+    Ok(width)
+}
+
+/// Looks at an expression of which a word is told where it has not so many bits.
+pub(crate) fn look_at_width(
+    alloc: Global,
+    of: &IndexedModule,
+    role: Role,
+    expr: &Expr,
+    wanted: u64,
+    word: &[u8],
+    found: &mut Found,
+) -> Result<(), NoMemory>
+    requires small { wanted ≤ 2 ^ 32 }
+    ensures noted { (text : List PlainModule) → OnOk result (found.new ≡ noted_width text (module_view of.now) found.old (width_in (module_view of.now) (expression expr.now)) wanted word.now (spots_in (use_of role) (expression expr.now))) }
+{
+    let free = found.width.is_none();
+    let width = look(alloc, of, role, expr, found)?;
+    if free {
+        note_before(
+            alloc,
+            &mut found.width,
+            word_where(is_other_width(width, wanted), word),
+        )?;
+    }
+    Ok(())
+}

@@ -1,0 +1,97 @@
+//! Faults of gates.
+ghost use Rattle.std.specs.Prelude.{◌≡◌, List, map, min, OnOk};
+ghost use Rattle.std.specs.List.{flat_map};
+ghost use Rattle.bb_ast.specs.Syntax.{PlainModule};
+ghost use Rattle.bb_ast.specs.Gates.{output_count};
+ghost use Rattle.bb_ast.specs.Views.{expression, gate_view, module_view};
+ghost use Rattle.bb_names.specs.Firsts.{noted, terminal_spots};
+ghost use Rattle.bb_names.specs.Spots.{Read, Driven, gate_spots};
+
+use crate::faults::expressions::look_at_width;
+use crate::faults::found::{Found, note_word};
+use crate::faults::roles::{Role, may_be_written};
+use crate::faults::widths::gate_word;
+use crate::indexed::IndexedModule;
+use bb_ast::{Expr, Gate, GateCall};
+use bb_bits::NoMemory;
+use std::alloc::Global;
+
+/// How many of so many terminals, from the first on, are outputs.
+fn outputs_of(gate: Gate, count: usize) -> usize
+    ensures { result ≡ min (output_count gate count) count }
+{
+    if count == 0 {
+        return 0;
+    }
+    match gate {
+        Gate::Buf | Gate::Not => count - 1,
+        _ => 1,
+    }
+}
+
+fn look_at_terminal(
+    alloc: Global,
+    of: &IndexedModule,
+    gate: Gate,
+    output: bool,
+    terminal: &Expr,
+    found: &mut Found,
+) -> Result<(), NoMemory>
+    ensures noted { (text : List PlainModule) → OnOk result (found.new ≡ noted text (module_view of.now) found.old (terminal_spots gate output (expression terminal.now))) }
+{
+    let word = gate_word(gate);
+    if output {
+        let wrong = !may_be_written(terminal);
+        note_word(alloc, &mut found.role, wrong, word)?;
+        look_at_width(alloc, of, Role::Driven, terminal, 1, word, found)
+    } else {
+        look_at_width(alloc, of, Role::Read, terminal, 1, word, found)
+    }
+}
+
+/// Looks at terminals of a gate that are all outputs or all inputs.
+fn look_at_terminals(
+    alloc: Global,
+    of: &IndexedModule,
+    gate: Gate,
+    output: bool,
+    terminals: &[Expr],
+    found: &mut Found,
+) -> Result<(), NoMemory>
+    ensures noted { (text : List PlainModule) → OnOk result (found.new ≡ noted text (module_view of.now) found.old (flat_map (terminal_spots gate output) (map expression terminals.now))) }
+{
+    for terminal in terminals {
+        look_at_terminal(alloc, of, gate, output, terminal, found)?;
+    }
+    Ok(())
+}
+
+fn look_at_gate(
+    alloc: Global,
+    of: &IndexedModule,
+    gate: Gate,
+    terminals: &[Expr],
+    found: &mut Found,
+) -> Result<(), NoMemory>
+    ensures noted { (text : List PlainModule) → OnOk result (found.new ≡ noted text (module_view of.now) found.old (gate_spots gate (map expression terminals.now))) }
+{
+    let (outputs, inputs) = terminals.split_at(outputs_of(gate, terminals.len()));
+    look_at_terminals(alloc, of, gate, true, outputs, found)?;
+    look_at_terminals(alloc, of, gate, false, inputs, found)
+}
+
+/// Looks at gates of one function.
+pub(crate) fn look_at_gates(
+    alloc: Global,
+    of: &IndexedModule,
+    gate: Gate,
+    calls: &[GateCall],
+    found: &mut Found,
+) -> Result<(), NoMemory>
+    ensures noted { (text : List PlainModule) → OnOk result (found.new ≡ noted text (module_view of.now) found.old (flat_map (λ x. gate_spots gate x.1) (map gate_view calls.now))) }
+{
+    for call in calls {
+        look_at_gate(alloc, of, gate, call.terms.as_slice(), found)?;
+    }
+    Ok(())
+}

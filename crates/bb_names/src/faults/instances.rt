@@ -1,0 +1,221 @@
+//! Faults of instances and their connections.
+ghost use Rattle.std.specs.Prelude.{◌≡◌, ◌≤◌, ◌^◌, ◌++◌, ◌∷◌, [], ℕ, List, Some, Option, false, map, length, nat_lt, ◌&&◌, not, option_map, OnOk, IfSome};
+ghost use Rattle.std.specs.Option.{option_map_or};
+ghost use Rattle.bb_ast.specs.Syntax.{PlainModule, Order, Named, Calls};
+ghost use Rattle.bb_ast.specs.Assignable.{is_assignable};
+ghost use Rattle.bb_ast.specs.Views.{expression, optional_view, named_view, conns_view, call_view, module_view};
+ghost use Rattle.bb_names.specs.Declarations.{Declaration, declared_by, instance_declaration};
+ghost use Rattle.bb_names.specs.Faults.{is_input};
+ghost use Rattle.bb_names.specs.Firsts.{noted, use_of, call_spots, AreSame};
+ghost use Rattle.bb_bits.specs.Earlier.{has_name};
+ghost use Rattle.bb_names.specs.Spots.{PortName, use_at, joined_spots, conns_spots, place_count, item_spots};
+ghost use Rattle.bb_names.specs.Summaries.{Describes};
+
+use crate::faults::expressions::{look, look_at_width};
+use crate::faults::found::{Found, note};
+use crate::faults::names::look_at_declared;
+use crate::faults::pins::{Pin, pin_by_name, pin_by_place};
+use crate::faults::roles::{Role, may_be_written};
+use crate::indexed::IndexedModule;
+use crate::sources::IndexedSource;
+use crate::summary::{Declared, DeclaredAs};
+use bb_ast::{Call, Conns, Dir, Expr};
+use bb_bits::{Name, NoMemory};
+use indexmap::IndexSet;
+use std::alloc::Global;
+
+/// What an instance does to what is connected to its port.
+fn role_at(dir: Dir) -> Role
+    ensures { use_of result ≡ use_at dir }
+{
+    match dir {
+        Dir::Input => Role::Read,
+        Dir::Output => Role::Driven,
+    }
+}
+
+/// Whether it may not be connected to a port of this direction.
+fn is_wrong_at(dir: Dir, expr: &Expr) -> bool
+    ensures { result ≡ (not (is_input dir) && not (is_assignable (expression expr.now))) }
+{
+    match dir {
+        Dir::Input => false,
+        Dir::Output => !may_be_written(expr),
+    }
+}
+
+/// Looks at an expression that is connected to a port, if there is one.
+fn look_at_joined(
+    alloc: Global,
+    of: &IndexedModule,
+    pin: Option<Pin<'_>>,
+    expr: &Expr,
+    found: &mut Found,
+) -> Result<(), NoMemory>
+    requires small { IfSome pin (λ p. p.width ≤ 2 ^ 32) }
+    ensures noted { (text : List PlainModule) → OnOk result (found.new ≡ noted text (module_view of.now) found.old (joined_spots (option_map (λ p. record { name = p.name.now; dir = p.dir; width = p.width }) pin.entry) (Some (expression expr.now)))) }
+{
+    let Some(pin) = pin else {
+        look(alloc, of, Role::Read, expr, found)?;
+        return Ok(());
+    };
+    note(&mut found.role, is_wrong_at(pin.dir, expr), pin.name)?;
+    look_at_width(
+        alloc,
+        of,
+        role_at(pin.dir),
+        expr,
+        pin.width,
+        pin.name.bytes(),
+        found,
+    )
+}
+
+/// Looks at what may be connected to a port, if there is one.
+fn look_at_place(
+    alloc: Global,
+    of: &IndexedModule,
+    pin: Option<Pin<'_>>,
+    place: &Option<Expr>,
+    found: &mut Found,
+) -> Result<(), NoMemory>
+    requires small { IfSome pin (λ p. p.width ≤ 2 ^ 32) }
+    ensures noted { (text : List PlainModule) → OnOk result (found.new ≡ noted text (module_view of.now) found.old (joined_spots (option_map (λ p. record { name = p.name.now; dir = p.dir; width = p.width }) pin.entry) (optional_view place.now))) }
+{
+    match place {
+        Some(expr) => look_at_joined(alloc, of, pin, expr, found),
+        None => Ok(()),
+    }
+}
+
+/// Looks at connections by order.
+fn look_at_places(
+    alloc: Global,
+    of: &IndexedModule,
+    target: Option<&IndexedModule>,
+    places: &[Option<Expr>],
+    found: &mut Found,
+) -> Result<(), NoMemory>
+    ensures noted { (text : List PlainModule) → OnOk result (found.new ≡ noted text (module_view of.now) found.old (conns_spots (option_map (λ t. module_view t.now) target.entry) (Order (map optional_view places.now)))) }
+{
+    for (k, place) in places.iter().enumerate() {
+        look_at_place(alloc, of, pin_by_place(target, k), place, found)?;
+    }
+    Ok(())
+}
+
+/// Looks at the name of a port of a module; `again` tells whether an earlier connection has it.
+fn look_at_port_of(
+    target: &IndexedModule,
+    again: bool,
+    name: &Name,
+    found: &mut Found,
+) -> Result<(), NoMemory>
+    ensures { (text : List PlainModule) (m : PlainModule) (before : List (List ℕ)) → again ≡ has_name name.now before → OnOk result (found.new ≡ noted text m found.old (PortName (Some (module_view target.now)) before name.now ∷ [])) }
+{
+    note(&mut found.twice, target.is_port(name) && again, name)?;
+    let nowhere = target.port_direction(name).is_none();
+    note(&mut found.unknown, nowhere, name)
+}
+
+/// Looks at the name of a port in a connection, after the names of earlier ones, and puts it behind them.
+fn look_at_port(
+    target: Option<&IndexedModule>,
+    earlier: &mut IndexSet<Name>,
+    name: &Name,
+    found: &mut Found,
+) -> Result<(), NoMemory>
+    ensures noted { (text : List PlainModule) (m : PlainModule) (before : List (List ℕ)) → AreSame earlier.old.keys before → OnOk result (found.new ≡ noted text m found.old (PortName (option_map (λ t. module_view t.now) target.entry) before name.now ∷ [])) }
+    ensures names { (before : List (List ℕ)) → AreSame earlier.old.keys before → OnOk result (AreSame earlier.new.keys (before ++ name.now ∷ [])) }
+{
+    let again = earlier.contains(name);
+    earlier.insert(name.clone()?)?;
+    match target {
+        Some(target) => look_at_port_of(target, again, name, found),
+        None => Ok(()),
+    }
+}
+
+/// Looks at connections by name.
+fn look_at_named(
+    alloc: Global,
+    of: &IndexedModule,
+    target: Option<&IndexedModule>,
+    all: &[(Name, Option<Expr>)],
+    found: &mut Found,
+) -> Result<(), NoMemory>
+    ensures noted { (text : List PlainModule) → OnOk result (found.new ≡ noted text (module_view of.now) found.old (conns_spots (option_map (λ t. module_view t.now) target.entry) (Named (map named_view all.now)))) }
+{
+    let mut earlier = IndexSet::new(alloc);
+    for (name, place) in all {
+        look_at_port(target, &mut earlier, name, found)?;
+        look_at_place(alloc, of, pin_by_name(target, name), place, found)?;
+    }
+    Ok(())
+}
+
+/// Whether there are more places by order than ports.
+fn has_too_many(target: Option<&IndexedModule>, conns: &Conns) -> bool
+    ensures { result ≡ option_map_or (λ t. nat_lt (length t.heads) (place_count (conns_view conns.now))) (option_map (λ t. module_view t.now) target.entry) false }
+{
+    match (target, conns) {
+        (Some(target), Conns::Order(places)) => target.module().heads.len() < places.len(),
+        _ => false,
+    }
+}
+
+fn look_at_conns(
+    alloc: Global,
+    of: &IndexedModule,
+    target: Option<&IndexedModule>,
+    conns: &Conns,
+    found: &mut Found,
+) -> Result<(), NoMemory>
+    ensures noted { (text : List PlainModule) → OnOk result (found.new ≡ noted text (module_view of.now) found.old (conns_spots (option_map (λ t. module_view t.now) target.entry) (conns_view conns.now))) }
+{
+    match conns {
+        Conns::Order(places) => look_at_places(alloc, of, target, places, found),
+        Conns::Named(all) => look_at_named(alloc, of, target, all, found),
+    }
+}
+
+fn look_at_call(
+    alloc: Global,
+    of: &IndexedModule,
+    target: Option<&IndexedModule>,
+    earlier: &mut Declared,
+    call: &Call,
+    found: &mut Found,
+) -> Result<(), NoMemory>
+    ensures noted { (text : List PlainModule) (before : List Declaration) → Describes earlier.old.entries before → OnOk result (found.new ≡ noted text (module_view of.now) found.old (call_spots (option_map (λ t. module_view t.now) target.entry) before (call_view call.now))) }
+    ensures declared { (before : List Declaration) → Describes earlier.old.entries before → OnOk result (Describes earlier.new.entries (before ++ instance_declaration call.now.name ∷ [])) }
+{
+    look_at_declared(of, earlier, &call.name, DeclaredAs::instance(), found)?;
+    note(
+        &mut found.role,
+        has_too_many(target, &call.conns),
+        &call.name,
+    )?;
+    look_at_conns(alloc, of, target, &call.conns, found)
+}
+
+/// Looks at instances of one module.
+pub(crate) fn look_at_calls(
+    alloc: Global,
+    source: &IndexedSource,
+    of: &IndexedModule,
+    earlier: &mut Declared,
+    target: &Name,
+    calls: &[Call],
+    found: &mut Found,
+) -> Result<(), NoMemory>
+    ensures noted { (before : List Declaration) → Describes earlier.old.entries before → OnOk result (found.new ≡ noted (map module_view source.now) (module_view of.now) found.old (item_spots (map module_view source.now) before (Calls target.now (map call_view calls.now)))) }
+    ensures declared { (before : List Declaration) → Describes earlier.old.entries before → OnOk result (Describes earlier.new.entries (before ++ declared_by (Calls target.now (map call_view calls.now)))) }
+{
+    let to = source.named(target);
+    note(&mut found.unknown, to.is_none(), target)?;
+    for call in calls {
+        look_at_call(alloc, of, to, earlier, call, found)?;
+    }
+    Ok(())
+}

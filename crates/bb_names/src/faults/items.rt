@@ -1,0 +1,121 @@
+//! Faults of items.
+ghost use Rattle.std.specs.Prelude.{◌≡◌, ◌++◌, List, Some, None, Option, map, OnOk};
+ghost use Rattle.std.specs.List.{flat_map};
+ghost use Rattle.bb_ast.specs.Syntax.{PlainModule, Nets};
+ghost use Rattle.bb_ast.specs.Views.{arm_view, optional_view, named_view, body_view, module_view};
+ghost use Rattle.bb_names.specs.Declarations.{Declaration, declared_by};
+ghost use Rattle.bb_names.specs.Firsts.{noted};
+ghost use Rattle.bb_names.specs.Spots.{Read, Driven, initial_spots, spots_in, item_spots};
+ghost use Rattle.bb_names.specs.Summaries.{Describes};
+
+use crate::faults::expressions::{look, look_at_name};
+use crate::faults::found::Found;
+use crate::faults::gates::look_at_gates;
+use crate::faults::instances::look_at_calls;
+use crate::faults::names::{look_at_declared, look_at_names};
+use crate::faults::registers::look_at_register;
+use crate::faults::roles::Role;
+use crate::indexed::IndexedModule;
+use crate::net::NetKind;
+use crate::sources::IndexedSource;
+use crate::summary::{Declared, DeclaredAs, supply_kind_of};
+use bb_ast::{Always, Body, Expr, Range};
+use bb_bits::{Name, NoMemory};
+use std::alloc::Global;
+
+/// Looks at what a declared wire is assigned, if it is.
+fn look_at_initial(
+    alloc: Global,
+    of: &IndexedModule,
+    name: &Name,
+    value: &Option<Expr>,
+    found: &mut Found,
+) -> Result<(), NoMemory>
+    ensures noted { (text : List PlainModule) → OnOk result (found.new ≡ noted text (module_view of.now) found.old (initial_spots (name.now, optional_view value.now))) }
+{
+    let Some(value) = value else {
+        return Ok(());
+    };
+    look_at_name(of, Role::Driven, name, None, found)?;
+    look(alloc, of, Role::Read, value, found)?;
+    Ok(())
+}
+
+/// Looks at declared wires, each with what it is assigned.
+fn look_at_nets(
+    alloc: Global,
+    of: &IndexedModule,
+    earlier: &mut Declared,
+    range: Option<Range>,
+    nets: &[(Name, Option<Expr>)],
+    found: &mut Found,
+) -> Result<(), NoMemory>
+    ensures noted { (text : List PlainModule) (before : List Declaration) → Describes earlier.old.entries before → OnOk result (found.new ≡ noted text (module_view of.now) found.old (item_spots text before (Nets range (map named_view nets.now)))) }
+    ensures declared { (before : List Declaration) → Describes earlier.old.entries before → OnOk result (Describes earlier.new.entries (before ++ declared_by (Nets range (map named_view nets.now)))) }
+{
+    for (name, value) in nets {
+        look_at_declared(
+            of,
+            earlier,
+            name,
+            DeclaredAs::net(NetKind::Wire, range),
+            found,
+        )?;
+        look_at_initial(alloc, of, name, value, found)?;
+    }
+    Ok(())
+}
+
+fn look_at_assigned(
+    alloc: Global,
+    of: &IndexedModule,
+    all: &[(Expr, Expr)],
+    found: &mut Found,
+) -> Result<(), NoMemory>
+    ensures noted { (text : List PlainModule) → OnOk result (found.new ≡ noted text (module_view of.now) found.old (flat_map (λ x. spots_in Driven x.0 ++ spots_in Read x.1) (map arm_view all.now))) }
+{
+    for (left, right) in all {
+        look(alloc, of, Role::Driven, left, found)?;
+        look(alloc, of, Role::Read, right, found)?;
+    }
+    Ok(())
+}
+
+/// Looks at an item, after the earlier declarations of its module, and puts its own behind them.
+pub(crate) fn look_at_item(
+    alloc: Global,
+    source: &IndexedSource,
+    of: &IndexedModule,
+    earlier: &mut Declared,
+    body: &Body,
+    found: &mut Found,
+) -> Result<(), NoMemory>
+    ensures noted { (before : List Declaration) → Describes earlier.old.entries before → OnOk result (found.new ≡ noted (map module_view source.now) (module_view of.now) found.old (item_spots (map module_view source.now) before (body_view body.now))) }
+    ensures declared { (before : List Declaration) → Describes earlier.old.entries before → OnOk result (Describes earlier.new.entries (before ++ declared_by (body_view body.now))) }
+{
+    match body {
+        Body::Ports(port, names) => {
+            look_at_names(of, earlier, names, DeclaredAs::port(*port), found)
+        }
+        Body::Nets(range, nets) => look_at_nets(alloc, of, earlier, *range, nets, found),
+        Body::Regs(range, names) => {
+            look_at_names(
+                of,
+                earlier,
+                names,
+                DeclaredAs::net(NetKind::Reg, *range),
+                found,
+            )
+        }
+        Body::Supply(high, range, names) => {
+            let d = DeclaredAs::net(supply_kind_of(*high), *range);
+            look_at_names(of, earlier, names, d, found)
+        }
+        Body::Assign(all) => look_at_assigned(alloc, of, all, found),
+        Body::Gates(gate, calls) => look_at_gates(alloc, of, *gate, calls, found),
+        Body::Calls(target, calls) => {
+            look_at_calls(alloc, source, of, earlier, target, calls, found)
+        }
+        Body::Always(register) => look_at_register(alloc, of, register, found),
+    }
+}

@@ -1,0 +1,178 @@
+//! Modules with an index of their names, so that a text is not searched anew for each name in it.
+ghost use Rattle.std.specs.Prelude.{◌≡◌, map, option_to_list, IfOk};
+ghost use Rattle.std.specs.List.{list_any, position_from};
+ghost use Rattle.bb_bits.specs.Names.{same_name};
+ghost use Rattle.bb_ast.specs.Views.{head_view, module_view};
+ghost use Rattle.bb_names.specs.Declarations.{direction_of, implicit_names, is_instance, is_known, is_port, kind_of, range_of, port_direction};
+ghost use Rattle.bb_names.specs.Faults.{is_input, is_input_port};
+ghost use Rattle.bb_names.specs.Indexed.{head_names, ArePlaces};
+ghost use Rattle.bb_bits.specs.Earlier.{once};
+
+use crate::declaring::declarations_of;
+use crate::implicit::implicit_wires;
+use crate::net::NetKind;
+use crate::places::{Places, note_place};
+use crate::summary::{Declared, summary_of};
+use bb_ast::{Dir, Expr, Head, Module, Range};
+use bb_bits::{Name, NoMemory};
+use indexmap::{IndexMap, IndexSet};
+use std::alloc::Global;
+use std::marker::Model;
+
+/// What a module says of a name that stands for a net.
+#[derive(Clone, Copy, Debug)]
+pub(crate) struct NetFacts {
+    /// Declared, or an implicit wire.
+    pub known: bool,
+    pub instance: bool,
+    pub range: Option<Range>,
+    pub kind: NetKind,
+    pub dir: Option<Dir>,
+}
+
+/// A module with an index of its names.
+#[derive(Drop)]
+pub(crate) struct IndexedModule {
+    module: Module,
+    ports: Places,
+    declared: Declared,
+    implicit: IndexSet<Name>,
+}
+
+impl Model for IndexedModule {
+    ghost use Rattle.std.specs.Coded.{codes};
+    ghost use Rattle.bb_ast.specs.contracts.expr.Expr as e;
+    ghost use Rattle.bb_ast.specs.declared.module.Module.{Module};
+    ghost use Rattle.bb_ast.specs.Views.{module_view};
+    ghost use Rattle.bb_names.specs.Indexed.{IsIndexed};
+
+    ghost Value = { Module };
+
+    ghost coded = { Prim.hlevel (codes, e.the_row.coded) };
+
+    ghost view = { λ m. m.module };
+
+    ghost invariant = { λ m. IsIndexed (module_view m.module) m.ports.entries m.declared.entries m.implicit.keys };
+}
+
+/// The first place of each name in a header.
+fn ports_of(alloc: Global, heads: &[Head]) -> Result<Places, NoMemory>
+    ensures { IfOk result (λ ports. ArePlaces ports.entries (map (λ head. head.name) (map head_view heads.now))) }
+{
+    let mut ports = IndexMap::new(alloc);
+    for (place, head) in heads.iter().enumerate() {
+        note_place(&mut ports, &head.name, place)?;
+    }
+    Ok(ports)
+}
+
+fn is_input_direction(dir: Option<Dir>) -> bool
+    ensures { result ≡ list_any is_input (option_to_list dir) }
+{
+    dir == Some(Dir::Input)
+}
+
+impl IndexedModule {
+    pub(crate) fn new(alloc: Global, parsed: Module) -> Result<IndexedModule, NoMemory>
+        ensures { IfOk result (λ m. m ≡ parsed) }
+    {
+        let ports = ports_of(alloc, &parsed.heads)?;
+        let declared = declarations_of(alloc, &parsed)?;
+        let implicit = implicit_wires(alloc, &declared, &parsed.items)?;
+        Ok(IndexedModule {
+            module: parsed,
+            ports,
+            declared,
+            implicit,
+        })
+    }
+
+    pub(crate) fn module(&self) -> &Module
+        ensures { result.now ≡ self.now }
+    {
+        &self.module
+    }
+
+    pub(crate) fn into_module(self) -> Module
+        ensures { result ≡ self }
+    {
+        self.module
+    }
+
+    /// The implicit wires, in the order in which they first stand.
+    pub(crate) fn implicit(&self) -> &IndexSet<Name>
+        ensures { result.now.keys ≡ once (implicit_names (module_view self.now)) }
+    {
+        &self.implicit
+    }
+
+    /// How many names are declared or stand for implicit wires; room is made for so many.
+    pub(crate) fn name_count(&self) -> usize {
+        self.declared.len().saturating_add(self.implicit.len())
+    }
+
+    /// The first place of a name in the header.
+    pub(crate) fn port_place(&self, name: &Name) -> Option<usize>
+        ensures { result ≡ position_from (same_name name.now) 0 (head_names (module_view self.now)) }
+    {
+        self.ports.get(name).copied()
+    }
+
+    pub(crate) fn is_port(&self, name: &Name) -> bool
+        ensures { result ≡ is_port (module_view self.now) name.now }
+    {
+        self.ports.contains_key(name)
+    }
+
+    /// What the module says of a name that stands for a net.
+    pub(crate) fn facts(&self, name: &Name) -> NetFacts
+        ensures known { result.known ≡ is_known (module_view self.now) name.now }
+        ensures instance { result.instance ≡ is_instance (module_view self.now) name.now }
+        ensures range { result.range ≡ range_of (module_view self.now) name.now }
+        ensures kind { result.kind ≡ kind_of (module_view self.now) name.now }
+        ensures dir { result.dir ≡ direction_of (module_view self.now) name.now }
+    {
+        match summary_of(&self.declared, name) {
+            Some(s) if s.instance => NetFacts {
+                known: true,
+                instance: true,
+                range: s.range,
+                kind: NetKind::Wire,
+                dir: None,
+            },
+            Some(s) => NetFacts {
+                known: true,
+                instance: false,
+                range: s.range,
+                kind: s.kind.unwrap_or(NetKind::Wire),
+                dir: s.dir,
+            },
+            None => NetFacts {
+                known: self.implicit.contains(name),
+                instance: false,
+                range: None,
+                kind: NetKind::Wire,
+                dir: None,
+            },
+        }
+    }
+
+    /// The direction of a port, where it has one.
+    pub(crate) fn port_direction(&self, name: &Name) -> Option<Dir>
+        ensures { result ≡ port_direction (module_view self.now) name.now }
+    {
+        if self.is_port(name) {
+            self.facts(name).dir
+        } else {
+            None
+        }
+    }
+
+    /// Whether a name of which this is said is that of an input port.
+    pub(crate) fn is_input_port(&self, name: &Name, facts: NetFacts) -> bool
+        requires { facts.dir ≡ direction_of (module_view self.now) name.now }
+        ensures { result ≡ is_input_port (module_view self.now) name.now }
+    {
+        is_input_direction(facts.dir) && self.is_port(name)
+    }
+}

@@ -1,0 +1,188 @@
+//! The nets of a module in net order, and the place of each by its name.
+ghost use Rattle.std.specs.Prelude.{◌≡◌, ◌<◌, ◌-◌, ◌^◌, min, ◌∷◌, [], ◌&&◌, is_none, map, length, IfOk, OnOk};
+ghost use Rattle.std.specs.List.{flat_map, list_all};
+ghost use Rattle.bb_ast.specs.Views.{module_view, body_view, head_view, item_view, named_view, optional_view};
+ghost use Rattle.bb_names.specs.Declarations.{is_port};
+ghost use Rattle.bb_names.specs.Nets.{net_names, net_of, nets_of, is_of_empty, is_empty};
+ghost use Rattle.bb_bits.specs.Names.{placed};
+ghost use Rattle.bb_names.specs.NetLists.{all_placed, nets_declared_by};
+
+use crate::indexed::IndexedModule;
+use crate::net::NetInfo;
+use bb_ast::{Body, Expr, Head, Item};
+use bb_bits::{Name, NoMemory};
+use indexmap::IndexMap;
+use std::alloc::Global;
+
+/// Names, each with its place among them.
+type NetIndex = IndexMap<Name, u32>;
+
+/// Nets with their places.
+#[derive(Drop)]
+pub(crate) struct Nets {
+    pub all: Vec<NetInfo>,
+    pub index: NetIndex,
+}
+
+fn net(of: &IndexedModule, name: &Name) -> Result<NetInfo, NoMemory>
+    ensures { IfOk result (λ net. net ≡ net_of (module_view of.now) name.now) }
+{
+    let facts = of.facts(name);
+    Ok(NetInfo {
+        name: name.clone()?,
+        range: facts.range,
+        kind: facts.kind,
+        port: of.port_direction(name),
+    })
+}
+
+/// The place behind so many names, as far as 32 bits tell it.
+fn place_behind(count: usize) -> u32
+    ensures { result ≡ min count (2 ^ 32 - 1) }
+{
+    if count < u32::MAX as usize {
+        count as u32
+    } else {
+        u32::MAX
+    }
+}
+
+/// Adds a name behind the others, unless it is one of them.
+fn add_name(index: &mut NetIndex, name: &Name) -> Result<(), NoMemory>
+    ensures { OnOk result (index.new.entries ≡ all_placed index.old.entries (name.now ∷ [])) }
+{
+    if !index.contains_key(name) {
+        let place = place_behind(index.len());
+        index.insert(name.clone()?, place)?;
+    }
+    Ok(())
+}
+
+fn add_heads(index: &mut NetIndex, heads: &[Head]) -> Result<(), NoMemory>
+    ensures { OnOk result (index.new.entries ≡ all_placed index.old.entries (map (λ head. head.name) (map head_view heads.now))) }
+{
+    for head in heads {
+        add_name(index, &head.name)?;
+    }
+    Ok(())
+}
+
+fn add_names(index: &mut NetIndex, more: &[Name]) -> Result<(), NoMemory>
+    ensures { OnOk result (index.new.entries ≡ all_placed index.old.entries more.now) }
+{
+    for name in more {
+        add_name(index, name)?;
+    }
+    Ok(())
+}
+
+fn add_wires(index: &mut NetIndex, all: &[(Name, Option<Expr>)]) -> Result<(), NoMemory>
+    ensures { OnOk result (index.new.entries ≡ all_placed index.old.entries (map (λ x. x.0) (map named_view all.now))) }
+{
+    for (name, _) in all {
+        add_name(index, name)?;
+    }
+    Ok(())
+}
+
+fn add_item(index: &mut NetIndex, body: &Body) -> Result<(), NoMemory>
+    ensures { OnOk result (index.new.entries ≡ all_placed index.old.entries (nets_declared_by (body_view body.now))) }
+{
+    match body {
+        Body::Ports(_, more) => add_names(index, more),
+        Body::Regs(_, more) => add_names(index, more),
+        Body::Supply(_, _, more) => add_names(index, more),
+        Body::Nets(_, all) => add_wires(index, all),
+        // An instance is no net.
+        Body::Calls(..) => Ok(()),
+        Body::Assign(_) | Body::Gates(..) | Body::Always(_) => Ok(()),
+    }
+}
+
+fn add_items(index: &mut NetIndex, items: &[Item]) -> Result<(), NoMemory>
+    ensures { OnOk result (index.new.entries ≡ all_placed index.old.entries (flat_map (λ item. nets_declared_by item.body) (map item_view items.now))) }
+{
+    for item in items {
+        add_item(index, &item.body)?;
+    }
+    Ok(())
+}
+
+/// The names of the nets of a module with their places in net order.
+fn index_of(alloc: Global, of: &IndexedModule) -> Result<NetIndex, NoMemory>
+    requires few { length (net_names (module_view of.now)) < 2 ^ 32 }
+    ensures { IfOk result (λ index. index.entries ≡ placed 0 (net_names (module_view of.now))) }
+{
+    let mut index = IndexMap::with_capacity(alloc, of.name_count())?;
+    add_heads(&mut index, &of.module().heads)?;
+    add_items(&mut index, &of.module().items)?;
+    add_names(&mut index, of.implicit().as_slice())?;
+    Ok(index)
+}
+
+pub(crate) fn nets_in(alloc: Global, of: &IndexedModule) -> Result<Nets, NoMemory>
+    requires few { length (net_names (module_view of.now)) < 2 ^ 32 }
+    ensures nets { IfOk result (λ nets. nets.all.items ≡ nets_of (module_view of.now)) }
+    ensures index { IfOk result (λ nets. nets.index.entries ≡ placed 0 (map (λ net. net.name) nets.all.items)) }
+{
+    let index = index_of(alloc, of)?;
+    let mut all = Vec::with_capacity(alloc, index.len())?;
+    for name in index.keys() {
+        all.push(net(of, name)?)?;
+    }
+    Ok(Nets { all, index })
+}
+
+/// Whether a wire is a port and is not assigned.
+fn is_plain_port(of: &IndexedModule, name: &Name, value: &Option<Expr>) -> bool
+    ensures { result ≡ (is_none (optional_view value.now) && is_port (module_view of.now) name.now) }
+{
+    value.is_none() && of.is_port(name)
+}
+
+/// Whether wires are all ports and none is assigned.
+fn are_ports(of: &IndexedModule, all: &[(Name, Option<Expr>)]) -> bool
+    ensures { result ≡ list_all (λ x. is_none x.1 && is_port (module_view of.now) x.0) (map named_view all.now) }
+{
+    for (name, value) in all {
+        if !is_plain_port(of, name, value) {
+            return false;
+        }
+    }
+    true
+}
+
+fn are_port_names(of: &IndexedModule, names: &[Name]) -> bool
+    ensures { result ≡ list_all (is_port (module_view of.now)) names.now }
+{
+    for name in names {
+        if !of.is_port(name) {
+            return false;
+        }
+    }
+    true
+}
+
+/// Whether an item declares ports and nothing else.
+fn is_item_of_empty(of: &IndexedModule, body: &Body) -> bool
+    ensures { result ≡ is_of_empty (module_view of.now) (body_view body.now) }
+{
+    match body {
+        Body::Ports(..) => true,
+        Body::Nets(_, all) => are_ports(of, all),
+        Body::Regs(_, names) => are_port_names(of, names),
+        _ => false,
+    }
+}
+
+/// Whether a module declares its ports and nothing else.
+pub(crate) fn is_empty_module(of: &IndexedModule) -> bool
+    ensures { result ≡ is_empty (module_view of.now) }
+{
+    for item in &of.module().items {
+        if !is_item_of_empty(of, &item.body) {
+            return false;
+        }
+    }
+    true
+}

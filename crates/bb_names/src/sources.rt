@@ -1,0 +1,81 @@
+//! The modules of a source with an index of their names, so that each instance finds its module at once.
+ghost use Rattle.std.specs.Prelude.{◌≡◌, List, map, option_map, IfOk};
+ghost use Rattle.std.specs.List.{position_from};
+ghost use Rattle.bb_bits.specs.Names.{same_name};
+ghost use Rattle.bb_ast.specs.Views.{module_view};
+ghost use Rattle.bb_names.specs.Spots.{module_named};
+
+use crate::indexed::IndexedModule;
+use crate::places::{Places, note_place};
+use bb_ast::Source;
+use bb_bits::{Name, NoMemory};
+use indexmap::IndexMap;
+use std::alloc::Global;
+use std::marker::Model;
+
+/// The modules of a source, each with an index of its names, and the first place of each module's name.
+#[derive(Drop)]
+pub(crate) struct IndexedSource {
+    modules: Vec<IndexedModule>,
+    places: Places,
+}
+
+impl Model for IndexedSource {
+    ghost use Rattle.std.specs.Prelude.{List, map};
+    ghost use Rattle.std.specs.Coded.{codes};
+    ghost use Rattle.bb_names.specs.Indexed.{ArePlaces};
+    ghost use Rattle.bb_ast.specs.contracts.expr.Expr as e;
+    ghost use Rattle.bb_ast.specs.declared.module.Module.{Module};
+
+    ghost Value = { List Module };
+
+    ghost coded = { Prim.hlevel (codes, e.the_row.coded) };
+
+    ghost view = { λ s. s.modules.items };
+
+    ghost invariant = { λ s. ArePlaces s.places.entries (map (λ m. m.name) s.modules.items) };
+}
+
+impl IndexedSource {
+    pub(crate) fn new(alloc: Global, source: Source) -> Result<IndexedSource, NoMemory>
+        ensures { IfOk result (λ s. s ≡ source.modules.items) }
+    {
+        let mut modules = Vec::new(alloc);
+        let mut places = IndexMap::new(alloc);
+        for parsed in source.modules {
+            note_place(&mut places, &parsed.name, modules.len())?;
+            modules.push(IndexedModule::new(alloc, parsed)?)?;
+        }
+        Ok(IndexedSource { modules, places })
+    }
+
+    /// The modules, in the order of the source.
+    pub(crate) fn modules(&self) -> &[IndexedModule]
+        ensures { result.now ≡ self.now }
+    {
+        &self.modules
+    }
+
+    pub(crate) fn into_modules(self) -> Vec<IndexedModule>
+        ensures { result.items ≡ self }
+    {
+        self.modules
+    }
+
+    /// The first place of a module's name.
+    pub(crate) fn place(&self, name: &Name) -> Option<usize>
+        ensures { result ≡ position_from (same_name name.now) 0 (map (λ m. m.name) self.now) }
+    {
+        self.places.get(name).copied()
+    }
+
+    /// The first module of a name.
+    pub(crate) fn named(&self, name: &Name) -> Option<&IndexedModule>
+        ensures { option_map (λ m. module_view m.now) result ≡ module_named (map module_view self.now) name.now }
+    {
+        match self.place(name) {
+            Some(place) => self.modules.get(place),
+            None => None,
+        }
+    }
+}
