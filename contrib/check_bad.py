@@ -3,7 +3,7 @@ import os
 
 from tries import BBEQ, REFUSED, SMALL_PROOF, bbeq, example, is_told, run, script, write
 
-SCRIPTS = ("gates", "fill", "wave", "order", "drat", "lrat", "check")
+SCRIPTS = ("gates", "fill", "wave", "order", "drat", "lrat", "edits", "evaluate", "check")
 
 
 def bad_part(tally, folder):
@@ -45,7 +45,9 @@ def bad_part(tally, folder):
             ("wave", [vector, rtl, implementation]), ("wave", ["--vector", "2", vector, spec, implementation]),
             ("wave", [vector, example("buffer", "spec.v"), example("buffer", "impl.v")]),
             ("order", ["nowhere.v"]), ("order", [empty]), ("order", [broken]), ("order", [rtl]),
-            ("order", ["--top-spec", "other", spec]), ("lrat", ["nowhere", "nowhere"]), ("lrat", [empty, empty])):
+            ("order", ["--top-spec", "other", spec]), ("evaluate", [spec, "nowhere.v"]), ("evaluate", [spec, broken]),
+            ("evaluate", [example("buffer", "spec.v"), implementation]), ("evaluate", [implementation, spec]),
+            ("evaluate", [spec, implementation, opened]), ("lrat", ["nowhere", "nowhere"]), ("lrat", [empty, empty])):
         done = run([script(name), *words], folder)
         shown = " ".join(os.path.basename(word) for word in words)
         tally.note(f"{name} {shown}: {done.err.strip().replace(folder + '/', '')}", is_told(done, name), done.why())

@@ -188,6 +188,14 @@ def bit_text(name, index):
     return name if index is None else f"{name}[{index}]"
 
 
+def number_of(digits):
+    """The number that a base letter and digits write; None where one of them stands for no bit of its own, as x does."""
+    try:
+        return int(digits[1:].strip().replace("_", ""), {"b": 2, "o": 8, "d": 10, "h": 16}[digits[0].lower()])
+    except ValueError:
+        return None
+
+
 class Reader:
     """Reads modules from tokens, one statement after another."""
 
@@ -406,27 +414,28 @@ class Reader:
     def level(self, depth):
         if depth == len(self.LEVELS):
             return self.unary()
-        parts = [self.level(depth + 1)]
+        parts, operators = [self.level(depth + 1)], []
         while self.sees(*self.LEVELS[depth]):
-            self.take()
+            operators.append(self.take().text)
             parts.append(self.level(depth + 1))
-        return parts[0] if len(parts) == 1 else ("chain", parts)
+        return parts[0] if len(parts) == 1 else ("chain", parts, operators)
 
     def unary(self):
-        if not self.sees("~"):
-            return self.primary()
+        signs = 0
         while self.sees("~"):
             self.take()
-        return "not", self.primary()
+            signs += 1
+        return ("not", self.primary(), signs) if signs else self.primary()
 
     def primary(self):
         token = self.take()
         if token.kind == "name":
             return "net", token.text, self.select()
         if token.kind == "sized":
-            return "bits", int(token.text.split("'")[0].replace("_", ""))
+            size, digits = token.text.split("'")
+            return "bits", int(size.replace("_", "")), number_of(digits.strip())
         if token.kind == "plain":
-            return "bits", 32
+            return "bits", 32, int(token.text.replace("_", ""))
         if token.text == "(":
             inner = self.expression()
             self.take(")")

@@ -1,27 +1,46 @@
-//! The outputs of a netlist for a list of bits.
+//! Bits as digits, and the outputs of a netlist for a list of bits.
 
 use bb_bits::Table;
 use bb_building::fit;
 use bb_net::Net;
-use std::alloc::Global;
+use std::alloc::{AllocError, Global};
 use std::process::Abort;
 use std::test::Fail;
 
-/// The outputs of a netlist for its inputs and the tables of its boxes.
-pub(crate) fn net_bits<R: Abort>(
+/// The bits that the digits 0 and 1 write.
+pub(crate) fn bits(alloc: Global, digits: &str) -> Result<Vec<bool>, AllocError> {
+    let mut bits = Vec::new(alloc);
+    for digit in digits.as_bytes() {
+        bits.push(*digit == b'1')?;
+    }
+    Ok(bits)
+}
+
+/// The digits of bits.
+pub(crate) fn digits(alloc: Global, bits: &[bool]) -> Result<String, AllocError> {
+    let mut digits = String::new(alloc);
+    for bit in bits {
+        digits.push(if *bit { '1' } else { '0' })?;
+    }
+    Ok(digits)
+}
+
+/// The outputs of a netlist, as digits, for digits of its inputs and the tables of its boxes.
+pub(crate) fn outputs<R: Abort>(
     rt: &R,
     alloc: Global,
     net: &Net,
     tables: &[Table],
-    x: &[bool],
-) -> Result<Vec<bool>, Fail> {
+    x: &str,
+) -> Result<String, Fail> {
+    let x = bits(alloc, x)?;
     assert!(rt; x.len() == net.inputs() as usize);
     assert!(rt; fit(tables, net.boxes()));
     let mut values = vec![in alloc; false; net.cells().len()]?;
-    net.value_with(x, tables, &mut values);
-    let mut bits = Vec::new(alloc);
+    net.value_with(&x, tables, &mut values);
+    let mut found = Vec::new(alloc);
     for place in net.outs() {
-        bits.push(*values.get(*place as usize).ok_or("no such cell")?)?;
+        found.push(*values.get(*place as usize).ok_or("no such cell")?)?;
     }
-    Ok(bits)
+    Ok(digits(alloc, &found)?)
 }

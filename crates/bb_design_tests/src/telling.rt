@@ -2,7 +2,7 @@
 
 use bb_bits::Name;
 use bb_elab::{ElabFault, Flat, elaborate};
-use bb_expr::{NameFault, check};
+use bb_names::{NameFault, check};
 use std::alloc::{AllocError, Global};
 use std::process::Abort;
 use std::test::Fail;

@@ -1,14 +1,11 @@
-//! Small designs: the names of their inputs, registers, outputs and boxes by hand, and the values of all outputs for all vectors and
-//! all contents of the boxes against the plain reference.
+//! The names of the netlists of small designs, and the values of their outputs for vectors and tables of the boxes.
 
-use crate::bits::net_bits;
-use crate::designs::{DESIGNS, TRUTHS, design, truth_of};
+use crate::bits::{bits, outputs};
+use crate::designs::{DESIGNS, parts};
 use crate::telling::{flat_of, tell_name};
-use bb_ast::Source;
 use bb_bits::{Name, Table};
 use bb_building::table_of;
-use bb_elab::Flat;
-use bb_reference::{Circuit, advance, content_bits, read};
+use bb_net::Flat;
 use std::alloc::{AllocError, Global};
 use std::process::Abort;
 use std::test::Fail;
@@ -47,140 +44,47 @@ fn names(alloc: Global, flat: &Flat) -> Result<String, AllocError> {
     Ok(out)
 }
 
-// A flat netlist beside the plain reference, which has its inputs and outputs in the same order.
-#[derive(Drop)]
-struct Compared<'a> {
-    flat: Flat,
-    circuit: Circuit<'a>,
-}
-
-// Adds the inputs and the outputs of ports.
-fn add_ports(alloc: Global, circuit: &mut Circuit<'_>, flat: &Flat) -> Result<(), Fail> {
-    for name in flat.ins() {
-        circuit.add_input(alloc, name.bytes())?;
-    }
-    for name in flat.outs() {
-        circuit.add_output(alloc, name.bytes(), false)?;
+#[test]
+fn names_of_designs(rt: HostRuntime) -> Result<(), Fail> {
+    for design in DESIGNS.split("\n\n") {
+        let design = parts(design);
+        let flat = flat_of(&rt, rt.alloc(), design.text.as_bytes(), Some(b"t"))?;
+        let found = names(rt.alloc(), &flat)?;
+        assert_eq!(&rt; found.as_str(), design.names);
     }
     Ok(())
 }
 
-fn beside<'a>(alloc: Global, flat: Flat, source: &'a Source) -> Result<Compared<'a>, Fail> {
-    let mut circuit = Circuit::new(alloc, source, b"t")?;
-    add_ports(alloc, &mut circuit, &flat)?;
-    for reg in flat.regs() {
-        circuit.add_input(alloc, reg.text.bytes())?;
-        circuit.add_output(alloc, reg.text.bytes(), true)?;
-    }
-    Ok(Compared { flat, circuit })
-}
-
-// How many bits the contents of all boxes have.
-fn all_bits(flat: &Flat) -> Result<usize, Fail> {
-    let mut bits = 0usize;
-    for of in flat.boxes() {
-        bits = bits.saturating_add(content_bits(of.ins().len(), of.outs().len())?);
-    }
-    Ok(bits)
-}
-
-// The contents of all boxes, one behind the other, as tables and in the reference.
-fn fill(alloc: Global, on: &mut Compared<'_>, contents: &[bool]) -> Result<Vec<Table>, Fail> {
+// The tables whose rows stand one behind the other, with a blank between two.
+fn tables(alloc: Global, flat: &Flat, all: &str) -> Result<Vec<Table>, Fail> {
     let mut tables = Vec::new(alloc);
-    let mut rest = contents;
-    for of in on.flat.boxes() {
-        let bits = content_bits(of.ins().len(), of.outs().len())?;
-        let (rows, more) = rest.split_at_checked(bits).ok_or("too few contents")?;
-        on.circuit.fill(alloc, of.path().bytes(), rows)?;
-        tables.push(table_of(alloc, of.ins().len(), of.outs().len(), rows)?)?;
-        rest = more;
+    for (of, rows) in flat.boxes().iter().zip(all.split(' ')) {
+        let rows = bits(alloc, rows)?;
+        tables.push(table_of(alloc, of.ins().len(), of.outs().len(), &rows)?)?;
     }
     Ok(tables)
 }
 
-// Compares all outputs for all vectors.
-fn compare_vectors<R: Abort>(
-    rt: &R,
-    alloc: Global,
-    on: &mut Compared<'_>,
-    tables: &[Table],
-    text: &str,
-) -> Result<(), Fail> {
-    let mut x = vec![in alloc; false; on.circuit.inputs()]?;
-    for _ in 0..4096 {
-        let found = net_bits(rt, alloc, on.flat.net(), tables, &x)?;
-        let expected = on.circuit.bits(alloc, &x)?;
-        assert_eq!(rt; found, expected, "{text}");
-        if !advance(&mut x) {
-            break;
-        }
-    }
-    Ok(())
-}
-
-// Compares all outputs for all contents and all vectors.
-fn compare<R: Abort>(rt: &R, alloc: Global, text: &str) -> Result<(), Fail> {
-    let flat = flat_of(rt, alloc, text.as_bytes(), Some(b"t"))?;
-    let source = read(alloc, text.as_bytes())?;
-    let mut contents = vec![in alloc; false; all_bits(&flat)?]?;
-    let mut on = beside(alloc, flat, &source)?;
-    for _ in 0..4096 {
-        let tables = fill(alloc, &mut on, &contents)?;
-        compare_vectors(rt, alloc, &mut on, &tables, text)?;
-        if !advance(&mut contents) {
-            break;
-        }
+// Compares the outputs of a netlist for some tables.
+fn row<R: Abort>(rt: &R, alloc: Global, flat: &Flat, row: &str) -> Result<(), Fail> {
+    let (head, points) = row.split_once(": ").unwrap_or((row, ""));
+    let tables = tables(alloc, flat, head.strip_prefix("values ").unwrap_or(""))?;
+    for point in points.split(' ') {
+        let (x, expected) = point.split_once(":").unwrap_or((point, ""));
+        let found = outputs(rt, alloc, flat.net(), &tables, x)?;
+        assert_eq!(rt; found.as_str(), expected, "{head} {x}");
     }
     Ok(())
 }
 
 #[test]
-fn names_of_designs(rt: HostRuntime) -> Result<(), Fail> {
-    for number in 0..DESIGNS {
-        let (text, expected) = design(number);
-        let flat = flat_of(&rt, rt.alloc(), text.as_bytes(), Some(b"t"))?;
-        let found = names(rt.alloc(), &flat)?;
-        assert_eq!(&rt; found.as_str(), expected);
-    }
-    Ok(())
-}
-
-#[test]
-fn values_are_those_of_the_reference(rt: HostRuntime) -> Result<(), Fail> {
-    for number in 0..DESIGNS {
-        let (text, _) = design(number);
-        compare(&rt, rt.alloc(), text)?;
-    }
-    Ok(())
-}
-
-// The outputs and next states by the reference, vector after vector in rising order. A next state is written with a quote.
-fn truth(alloc: Global, source: &Source, ins: &str, outs: &str) -> Result<String, Fail> {
-    let mut circuit = Circuit::new(alloc, source, b"t")?;
-    circuit.add_inputs(alloc, ins)?;
-    circuit.add_outputs(alloc, outs)?;
-    let mut text = String::new(alloc);
-    let mut x = vec![in alloc; false; circuit.inputs()]?;
-    for _ in 0..4096 {
-        for bit in circuit.bits(alloc, &x)? {
-            text.push(if bit { '1' } else { '0' })?;
+fn values_of_designs(rt: HostRuntime) -> Result<(), Fail> {
+    for design in DESIGNS.split("\n\n") {
+        let design = parts(design);
+        let flat = flat_of(&rt, rt.alloc(), design.text.as_bytes(), Some(b"t"))?;
+        for line in design.rows.lines() {
+            row(&rt, rt.alloc(), &flat, line)?;
         }
-        if !advance(&mut x) {
-            break;
-        }
-        text.push(' ')?;
-    }
-    Ok(text)
-}
-
-#[test]
-fn the_reference_has_the_values_by_hand(rt: HostRuntime) -> Result<(), Fail> {
-    let alloc = rt.alloc();
-    for number in 0..TRUTHS {
-        let (text, ins, outs, expected) = truth_of(number);
-        let source = read(alloc, text.as_bytes())?;
-        let found = truth(alloc, &source, ins, outs)?;
-        assert_eq!(&rt; found.as_str(), expected, "{text}");
     }
     Ok(())
 }

@@ -78,40 +78,17 @@ fn accepts(alloc: Global, vars: u32, lists: &str, steps: &str) -> Result<bool, F
     }
 }
 
-// Compares what the checker says of steps for these clauses, as a row of a table has both.
-fn row<R: Abort>(rt: &R, alloc: Global, vars: u32, lists: &str, row: &str) -> Result<(), Fail> {
-    let (steps, expected) = halves(row);
-    let found = accepts(alloc, vars, lists, steps)?;
-    assert_eq!(rt;
-        if found { "accepted" } else { "refused" },
-        expected,
-        "{lists}: {row}"
-    );
-    Ok(())
-}
-
-const CHAIN: &str = "1 0 -1 2 0 -2 0";
-
-const STEPS_FOR_THE_CHAIN: &str = "\
-0 1/1 2/2 => accepted
-0 2/2 1/1 => refused
-1 0/1 2/2 => accepted
-0 1/1, 3 2/2 => accepted
-0 1/1 => refused
-3 => refused
-0 3/1 => refused
- => refused";
-
-#[test]
-fn a_chain_stands_where_each_resolution_does(rt: HostRuntime) -> Result<(), Fail> {
-    for line in STEPS_FOR_THE_CHAIN.lines() {
-        row(&rt, rt.alloc(), 2, CHAIN, line)?;
-    }
-    Ok(())
-}
-
-// The highest variable is 4,294,967,295, and no clause has the number 18,446,744,073,709,551,615.
-const EDGES: &str = "\
+// The number of variables, clauses and steps. The highest variable is 4,294,967,295, and no clause has the number
+// 18,446,744,073,709,551,615.
+const STEPS: &str = "\
+2: 1 0 -1 2 0 -2 0: 0 1/1 2/2 => accepted
+2: 1 0 -1 2 0 -2 0: 0 2/2 1/1 => refused
+2: 1 0 -1 2 0 -2 0: 1 0/1 2/2 => accepted
+2: 1 0 -1 2 0 -2 0: 0 1/1, 3 2/2 => accepted
+2: 1 0 -1 2 0 -2 0: 0 1/1 => refused
+2: 1 0 -1 2 0 -2 0: 3 => refused
+2: 1 0 -1 2 0 -2 0: 0 3/1 => refused
+2: 1 0 -1 2 0 -2 0:  => refused
 0: 0: 0 => accepted
 1: 1 1 0 -1 -1 0: 0 1/1 => accepted
 1: 1 -1 0 1 -1 0: 0 1/1 => refused
@@ -121,12 +98,21 @@ const EDGES: &str = "\
 1: 1 0 -1 0: 0 18446744073709551615/1 => refused
 4294967295: 4294967295 0 -4294967295 0: 0 1/4294967295 => accepted";
 
+// Compares what the checker says of a row.
+fn row<R: Abort>(rt: &R, alloc: Global, row: &str) -> Result<(), Fail> {
+    let (formula, expected) = halves(row);
+    let (vars, rest) = formula.split_once(": ").unwrap_or((formula, ""));
+    let (lists, steps) = rest.split_once(": ").unwrap_or((rest, ""));
+    let found = accepts(alloc, variable(vars)?, lists, steps)?;
+    let found = if found { "accepted" } else { "refused" };
+    assert_eq!(rt; found, expected, "{row}");
+    Ok(())
+}
+
 #[test]
-fn edges_of_clauses_and_numbers(rt: HostRuntime) -> Result<(), Fail> {
-    for line in EDGES.lines() {
-        let (vars, rest) = line.split_once(": ").unwrap_or((line, ""));
-        let (lists, steps) = rest.split_once(": ").unwrap_or((rest, ""));
-        row(&rt, rt.alloc(), variable(vars)?, lists, steps)?;
+fn steps_stand_where_each_resolution_does(rt: HostRuntime) -> Result<(), Fail> {
+    for line in STEPS.lines() {
+        row(&rt, rt.alloc(), line)?;
     }
     Ok(())
 }
@@ -142,7 +128,7 @@ fn printed(alloc: Global, lists: &str, steps: &str) -> Result<Vec<u8>, Fail> {
 
 #[test]
 fn the_lines_name_clauses_and_variables(rt: HostRuntime) -> Result<(), Fail> {
-    let text = printed(rt.alloc(), CHAIN, "0 1/1 2/2")?;
+    let text = printed(rt.alloc(), "1 0 -1 2 0 -2 0", "0 1/1 2/2")?;
     let want = b"clause 0 1\nclause 1 -1 2\nclause 2 -2\nstep 3 0 1/1 2/2\n";
     assert_eq!(rt; text.as_slice(), want.as_slice());
     Ok(())

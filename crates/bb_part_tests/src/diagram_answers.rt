@@ -104,8 +104,8 @@ fn row<R: Abort>(rt: &R, alloc: Global, d: &mut Diagrams, vars: u32, row: &str) 
     Ok(())
 }
 
-/// Compares what calls answer one after another, of diagrams of so many variables with room for so many nodes and results.
-pub(crate) fn rows<R: Abort>(
+// Compares what calls answer one after another, of diagrams of so many variables with room for so many nodes and results.
+fn rows<R: Abort>(
     rt: &R,
     alloc: Global,
     (vars, nodes, cache): (u32, u32, u32),
@@ -114,6 +114,17 @@ pub(crate) fn rows<R: Abort>(
     let mut d = start(alloc, vars, nodes, cache)?;
     for line in table.lines() {
         row(rt, alloc, &mut d, vars, line)?;
+    }
+    Ok(())
+}
+
+/// Compares what calls answer, table by table with an empty line between two. A table begins with a word, its numbers of variables,
+/// nodes and results, and what it shows.
+pub(crate) fn tables<R: Abort>(rt: &R, alloc: Global, text: &str) -> Result<(), Fail> {
+    for table in text.split("\n\n") {
+        let (head, calls) = table.split_once("\n").unwrap_or((table, ""));
+        let sizes = (number(head, 1), number(head, 2), number(head, 3));
+        rows(rt, alloc, sizes, calls)?;
     }
     Ok(())
 }

@@ -1,12 +1,14 @@
-//! Diagrams, through public calls.
+//! Diagrams, quantifiers and least points, through public calls.
 
-use crate::diagram_answers::rows;
+use crate::diagram_answers::tables;
 use crate::diagram_calls::{operation, start, variable};
 use bb_uniq::Ref;
 use std::alloc::Global;
 use std::test::Fail;
 
-const CONJUNCTION: &str = "\
+// Calls and what they answer.
+const CALLS: &str = "\
+diagrams 2 3 4 of two variables: three nodes hold them and their conjunction
 var 0 => 2
 var 1 => 3
 len => 2
@@ -17,11 +19,75 @@ xor 2 3 => full
 not 2 => full
 at 4 11 => 1
 at 4 10 => 0
-len => 3";
+len => 3
+
+diagrams 1 2 1 of one variable: calls on leaves and on it
+view 1 => leaf 1
+node 0 1 1 => 1
+node 0 0 1 => 2
+or 0 1 => 1
+recall-forall 1 0 => none
+len => 1
+
+diagrams 2 10 1 at the four points: the complement of the first variable, and the disjunction of both
+var 0 => 2
+var 1 => 3
+not 2 => 4
+at 4 00 => 1
+at 4 01 => 1
+at 4 10 => 0
+at 4 11 => 0
+or 2 3 => 5
+at 5 00 => 0
+at 5 01 => 1
+at 5 10 => 1
+at 5 11 => 1
+view 5 => node 0 3 1
+
+diagrams 2 10 1 at the four points: the exclusive disjunction
+var 0 => 2
+var 1 => 3
+xor 2 3 => 5
+at 5 00 => 0
+at 5 01 => 1
+at 5 10 => 1
+at 5 11 => 0
+
+diagrams 1 1 4 that keep a result: it is recalled for its quantifier alone
+keep => 1
+recall-exists 1 0 => 1
+recall-forall 1 0 => none
+
+diagrams 2 3 4 under quantifiers: a disjunction
+var 0 => 2
+var 1 => 3
+or 2 3 => 4
+forall 4 0 => 3
+exists 4 0 => 1
+forall 4 1 => 2
+len => 3
+
+diagrams 2 3 4 with least points: with given first bits
+var 0 => 2
+var 1 => 3
+or 2 3 => 4
+least 4 1 0 11 => true 01
+least 4 1 1 11 => true 10
+least 4 0 1 10 => false 10
+
+diagrams 2 3 4 under quantifiers and with least points: a conjunction
+var 0 => 2
+var 1 => 3
+and 2 3 => 4
+exists 4 1 => 2
+forall 4 0 => 0
+least 4 1 0 00 => true 11
+least 4 0 1 11 => true 10
+least 4 1 1 01 => false 01";
 
 #[test]
-fn three_nodes_hold_two_variables_and_their_conjunction(rt: HostRuntime) -> Result<(), Fail> {
-    rows(&rt, rt.alloc(), (2, 3, 4), CONJUNCTION)
+fn calls_have_their_answers(rt: HostRuntime) -> Result<(), Fail> {
+    tables(&rt, rt.alloc(), CALLS)
 }
 
 // How many nodes the exclusive disjunction of all variables and those of its parts have.
@@ -40,62 +106,4 @@ fn chain(alloc: Global) -> Result<u32, Fail> {
 fn a_chain_of_64_variables_ends_by_the_cache(rt: HostRuntime) -> Result<(), Fail> {
     assert_eq!(rt; chain(rt.alloc())?, 190);
     Ok(())
-}
-
-const LEAVES: &str = "\
-view 1 => leaf 1
-node 0 1 1 => 1
-node 0 0 1 => 2
-or 0 1 => 1
-recall-forall 1 0 => none
-len => 1";
-
-#[test]
-fn calls_on_leaves_and_on_one_variable(rt: HostRuntime) -> Result<(), Fail> {
-    rows(&rt, rt.alloc(), (1, 2, 1), LEAVES)
-}
-
-// The complement of the first variable, and the disjunction of both.
-const FOUR_POINTS: &str = "\
-var 0 => 2
-var 1 => 3
-not 2 => 4
-at 4 00 => 1
-at 4 01 => 1
-at 4 10 => 0
-at 4 11 => 0
-or 2 3 => 5
-at 5 00 => 0
-at 5 01 => 1
-at 5 10 => 1
-at 5 11 => 1
-view 5 => node 0 3 1";
-
-#[test]
-fn complement_and_disjunction_at_the_four_points(rt: HostRuntime) -> Result<(), Fail> {
-    rows(&rt, rt.alloc(), (2, 10, 1), FOUR_POINTS)
-}
-
-const EXCLUSIVE: &str = "\
-var 0 => 2
-var 1 => 3
-xor 2 3 => 5
-at 5 00 => 0
-at 5 01 => 1
-at 5 10 => 1
-at 5 11 => 0";
-
-#[test]
-fn exclusive_disjunction_at_the_four_points(rt: HostRuntime) -> Result<(), Fail> {
-    rows(&rt, rt.alloc(), (2, 10, 1), EXCLUSIVE)
-}
-
-const KEPT: &str = "\
-keep => 1
-recall-exists 1 0 => 1
-recall-forall 1 0 => none";
-
-#[test]
-fn a_kept_result_is_recalled_for_its_quantifier_alone(rt: HostRuntime) -> Result<(), Fail> {
-    rows(&rt, rt.alloc(), (1, 1, 4), KEPT)
 }

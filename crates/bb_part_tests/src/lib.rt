@@ -18,8 +18,6 @@ mod order_tests;
 #[cfg(test)]
 mod pattern_tests;
 #[cfg(test)]
-mod quantifier_tests;
-#[cfg(test)]
 mod solver_tests;
 #[cfg(test)]
 mod store_tests;

@@ -14,6 +14,10 @@ mod memory;
 mod option_tests;
 #[cfg(test)]
 mod outside_tests;
+#[cfg(test)]
+mod pair_tests;
+#[cfg(test)]
+mod pairs;
 mod recording;
 #[cfg(test)]
 mod recording_tests;

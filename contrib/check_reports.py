@@ -1,0 +1,161 @@
+"""Reports of small pairs against what `evaluate` finds by trying everything: the pairs by hand, which stand with their reports
+in a crate for tests, and $CHECK_PAIRS pairs that are drawn. What the crates for tests have from `evaluate` is found anew."""
+import os
+import random
+import re
+
+from drawn import drawn_pair
+from language import Reader, top_of
+from reports import tables
+from tries import TOP, bbeq, example, is_told, read, run, script, write
+from truths import CHECKS, by_rows, climb, in_order, pair_of, vectors
+from values import Design, World
+
+BY_HAND = os.path.join(TOP, "crates", "bb_rows", "src", "pairs.rt")
+DESIGNS = os.path.join(TOP, "crates", "bb_design_tests", "src", "designs.rt")
+DRAWN = int(os.environ.get("CHECK_PAIRS", "300"))
+STATUSES = {"verdict repairable": 0, "verdict error": 1, "verdict open": 3}
+UNFINISHED = re.compile(r"^rung (\w+) (nodes|clauses)$", re.MULTILINE)
+
+
+def reports_part(tally, folder):
+    evaluate_tries(tally, folder)
+    for block in blocks_in(DESIGNS):
+        try_design(tally, *re.fullmatch(r"design ([^\n]*)\n(.*)\nnames [^\n]*\n(.*)", block, re.DOTALL).groups())
+    for spec, implementation, answer, reports in pairs_by_hand():
+        try_by_hand(tally, folder, (spec, implementation), answer, reports)
+    verdicts = [try_drawn(tally, folder, seed) for seed in range(DRAWN)]
+    shares = {name: verdicts.count(name) for name in ("error", "repairable", "open")}
+    tally.note(f"drawn pairs: {shares}, at least a fifth each", all(5 * count >= DRAWN for count in shares.values()))
+
+
+def pair_in(texts):
+    sides = [{module.name: module for module in Reader(text).modules()} for text in texts]
+    return pair_of(*[(modules, top_of("a text", modules, None)) for modules in sides])
+
+
+def blocks_in(path):
+    """The blocks of the long text in a file of tests."""
+    return re.search(r'= r(#?)"(.*?)"\1;', read(path), re.DOTALL).group(2).split("\n\n")
+
+
+def report_of(folder, texts, *words):
+    spec, implementation = write(folder, "spec.v", texts[0]), write(folder, "impl.v", texts[1])
+    return bbeq(spec, implementation, *words)
+
+
+# Designs with the values of their outputs.
+
+def contents_of(boxes, words):
+    """The contents that tables have, each with its rows one behind the other."""
+    rows = [[word[at:at + len(box.outs)] for at in range(0, len(word), len(box.outs))] if box.outs else [""] * 2 ** len(box.ins)
+            for box, word in zip(boxes, words)]
+    return {box.path: [tuple(bit == "1" for bit in row) for row in of] for box, of in zip(boxes, rows)}
+
+
+def try_design(tally, name, text, rows):
+    modules = {module.name: module for module in Reader(text).modules()}
+    design = Design(modules, modules["t"])
+    vector, wrong = vectors(design.inputs), []
+    for row in rows.splitlines():
+        words, points = row.split(": ")
+        world = World(design, vector, by_rows(contents_of(in_order(design, vector), words.split(" ")[1:])))
+        bits = [make(world) for _, make in design.outputs]
+        wrong += [point for point in points.split(" ")
+                  if point.split(":")[1] != "".join(str(bit.one >> int(point.split(":")[0], 2) & 1) for bit in bits)]
+    tally.note(f"values of {name}", not wrong, " ".join(wrong))
+
+
+# Pairs by hand.
+
+def pairs_by_hand():
+    for block in blocks_in(BY_HAND):
+        yield re.fullmatch(r"spec (.*)\nimpl (.*)\nanswer ([^\n]*)\n(.*)", block, re.DOTALL).groups()
+
+
+def all_reports(pair):
+    """The report, with each contents that agree where several boxes are filled."""
+    lines = climb(pair)
+    if "rung expand repair" not in lines:
+        return [lines]
+    front = lines[:lines.index("rung expand repair") + 1]
+    return [[*front, *pair.table_lines(contents), lines[-1]] for contents in pair.completions()]
+
+
+def try_by_hand(tally, folder, texts, answer, reports):
+    pair = pair_in(texts)
+    agree = next(pair.completions(), None) is not None
+    tally.note(f"by hand, {answer}", agree == answer.startswith("yes: "), "evaluate finds another answer")
+    due = ["\n".join(lines) for lines in all_reports(pair)]
+    tally.note("  its reports are those that are due", sorted(due) == sorted(reports.split("\nor\n")), "\n".join(due))
+    done = report_of(folder, texts)
+    tally.note("  and the program says one of them", done.out.rstrip("\n") in due and done.status == 1 - agree, done.why())
+    try_deciders(tally, folder, "  and so do the checks that decide", texts, pair)
+
+
+# Any pair.
+
+def is_due(pair, done, **asked):
+    """A report is the one that is due, but for the tables of the last check, which have to agree, and for checks that are said
+    to need more than they may have."""
+    unfinished = dict(UNFINISHED.findall(done.out))
+    lines, told = climb(pair, unfinished=unfinished, **asked), done.out.splitlines()
+    if "rung expand repair" in lines:
+        contents = pair.contents_in(tables(told))
+        if contents is None or pair.difference(contents):
+            return False
+        lines = [*lines[:lines.index("rung expand repair") + 1], *pair.table_lines(contents), lines[-1]]
+    return told == lines and done.status == STATUSES[lines[-1]]
+
+
+def try_deciders(tally, folder, name, texts, pair):
+    asked = [("expand", "expand")] + ([("input", "input")] if len(pair.boxes) <= 1 else [])
+    done = [report_of(folder, texts, "--from", first, "--to", last) for first, last in asked]
+    right = all(is_due(pair, one, first=first, last=last) and UNFINISHED.search(one.out) is None
+                for one, (first, last) in zip(done, asked))
+    tally.note(name, right, " ".join(one.why() for one in done))
+
+
+# Drawn pairs.
+
+def asked_of(draw):
+    """What a drawn pair is asked for, as words and as what these mean: in a third of all cases all checks, else some."""
+    first = draw.randrange(len(CHECKS)) if draw.randrange(3) == 0 else 0
+    last = draw.randrange(first, len(CHECKS)) if draw.randrange(2) else len(CHECKS) - 1
+    drawn, seed, go_on = draw.choice((0, 1, 32)), draw.choice((1, 2, 2 ** 64 - 1)), not draw.randrange(3)
+    words = ["--from", CHECKS[first], "--to", CHECKS[last], "--patterns", str(drawn), "--seed", str(seed)] + ["--all"] * go_on
+    return words, {"first": CHECKS[first], "last": CHECKS[last], "go_on": go_on, "drawn": drawn, "seed": seed}
+
+
+def try_drawn(tally, folder, seed):
+    """Compares the reports of a drawn pair; the result is the verdict where some of the checks are asked for."""
+    draw, texts = random.Random(f"asked {seed}"), drawn_pair(seed)
+    pair = pair_in(texts)
+    words, asked = asked_of(draw)
+    limits = [f"--nodes={draw.randrange(60)}", f"--clauses={draw.randrange(400)}", "--all"]
+    tries = [([], {}), (words, asked), (limits, {"go_on": True})]
+    done = [report_of(folder, texts, *words) for words, _ in tries]
+    wrong = [one for one, (_, asked) in zip(done, tries) if not is_due(pair, one, **asked)]
+    wrong += [one for one in done[:2] if UNFINISHED.search(one.out)]
+    tally.note(f"drawn pair {seed}", not wrong, "\n".join([" ".join(words), *texts, *[one.why() for one in wrong]]))
+    try_deciders(tally, folder, f"drawn pair {seed}: the checks that decide", texts, pair)
+    return done[1].out.split()[-1] if done[1].out else "none"
+
+
+# The script.
+
+def evaluate_tries(tally, folder):
+    carry = example("carry", "spec.v"), example("carry", "impl.v")
+    done = run([script("evaluate"), *carry])
+    tally.note("evaluate: a box that can be filled", done.out == "some contents agree\ntable u co 00010111\n", done.why())
+    done = run([script("evaluate"), example("nor", "spec.v"), example("nor", "impl.v")])
+    tally.note("evaluate: a mistake outside the box", done.out == "no contents agree\n", done.why())
+    report = bbeq(*carry).out
+    done = run([script("evaluate"), *carry, write(folder, "report", report)])
+    tally.note("evaluate: the tables of a report agree", done.out == "the tables agree at every vector\n", done.why())
+    done = run([script("evaluate"), *carry, write(folder, "other", report.replace("00010111", "00010011"))])
+    tally.note("evaluate: other tables do not", done.status == 1 and done.out.endswith("input a=1 b=0 cin=1\n"), done.why())
+    done = run([script("evaluate"), *carry, write(folder, "short", "table u co 01\nverdict repairable\n")])
+    tally.note("evaluate refuses tables of other boxes", is_told(done, "evaluate"), done.why())
+    done = run([script("evaluate"), "--lines", *carry])
+    tally.note("evaluate --lines: the report that is due", done.out == report, done.why())

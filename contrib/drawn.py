@@ -1,0 +1,172 @@
+"""Small pairs of texts that are drawn, a seed for each: an implementation with up to three boxes, and a specification that is
+the same with gates in the place of the boxes, with a mistake elsewhere, or another circuit with the same ports and
+registers."""
+import random
+
+MOST_CONTENTS = 12  # Bits of the contents of all boxes, so that all can be tried.
+GATES = ("and", "nand", "or", "nor", "xor", "xnor")
+MODULES = {
+    "ha": "module ha(x, y, s, c); input x, y; output s, c; xor(s, x, y); and(c, x, y); endmodule",
+    "ff": "module ff(input c, input d, output reg q); always @(posedge c) q <= d; endmodule",
+    "b11": "module b11(i, o); input i; output o; endmodule",
+    "b12": "module b12(i, o, p); input i; output o, p; endmodule",
+    "b21": "module b21(i, j, o); input i, j; output o; endmodule",
+    "b22": "module b22(i, o); input [1:0] i; output [0:1] o; endmodule",
+    "n21": "module n21(i, j, o); input i, j; output o; b21 u(.o(o), .j(j), .i(i)); endmodule",
+}
+BELOW = {"n21": ("b21",)}
+TRIVIA = ("", "", '(* src = "a.v:1 *)" *)', "/* assign y = 1'b0; // */", "// wire a; /*\n", "`celldefine\n")
+NUMBERS = ("1'b0", "1'b1", "2'd2", "3'b101", "2'h7", "1'o10", "3 'B1_0", "1")
+BOXES = {"b11": (1, 1), "b12": (1, 2), "b21": (2, 1), "b22": (2, 2), "n21": (2, 1)}
+
+
+class Circuit:
+    """What drives each net, from the ports and registers on. `bits` and `wide` are what may be read, of one bit and of two; an
+    item is a text, or a box with the bits that it reads and drives."""
+
+    def __init__(self, draw, frame, boxes):
+        self.draw, self.frame, self.used = draw, frame, set()
+        self.bits, self.wide, self.items, self.count, self.left = list(frame.bits), list(frame.wide), [], 0, MOST_CONTENTS
+        for place in range(2 + boxes + draw.randrange(3)):
+            if boxes and draw.randrange(3):
+                self.box()
+                boxes -= 1
+            else:
+                draw.choice((self.gate, self.gate, self.split, self.assign, self.vector, self.supply, self.half_adder))()
+        self.last = self.bits[-4:]
+
+    # What is read: an operand, and an expression of any width.
+
+    def bit(self):
+        return self.draw.choice(self.bits[-3:] if self.draw.randrange(2) else self.bits)
+
+    def leaf(self):
+        kind = self.draw.randrange(8)
+        if kind == 0:
+            return self.draw.choice(NUMBERS)
+        return self.draw.choice(self.wide) if kind < 3 and self.wide else self.bit()
+
+    def expression(self, depth=2):
+        if not depth:
+            return self.leaf()
+        a, b, c = [self.expression(depth - 1) for _ in range(3)]
+        one, other = [self.draw.choice(("&", "|", "^", "~^", "^~")) for _ in range(2)]
+        return self.draw.choice((a, f"~{self.leaf()}", f"({a} {one} {b})", f"({a} {one} {b} {other} {c})", f"({a} ? {b} : {c})",
+                                 f"({a} ? {b} : {b})", f"~~({a})", f"{{{self.bit()}, {self.bit()}}}", f"{{2{{{self.bit()}}}}}"))
+
+    def terminal(self):
+        return self.draw.choice((self.bit(), self.bit(), self.bit(), f"{self.bit()} & ~{self.bit()}", "1'b1"))
+
+    # What drives nets. The nets of gates and instances need no declaration.
+
+    def net(self):
+        self.count += 1
+        return self.draw.choice((f"n{self.count}", f"\\n.{self.count} "))
+
+    def drive(self, item, *bits):
+        self.items.append(item)
+        self.bits += bits
+
+    def gate(self):
+        out, ins = self.net(), ", ".join(self.terminal() for _ in range(1 + self.draw.randrange(3)))
+        name = self.draw.choice(("", f" g{self.count}"))
+        self.drive(f"{self.draw.choice(GATES)}{name}({out}, {ins});", out)
+
+    def split(self):
+        one, other = self.net(), self.net()
+        self.drive(f"{self.draw.choice(('buf', 'not'))}({one}, {other}, {self.terminal()});", one, other)
+
+    def assign(self):
+        out, value = self.net(), self.expression()
+        declared = self.draw.choice((f"wire {out} =", f"wire {out}; assign {out} =", f"assign {out} ="))
+        self.drive(f"{declared} {value};", out)
+
+    def vector(self):
+        net, value, (left, right) = self.net(), self.expression(), self.draw.choice(((1, 0), (0, 1), (7, 6)))
+        assigned = self.draw.choice((f"assign {net} = {value};", f"assign {{{net}[{right}], {net}[{left}]}} = {value};",
+                                     f"assign {net}[{left}] = {self.bit()}, {net}[{right}] = {value};"))
+        self.drive(f"wire [{left}:{right}] {net}; {assigned}", f"{net}[{left}]", f"{net}[{right}]")
+        self.wide += [net, f"{net}[{left}:{right}]"]
+
+    def supply(self):
+        net = self.net()
+        self.drive(f"supply{self.draw.randrange(2)} {net};", net)
+
+    def half_adder(self):
+        one, other, a, b = self.net(), self.net(), self.bit(), self.terminal()
+        self.used.add("ha")
+        name = f"ha h{self.count}"
+        self.drive(self.draw.choice((f"{name}({a}, {b}, {one}, {other});", f"{name}(.c({one}), .x({b}), .s({other}), .y({a}));",
+                                     f"supply0 {one}; {name}({a}, {b}, , {other});")), one, other)
+
+    def box(self):
+        kind = self.draw.choice(list(BOXES))
+        ins, outs = BOXES[kind]
+        if outs << ins <= self.left:
+            self.left -= outs << ins
+            self.used |= {kind, *BELOW.get(kind, ())}
+            nets = [self.net() for _ in range(outs)]
+            self.drive((kind, self.count, [self.bit() for _ in range(ins)], nets, list(self.bits)), *nets)
+
+    # The text, where boxes are left as they are ("box"), or are gates of what they read ("own"), of what some box reads ("pins"),
+    # or of anything that stands before them ("any").
+
+    def item(self, item, filling):
+        if isinstance(item, str):
+            return item
+        kind, number, ins, outs, before = item
+        if filling == "box":
+            pins = [f"{{{ins[0]}, {ins[1]}}}", f"{{{outs[0]}, {outs[1]}}}"] if kind == "b22" else ins + outs
+            return f"{kind} u{number}({', '.join(pins)});"
+        pins = {bit for item in self.items if isinstance(item, tuple) for bit in item[2]}
+        read = {"own": ins, "pins": [bit for bit in before if bit in pins], "any": before}[filling]
+        return " ".join(f"{self.draw.choice(GATES)}({out}, {self.draw.choice(read)}, {self.draw.choice(read)});" for out in outs)
+
+    def text(self, top, filling, ends):
+        """The module with this name on top, in any order; `ends` has what goes to each output and register."""
+        items = [self.item(item, filling) for item in self.items] + self.frame.ends(ends) + [self.draw.choice(TRIVIA)]
+        self.draw.shuffle(items)
+        boxed = {name for name in self.used if name[0] in "bn"}
+        modules = [MODULES[name] for name in sorted(self.used - boxed | self.frame.used | (boxed if filling == "box" else set()))]
+        modules.append(f"module {top}({', '.join(self.frame.ports)});\n{self.frame.declared} {' '.join(items)}\nendmodule")
+        self.draw.shuffle(modules)
+        return "\n".join(modules) + "\n"
+
+
+class Frame:
+    """What the two have in common: ports and registers."""
+
+    def __init__(self, draw):
+        self.draw, self.bits, self.wide, self.used = draw, ["a", "b[1]", "b[0]"], ["b"], set()
+        self.ports, declared = ["a", "b", "y"], ["input a;", "input [1:0] b;"]
+        self.registers, self.edge = ["q", "r.q"][:max(0, draw.randrange(4) - 1)], draw.choice(("posedge", "negedge"))
+        if self.registers:
+            self.ports.insert(draw.randrange(3), "clk")
+            declared.append("input clk;")
+            self.bits += ["q", "s"][:len(self.registers)]
+        if "q" in self.registers:
+            declared.append("reg q;")
+        if "r.q" in self.registers:
+            self.used.add("ff")
+        self.outs = ["y"] if draw.randrange(2) else ["y[0]", "y[1]"]
+        self.declared = " ".join([*declared, "output y;" if len(self.outs) == 1 else "output [0:1] y;"])
+
+    def ends(self, ends):
+        states = {"q": f"always @({self.edge} clk) q <= {{}};", "r.q": "ff r(clk, {}, s);"}
+        outs = [self.draw.choice(("buf({}, {});", "assign {} = {};")).format(*pair) for pair in zip(self.outs, ends)]
+        return outs + [states[register].format(end) for register, end in zip(self.registers, ends[len(self.outs):])]
+
+
+def drawn_pair(seed):
+    """A specification and an implementation; of five seeds the specification of the first can be met."""
+    draw = random.Random(seed)
+    frame = Frame(draw)
+    circuit = Circuit(draw, frame, draw.choice((0, 1, 1, 2, 2, 3, 3)))
+    ends = [draw.choice(circuit.last) for _ in frame.outs + frame.registers]
+    implementation = circuit.text("t", "box", ends)
+    if seed % 5 == 3:
+        ends[draw.randrange(len(ends))] = draw.choice(circuit.bits)
+    if seed % 5 == 4:
+        circuit = Circuit(draw, frame, 0)
+        ends = [draw.choice(circuit.last) for _ in ends]
+    return circuit.text("s", {1: "any", 2: "pins"}.get(seed % 5, "own"), ends), implementation

@@ -1,5 +1,0 @@
-//! Tests of the checks, through their public calls.
-#![tactic(auto)]
-
-#[cfg(test)]
-mod diagram_tests;

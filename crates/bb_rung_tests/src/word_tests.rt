@@ -1,0 +1,196 @@
+//! The words of the command line: which are refused, and what the others ask for. A table has the words of a command in each line, with one
+//! blank between two, and behind an arrow what is told of them; lines that begin with two strokes are no rows.
+
+use bb_options::Options;
+use bb_words::{Asked, WordsFault, read_words};
+use std::alloc::{AllocError, Global};
+use std::process::Abort;
+use std::test::Fail;
+
+// The words of a line.
+fn words(alloc: Global, line: &str) -> Result<Vec<String>, AllocError> {
+    let mut words = Vec::new(alloc);
+    for word in line.split(' ') {
+        words.push(String::from_str(alloc, word)?)?;
+    }
+    Ok(words)
+}
+
+// The first check and the last, whether all are run, the patterns and their seed.
+fn tell_checks(out: &mut String, options: &Options) -> Result<(), AllocError> {
+    write!(
+        out,
+        "{} {} {}",
+        options.from.name(),
+        options.to.name(),
+        options.all
+    )?;
+    write!(out, " {} {}", options.patterns, options.seed)
+}
+
+// The nodes, the clauses, the results that are remembered, and whether there is a proof.
+fn tell_bounds(out: &mut String, options: &Options) -> Result<(), AllocError> {
+    write!(out, " {} {}", options.nodes, options.clauses)?;
+    write!(out, " {} {}", options.cache, options.proof)
+}
+
+// The two files and their tops.
+fn tell_files(out: &mut String, asked: &Asked<'_>) -> Result<(), AllocError> {
+    write!(out, "{} {}", asked.spec, asked.imp)?;
+    write!(out, " {}", asked.top_spec.unwrap_or("none"))?;
+    write!(out, " {} ", asked.top_imp.unwrap_or("none"))
+}
+
+// All that is asked, in one line.
+fn tell(out: &mut String, asked: &Asked<'_>) -> Result<(), AllocError> {
+    tell_files(out, asked)?;
+    tell_checks(out, &asked.options)?;
+    tell_bounds(out, &asked.options)
+}
+
+// What is told of words.
+fn told(alloc: Global, words: &[String]) -> Result<String, AllocError> {
+    let mut out = String::new(alloc);
+    match read_words(alloc, words) {
+        Ok(asked) => tell(&mut out, &asked)?,
+        Err(WordsFault::Usage) => out.push_str("refused")?,
+        Err(WordsFault::NoMemory) => out.push_str("no memory")?,
+    }
+    Ok(out)
+}
+
+// Compares what is told of the words of a row.
+fn row<R: Abort>(rt: &R, alloc: Global, row: &str) -> Result<(), Fail> {
+    let (line, expected) = row.split_once(" => ").unwrap_or((row, ""));
+    let words = words(alloc, line)?;
+    let found = told(alloc, &words)?;
+    assert_eq!(rt; found.as_str(), expected, "{line}");
+    Ok(())
+}
+
+// Compares each row of a table.
+fn rows<R: Abort>(rt: &R, alloc: Global, table: &str) -> Result<(), Fail> {
+    for line in table.lines() {
+        if !line.starts_with("//") {
+            row(rt, alloc, line)?;
+        }
+    }
+    Ok(())
+}
+
+#[test]
+fn no_words_are_refused(rt: HostRuntime) -> Result<(), Fail> {
+    let found = told(rt.alloc(), &[])?;
+    assert_eq!(rt; found.as_str(), "refused");
+    Ok(())
+}
+
+const REFUSED: &str = "\
+// two files, and no more
+bbeq => refused
+bbeq a => refused
+bbeq a b c => refused
+bbeq  b => refused
+bbeq a  => refused
+bbeq -- a b c => refused
+// twice
+bbeq a b --all --all => refused
+bbeq a b --proof --all --proof => refused
+bbeq a b --seed 1 --seed=2 => refused
+bbeq a b --top-spec m --top-spec m => refused
+// unknown
+bbeq a b -h => refused
+bbeq a b --help => refused
+bbeq a b -V => refused
+bbeq a b --version => refused
+bbeq a b --make 1 => refused
+bbeq a b --node 1 => refused
+bbeq a b --spec a => refused
+bbeq a b -s 1 => refused
+bbeq a -b => refused
+// no value, an empty one, or one on a flag
+bbeq a b --nodes => refused
+bbeq a b --nodes --all => refused
+bbeq a b --seed -1 => refused
+bbeq a b --top-spec= => refused
+bbeq a b --top-impl  => refused
+bbeq a b --nodes= => refused
+bbeq a b --from= => refused
+bbeq a b --all=1 => refused
+bbeq a b --proof= => refused
+// no number within the bounds
+bbeq a b --seed 0 => refused
+bbeq a b --seed=18446744073709551616 => refused
+bbeq a b --seed 000000000000000000001 => refused
+bbeq a b --seed=+1 => refused
+bbeq a b --seed=-1 => refused
+bbeq a b --seed 0x1 => refused
+bbeq a b --seed 1_0 => refused
+bbeq a b --patterns 4097 => refused
+bbeq a b --nodes 50000001 => refused
+bbeq a b --nodes=4294967296 => refused
+bbeq a b --clauses 8000001 => refused
+bbeq a b --cache 0 => refused
+bbeq a b --cache 1048577 => refused
+// no check, or none in this order
+bbeq a b --from Ternary => refused
+bbeq a b --to inputs => refused
+bbeq a b --from expand --to input => refused
+bbeq a b --to none => refused
+bbeq a b --from output --to local => refused
+bbeq a b --to ternary --from symbolic => refused";
+
+#[test]
+fn other_words_are_refused(rt: HostRuntime) -> Result<(), Fail> {
+    rows(&rt, rt.alloc(), REFUSED)
+}
+
+const READ: &str = "\
+// what stands for options that are not given
+bbeq a b => a b none none ternary expand false 32 1 1000000 2000000 65536 false
+--all a b => a b none none ternary expand false 32 1 1000000 2000000 65536 false
+ a a => a a none none ternary expand false 32 1 1000000 2000000 65536 false
+// each of them alone, in both forms
+bbeq a b --all => a b none none ternary expand true 32 1 1000000 2000000 65536 false
+bbeq a b --proof => a b none none ternary expand false 32 1 1000000 2000000 65536 true
+bbeq a b --top-spec m => a b m none ternary expand false 32 1 1000000 2000000 65536 false
+bbeq a b --top-spec=m => a b m none ternary expand false 32 1 1000000 2000000 65536 false
+bbeq a b --top-impl m => a b none m ternary expand false 32 1 1000000 2000000 65536 false
+bbeq a b --top-impl=m => a b none m ternary expand false 32 1 1000000 2000000 65536 false
+bbeq a b --from local => a b none none local expand false 32 1 1000000 2000000 65536 false
+bbeq a b --from=output => a b none none output expand false 32 1 1000000 2000000 65536 false
+bbeq a b --to ternary => a b none none ternary ternary false 32 1 1000000 2000000 65536 false
+bbeq a b --to=symbolic => a b none none ternary symbolic false 32 1 1000000 2000000 65536 false
+bbeq a b --patterns 0 => a b none none ternary expand false 0 1 1000000 2000000 65536 false
+bbeq a b --patterns=4096 => a b none none ternary expand false 4096 1 1000000 2000000 65536 false
+bbeq a b --seed 2 => a b none none ternary expand false 32 2 1000000 2000000 65536 false
+bbeq a b --seed=18446744073709551615 => a b none none ternary expand false 32 18446744073709551615 1000000 2000000 65536 false
+bbeq a b --nodes 0 => a b none none ternary expand false 32 1 0 2000000 65536 false
+bbeq a b --nodes=50000000 => a b none none ternary expand false 32 1 50000000 2000000 65536 false
+bbeq a b --clauses 0 => a b none none ternary expand false 32 1 1000000 0 65536 false
+bbeq a b --clauses=8000000 => a b none none ternary expand false 32 1 1000000 8000000 65536 false
+bbeq a b --cache 1 => a b none none ternary expand false 32 1 1000000 2000000 1 false
+bbeq a b --cache=1048576 => a b none none ternary expand false 32 1 1000000 2000000 1048576 false
+bbeq a b --from input --to expand => a b none none input expand false 32 1 1000000 2000000 65536 false
+bbeq a b --from expand => a b none none expand expand false 32 1 1000000 2000000 65536 false
+// in any order
+bbeq --from symbolic a --to local b => a b none none symbolic local false 32 1 1000000 2000000 65536 false
+bbeq --to local --from local a b => a b none none local local false 32 1 1000000 2000000 65536 false
+bbeq --cache=7 --proof b --clauses 6 --nodes=5 --seed 4 --top-impl n --patterns=3 a --top-spec m --all => b a m n ternary expand true 3 4 5 6 7 true
+// after two minus signs every word is a file
+bbeq -- a b => a b none none ternary expand false 32 1 1000000 2000000 65536 false
+bbeq a b -- => a b none none ternary expand false 32 1 1000000 2000000 65536 false
+bbeq --all a -- --all => a --all none none ternary expand true 32 1 1000000 2000000 65536 false
+bbeq -- -s.v -- => -s.v -- none none ternary expand false 32 1 1000000 2000000 65536 false
+// a value that begins with a minus sign, or holds other signs
+bbeq a b --top-spec=-m => a b -m none ternary expand false 32 1 1000000 2000000 65536 false
+bbeq a b --top-impl=m=n => a b none m=n ternary expand false 32 1 1000000 2000000 65536 false
+bbeq a b --seed 00000000000000000009 => a b none none ternary expand false 32 9 1000000 2000000 65536 false
+// one minus sign alone is a word, and may be a value
+bbeq a b --top-spec - => a b - none ternary expand false 32 1 1000000 2000000 65536 false
+bbeq - a=b => - a=b none none ternary expand false 32 1 1000000 2000000 65536 false";
+
+#[test]
+fn words_ask_for_what_they_say(rt: HostRuntime) -> Result<(), Fail> {
+    rows(&rt, rt.alloc(), READ)
+}

@@ -1,0 +1,18 @@
+//! Tests of the crates that read texts, from tokens to the values of expressions, through their public calls.
+#![tactic(auto)]
+
+#[cfg(test)]
+mod expression_telling;
+#[cfg(test)]
+mod fault_tests;
+#[cfg(test)]
+mod lex_tests;
+#[cfg(test)]
+mod parse_tests;
+#[cfg(test)]
+mod tables;
+#[cfg(test)]
+mod telling;
+#[cfg(test)]
+mod value_tests;
+pub mod values;
