@@ -1,6 +1,9 @@
-"""The tries of the manual page and of the installation."""
+"""The tries of the manual page, of the installation and of the build."""
 import os
 import shutil
+import signal
+import subprocess
+import time
 
 from tries import BBEQ, TOP, example, is_told, read, run, write
 
@@ -40,13 +43,22 @@ def install_part(tally, folder):
 
 
 STANDS_FOR_RT = """#!/bin/sh
-# A check passes unless it is of the crate $NOT_PROVED, and a run leaves the program.
-case $1 in
-check) [ "$(basename "$PWD")" != "${NOT_PROVED-}" ] || { echo "it is not proved"; exit 1; } ;;
-run) mkdir -p out && cp "$BUILT" out/bbeq ;;
-esac
+# Each crate of the copy is proved but $NOT_PROVED, the program is $BUILT, and with $NUMBER no end comes.
+[ "$*" = ci ] || exit 2
+if [ -n "${NUMBER-}" ]; then
+    echo $$ >"$NUMBER"
+    exec sleep 60
+fi
+while IFS=: read -r crate _; do
+    if [ "$crate" = "${NOT_PROVED-}" ]; then
+        printf '== %s\\nit does not hold\\nrt: %s NOT PROVED\\n1 passed, 1 failed\\n' "$crate" "$crate"
+        exit 1
+    fi
+    echo "rt: $crate proved"
+done <crates.txt
+mkdir -p crates/bbeq/out && cp "$BUILT" crates/bbeq/out/bbeq
 """
-TOOLS = "awk basename cat chmod cp date dirname env find head mkdir mv readlink rm sh sleep tail wc".split()
+TOOLS = "awk cat chmod cp date dirname env find head mkdir mktemp mv readlink rm sed sh sleep tail tar touch wc".split()
 
 
 def sources(folder):
@@ -56,7 +68,7 @@ def sources(folder):
         if line and not line.startswith("#"):
             os.makedirs(os.path.join(top, "crates", line.split(":")[0], "src"))
     os.makedirs(os.path.join(top, "docs"))
-    for name in ("bbeq", "install", "crates.txt", "docs/bbeq.1"):
+    for name in ("bbeq", "install", "crates.txt", "HANDLES", "docs/bbeq.1"):
         shutil.copy(os.path.join(TOP, name), os.path.join(top, name))
     for name in ("with", "without"):
         os.makedirs(os.path.join(folder, name))
@@ -75,15 +87,33 @@ def build_part(tally, folder):
     tally.note("install without rt", done.status == 1 and not os.path.exists(program) and "PATH" in done.err, done.why())
     env["PATH"] = os.path.join(folder, "with")
     done = run([install, prefix], env={**env, "NOT_PROVED": "bb_net"})
-    tally.note("install where a crate is not proved",
-               done.status == 1 and not os.path.exists(program) and "bb_net is not proved" in done.err, done.why())
+    tally.note("install where a crate is not proved", done.status == 1 and not os.path.exists(program)
+               and "it does not hold\n" in done.err and "bb_net is not proved" in done.err, done.why())
+    tally.note("./bbeq ends what it began where it is ended", *interrupted(os.path.join(top, "bbeq"), folder, env))
     done = run([install, prefix], env=env)
     tally.note("install builds what is not built", done.status == 0 and done.out.split("\n")[0] == program
-               and "building the program" in done.err, done.why())
+               and "bb_net is proved" in done.err and "bb_rows" not in done.err, done.why())
     done = run([install, prefix], env=env)
     tally.note("install takes what is built", done.status == 0 and os.path.exists(program) and not done.err, done.why())
     write(os.path.join(top, "crates", "bb_net", "src"), "lib.rt", "")
     done = run([install, prefix], env=env)
-    tally.note("install builds again where a source is newer", done.status == 0 and "building the program" in done.err, done.why())
+    tally.note("install builds again where a source is newer", done.status == 0 and "building the program" in done.err,
+               done.why())
     done = run([os.path.join(top, "bbeq"), "spec.v", "impl.v"], example("nor"), env=env)
     tally.note("./bbeq runs in the caller's folder", done.status == 1 and done.out.endswith("verdict error\n"), done.why())
+
+
+def interrupted(program, folder, env):
+    """Ends the script while it builds: the status is the signal's, its copy is gone, and so is what it started."""
+    place, number = os.path.join(folder, "place"), os.path.join(folder, "number")
+    os.makedirs(place)
+    running = subprocess.Popen([program], env={**env, "TMPDIR": place, "NUMBER": number}, stdin=subprocess.DEVNULL,
+                               stdout=subprocess.DEVNULL, stderr=subprocess.DEVNULL)
+    for _ in range(100):
+        time.sleep(0.1)
+        if os.path.exists(number) and read(number).endswith("\n"):
+            break
+    running.send_signal(signal.SIGTERM)
+    status, left = running.wait(30), os.listdir(place)
+    is_gone = not os.path.exists(f"/proc/{read(number).strip()}")
+    return status == 128 + signal.SIGTERM and not left and is_gone, f"status {status}; left: {left}"
