@@ -20,6 +20,8 @@ UNFINISHED = re.compile(r"^rung (\w+) (nodes|clauses)$", re.MULTILINE)
 
 def reports_part(tally, folder):
     evaluate_tries(tally, folder)
+    for seed in range(10):
+        try_patterns(tally, folder, random.Random(f"patterns {seed}"))
     for block in blocks_in(DESIGNS):
         try_design(tally, *re.fullmatch(r"design ([^\n]*)\n(.*)\nnames [^\n]*\n(.*)", block, re.DOTALL).groups())
     for spec, implementation, answer, reports in pairs_by_hand():
@@ -114,6 +116,16 @@ def try_deciders(tally, folder, name, texts, pair):
     right = all(is_due(pair, one, first=first, last=last) and UNFINISHED.search(one.out) is None
                 for one, (first, last) in zip(done, asked))
     tally.note(name, right, " ".join(one.why() for one in done))
+
+
+def try_patterns(tally, folder, draw):
+    """A mistake at one vector of 64, which the first check finds where it is one of the patterns."""
+    names, seed = "abcdef", draw.randrange(1, 2 ** 64)
+    product = " & ".join(draw.choice(("", "~")) + name for name in names)
+    texts = [f"module m({', '.join(names)}, y); input {', '.join(names)}; output y; assign y = {value}; endmodule\n"
+             for value in (product, "1'b0")]
+    done = report_of(folder, texts, "--to", "ternary", "--patterns", "48", "--seed", str(seed))
+    tally.note(f"patterns of the seed {seed}", is_due(pair_in(texts), done, last="ternary", drawn=48, seed=seed), done.why())
 
 
 # Drawn pairs.
