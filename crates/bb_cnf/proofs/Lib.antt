@@ -1,9 +1,12 @@
 pub mod ChainLaws
+pub mod FalseClauses
 pub mod Kept
 pub mod Literals
 pub mod Marked
 pub mod ModelLaws
 pub mod PrintedLines
+pub mod ReadLines
 pub mod Refuted
+pub mod SemanticTree
 pub mod Soundness
 pub mod Within

@@ -1,9 +1,10 @@
--- What a reader expects of chains, refutations, assignments and models.
-use Rattle.std.specs.Prelude.{◌≡◌, ◌↔◌, ℕ, Bool, Some, IfSome, option_and_then, List, ◌++◌, length, All, Contains}
+-- What a reader expects of chains, refutations, assignments and models, and of the lines of a proof.
+use Rattle.std.specs.Prelude.{◌≡◌, ◌↔◌, ℕ, Bool, Some, IfSome, option_and_then, List, ◌++◌, length, map, All, Contains}
 use Rattle.bb_cnf.specs.declared.clauses.Lit.{Lit}
 use Rattle.bb_cnf.specs.declared.refutation.Step.{Step}
 use Rattle.bb_cnf.specs.Clauses.{Literals, literals_of, Formula, IsWithin}
 use Rattle.bb_cnf.specs.Chains.{resolution, chain, made_by, derived, IsRefutation}
+use Rattle.bb_cnf.specs.Lines.{proof_lines, step_numbers, HasShortNumbers}
 use Rattle.bb_cnf.specs.Truth.{IsTrueClause, Satisfies, IsTrueUnder, HaveNoModel, assignment_of, IsModel}
 
 -- chains, and lists of steps
@@ -26,6 +27,16 @@ pub record SoundnessLaws : Type 0 where
   pub derived : (v : ℕ → Bool) (steps : List Step) (earlier : List Literals) → All (IsTrueUnder v) earlier → IfSome (derived earlier steps) (All (IsTrueUnder v))
   -- a refutation leaves no assignment that makes all clauses true
   pub refutation : (clauses : List (List Lit)) (steps : List Step) → IsRefutation clauses steps → HaveNoModel clauses
+
+-- resolution is complete for refutations (J. A. Robinson, 1965): clauses that no assignment makes all true have a refutation
+abbrev pub RefutationsExist : Type 0
+RefutationsExist = (formula : Formula) → IsWithin formula.vars formula.clauses → HaveNoModel formula.clauses
+    → (steps : List Step) × IsRefutation formula.clauses steps
+
+-- the lines of a proof give back its clauses and the numbers of its steps, where a decimal writes each number whole
+abbrev pub LinesFixProofs : Type 0
+LinesFixProofs = (clauses others : List (List Lit)) (steps more : List Step) → HasShortNumbers clauses steps → HasShortNumbers others more
+    → proof_lines clauses steps ≡ proof_lines others more → (clauses ≡ others) × (map step_numbers steps ≡ map step_numbers more)
 
 -- assignments and models
 pub record ModelLaws : Type 0 where

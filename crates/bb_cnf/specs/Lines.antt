@@ -1,7 +1,7 @@
 -- The text of clauses and of a refutation. A clause's line is `clause N L L ..`, N its number and each literal
 -- a signed decimal; a step's line is `step N F C/V C/V ..`, N the number of the clause that it makes, F the
 -- first clause, and each pair the clause and the variable of a resolution. Each line ends with a line feed.
-use Rattle.std.specs.Prelude.{ℕ, ◌+◌, if◌then◌else◌, List, [], ◌∷◌, ◌++◌, length, codes, decimal}
+use Rattle.std.specs.Prelude.{ℕ, ◌+◌, ◌^◌, ◌<◌, if◌then◌else◌, List, [], ◌∷◌, ◌++◌, length, All, codes, decimal}
 use Rattle.std.specs.List.{flat_map}
 use Rattle.bb_cnf.specs.declared.clauses.Lit.{Lit}
 use Rattle.bb_cnf.specs.declared.refutation.Step.{Step}
@@ -33,3 +33,23 @@ step_lines n (step ∷ steps) = step_line n step ++ step_lines (n + 1) steps
 -- the lines of the clauses, and then of the steps
 abbrev pub proof_lines : List (List Lit) → List Step → List ℕ
 proof_lines clauses steps = clause_lines 0 clauses ++ step_lines (length clauses) steps
+
+-- what a step's line says of the step: its numbers
+abbrev pub step_numbers : Step → ℕ × List (ℕ × ℕ)
+step_numbers step = (step.first, step.rest.items)
+
+-- a number that a decimal writes whole: of a longer one `decimal` has the last 64 digits alone
+abbrev pub IsShort : ℕ → Type 0
+IsShort n = n < 10 ^ 64
+
+-- each variable is short
+abbrev pub IsShortClause : List Lit → Type 0
+IsShortClause lits = All (λ l. IsShort l.var) lits
+
+-- each number is short
+abbrev pub IsShortStep : Step → Type 0
+IsShortStep step = IsShort step.first × All (λ pair. IsShort pair.0 × IsShort pair.1) step.rest.items
+
+-- all variables of the clauses are short, and all numbers of the steps
+abbrev pub HasShortNumbers : List (List Lit) → List Step → Type 0
+HasShortNumbers clauses steps = All IsShortClause clauses × All IsShortStep steps
