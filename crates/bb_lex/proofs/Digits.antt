@@ -20,10 +20,6 @@ digits_of-digit radix b bytes is = ap (map digit_value) (cond_true (is_digit b r
 digits_of-other : (radix b : ℕ) (bytes : List ℕ) → is_digit b radix ≡ false → digits_of radix (b ∷ bytes) ≡ digits_of radix bytes
 digits_of-other radix b bytes is = ap (map digit_value) (cond_false (is_digit b radix) (b ∷ filter (λ c. is_digit c radix) bytes) (filter (λ c. is_digit c radix) bytes) is)
 
--- a value before digits
-spelled_after : ℕ → ℕ → List ℕ → ℕ
-spelled_after radix value ds = value * radix ^ length ds + spelled radix ds
-
 shift : (radix value d p s : ℕ) → value * (p * radix) + (d * p + s) ≡ (value * radix + d) * p + s
 shift radix value d p s = omega arith
 

@@ -15,9 +15,6 @@ use Rattle.bb_lex.proofs.Runs.{run-past, each_of_run, past_stops, past-each, run
 same_bytes : (a b : List ℕ) → bytes_eq a b ≡ true → a ≡ b
 same_bytes a b h = (bytes_eq-Decides a b).0 h
 
-same_test : (a b : List ℕ) → a ≡ b → bytes_eq a b ≡ true
-same_test a b h = (bytes_eq-Decides a b).1 h
-
 known_from_test : (word : List ℕ) → is_directive word ≡ true → (word ≡ codes "timescale") ⊎ ((word ≡ codes "celldefine") ⊎ (word ≡ codes "endcelldefine"))
 known_from_test word h =
     ⊎_elim

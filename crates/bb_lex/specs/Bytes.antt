@@ -85,11 +85,6 @@ is_apostrophe b = b == apostrophe
 abbrev pub Each : (ℕ → Bool) → List ℕ → Type 0
 Each is bytes = AllByRecursion (λ b. is b ≡ true) bytes
 
--- the first byte is of the class
-abbrev pub Begins : (ℕ → Bool) → List ℕ → Type 0
-Begins is [] = ⊥
-Begins is (b ∷ bytes) = is b ≡ true
-
 -- no byte of the class comes first: the list is at its end, or another byte comes
 abbrev pub BeginsNot : (ℕ → Bool) → List ℕ → Type 0
 BeginsNot is [] = Unit {0}

@@ -1,5 +1,5 @@
 -- What is read as an expression is one, and what is an expression is read as it.
-use Rattle.std.proofs.Common.{◌≡◌, inl, inr, ℕ, zero, suc, List, [], ◌∷◌, Option, Some, None, Bool, true, false, refl, ap, ◌∙◌, subst, arith, length, IfSome, if◌then◌else◌}
+use Rattle.std.proofs.Common.{◌≡◌, inl, inr, ℕ, zero, suc, List, [], ◌∷◌, Option, Some, None, Bool, true, false, refl, ap, sym, ◌∙◌, subst, arith, length, IfSome, if◌then◌else◌}
 use Rattle.bb_ast.specs.declared.expr.Op.{Op}
 use Rattle.bb_ast.specs.Syntax.{Expression, Net, Bit, Part, Sized, Plain, Not, Chain, Cond, Concat, Repeat}
 use Rattle.bb_lex.specs.declared.mark.Mark.{Mark}
@@ -11,7 +11,7 @@ use Rattle.bb_parse.specs.Lists.{Rule, IsList}
 use Rattle.bb_parse.specs.Expressions.{IsSelect, IsPrimary, select, sized, plain, round, concat, repeat, IsSigns, IsUnary, IsOperands, IsChain, IsAndx, IsXorx, IsOrx, IsArms, conditional, IsExpr, IsLval}
 use Rattle.bb_parse.specs.Reading.Symbols.{is_next, behind}
 use Rattle.bb_parse.specs.Reading.Steps.{Read, read_mark, read_name, read_plain, read_list}
-use Rattle.bb_parse.specs.Reading.Expressions.{read_index, read_select, begins_repeat, read_braces, read_round, bracket_at, read_primary, read_signs, read_unary, next_operator, operands_at, read_operands, read_chain, read_operand, read_level, with_arms, read_arms, read_conditional, read_expr, read_lvals, read_lval}
+use Rattle.bb_parse.specs.Reading.Expressions.{read_index, read_select, begins_repeat, read_braces, read_round, bracket_at, read_primary, read_signs, read_unary, next_operator, operands_at, read_operands, read_chain, read_operand, read_level, with_arms, read_arm, read_arms, read_conditional, read_expr, read_lvals, read_lval}
 use Rattle.bb_parse.proofs.Marks.{next_is, no_square, operator_is}
 use Rattle.bb_parse.proofs.Parts.{and_then, and_so, either_way, behind_front, mark_sound, name_sound, plain_sound}
 use Rattle.bb_parse.proofs.ListLaws.{Sound, Complete, list_sound}
@@ -149,17 +149,22 @@ module _ (inner : Rule Expression) (read : List Symbol → Read Expression) (s :
   arms_front x None P h = tt
   arms_front x (Some y) P h = h
 
+  arm_sound : (y : Expression) (ts : List Symbol) → IfSome (read_arm y read ts) (λ a. (a.0.0 ≡ y) × inner ts a.0.1 (Sign Colon ∷ a.1))
+  unfolding read_arm
+  arm_sound y ts =
+      and_then (read ts) _ (λ v. inner ts v.0 v.1) _ (s ts) (λ v q.
+      and_then (read_mark Colon v.1) _ (λ u. v.1 ≡ Sign Colon ∷ u.1) _ (mark_sound Colon v.1) (λ u r.
+      (refl, subst (λ z. inner ts v.0 z) r q)))
+
   arms_sound : (n : ℕ) (ts : List Symbol) → IfSome (read_arms read n ts) (λ x. IsArms inner ts x.0.0 x.0.1 x.1)
   arms_sound zero ts = tt
   arms_sound (suc n) ts =
       let P : (List (Expression × Expression) × Expression) × List Symbol → Type 0 = λ x. IsArms inner ts x.0.0 x.0.1 x.1 in
       and_then (read_level levels.Or read ts) _ (λ c. IsOrx inner ts c.0 c.1) P (orx_sound ts) (λ c p.
       either_way (is_next Query c.1) _ _ P
-      (λ h. and_then (read (behind c.1)) _ (λ v. inner (behind c.1) v.0 v.1) P (s (behind c.1)) (λ v q.
-      and_then (read_mark Colon v.1) _ (λ u. v.1 ≡ Sign Colon ∷ u.1) P (mark_sound Colon v.1) (λ u r.
-      let y : Expression × Expression = (c.0, v.0) in
-      arms_front y (read_arms read n u.1) P (and_so (read_arms read n u.1) (λ x. IsArms inner u.1 x.0.0 x.0.1 x.1) (λ x. IsArms inner ts (y ∷ x.0.0) x.0.1 x.1) (arms_sound n u.1) (λ x t.
-      (behind c.1, u.1, subst (λ z. IsOrx inner ts c.0 z) (next_is Query c.1 h) p, subst (λ z. inner (behind c.1) v.0 z) r q, t))))))
+      (λ h. and_then (read_arm c.0 read (behind c.1)) _ (λ a. (a.0.0 ≡ c.0) × inner (behind c.1) a.0.1 (Sign Colon ∷ a.1)) P (arm_sound c.0 (behind c.1)) (λ a q.
+      arms_front a.0 (read_arms read n a.1) P (and_so (read_arms read n a.1) (λ x. IsArms inner a.1 x.0.0 x.0.1 x.1) (λ x. IsArms inner ts (a.0 ∷ x.0.0) x.0.1 x.1) (arms_sound n a.1) (λ x t.
+      (behind c.1, a.1, subst (λ z. IsOrx inner ts z (Sign Query ∷ behind c.1)) (sym q.0) (subst (λ z. IsOrx inner ts c.0 z) (next_is Query c.1 h) p), q.1, t)))))
       (λ h. p))
 
   conditional_sound : (ts : List Symbol) → IfSome (read_conditional read ts)

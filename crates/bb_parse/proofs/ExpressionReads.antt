@@ -11,7 +11,7 @@ use Rattle.bb_parse.specs.Lists.{Rule, IsMore, IsList}
 use Rattle.bb_parse.specs.Expressions.{IsSelect, IsPrimary, select, sized, plain, round, concat, repeat, IsSigns, IsUnary, IsOperands, IsChain, IsAndx, IsXorx, IsOrx, IsArms, conditional, IsExpr, IsLval}
 use Rattle.bb_parse.specs.Reading.Symbols.{is_next, behind, next_kind}
 use Rattle.bb_parse.specs.Reading.Steps.{Read}
-use Rattle.bb_parse.specs.Reading.Expressions.{begins_repeat, read_braces, read_round, read_primary, read_signs, read_unary, read_operands, read_chain, read_operand, read_level, read_arms, read_conditional, read_expr, read_lvals, read_lval}
+use Rattle.bb_parse.specs.Reading.Expressions.{begins_repeat, read_braces, read_round, read_primary, read_signs, read_unary, read_operands, read_chain, read_operand, read_level, read_arm, read_arms, read_conditional, read_expr, read_lvals, read_lval}
 use Rattle.bb_parse.proofs.Marks.{rank_next, level_rank, no_query, no_operator, operator_rank}
 use Rattle.bb_parse.proofs.ListLaws.{Complete, more_stops, list_complete}
 use Rattle.bb_parse.proofs.ExpressionLaws.{select_complete}
@@ -150,6 +150,7 @@ module _ (inner : Rule Expression) (read : List Symbol → Read Expression) (c :
 
   arms_complete : (ts : List Symbol) (xs : List (Expression × Expression)) (last : Expression) (rest : List Symbol) (n : ℕ) → IsArms inner ts xs last rest → 5 < rank_next rest → length ts ≤ n
       → (read_arms read n ts ≡ Some ((xs, last), rest)) × (length rest < length ts)
+  unfolding read_arm
   arms_complete ts [] last rest zero p h le = absurd (omega (arith, (orx_complete ts last rest p (omega arith)).1))
   arms_complete ts [] last rest (suc n) p h le =
       let one = orx_complete ts last rest p (omega arith) in

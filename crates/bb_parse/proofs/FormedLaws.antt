@@ -1,12 +1,13 @@
 -- What the tokens of a text mean is well formed: each rule of the grammar takes well-formed symbols to well-formed syntax.
-use Rattle.std.proofs.Common.{◌≡◌, ℕ, zero, suc, ◌≤◌, List, [], ◌∷◌, Option, Some, None, true, sym, subst, arith, length, inl, inr, IfSome}
-use Rattle.std.specs.List.{AllByRecursion}
+use Rattle.std.proofs.Common.{◌≡◌, refl, ℕ, zero, suc, ◌≤◌, List, [], ◌∷◌, Option, Some, None, true, sym, subst, arith, length, inl, inr, IfSome}
+use Rattle.std.specs.List.{AllByRecursion, list_all}
 use Rattle.std.proofs.lemmas.Bool.Decides.{nat_tests}
 use Rattle.bb_ast.specs.declared.expr.Op.{Op}
 use Rattle.bb_ast.specs.declared.module.Port.{Port}
 use Rattle.bb_ast.specs.declared.module.PortKind.{PortKind}
 use Rattle.bb_ast.specs.Syntax.{Expression, Net, Bit, Part, Concat, Repeat, operands, arms, parts, Order, Named, PlainBody, Ports, Nets, Regs, Supply, Assign, Gates, Calls, Always, PlainItem, PlainHead, PlainModule}
-use Rattle.bb_ast.specs.Formed.{IsSmall, IsFormedExpression, AreFormedOperands, AreFormedArms, AreFormedParts, SomeEach, IsFormedRange, IsFormedPort, IsFormedPair, IsFormedAssignment, IsFormedGate, IsFormedConns, IsFormedCall, IsFormedBody, IsFormedHead, IsFormed}
+use Rattle.bb_ast.specs.Formed.{IsSmall, IsFormedExpression, AreFormedOperands, AreFormedArms, AreFormedParts, SomeEach, IsFormedRange, IsFormedPort, IsFormedPair, IsFormedAssignment, IsFormedGate, IsFormedConns, IsFormedCall, IsFormedBody, IsFormedHead, IsFormed, IsNetOrBit}
+use Rattle.bb_ast.specs.Assignable.{is_assignable}
 use Rattle.bb_bits.specs.Names.{IsPrintable}
 use Rattle.bb_lex.specs.declared.mark.Mark.TheVariants.{Comma, Query, Colon, RightRound, Equals, LessEqual, Semicolon}
 use Rattle.bb_lex.specs.declared.token.Kind.TheVariants as kinds
@@ -138,11 +139,15 @@ module _ (level : Level) (is : Rule Expression) (f : Forms IsFormedExpression is
       let v = operands_form p.2 p.1 rest p.4 w.1 in
       (subst IsFormedExpression (sym p.5) (chained_formed p.0 p.1 w.0 v.0), v.1)
 
-arms_formed : (xs : List (Expression × Expression)) → AllByRecursion IsFormedAssignment xs → AreFormedArms (arms xs)
+-- a condition with its value
+abbrev IsFormedArm : Expression × Expression → Type 0
+IsFormedArm x = IsFormedExpression x.0 × IsFormedExpression x.1
+
+arms_formed : (xs : List (Expression × Expression)) → AllByRecursion IsFormedArm xs → AreFormedArms (arms xs)
 arms_formed [] h = tt
 arms_formed (x ∷ xs) h = (h.0.0, h.0.1, arms_formed xs h.1)
 
-conditional_formed : (xs : List (Expression × Expression)) (last : Expression) → AllByRecursion IsFormedAssignment xs → IsFormedExpression last → IsFormedExpression (conditional xs last)
+conditional_formed : (xs : List (Expression × Expression)) (last : Expression) → AllByRecursion IsFormedArm xs → IsFormedExpression last → IsFormedExpression (conditional xs last)
 conditional_formed [] last h f = f
 conditional_formed (x ∷ xs) last h f = (h.0.0, h.0.1, arms_formed xs h.1, f)
 
@@ -152,7 +157,7 @@ module _ (inner : Rule Expression) (f : Forms IsFormedExpression inner) where
       chain_forms levels.Or (IsXorx inner) (chain_forms levels.Xor (IsAndx inner) (chain_forms levels.And (IsUnary inner) (unary_forms inner f)))
 
   arms_form : (ts : List Symbol) (xs : List (Expression × Expression)) (last : Expression) (rest : List Symbol) → IsArms inner ts xs last rest → AreSound ts
-      → (AllByRecursion IsFormedAssignment xs × IsFormedExpression last) × AreSound rest
+      → (AllByRecursion IsFormedArm xs × IsFormedExpression last) × AreSound rest
   arms_form ts [] last rest p h = let w = orx_forms ts last rest p h in ((tt, w.0), w.1)
   arms_form ts (x ∷ xs) last rest p h =
       let u = orx_forms ts x.0 (Sign Query ∷ p.0) p.2 h in
@@ -166,12 +171,30 @@ expr_forms (suc n) ts e rest p h =
     let w = arms_form (IsExpr n) (expr_forms n) ts p.0 p.1 rest p.2 h in
     (subst IsFormedExpression (sym p.3) (conditional_formed p.0 p.1 w.0.0 w.0.1), w.1)
 
-lval_forms : (n : ℕ) → Forms IsFormedExpression (IsLval n)
+-- what is formed and may stand on a left side
+abbrev IsFormedLeft : Expression → Type 0
+IsFormedLeft e = IsFormedExpression e × (is_assignable e ≡ true)
+
+select_assignable : (ts : List Symbol) (e : Expression) (rest : List Symbol) → IsSelect ts e rest → is_assignable e ≡ true
+select_assignable ts (Net name) rest p = refl
+select_assignable ts (Bit name i) rest p = refl
+select_assignable ts (Part name i j) rest p = refl
+select_assignable ts e rest p = elim p [ ]
+
+lefts_formed : (xs : List Expression) → AllByRecursion IsFormedLeft xs → AllByRecursion IsFormedExpression xs
+lefts_formed [] h = tt
+lefts_formed (x ∷ xs) h = (h.0.0, lefts_formed xs h.1)
+
+lefts_assignable : (xs : List Expression) → AllByRecursion IsFormedLeft xs → is_assignable (Concat (parts xs)) ≡ true
+lefts_assignable [] h = refl
+lefts_assignable (x ∷ xs) h = rw h.0.1 (lefts_assignable xs h.1)
+
+lval_forms : (n : ℕ) → Forms IsFormedLeft (IsLval n)
 lval_forms zero ts e rest p h = elim p [ ]
-lval_forms (suc n) ts e rest (inl p) h = select_forms ts e rest p h
+lval_forms (suc n) ts e rest (inl p) h = let w = select_forms ts e rest p h in ((w.0, select_assignable ts e rest p), w.1)
 lval_forms (suc n) ts e rest (inr p) h =
-    let w = list_forms IsFormedExpression (IsLval n) (lval_forms n) p.1 p.0 _ p.3 (by ts _ p.2 h).1 in
-    (subst IsFormedExpression (sym p.4) (concat_formed p.0 w.0), w.1.1)
+    let w = list_forms IsFormedLeft (IsLval n) (lval_forms n) p.1 p.0 _ p.3 (by ts _ p.2 h).1 in
+    (subst IsFormedLeft (sym p.4) (concat_formed p.0 (w.0.0, lefts_formed p.0 w.0.1), lefts_assignable p.0 w.0.1), w.1.1)
 
 -- declarations
 
@@ -243,7 +266,7 @@ assignment_forms : (depth : ℕ) → Forms IsFormedAssignment (IsAssignment dept
 assignment_forms depth ts x rest p h =
     let u = lval_forms depth ts x.0 (Sign Equals ∷ p.0) p.1 h in
     let w = expr_forms depth p.0 x.1 rest p.2 u.1.1 in
-    ((u.0, w.0), w.1)
+    ((u.0.0, w.0, u.0.1), w.1)
 
 terminals_form : (depth : ℕ) → Forms (λ xs. (2 ≤ length xs) × AllByRecursion IsFormedExpression xs) (AreTerminals depth)
 terminals_form depth ts [] rest p h = elim p [ ]
@@ -280,9 +303,9 @@ call_forms depth ts x rest p h =
     let w = conns_form depth p.0 x.1 (Sign RightRound ∷ rest) p.2 u.1.1 in
     ((u.0, w.0), w.1.1)
 
-clock_forms : Forms IsFormedExpression IsClock
-clock_forms ts (Net name) rest p h = by ts _ p h
-clock_forms ts (Bit name i) rest p h = let w = by ts _ p h in ((w.0, w.1.1.0), w.1.1.1.1)
+clock_forms : Forms (λ e. IsFormedExpression e × IsNetOrBit e) IsClock
+clock_forms ts (Net name) rest p h = let w = by ts _ p h in ((w.0, tt), w.1)
+clock_forms ts (Bit name i) rest p h = let w = by ts _ p h in (((w.0, w.1.1.0), tt), w.1.1.1.1)
 clock_forms ts e rest p h = elim p [ ]
 
 item_formed : (depth : ℕ) (ts : List Symbol) (body : PlainBody) → IsItem depth ts body [] → AreSound ts → IsFormedBody body
@@ -307,7 +330,7 @@ item_formed depth ts (Always r) p h =
     let u = clock_forms p.0 r.clock (Sign RightRound ∷ p.1) p.4 (by ts _ p.3 h).1.1.1.1 in
     let v = lval_forms depth p.1 r.left (Sign LessEqual ∷ p.2) p.5 u.1.1 in
     let w = expr_forms depth p.2 r.right (Sign Semicolon ∷ []) p.6 v.1.1 in
-    (u.0, v.0, w.0)
+    (u.0.0, v.0.0, w.0, u.0.1, v.0.1)
 
 -- symbols of a text
 

@@ -5,6 +5,7 @@ use Rattle.bb_ast.specs.declared.module.Gate.TheVariants as gates
 use Rattle.bb_ast.specs.Syntax.{Expression, Order, Named}
 use Rattle.bb_lex.specs.declared.keyword.Keyword.{Keyword}
 use Rattle.bb_lex.specs.declared.keyword.Keyword.TheVariants as words
+use Rattle.bb_lex.specs.declared.mark.Mark.{Mark}
 use Rattle.bb_lex.specs.declared.mark.Mark.TheVariants.{LeftRound, RightRound, LeftSquare, RightSquare, Comma, Semicolon, Dot, Equals, At, LessEqual}
 use Rattle.bb_parse.specs.Symbols.{Symbol, Identifier, Reserved, SizedNumber, PlainNumber, Sign}
 use Rattle.bb_parse.specs.Lists.{IsName, IsOptional, IsMore, IsList}
@@ -15,7 +16,7 @@ use Rattle.bb_parse.specs.Reading.Symbols.{is_next, behind, next_kind}
 use Rattle.bb_parse.specs.Reading.Steps.{◌>>=◌, with_front, read_mark, read_name, read_plain, read_more, read_list}
 use Rattle.bb_parse.specs.Reading.Expressions.{read_expr, read_lval}
 use Rattle.bb_parse.specs.Reading.Declarations.{taken, read_optional_range, read_port, read_ports, read_regs, read_supply}
-use Rattle.bb_parse.specs.Reading.Items.{read_net, read_nets, read_assignment, read_assign, read_optional_name, read_terms, read_gate, read_gates, read_place, read_named, read_conns, read_call, read_calls, edge_of, read_clock, read_event, read_always, worded, read_body}
+use Rattle.bb_parse.specs.Reading.Items.{read_net, read_nets, read_sides, read_assignment, read_assign, read_optional_name, read_terms, read_gate, read_gates, read_place, read_named, read_conns, read_call, read_calls, edge_of, read_clock, read_event, read_clocked, read_always, worded, read_body}
 use Rattle.bb_parse.proofs.Marks.{next_is}
 use Rattle.bb_parse.proofs.Parts.{and_then, and_so, either_way, behind_front, mark_sound, name_sound, plain_sound}
 use Rattle.bb_parse.proofs.ListLaws.{Sound, list_sound, more_sound}
@@ -63,13 +64,16 @@ nets_sound depth all ts begins =
     and_then (read_mark Semicolon ns.1) _ (λ u. ns.1 ≡ Sign Semicolon ∷ u.1) _ (mark_sound Semicolon ns.1) (λ u s.
     (ts, p.1, begins, q, subst (λ z. IsList (IsNet depth) p.1 ns.0 z) s r))))
 
-assignment_sound : (depth : ℕ) → Sound (IsAssignment depth) (read_assignment depth)
-unfolding read_assignment
-assignment_sound depth ts =
+sides_sound : (mark : Mark) (depth : ℕ) (ts : List Symbol) → IfSome (read_sides mark depth ts) (λ x. (a : List Symbol) × IsLval depth ts x.0.0 (Sign mark ∷ a) × IsExpr depth a x.0.1 x.1)
+unfolding read_sides
+sides_sound mark depth ts =
     and_then (read_lval depth ts) _ (λ l. IsLval depth ts l.0 l.1) _ (lval_sound depth ts) (λ l p.
-    and_then (read_mark Equals l.1) _ (λ u. l.1 ≡ Sign Equals ∷ u.1) _ (mark_sound Equals l.1) (λ u q.
+    and_then (read_mark mark l.1) _ (λ u. l.1 ≡ Sign mark ∷ u.1) _ (mark_sound mark l.1) (λ u q.
     and_then (read_expr depth u.1) _ (λ r. IsExpr depth u.1 r.0 r.1) _ (expr_sound depth u.1) (λ r s.
     (u.1, subst (λ z. IsLval depth ts l.0 z) q p, s))))
+
+assignment_sound : (depth : ℕ) → Sound (IsAssignment depth) (read_assignment depth)
+assignment_sound depth ts = sides_sound Equals depth ts
 
 assign_sound : (depth : ℕ) (all ts : List Symbol) → all ≡ Reserved words.Assign ∷ ts → IfSome (read_assign depth ts) (λ x. IsItem depth all x.0 x.1)
 unfolding read_assign
@@ -233,15 +237,19 @@ event_sound ts =
     and_then (read_mark RightRound c.1) _ (λ u. c.1 ≡ Sign RightRound ∷ u.1) _ (mark_sound RightRound c.1) (λ u t.
     (e.1, p ∙ ap (λ z. Sign At ∷ z) (q ∙ ap (λ z. Sign LeftRound ∷ z) r), subst (λ z. IsClock e.1 c.0 z) t s))))))
 
+clocked_sound : (depth : ℕ) (ts : List Symbol) → IfSome (read_clocked depth ts) (λ x. (a : List Symbol) × IsLval depth ts x.0.0 (Sign LessEqual ∷ a) × IsExpr depth a x.0.1 (Sign Semicolon ∷ x.1))
+unfolding read_clocked
+clocked_sound depth ts =
+    and_then (read_sides LessEqual depth ts) _ (λ x. (a : List Symbol) × IsLval depth ts x.0.0 (Sign LessEqual ∷ a) × IsExpr depth a x.0.1 x.1) _ (sides_sound LessEqual depth ts) (λ x q.
+    and_then (read_mark Semicolon x.1) _ (λ u. x.1 ≡ Sign Semicolon ∷ u.1) _ (mark_sound Semicolon x.1) (λ u t.
+    (q.0, q.1, subst (λ z. IsExpr depth q.0 x.0.1 z) t q.2)))
+
 always_sound : (depth : ℕ) (all ts : List Symbol) → all ≡ Reserved words.Always ∷ ts → IfSome (read_always depth ts) (λ x. IsItem depth all x.0 x.1)
 unfolding read_always
 always_sound depth all ts begins =
     and_then (read_event ts) _ (λ e. (a : List Symbol) × (ts ≡ Sign At ∷ Sign LeftRound ∷ Reserved (edge_word e.0.0) ∷ a) × IsClock a e.0.1 (Sign RightRound ∷ e.1)) _ (event_sound ts) (λ e p.
-    and_then (read_lval depth e.1) _ (λ l. IsLval depth e.1 l.0 l.1) _ (lval_sound depth e.1) (λ l q.
-    and_then (read_mark LessEqual l.1) _ (λ m. l.1 ≡ Sign LessEqual ∷ m.1) _ (mark_sound LessEqual l.1) (λ m r.
-    and_then (read_expr depth m.1) _ (λ x. IsExpr depth m.1 x.0 x.1) _ (expr_sound depth m.1) (λ x s.
-    and_then (read_mark Semicolon x.1) _ (λ u. x.1 ≡ Sign Semicolon ∷ u.1) _ (mark_sound Semicolon x.1) (λ u t.
-    (p.0, e.1, m.1, begins ∙ ap (λ z. Reserved words.Always ∷ z) p.1, p.2, subst (λ z. IsLval depth e.1 l.0 z) r q, subst (λ z. IsExpr depth m.1 x.0 z) t s))))))
+    and_then (read_clocked depth e.1) _ (λ x. (a : List Symbol) × IsLval depth e.1 x.0.0 (Sign LessEqual ∷ a) × IsExpr depth a x.0.1 (Sign Semicolon ∷ x.1)) _ (clocked_sound depth e.1) (λ x q.
+    (p.0, e.1, q.0, begins ∙ ap (λ z. Reserved words.Always ∷ z) p.1, p.2, q.1, q.2)))
 
 worded_sound : (w : Keyword) (depth : ℕ) (ts : List Symbol) → IfSome (worded w depth (Reserved w ∷ ts)) (λ x. IsItem depth (Reserved w ∷ ts) x.0 x.1)
 worded_sound words.Input depth ts = and_so (read_ports (Reserved words.Input ∷ ts)) (λ x. (d : ℕ) → IsItem d (Reserved words.Input ∷ ts) x.0 x.1) _ (ports_sound (Reserved words.Input ∷ ts)) (λ x p. p depth)

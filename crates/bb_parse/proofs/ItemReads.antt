@@ -20,7 +20,7 @@ use Rattle.bb_parse.specs.Reading.Symbols.{is_next, behind}
 use Rattle.bb_parse.specs.Reading.Steps.{read_name, read_more, read_list}
 use Rattle.bb_parse.specs.Reading.Expressions.{read_expr}
 use Rattle.bb_parse.specs.Reading.Declarations.{read_optional_range, read_port, read_ports, read_regs, read_supply}
-use Rattle.bb_parse.specs.Reading.Items.{read_net, read_nets, read_assignment, read_assign, read_terms, read_gate, read_gates, read_place, read_named, read_conns, read_call, read_calls, edge_of, read_clock, read_event, read_always, worded, read_body}
+use Rattle.bb_parse.specs.Reading.Items.{read_net, read_nets, read_sides, read_assignment, read_assign, read_terms, read_gate, read_gates, read_place, read_named, read_conns, read_call, read_calls, edge_of, read_clock, read_event, read_clocked, read_always, worded, read_body}
 use Rattle.bb_parse.proofs.Marks.{rank_next, no_equals}
 use Rattle.bb_parse.proofs.ListLaws.{Complete, list_complete}
 use Rattle.bb_parse.proofs.ExpressionReads.{expr_complete, lval_complete, expr_begins}
@@ -64,7 +64,7 @@ nets_begin depth ts [] rest p = elim p [ ]
 nets_begin depth ts (x ∷ nets) rest p = (x.0, p.1.0, p.1.1)
 
 assignment_complete : (depth : ℕ) → Complete 5 (IsAssignment depth) (read_assignment depth)
-unfolding read_assignment
+unfolding read_sides
 assignment_complete depth ts x rest p h =
     let left = lval_complete depth ts x.0 (Sign Equals ∷ p.0) p.1 (omega arith) in
     let right = expr_complete depth p.0 x.1 rest p.2 h in
@@ -180,7 +180,7 @@ edge_is false = refl
 edge_is true = refl
 
 always_complete : (depth : ℕ) (ts : List Symbol) (r : PlainAlways) (rest : List Symbol) → IsItem depth (Reserved words.Always ∷ ts) (Always r) rest → read_always depth ts ≡ Some (Always r, rest)
-unfolding read_always read_event
+unfolding read_always read_event read_clocked read_sides
 always_complete depth ts r rest p =
     let begins : ts ≡ Sign At ∷ Sign LeftRound ∷ Reserved (edge_word r.falling) ∷ p.0 = ap behind p.3 in
     let left = lval_complete depth p.1 r.left (Sign LessEqual ∷ p.2) p.5 (omega arith) in

@@ -1,14 +1,18 @@
 -- Marks: what it means that one is next, and after which symbols the reading of an expression stops.
 use Rattle.std.proofs.Common.{◌≡◌, ℕ, ◌<◌, List, [], ◌∷◌, Some, None, true, false, refl, ap, sym, ◌∙◌, arith, if◌then◌else◌, ◌==◌}
 use Rattle.std.proofs.lemmas.Bool.{eqb-true}
+use denote.Enum.Declared.{tag_of}
+use denote.Enum.Bare.{sameb}
+use Rattle.bb_lex.specs.contracts.mark.Mark.{the_type}
 use Rattle.bb_ast.specs.declared.expr.Op.{Op}
 use Rattle.bb_lex.specs.declared.mark.Mark.{Mark}
 use Rattle.bb_lex.specs.declared.mark.Mark.TheVariants.{LeftRound, RightRound, LeftSquare, RightSquare, LeftBrace, RightBrace, Comma, Semicolon, Colon, Dot, Equals, At, Amp, Bar, Caret, Tilde, Query, LessEqual, TildeCaret, CaretTilde}
+use Rattle.bb_lex.specs.declared.token.Kind.TheVariants as kinds
 use Rattle.bb_parse.specs.declared.level.Level.{Level}
 use Rattle.bb_parse.specs.declared.level.Level.TheVariants as levels
 use Rattle.bb_parse.specs.Symbols.{Symbol, Identifier, Reserved, SizedNumber, PlainNumber, Sign}
 use Rattle.bb_parse.specs.Expressions.{level_operator}
-use Rattle.bb_parse.specs.Reading.Symbols.{mark_number, is_next, behind}
+use Rattle.bb_parse.specs.Reading.Symbols.{mark_number, is_next, behind, next_kind}
 use Rattle.bb_parse.specs.Reading.Expressions.{next_operator}
 
 mark_numbered : ℕ → Mark
@@ -35,6 +39,22 @@ next_is m (Reserved w ∷ ts) h = cc
 next_is m (SizedNumber b ∷ ts) h = cc
 next_is m (PlainNumber n ∷ ts) h = cc
 next_is m (Sign n ∷ ts) h = ap (λ x. Sign x ∷ ts) (same_mark n m h)
+
+-- marks compare by their numbers
+mark_tag : (m : Mark) → tag_of the_type m ≡ mark_number m
+mark_tag LeftRound = refl
+mark_tag m = refl
+
+pub same_marks : (m n : Mark) → sameb the_type m n ≡ (mark_number m == mark_number n)
+same_marks m n = ap (λ k. k == tag_of the_type n) (mark_tag m) ∙ ap (λ k. mark_number m == k) (mark_tag n)
+
+pub mark_next : (m wanted : Mark) (ts : List Symbol) → Some (kinds.Mark m) ≡ next_kind ts → (mark_number m == mark_number wanted) ≡ is_next wanted ts
+mark_next m wanted [] h = cc
+mark_next m wanted (Identifier n ∷ ts) h = cc
+mark_next m wanted (Reserved w ∷ ts) h = cc
+mark_next m wanted (SizedNumber b ∷ ts) h = cc
+mark_next m wanted (PlainNumber n ∷ ts) h = cc
+mark_next m wanted (Sign n ∷ ts) h = let e : m ≡ n = cc in rw e refl
 
 -- [ goes on with a name, an operator with an operand, ? and = with a condition and a net, and a comma with a list
 abbrev pub rank : Mark → ℕ

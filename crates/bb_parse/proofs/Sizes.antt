@@ -19,7 +19,7 @@ use Rattle.bb_parse.specs.Expressions.{IsSelect, IsPrimary, select, sized, plain
 use Rattle.bb_parse.specs.Declarations.{IsRange, IsPortKind, IsPort, IsPlainHead, IsNextPort, IsMoreDeclared, AreDeclared, AreHeads, absent, empty, named, declared, IsHeader}
 use Rattle.bb_parse.specs.Items.{IsAssigned, IsNet, IsAssignment, AreTerminals, IsGate, IsPlace, IsNamed, AreConns, IsCall, IsClock, IsItem}
 use Rattle.bb_parse.specs.Sources.{AreItems, IsSource}
-use Rattle.bb_parse.specs.Sizes.{expression_size, operands_size, arms_size, parts_size, optional_size, pair_size, conns_size, gate_size, call_size, item_size, module_size}
+use Rattle.bb_ast.specs.Sizes.{expression_size, operands_size, arms_size, parts_size, optional_size, pair_size, conns_size, gate_size, call_size, item_size, module_size, source_size}
 use Rattle.bb_parse.specs.Laws.{SourcesAreShort, TextsAreLong}
 use Rattle.bb_parse.proofs.SymbolLaws.{length-symbols}
 
@@ -249,7 +249,7 @@ module _ (text : List ℕ) where
         sum_by-cons (λ (z : PlainItem). item_size z.body) item items,
       )
 
-  pub source_short : (tokens : List Token) (modules : List PlainModule) → IsSource text tokens modules → sum_by (λ m. 2 + module_size m) modules ≤ length tokens
+  pub source_short : (tokens : List Token) (modules : List PlainModule) → IsSource text tokens modules → source_size modules ≤ length tokens
   source_short tokens [] p = omega arith
   source_short tokens (m ∷ ms) p =
       omega (

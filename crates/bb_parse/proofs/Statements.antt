@@ -1,14 +1,20 @@
 -- Loops over the tokens of a statement.
-use Rattle.std.proofs.Common.{◌≡◌, ℕ, ◌+◌, ◌<◌, ◌≤◌, List, [], ◌∷◌, ◌++◌, Option, Some, None, true, false, refl, arith, length, take, drop, max, append_assoc, slice_index_or, add-one}
+use Rattle.std.proofs.Common.{◌≡◌, ℕ, ◌+◌, ◌<◌, ◌≤◌, List, [], ◌∷◌, ◌++◌, Option, Some, None, Result, Ok, Err, true, false, refl, arith, length, take, drop, max, append_assoc, slice_index_or, add-one, nat_lt}
 use Rattle.std.proofs.Math.Nat.{le-max_left}
 use Rattle.std.proofs.Math.Seq.{drop-cons}
+use Rattle.std.proofs.lemmas.Bool.Decides.{nat_tests}
 use Rattle.std.proofs.lemmas.List.{take_more}
 use Rattle.bb_lex.specs.declared.token.Token.{Token}
+use Rattle.bb_parse.specs.declared.fault.ParseFault.{ParseFault}
+use Rattle.bb_parse.specs.declared.fault.ParseFault.TheVariants.{Statement}
+use Rattle.bb_parse.specs.declared.stop.Stop.{Stop}
+use Rattle.bb_parse.specs.declared.stop.Stop.TheVariants.{Amiss, NoMemory}
 use Rattle.bb_parse.specs.Symbols.{Symbol, Identifier, Reserved, SizedNumber, PlainNumber, Sign}
 use Rattle.bb_parse.specs.Nesting.{mark_count, mark_square, count_behind, square_behind, greatest_from}
 use Rattle.bb_parse.specs.Sources.{ends}
 use Rattle.bb_parse.specs.Reading.Symbols.{next_kind, behind}
-use Rattle.bb_parse.specs.Reading.Sources.{with_token, first_statement, count_at, square_at}
+use Rattle.bb_parse.specs.Reading.Steps.{Read, Gives}
+use Rattle.bb_parse.specs.Reading.Sources.{Answers, with_token, first_statement, whole, or_fault, judged, count_at, square_at}
 
 -- with these tokens in front of a statement
 abbrev pub with_tokens : List Token → Option (List Token × List Token) → Option (List Token × List Token)
@@ -64,3 +70,14 @@ behind_length [] h = absurd (omega arith)
 behind_length (t ∷ ts) h = omega arith
 
 pub ruleset nesting_looping = (nesting_next, nesting_done, behind_length)
+
+pub judged_answers : {X Y : Type 0} (view : X → Y) (read : Result X Stop) (rest : List Symbol) (left line : ℕ) (r : Read Y) (a : Result X ParseFault)
+    → Gives view read rest r → left ≡ length rest → a ≡ judged read left line → Answers view a (or_fault (Statement line) (whole r))
+judged_answers view (Ok x) [] left line r a g n e = rw (e, n, g) refl
+judged_answers view (Ok x) (t ∷ ts) left line r a g n e =
+    let some : nat_lt 0 left ≡ true = grind (arith, nat_tests, n) in
+    rw (e, some, g) refl
+judged_answers view (Err Amiss) rest left line r a g n e = rw (e, g) refl
+judged_answers view (Err NoMemory) rest left line r a g n e = rw e tt
+
+pub ruleset judging = (judged_answers)

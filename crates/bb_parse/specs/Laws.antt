@@ -1,6 +1,6 @@
 -- Laws that a reader expects: tokens mean one source or have one first fault, and not both; a source is well formed, and no
 -- larger than its text.
-use Rattle.std.specs.Prelude.{◌≡◌, ◌⊎◌, ◌≤◌, ◌+◌, ℕ, List, Ok, Err, length, sum_by}
+use Rattle.std.specs.Prelude.{◌≡◌, ◌⊎◌, ◌≤◌, ℕ, List, Ok, Err, length}
 use Rattle.std.specs.List.{AllByRecursion}
 use Rattle.bb_ast.specs.Syntax.{PlainModule}
 use Rattle.bb_ast.specs.Formed.{IsFormed}
@@ -9,7 +9,7 @@ use Rattle.bb_lex.specs.Cut.{AreTokens}
 use Rattle.bb_parse.specs.declared.fault.ParseFault.{ParseFault}
 use Rattle.bb_parse.specs.Sources.{IsSource, IsFault, ReadsAs}
 use Rattle.bb_parse.specs.Reading.Sources.{read_source}
-use Rattle.bb_parse.specs.Sizes.{module_size}
+use Rattle.bb_ast.specs.Sizes.{source_size}
 
 abbrev pub SourcesAreOne : Type 0
 SourcesAreOne = (text : List ℕ) (tokens : List Token) (ms ns : List PlainModule) → IsSource text tokens ms → IsSource text tokens ns → ms ≡ ns
@@ -30,11 +30,11 @@ TextsReadOnce = (text : List ℕ) (ms ns : List PlainModule) → ReadsAs text ms
 
 -- a source is no larger than its list of tokens, even where each module counts two more
 abbrev pub SourcesAreShort : Type 0
-SourcesAreShort = (text : List ℕ) (tokens : List Token) (modules : List PlainModule) → IsSource text tokens modules → sum_by (λ m. 2 + module_size m) modules ≤ length tokens
+SourcesAreShort = (text : List ℕ) (tokens : List Token) (modules : List PlainModule) → IsSource text tokens modules → source_size modules ≤ length tokens
 
 -- and so no larger than its text has bytes
 abbrev pub TextsAreLong : Type 0
-TextsAreLong = (text : List ℕ) (modules : List PlainModule) → ReadsAs text modules → sum_by (λ m. 2 + module_size m) modules ≤ length text
+TextsAreLong = (text : List ℕ) (modules : List PlainModule) → ReadsAs text modules → source_size modules ≤ length text
 
 -- each module that a text reads as is well formed
 abbrev pub SourcesAreFormed : Type 0

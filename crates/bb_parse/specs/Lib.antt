@@ -4,7 +4,6 @@ pub mod Expressions
 pub mod Declarations
 pub mod Items
 pub mod Reading
-pub mod Sizes
 pub mod Laws
 pub mod Nesting
 pub mod Sources

@@ -61,9 +61,9 @@ impl<'a> Cursor<'a> {
     pub(crate) fn is_at(&self, wanted: Mark) -> bool
         ensures { result ≡ is_next wanted self.now }
     {
-        match self.tokens.first() {
-            Some(token) => token.kind == Kind::Mark(wanted),
-            None => false,
+        match self.kind() {
+            Some(Kind::Mark(mark)) => mark == wanted,
+            _ => false,
         }
     }
 

@@ -2,10 +2,13 @@ ghost use Rattle.std.specs.Prelude.{◌≡◌, ℕ, List, map, length};
 ghost use Rattle.bb_ast.specs.Views.{expression, operand_view, arm_view};
 ghost use Rattle.bb_parse.specs.Expressions.{negated, chained, conditional};
 ghost use Rattle.bb_parse.specs.Reading.Steps.{Gives, Makes, read_list};
-ghost use Rattle.bb_parse.specs.Reading.Expressions.{read_signs, read_select, read_index, read_expr, read_conditional, read_level, read_operand, read_unary, read_primary, read_round, read_braces, bracket_at};
+ghost use Rattle.bb_parse.specs.Reading.Expressions.{read_signs, read_select, read_index, read_expr, read_arm, read_conditional};
+ghost use Rattle.bb_parse.specs.Reading.Expressions.{read_level, read_operand, read_operands, read_unary, read_primary};
+ghost use Rattle.bb_parse.specs.Reading.Expressions.{read_round, read_braces, bracket_at};
 
 use crate::cursor::Cursor;
 use crate::level::Level;
+use crate::list::begun;
 use crate::stop::Stop;
 use bb_ast::{Expr, Op};
 use bb_bits::Name;
@@ -55,7 +58,6 @@ pub(crate) fn expr(alloc: Global, cursor: &mut Cursor<'_>, depth: u32) -> Result
 /// Conditions with their values, and the last branch. What stands between `?` and `:`, and in brackets below, nests to
 /// less than `inner` levels.
 #[cycle(expr)]
-#[tactic(auto, using(crate::proofs::Loops::arms_looping), unfolding(crate::specs::Reading::Expressions::read_conditional))]
 fn conditional(alloc: Global, cursor: &mut Cursor<'_>, inner: u32) -> Result<Expr, Stop>
     ensures { Gives expression result cursor.new (read_conditional (read_expr inner) cursor.old) }
 {
@@ -65,30 +67,60 @@ fn conditional(alloc: Global, cursor: &mut Cursor<'_>, inner: u32) -> Result<Exp
         if !cursor.takes(Mark::Query) {
             return conditional_of(alloc, arms, value);
         }
-        let chosen = expr(alloc, cursor, inner)?;
-        cursor.mark(Mark::Colon)?;
-        arms.push((value, chosen))?;
+        let next = arm(alloc, cursor, inner, value)?;
+        arms.push(next)?;
     }
     Err(Stop::Amiss)
 }
 
+/// A condition, which was read, with its value, behind `?`, and `:`.
+#[cycle(expr)]
+#[tactic(auto, unfolding(crate::specs::Reading::Expressions::read_arm))]
+fn arm(
+    alloc: Global,
+    cursor: &mut Cursor<'_>,
+    inner: u32,
+    condition: Expr,
+) -> Result<(Expr, Expr), Stop>
+    ensures { Gives arm_view result cursor.new (read_arm (expression condition) (read_expr inner) cursor.old) }
+{
+    let chosen = expr(alloc, cursor, inner)?;
+    cursor.mark(Mark::Colon)?;
+    Ok((condition, chosen))
+}
+
 /// A chain of the level.
 #[cycle(expr)]
-#[tactic(auto, using(crate::proofs::Loops::operands_looping), unfolding(crate::specs::Reading::Expressions::read_chain))]
+#[tactic(auto, unfolding(crate::specs::Reading::Expressions::read_chain))]
 fn chain(alloc: Global, cursor: &mut Cursor<'_>, inner: u32, level: Level) -> Result<Expr, Stop>
     ensures { Gives expression result cursor.new (read_level level (read_expr inner) cursor.old) }
 {
     let first = operand(alloc, cursor, inner, level)?;
+    let rest = operands(alloc, cursor, inner, level)?;
+    chain_of(alloc, first, rest)
+}
+
+/// Operators of the level that come next, each with the operand behind it.
+#[cycle(expr)]
+fn operands(
+    alloc: Global,
+    cursor: &mut Cursor<'_>,
+    inner: u32,
+    level: Level,
+) -> Result<Vec<(Op, Expr)>, Stop>
+    ensures { Gives (λ rest. map operand_view rest.items) result cursor.new
+        (read_operands level (read_operand level (read_expr inner)) (length cursor.old) cursor.old) }
+{
     let mut rest = Vec::new(alloc);
     for turn in 0..cursor.len() {
         let Some(op) = cursor.operator(level) else {
-            return chain_of(alloc, first, rest);
+            return Ok(rest);
         };
         cursor.skip();
         let next = operand(alloc, cursor, inner, level)?;
         rest.push((op, next))?;
     }
-    chain_of(alloc, first, rest)
+    Ok(rest)
 }
 
 /// An operand of a chain of the level.
@@ -169,13 +201,11 @@ fn braces(alloc: Global, cursor: &mut Cursor<'_>, inner: u32) -> Result<Expr, St
 
 /// One or more expressions, with commas between.
 #[cycle(expr)]
-#[tactic(auto, using(crate::proofs::Loops::looping))]
 pub(crate) fn exprs(alloc: Global, cursor: &mut Cursor<'_>, depth: u32) -> Result<Vec<Expr>, Stop>
     ensures { Gives (λ parts. map expression parts.items) result cursor.new (read_list (read_expr depth) cursor.old) }
 {
     let first = expr(alloc, cursor, depth)?;
-    let mut parts = Vec::new(alloc);
-    parts.push(first)?;
+    let mut parts = begun(alloc, first)?;
     for turn in 0..cursor.len() {
         if !cursor.takes(Mark::Comma) {
             return Ok(parts);

@@ -1,10 +1,13 @@
-ghost use Rattle.std.specs.Prelude.{◌≡◌, ℕ, List, map};
+ghost use Rattle.std.specs.Prelude.{◌≡◌, ℕ, List, [], ◌∷◌, map, IfOk, IfErr};
 ghost use Rattle.bb_ast.specs.Views.{expression, gate_view, body_view};
+ghost use Rattle.bb_parse.specs.declared.stop.Stop.{Stop};
 ghost use Rattle.bb_parse.specs.Reading.Steps.{Gives, read_list};
-ghost use Rattle.bb_parse.specs.Reading.Items.{read_optional_name, read_terms, read_gate, read_gates, gate_of, gates_at};
+ghost use Rattle.bb_parse.specs.Reading.Items.{read_optional_name, read_two_terms, read_terms, read_gate, read_gates, gate_of};
+ghost use Rattle.bb_parse.specs.Reading.Items.{gates_at};
 
 use crate::cursor::Cursor;
 use crate::expr::expr;
+use crate::list::begun;
 use crate::stop::Stop;
 use bb_ast::{Body, Expr, Gate, GateCall};
 use bb_bits::Name;
@@ -25,17 +28,35 @@ fn optional_name(alloc: Global, cursor: &mut Cursor<'_>) -> Result<Option<Name>,
     }
 }
 
-/// The terminals of a gate: two expressions or more, with commas between.
-#[tactic(auto, using(crate::proofs::Loops::terms_looping), unfolding(crate::specs::Reading::Items::read_terms))]
-fn terms(alloc: Global, cursor: &mut Cursor<'_>, depth: u32) -> Result<SmallVec<Expr, 4>, Stop>
-    ensures { Gives (λ terms. map expression terms.items) result cursor.new (read_terms depth cursor.old) }
+/// Two expressions as a list.
+fn both(alloc: Global, first: Expr, second: Expr) -> Result<SmallVec<Expr, 4>, Stop>
+    ensures ok { IfOk result (λ terms. terms.items ≡ first ∷ second ∷ []) }
+    ensures err { IfErr result (λ stop. stop ≡ Stop.NoMemory) }
+{
+    let mut terms = SmallVec::new(alloc);
+    terms.push(first)?;
+    terms.push(second)?;
+    Ok(terms)
+}
+
+/// The first two terminals of a gate, with a comma between.
+#[tactic(auto, unfolding(crate::specs::Reading::Items::read_two_terms))]
+fn two_terms(alloc: Global, cursor: &mut Cursor<'_>, depth: u32) -> Result<SmallVec<Expr, 4>, Stop>
+    ensures { Gives (λ terms. map expression terms.items) result cursor.new (read_two_terms depth cursor.old) }
 {
     let first = expr(alloc, cursor, depth)?;
     cursor.mark(Mark::Comma)?;
     let second = expr(alloc, cursor, depth)?;
-    let mut terms = SmallVec::new(alloc);
-    terms.push(first)?;
-    terms.push(second)?;
+    let terms = both(alloc, first, second)?;
+    Ok(terms)
+}
+
+/// The terminals of a gate: two expressions or more, with commas between.
+#[tactic(auto, using(crate::proofs::Loops::terms_looping))]
+fn terms(alloc: Global, cursor: &mut Cursor<'_>, depth: u32) -> Result<SmallVec<Expr, 4>, Stop>
+    ensures { Gives (λ terms. map expression terms.items) result cursor.new (read_terms depth cursor.old) }
+{
+    let mut terms = two_terms(alloc, cursor, depth)?;
     for turn in 0..cursor.len() {
         if !cursor.takes(Mark::Comma) {
             return Ok(terms);
@@ -59,13 +80,11 @@ fn gate(alloc: Global, cursor: &mut Cursor<'_>, depth: u32) -> Result<GateCall, 
 }
 
 /// One or more gates, with commas between.
-#[tactic(auto, using(crate::proofs::Loops::looping))]
 fn gate_list(alloc: Global, cursor: &mut Cursor<'_>, depth: u32) -> Result<Vec<GateCall>, Stop>
     ensures { Gives (λ all. map gate_view all.items) result cursor.new (read_list (read_gate depth) cursor.old) }
 {
     let first = gate(alloc, cursor, depth)?;
-    let mut all = Vec::with_capacity(alloc, 1)?;
-    all.push(first)?;
+    let mut all = begun(alloc, first)?;
     for turn in 0..cursor.len() {
         if !cursor.takes(Mark::Comma) {
             return Ok(all);

@@ -7,6 +7,7 @@ ghost use Rattle.bb_parse.specs.Reading.Declarations.{read_head, read_next_port,
 
 use crate::cursor::Cursor;
 use crate::decl::{direction, port};
+use crate::list::begun;
 use crate::stop::Stop;
 use bb_ast::{Head, Port};
 use bb_bits::Name;
@@ -23,13 +24,11 @@ fn head(alloc: Global, cursor: &mut Cursor<'_>) -> Result<Head, Stop>
 }
 
 /// The names of a header without declarations.
-#[tactic(auto, using(crate::proofs::Loops::looping))]
 fn plain_heads(alloc: Global, cursor: &mut Cursor<'_>) -> Result<Vec<Head>, Stop>
     ensures { Gives (λ heads. map head_view heads.items) result cursor.new (read_list read_head cursor.old) }
 {
     let first = head(alloc, cursor)?;
-    let mut heads = Vec::new(alloc);
-    heads.push(first)?;
+    let mut heads = begun(alloc, first)?;
     for turn in 0..cursor.len() {
         if !cursor.takes(Mark::Comma) {
             return Ok(heads);
@@ -63,17 +62,17 @@ fn ansi(alloc: Global, cursor: &mut Cursor<'_>, before: Port) -> Result<(Port, N
 }
 
 /// The names of a header with their declarations.
-#[tactic(auto, using(crate::proofs::Loops::ansi_looping), unfolding(crate::specs::Reading::Declarations::read_ansi_heads))]
+#[tactic(auto, unfolding(crate::specs::Reading::Declarations::read_ansi_heads))]
 fn ansi_heads(alloc: Global, cursor: &mut Cursor<'_>) -> Result<Vec<Head>, Stop>
     ensures { Gives (λ heads. map head_view heads.items) result cursor.new (read_ansi_heads cursor.old) }
 {
     let mut before = port(cursor)?;
     let first = cursor.name(alloc)?;
-    let mut heads = Vec::new(alloc);
-    heads.push(Head {
+    let head = Head {
         name: first,
         decl: Some(before),
-    })?;
+    };
+    let mut heads = begun(alloc, head)?;
     for turn in 0..cursor.len() {
         if !cursor.takes(Mark::Comma) {
             return Ok(heads);

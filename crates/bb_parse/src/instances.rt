@@ -5,6 +5,7 @@ ghost use Rattle.bb_parse.specs.Reading.Items.{read_place, read_named, read_conn
 
 use crate::cursor::Cursor;
 use crate::expr::expr;
+use crate::list::begun;
 use crate::stop::Stop;
 use bb_ast::{Body, Call, Conns, Expr};
 use bb_bits::Name;
@@ -24,13 +25,11 @@ fn place(alloc: Global, cursor: &mut Cursor<'_>, depth: u32) -> Result<Option<Ex
 }
 
 /// One or more places, with commas between.
-#[tactic(auto, using(crate::proofs::Loops::looping))]
 fn places(alloc: Global, cursor: &mut Cursor<'_>, depth: u32) -> Result<Vec<Option<Expr>>, Stop>
     ensures { Gives (λ all. map optional_view all.items) result cursor.new (read_list (read_place depth) cursor.old) }
 {
     let first = place(alloc, cursor, depth)?;
-    let mut all = Vec::new(alloc);
-    all.push(first)?;
+    let mut all = begun(alloc, first)?;
     for turn in 0..cursor.len() {
         if !cursor.takes(Mark::Comma) {
             return Ok(all);
@@ -55,7 +54,6 @@ fn named(alloc: Global, cursor: &mut Cursor<'_>, depth: u32) -> Result<(Name, Op
 }
 
 /// One or more of these, with commas between.
-#[tactic(auto, using(crate::proofs::Loops::looping))]
 fn named_list(
     alloc: Global,
     cursor: &mut Cursor<'_>,
@@ -64,8 +62,7 @@ fn named_list(
     ensures { Gives (λ all. map named_view all.items) result cursor.new (read_list (read_named depth) cursor.old) }
 {
     let first = named(alloc, cursor, depth)?;
-    let mut all = Vec::new(alloc);
-    all.push(first)?;
+    let mut all = begun(alloc, first)?;
     for turn in 0..cursor.len() {
         if !cursor.takes(Mark::Comma) {
             return Ok(all);
@@ -105,13 +102,11 @@ fn call(alloc: Global, cursor: &mut Cursor<'_>, depth: u32) -> Result<Call, Stop
 }
 
 /// One or more instances, with commas between.
-#[tactic(auto, using(crate::proofs::Loops::looping))]
 fn call_list(alloc: Global, cursor: &mut Cursor<'_>, depth: u32) -> Result<Vec<Call>, Stop>
     ensures { Gives (λ all. map call_view all.items) result cursor.new (read_list (read_call depth) cursor.old) }
 {
     let first = call(alloc, cursor, depth)?;
-    let mut all = Vec::with_capacity(alloc, 1)?;
-    all.push(first)?;
+    let mut all = begun(alloc, first)?;
     for turn in 0..cursor.len() {
         if !cursor.takes(Mark::Comma) {
             return Ok(all);

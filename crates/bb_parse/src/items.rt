@@ -1,13 +1,15 @@
 ghost use Rattle.std.specs.Prelude.{◌≡◌, ℕ, List, map};
 ghost use Rattle.bb_ast.specs.Views.{expression, arm_view, named_view, body_view};
 ghost use Rattle.bb_parse.specs.Reading.Steps.{Gives, read_list};
-ghost use Rattle.bb_parse.specs.Reading.Items.{read_net, read_nets, read_assignment, read_assign, edge_of, read_clock, read_event, read_always, worded, read_body};
+ghost use Rattle.bb_parse.specs.Reading.Items.{read_net, read_nets, read_sides, read_assignment, read_assign, edge_of};
+ghost use Rattle.bb_parse.specs.Reading.Items.{read_clock, read_event, read_clocked, read_always, worded, read_body};
 
 use crate::cursor::Cursor;
 use crate::decl::{optional_range, ports, regs, supply};
 use crate::expr::expr;
 use crate::gates::worded_gates;
 use crate::instances::calls;
+use crate::list::begun;
 use crate::lval::lval;
 use crate::stop::Stop;
 use bb_ast::{Always, Body, Expr};
@@ -29,7 +31,6 @@ fn net(alloc: Global, cursor: &mut Cursor<'_>, depth: u32) -> Result<(Name, Opti
 }
 
 /// One or more of these, with commas between.
-#[tactic(auto, using(crate::proofs::Loops::looping))]
 fn net_list(
     alloc: Global,
     cursor: &mut Cursor<'_>,
@@ -38,8 +39,7 @@ fn net_list(
     ensures { Gives (λ nets. map named_view nets.items) result cursor.new (read_list (read_net depth) cursor.old) }
 {
     let first = net(alloc, cursor, depth)?;
-    let mut nets = Vec::with_capacity(alloc, 1)?;
-    nets.push(first)?;
+    let mut nets = begun(alloc, first)?;
     for turn in 0..cursor.len() {
         if !cursor.takes(Mark::Comma) {
             return Ok(nets);
@@ -61,19 +61,23 @@ fn nets(alloc: Global, cursor: &mut Cursor<'_>, depth: u32) -> Result<Body, Stop
     Ok(Body::Nets(range, nets))
 }
 
-/// A left side, `=` and a right side.
-#[tactic(auto, unfolding(crate::specs::Reading::Items::read_assignment))]
-fn assignment(alloc: Global, cursor: &mut Cursor<'_>, depth: u32) -> Result<(Expr, Expr), Stop>
-    ensures { Gives arm_view result cursor.new (read_assignment depth cursor.old) }
+/// A left side, the mark and a right side.
+#[tactic(auto, unfolding(crate::specs::Reading::Items::read_sides))]
+fn sides(
+    alloc: Global,
+    cursor: &mut Cursor<'_>,
+    depth: u32,
+    mark: Mark,
+) -> Result<(Expr, Expr), Stop>
+    ensures { Gives arm_view result cursor.new (read_sides mark depth cursor.old) }
 {
     let left = lval(alloc, cursor, depth)?;
-    cursor.mark(Mark::Equals)?;
+    cursor.mark(mark)?;
     let right = expr(alloc, cursor, depth)?;
     Ok((left, right))
 }
 
 /// One or more assignments, with commas between.
-#[tactic(auto, using(crate::proofs::Loops::looping))]
 fn assignments(
     alloc: Global,
     cursor: &mut Cursor<'_>,
@@ -81,14 +85,13 @@ fn assignments(
 ) -> Result<Vec<(Expr, Expr)>, Stop>
     ensures { Gives (λ all. map arm_view all.items) result cursor.new (read_list (read_assignment depth) cursor.old) }
 {
-    let first = assignment(alloc, cursor, depth)?;
-    let mut all = Vec::with_capacity(alloc, 1)?;
-    all.push(first)?;
+    let first = sides(alloc, cursor, depth, Mark::Equals)?;
+    let mut all = begun(alloc, first)?;
     for turn in 0..cursor.len() {
         if !cursor.takes(Mark::Comma) {
             return Ok(all);
         }
-        let next = assignment(alloc, cursor, depth)?;
+        let next = sides(alloc, cursor, depth, Mark::Equals)?;
         all.push(next)?;
     }
     Ok(all)
@@ -145,16 +148,23 @@ fn event(alloc: Global, cursor: &mut Cursor<'_>) -> Result<(bool, Expr), Stop>
     Ok((falling, clock))
 }
 
+/// What a register takes, behind its clock.
+#[tactic(auto, unfolding(crate::specs::Reading::Items::read_clocked))]
+fn clocked(alloc: Global, cursor: &mut Cursor<'_>, depth: u32) -> Result<(Expr, Expr), Stop>
+    ensures { Gives arm_view result cursor.new (read_clocked depth cursor.old) }
+{
+    let taken = sides(alloc, cursor, depth, Mark::LessEqual)?;
+    cursor.mark(Mark::Semicolon)?;
+    Ok(taken)
+}
+
 /// A register, behind `always`.
 #[tactic(auto, unfolding(crate::specs::Reading::Items::read_always))]
 fn always(alloc: Global, cursor: &mut Cursor<'_>, depth: u32) -> Result<Body, Stop>
     ensures { Gives body_view result cursor.new (read_always depth cursor.old) }
 {
     let (falling, clock) = event(alloc, cursor)?;
-    let left = lval(alloc, cursor, depth)?;
-    cursor.mark(Mark::LessEqual)?;
-    let right = expr(alloc, cursor, depth)?;
-    cursor.mark(Mark::Semicolon)?;
+    let (left, right) = clocked(alloc, cursor, depth)?;
     Ok(Body::Always(Always {
         falling,
         clock,

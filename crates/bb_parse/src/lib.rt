@@ -11,6 +11,7 @@ mod instances;
 mod items;
 pub mod laws;
 mod level;
+mod list;
 mod lval;
 mod names;
 mod reader;

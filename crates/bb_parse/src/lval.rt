@@ -5,6 +5,7 @@ ghost use Rattle.bb_parse.specs.Reading.Expressions.{read_lval, read_lvals};
 
 use crate::cursor::Cursor;
 use crate::expr::select;
+use crate::list::begun;
 use crate::stop::Stop;
 use bb_ast::Expr;
 use bb_lex::Mark;
@@ -29,13 +30,11 @@ pub(crate) fn lval(alloc: Global, cursor: &mut Cursor<'_>, depth: u32) -> Result
 
 /// One or more of what may be assigned, with commas between.
 #[cycle(lval)]
-#[tactic(auto, using(crate::proofs::Loops::looping))]
 fn lvals(alloc: Global, cursor: &mut Cursor<'_>, depth: u32) -> Result<Vec<Expr>, Stop>
     ensures { Gives (λ parts. map expression parts.items) result cursor.new (read_list (read_lval depth) cursor.old) }
 {
     let first = lval(alloc, cursor, depth)?;
-    let mut parts = Vec::new(alloc);
-    parts.push(first)?;
+    let mut parts = begun(alloc, first)?;
     for turn in 0..cursor.len() {
         if !cursor.takes(Mark::Comma) {
             return Ok(parts);

@@ -2,19 +2,18 @@ ghost use Rattle.std.specs.Prelude.{◌≡◌, ℕ, List};
 ghost use Rattle.bb_parse.specs.Reading.Steps.{Gives, read_name, read_list};
 
 use crate::cursor::Cursor;
+use crate::list::begun;
 use crate::stop::Stop;
 use bb_bits::Name;
 use bb_lex::Mark;
 use std::alloc::Global;
 
 /// One or more names, with commas between.
-#[tactic(auto, using(crate::proofs::Loops::looping))]
 pub(crate) fn names(alloc: Global, cursor: &mut Cursor<'_>) -> Result<Vec<Name>, Stop>
     ensures { Gives (λ names. names.items) result cursor.new (read_list read_name cursor.old) }
 {
     let first = cursor.name(alloc)?;
-    let mut names = Vec::with_capacity(alloc, 1)?;
-    names.push(first)?;
+    let mut names = begun(alloc, first)?;
     for turn in 0..cursor.len() {
         if !cursor.takes(Mark::Comma) {
             return Ok(names);

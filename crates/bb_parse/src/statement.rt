@@ -5,7 +5,7 @@ ghost use Rattle.bb_ast.specs.Views.{head_view, body_view};
 ghost use Rattle.bb_lex.specs.Cut.{IsTokenOf};
 ghost use Rattle.bb_parse.specs.Nesting.{nesting};
 ghost use Rattle.bb_parse.specs.Sources.{ends, line_of};
-ghost use Rattle.bb_parse.specs.Reading.Sources.{Answers, count_at, square_at, first_statement, read_header_of, read_item_of};
+ghost use Rattle.bb_parse.specs.Reading.Sources.{judged, Answers, count_at, square_at, first_statement, read_header_of, read_item_of};
 
 use crate::cursor::Cursor;
 use crate::fault::ParseFault;
@@ -109,8 +109,24 @@ fn depth(cursor: &mut Cursor<'_>) -> u32
     greatest
 }
 
+/// What was read of a statement, where nothing of it is left.
+fn all_read<T: Drop>(read: Result<T, Stop>, left: usize, line: u32) -> Result<T, ParseFault>
+    ensures { result ≡ judged read left line }
+{
+    match read {
+        Ok(x) => {
+            if left > 0 {
+                return Err(ParseFault::Statement { line });
+            }
+            Ok(x)
+        }
+        Err(Stop::Amiss) => Err(ParseFault::Statement { line }),
+        Err(Stop::NoMemory) => Err(ParseFault::NoMemory),
+    }
+}
+
 /// The header of a module.
-#[tactic(auto, unfolding(crate::specs::Reading::Sources::read_header_of))]
+#[tactic(auto, using(crate::proofs::Statements::judging), unfolding(crate::specs::Reading::Sources::read_header_of))]
 pub(crate) fn header_of(
     alloc: Global,
     statement: &[Token],
@@ -125,20 +141,12 @@ pub(crate) fn header_of(
         return Err(ParseFault::Deep { line });
     }
     let mut cursor = Cursor::new(statement, text);
-    match module_header(alloc, &mut cursor) {
-        Ok(header) => {
-            if cursor.len() > 0 {
-                return Err(ParseFault::Statement { line });
-            }
-            Ok(header)
-        }
-        Err(Stop::Amiss) => Err(ParseFault::Statement { line }),
-        Err(Stop::NoMemory) => Err(ParseFault::NoMemory),
-    }
+    let read = module_header(alloc, &mut cursor);
+    all_read(read, cursor.len(), line)
 }
 
 /// An item of a module.
-#[tactic(auto, unfolding(crate::specs::Reading::Sources::read_item_of))]
+#[tactic(auto, using(crate::proofs::Statements::judging), unfolding(crate::specs::Reading::Sources::read_item_of))]
 pub(crate) fn item_of(alloc: Global, statement: &[Token], text: &[u8]) -> Result<Body, ParseFault>
     requires of_text { AllByRecursion (λ token. IsTokenOf token text.now) statement.now }
     requires small { length statement.now < 2 ^ 32 }
@@ -149,14 +157,6 @@ pub(crate) fn item_of(alloc: Global, statement: &[Token], text: &[u8]) -> Result
         return Err(ParseFault::Deep { line });
     }
     let mut cursor = Cursor::new(statement, text);
-    match body(alloc, &mut cursor, LEVELS) {
-        Ok(item) => {
-            if cursor.len() > 0 {
-                return Err(ParseFault::Statement { line });
-            }
-            Ok(item)
-        }
-        Err(Stop::Amiss) => Err(ParseFault::Statement { line }),
-        Err(Stop::NoMemory) => Err(ParseFault::NoMemory),
-    }
+    let read = body(alloc, &mut cursor, LEVELS);
+    all_read(read, cursor.len(), line)
 }

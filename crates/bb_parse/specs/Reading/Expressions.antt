@@ -108,11 +108,15 @@ abbrev pub with_arms : List (Expression × Expression) → Read (List (Expressio
 with_arms front None = None
 with_arms front (Some x) = Some ((front ++ x.0.0, x.0.1), x.1)
 
+-- behind a condition and ?, its value and :
+unfoldable pub read_arm : Expression → (List Symbol → Read Expression) → List Symbol → Read (Expression × Expression)
+read_arm x inner ts = inner ts >>= (λ v. read_mark Colon v.1 >>= (λ u. Some ((x, v.0), u.1)))
+
 -- at most so many conditions, and the last branch
 abbrev pub read_arms : (List Symbol → Read Expression) → ℕ → List Symbol → Read (List (Expression × Expression) × Expression)
 read_arms inner zero ts = None
 read_arms inner (suc n) ts = read_level levels.Or inner ts >>= (λ c.
-    if is_next Query c.1 then inner (behind c.1) >>= (λ v. read_mark Colon v.1 >>= (λ u. with_arms ((c.0, v.0) ∷ []) (read_arms inner n u.1)))
+    if is_next Query c.1 then read_arm c.0 inner (behind c.1) >>= (λ a. with_arms (a.0 ∷ []) (read_arms inner n a.1))
     else Some (([], c.0), c.1))
 
 -- the conditional of arms that were read

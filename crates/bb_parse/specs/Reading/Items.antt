@@ -5,6 +5,7 @@ use Rattle.bb_ast.specs.declared.module.Gate.TheVariants as gates
 use Rattle.bb_ast.specs.Syntax.{Expression, Net, Bit, PlainBody, PlainConns, Nets, Assign, Gates, Calls, Always, Order, Named}
 use Rattle.bb_lex.specs.declared.keyword.Keyword.{Keyword}
 use Rattle.bb_lex.specs.declared.keyword.Keyword.TheVariants as words
+use Rattle.bb_lex.specs.declared.mark.Mark.{Mark}
 use Rattle.bb_lex.specs.declared.mark.Mark.TheVariants.{LeftRound, RightRound, LeftSquare, RightSquare, Comma, Semicolon, Dot, Equals, At, LessEqual}
 use Rattle.bb_lex.specs.declared.token.Kind.{Kind}
 use Rattle.bb_lex.specs.declared.token.Kind.TheVariants as kinds
@@ -21,8 +22,12 @@ read_net depth ts = read_name ts >>= (λ n. if is_next Equals n.1 then read_expr
 unfoldable pub read_nets : ℕ → List Symbol → Read PlainBody
 read_nets depth ts = read_optional_range ts >>= (λ r. read_list (read_net depth) r.1 >>= (λ ns. read_mark Semicolon ns.1 >>= (λ u. Some (Nets r.0 ns.0, u.1))))
 
-unfoldable pub read_assignment : ℕ → List Symbol → Read (Expression × Expression)
-read_assignment depth ts = read_lval depth ts >>= (λ l. read_mark Equals l.1 >>= (λ u. read_expr depth u.1 >>= (λ r. Some ((l.0, r.0), r.1))))
+-- a left side, the mark and a right side
+unfoldable pub read_sides : Mark → ℕ → List Symbol → Read (Expression × Expression)
+read_sides mark depth ts = read_lval depth ts >>= (λ l. read_mark mark l.1 >>= (λ u. read_expr depth u.1 >>= (λ r. Some ((l.0, r.0), r.1))))
+
+abbrev pub read_assignment : ℕ → List Symbol → Read (Expression × Expression)
+read_assignment = read_sides Equals
 
 -- behind assign
 unfoldable pub read_assign : ℕ → List Symbol → Read PlainBody
@@ -35,6 +40,10 @@ read_optional_name (Reserved w ∷ ts) = Some (None, Reserved w ∷ ts)
 read_optional_name (SizedNumber b ∷ ts) = Some (None, SizedNumber b ∷ ts)
 read_optional_name (PlainNumber n ∷ ts) = Some (None, PlainNumber n ∷ ts)
 read_optional_name (Sign m ∷ ts) = Some (None, Sign m ∷ ts)
+
+-- two expressions, with a comma between
+unfoldable pub read_two_terms : ℕ → List Symbol → Read (List Expression)
+read_two_terms depth ts = read_expr depth ts >>= (λ x. read_mark Comma x.1 >>= (λ u. read_expr depth u.1 >>= (λ y. Some (x.0 ∷ y.0 ∷ [], y.1))))
 
 -- two expressions or more
 unfoldable pub read_terms : ℕ → List Symbol → Read (List Expression)
@@ -79,10 +88,14 @@ read_clock ts = read_name ts >>= (λ n. if is_next LeftSquare n.1 then read_plai
 unfoldable pub read_event : List Symbol → Read (Bool × Expression)
 read_event ts = read_mark At ts >>= (λ a. read_mark LeftRound a.1 >>= (λ b. taken (edge_of (next_kind b.1)) b.1 >>= (λ e. read_clock e.1 >>= (λ c. read_mark RightRound c.1 >>= (λ u. Some ((e.0, c.0), u.1))))))
 
+-- behind the clock of a register
+unfoldable pub read_clocked : ℕ → List Symbol → Read (Expression × Expression)
+read_clocked depth ts = read_sides LessEqual depth ts >>= (λ s. read_mark Semicolon s.1 >>= (λ u. Some (s.0, u.1)))
+
 -- behind always
 unfoldable pub read_always : ℕ → List Symbol → Read PlainBody
-read_always depth ts = read_event ts >>= (λ e. read_lval depth e.1 >>= (λ l. read_mark LessEqual l.1 >>= (λ m. read_expr depth m.1 >>= (λ r. read_mark Semicolon r.1 >>= (λ u.
-    Some (Always (record { falling = e.0.0; clock = e.0.1; left = l.0; right = r.0 }), u.1))))))
+read_always depth ts = read_event ts >>= (λ e. read_clocked depth e.1 >>= (λ s.
+    Some (Always (record { falling = e.0.0; clock = e.0.1; left = s.0.0; right = s.0.1 }), s.1)))
 
 abbrev pub gate_of : Keyword → Option Gate
 gate_of words.And = Some gates.And

@@ -9,6 +9,9 @@ use Rattle.bb_lex.specs.declared.token.Kind.TheVariants as kinds
 use Rattle.bb_lex.specs.declared.token.Token.{Token}
 use Rattle.bb_parse.specs.declared.fault.ParseFault.{ParseFault}
 use Rattle.bb_parse.specs.declared.fault.ParseFault.TheVariants.{Statement, Unended, Deep, NoMemory}
+use Rattle.bb_parse.specs.declared.stop.Stop.{Stop}
+use Rattle.bb_parse.specs.declared.stop.Stop.TheVariants.{Amiss}
+use Rattle.bb_parse.specs.declared.stop.Stop.TheVariants as stops
 use Rattle.bb_parse.specs.Nesting.{mark_count, mark_square, nesting}
 use Rattle.bb_parse.specs.Sources.{ends, line_of}
 use Rattle.bb_parse.specs.Reading.Symbols.{symbols, next_kind}
@@ -51,6 +54,12 @@ whole (Some (x, t ∷ ts)) = None
 abbrev pub or_fault : {A : Type 0} → ParseFault → Option A → Result A ParseFault
 or_fault fault None = Err fault
 or_fault fault (Some x) = Ok x
+
+-- what was read, where nothing is left, or why not
+abbrev pub judged : {X : Type 0} → Result X Stop → ℕ → ℕ → Result X ParseFault
+judged (Ok x) left line = if nat_lt 0 left then Err (Statement line) else Ok x
+judged (Err Amiss) left line = Err (Statement line)
+judged (Err stops.NoMemory) left line = Err NoMemory
 
 -- the levels that are enough: 200, and the one on which nothing nests
 abbrev pub levels : ℕ

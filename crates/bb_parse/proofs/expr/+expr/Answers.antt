@@ -1,20 +1,97 @@
--- One more condition, with its value, has been read.
-use Rattle.std.proofs.Common.{◌≡◌, ◌∙◌, ◌+◌, ◌-◌, true, sym, ap, refl, map}
-use Rattle.bb_ast.specs.Views.{expression, arm_view}
-use Rattle.bb_lex.specs.declared.mark.Mark.TheVariants.{Query}
-use Rattle.bb_parse.specs.Reading.Symbols.{is_next, behind}
-use Rattle.bb_parse.specs.Reading.Expressions.{read_expr, read_arms, with_arms, conditional_from}
-use Rattle.bb_parse.proofs.Loops.{arms_next}
+-- A list, operators with their operands and conditions with their values are read in loops, where each turn reads one more.
+use Rattle.std.proofs.Common.{◌∙◌, ◌-◌, Vec, Global, ap, map, sym, refl, arith}
+use Rattle.bb_ast.specs.declared.expr.Op.{Op}
+use Rattle.bb_ast.specs.declared.expr.Expr.{Expr}
+use Rattle.bb_ast.specs.Views.{expression, operand_view, arm_view}
+use Rattle.bb_parse.specs.Reading.Steps.{with_front}
+use Rattle.bb_parse.specs.Reading.Expressions.{read_expr, read_operand, read_operands, read_arms, with_arms, conditional_from}
+use Rattle.bb_parse.proofs.Loops.{loop_begins, loop_stops, loop_ends, loop_fails, loop_goes_on, one_more, operands_begin, operands_stop, operands_end, operands_fail, operands_go_on, arms_begin, arms_end, arms_none, arms_stop, arm_none, arms_go_on, makes_gives, fails_gives}
 use Rattle.bb_parse.proofs.expr.+expr.Goals as goal
+
+pub exprs-loop-turn-init : goal.exprs-loop-turn-init
+exprs-loop-turn-init t c =
+    loop_begins (read_expr c.args.depth) _ c.expr.new.cursor (expression c.in_ok-first.first) _ c.len-turn-end.result c.in_ok-first.ensures
+    (ap (map expression) c.in_ok-parts.ensures.ok) c.len-turn-end.ensures.len
+
+pub exprs-returns-then-not-takes : goal.exprs-returns-then-not-takes
+exprs-returns-then-not-takes t c =
+    loop_stops (read_expr c.args.depth) _ _ c.len-turn-end.result c.loop-turn.turn c.loop-turn.cursor c.loop-turn.invariant c.takes.new.self
+    c.if-not-takes.ensures.taken (c.if-not-takes.ensures.same refl)
+
+pub exprs-loop-turn-preserved : goal.exprs-loop-turn-preserved
+exprs-loop-turn-preserved t c =
+    loop_goes_on (read_expr c.args.depth) _ _ c.len-turn-end.result c.loop-turn.turn c.loop-turn.cursor c.loop-turn.invariant c.takes.new.self
+    (expression c.in_ok-part.part) c.expr-in-loop-turn.new.cursor _ c.loop-turn-test.true c.if-not-takes.ensures.taken (c.if-not-takes.ensures.left refl)
+    c.in_ok-part.ensures (one_more expression c.loop-turn.parts.items c.push.new.self.items c.in_ok-part.part c.in_ok-push.ensures.items)
+
+pub exprs-returns-in_err-part : goal.exprs-returns-in_err-part
+exprs-returns-in_err-part t c =
+    fails_gives expression (λ (xs : Vec Expr Global). map expression xs.items) c.in_err-part.field-0.0 c.from_residual-in_err-part.result c.expr-in-loop-turn.new.cursor _ _ _
+    c.from_residual-in_err-part.ensures c.in_err-part.ensures
+    (loop_fails (read_expr c.args.depth) _ _ c.len-turn-end.result c.loop-turn.turn c.loop-turn.cursor c.loop-turn.invariant c.takes.new.self
+    c.loop-turn-test.true c.if-not-takes.ensures.taken (c.if-not-takes.ensures.left refl))
+
+pub exprs-returns : goal.exprs-returns
+exprs-returns t c =
+    loop_ends (read_expr c.args.depth) _ _ c.len-turn-end.result c.loop-turn.turn c.loop-turn.cursor c.loop-turn.invariant (omega (arith, c.loop-turn-test.false))
+
+pub operands-loop-turn-init : goal.operands-loop-turn-init
+operands-loop-turn-init t c =
+    operands_begin c.args.level (read_operand c.args.level (read_expr c.args.inner)) c.args.cursor.now c.len-turn-end.result c.len-turn-end.ensures.len
+    ∙ ap (λ items. with_front (map operand_view items) (read_operands c.args.level (read_operand c.args.level (read_expr c.args.inner)) (c.len-turn-end.result - 0) c.args.cursor.now))
+    (sym c.new-rest.ensures.items)
+
+pub operands-returns-in_default : goal.operands-returns-in_default
+operands-returns-in_default t c =
+    operands_stop c.args.level (read_operand c.args.level (read_expr c.args.inner)) _ c.loop-turn.rest.items c.len-turn-end.result c.loop-turn.turn c.loop-turn.cursor
+    c.loop-turn.invariant (sym c.in_default.is ∙ c.operator.ensures)
+
+pub operands-loop-turn-preserved : goal.operands-loop-turn-preserved
+operands-loop-turn-preserved t c =
+    operands_go_on c.args.level (read_operand c.args.level (read_expr c.args.inner)) _ c.loop-turn.rest.items c.len-turn-end.result c.loop-turn.turn c.loop-turn.cursor
+    c.loop-turn.invariant c.loop-turn-test.true c.in-Some.op (sym c.in-Some.is ∙ c.operator.ensures) c.in_ok-next.next c.operand.new.cursor c.push.new.self.items
+    (ap (read_operand c.args.level (read_expr c.args.inner)) (sym c.skip.ensures) ∙ c.in_ok-next.ensures) c.in_ok-push.ensures.items
+
+pub operands-returns : goal.operands-returns
+operands-returns t c =
+    operands_end c.args.level (read_operand c.args.level (read_expr c.args.inner)) _ c.loop-turn.rest.items c.len-turn-end.result c.loop-turn.turn c.loop-turn.cursor
+    c.loop-turn.invariant (omega (arith, c.loop-turn-test.false))
+
+pub conditional-loop-turn-init : goal.conditional-loop-turn-init
+conditional-loop-turn-init t c =
+    arms_begin (read_expr c.args.inner) c.args.cursor.now c.len-turn-end.result c.len-turn-end.ensures.len
+    ∙ ap (λ items. conditional_from (with_arms (map arm_view items) (read_arms (read_expr c.args.inner) (c.len-turn-end.result - 0) c.args.cursor.now))) (sym c.new-arms.ensures.items)
 
 pub conditional-loop-turn-preserved : goal.conditional-loop-turn-preserved
 conditional-loop-turn-preserved t c =
-    let query : is_next Query c.chain.new.cursor ≡ true = sym c.takes.ensures.taken ∙ c.if-not-takes.false in
-    let gone : c.takes.new.self ≡ behind c.chain.new.cursor = c.takes.ensures.left c.if-not-takes.false in
-    c.loop-turn.invariant
-    ∙ ap conditional_from
-    (arms_next (read_expr c.args.inner) c.len-turn-end.result c.loop-turn.turn c.loop-turn.cursor c.loop-turn-test.true c.loop-turn.arms.items
-    (expression c.in_ok-value.value) c.chain.new.cursor c.in_ok-value.ensures query
-    (expression c.in_ok-chosen.chosen) c.expr.new.cursor (ap (read_expr c.args.inner) (sym gone) ∙ c.in_ok-chosen.ensures)
-    c.in_ok-value.value c.in_ok-chosen.chosen c.mark.new.self refl refl c.in_ok-mark.ensures
-    ∙ ap (λ items. with_arms (map arm_view items) (read_arms (read_expr c.args.inner) (c.len-turn-end.result - (c.loop-turn.turn + 1)) c.mark.new.self)) (sym c.in_ok-push.ensures.items))
+    arms_go_on (read_expr c.args.inner) _ c.loop-turn.arms.items c.len-turn-end.result c.loop-turn.turn c.loop-turn.cursor c.loop-turn.invariant c.loop-turn-test.true
+    (expression c.in_ok-value.value) c.chain.new.cursor c.takes.new.self c.in_ok-value.ensures c.if-not-takes.ensures.taken (c.if-not-takes.ensures.left refl)
+    c.in_ok-next.next c.arm.new.cursor c.push.new.self.items c.in_ok-next.ensures c.in_ok-push.ensures.items
+
+pub conditional-returns : goal.conditional-returns
+conditional-returns t c =
+    arms_end (read_expr c.args.inner) _ c.loop-turn.arms.items c.len-turn-end.result c.loop-turn.turn c.loop-turn.cursor c.loop-turn.invariant (omega (arith, c.loop-turn-test.false))
+
+pub conditional-returns-then-not-takes : goal.conditional-returns-then-not-takes
+conditional-returns-then-not-takes t c =
+    makes_gives expression c.conditional_of.result _ c.takes.new.self _ c.conditional_of.ensures
+    (arms_stop (read_expr c.args.inner) _ c.loop-turn.arms.items c.len-turn-end.result c.loop-turn.turn c.loop-turn.cursor c.loop-turn.invariant c.loop-turn-test.true
+    (expression c.in_ok-value.value) c.chain.new.cursor c.takes.new.self c.in_ok-value.ensures c.if-not-takes.ensures.taken (c.if-not-takes.ensures.same refl))
+
+pub conditional-returns-in_err-value : goal.conditional-returns-in_err-value
+conditional-returns-in_err-value t c =
+    fails_gives expression expression c.in_err-value.field-0.0 c.from_residual.result c.chain.new.cursor _ _ _ c.from_residual.ensures c.in_err-value.ensures
+    (arms_none (read_expr c.args.inner) _ c.loop-turn.arms.items c.len-turn-end.result c.loop-turn.turn c.loop-turn.cursor c.loop-turn.invariant c.loop-turn-test.true)
+
+pub conditional-returns-in_err-next : goal.conditional-returns-in_err-next
+conditional-returns-in_err-next t c =
+    fails_gives arm_view expression c.in_err-next.field-0.0 c.from_residual-in_err-next.result c.arm.new.cursor _ _ _ c.from_residual-in_err-next.ensures c.in_err-next.ensures
+    (arm_none (read_expr c.args.inner) _ c.loop-turn.arms.items c.len-turn-end.result c.loop-turn.turn c.loop-turn.cursor c.loop-turn.invariant c.loop-turn-test.true
+    (expression c.in_ok-value.value) c.chain.new.cursor c.takes.new.self c.in_ok-value.ensures c.if-not-takes.ensures.taken (c.if-not-takes.ensures.left refl))
+
+pub operands-returns-in_err-next : goal.operands-returns-in_err-next
+operands-returns-in_err-next t c =
+    fails_gives expression (λ (xs : Vec (Op × Expr) Global). map operand_view xs.items) c.in_err-next.field-0.0 c.from_residual.result c.operand.new.cursor _ _ _ c.from_residual.ensures c.in_err-next.ensures
+    (λ h. operands_fail c.args.level (read_operand c.args.level (read_expr c.args.inner)) _ c.loop-turn.rest.items c.len-turn-end.result c.loop-turn.turn c.loop-turn.cursor
+    c.loop-turn.invariant c.loop-turn-test.true c.in-Some.op (sym c.in-Some.is ∙ c.operator.ensures)
+    (ap (read_operand c.args.level (read_expr c.args.inner)) (sym c.skip.ensures) ∙ h))

@@ -1,0 +1,30 @@
+-- The list begins with one part, and each turn of the loop reads one more.
+use Rattle.std.proofs.Common.{ap, map, refl, arith}
+use Rattle.bb_ast.specs.Views.{arm_view}
+use Rattle.bb_parse.specs.Reading.Items.{read_assignment}
+use Rattle.bb_parse.proofs.Loops.{loop_begins, loop_stops, fails_gives, loop_ends, loop_fails, loop_goes_on, one_more}
+use Rattle.bb_parse.proofs.items.assignments.Goals as goal
+
+pub loop-turn-init : goal.loop-turn-init
+loop-turn-init c = loop_begins (read_assignment c.args.depth) _ c.sides.new.cursor (arm_view c.in_ok-first.first) _ c.len-turn-end.result c.in_ok-first.ensures (ap (map arm_view) c.in_ok-all.ensures.ok) c.len-turn-end.ensures.len
+
+pub returns-then-not-takes : goal.returns-then-not-takes
+returns-then-not-takes c =
+    loop_stops (read_assignment c.args.depth) _ _ c.len-turn-end.result c.loop-turn.turn c.loop-turn.cursor c.loop-turn.invariant c.takes.new.self
+    c.if-not-takes.ensures.taken (c.if-not-takes.ensures.same refl)
+
+pub loop-turn-preserved : goal.loop-turn-preserved
+loop-turn-preserved c =
+    loop_goes_on (read_assignment c.args.depth) _ _ c.len-turn-end.result c.loop-turn.turn c.loop-turn.cursor c.loop-turn.invariant c.takes.new.self
+    (arm_view c.in_ok-next.next) c.sides-in-loop-turn.new.cursor _ c.loop-turn-test.true c.if-not-takes.ensures.taken (c.if-not-takes.ensures.left refl)
+    c.in_ok-next.ensures (one_more arm_view c.loop-turn.all.items c.push.new.self.items c.in_ok-next.next c.in_ok-push.ensures.items)
+
+pub returns-in_err-next : goal.returns-in_err-next
+returns-in_err-next c =
+    fails_gives arm_view (λ xs. map arm_view xs.items) c.in_err-next.field-0.0 c.from_residual-in_err-next.result c.sides-in-loop-turn.new.cursor _ _ _
+    c.from_residual-in_err-next.ensures c.in_err-next.ensures
+    (loop_fails (read_assignment c.args.depth) _ _ c.len-turn-end.result c.loop-turn.turn c.loop-turn.cursor c.loop-turn.invariant c.takes.new.self
+    c.loop-turn-test.true c.if-not-takes.ensures.taken (c.if-not-takes.ensures.left refl))
+
+pub returns : goal.returns
+returns c = loop_ends (read_assignment c.args.depth) _ _ c.len-turn-end.result c.loop-turn.turn c.loop-turn.cursor c.loop-turn.invariant (omega (arith, c.loop-turn-test.false))
