@@ -1,10 +1,12 @@
--- Well-formed syntax: what no text can say is left out. Names are printable, nothing is a run, a chain or a list of no parts,
--- sized numbers have 1 to 128 bits, and other numbers are below 2 ^ 31.
-use Rattle.std.specs.Prelude.{ℕ, ◌<◌, ◌≤◌, ◌^◌, List, [], ◌∷◌, Option, None, length, IfSome}
+-- Well-formed syntax. Names are printable, nothing is a run, a chain or a list of no parts, sized numbers have 1 to 128 bits,
+-- other numbers are below 2 ^ 31, left sides are what may be assigned, and a clock is a net or one bit of a net. What a text
+-- reads as is well formed; how deep it nests, and which names of a header are declared there, is not said here.
+use Rattle.std.specs.Prelude.{◌≡◌, true, ℕ, ◌<◌, ◌≤◌, ◌^◌, List, [], ◌∷◌, Option, None, length, IfSome}
 use Rattle.std.specs.List.{AllByRecursion}
 use Rattle.bb_bits.specs.Names.{IsPrintable}
 use Rattle.bb_ast.specs.declared.module.Port.{Port}
 use Rattle.bb_ast.specs.declared.module.Range.{Range}
+use Rattle.bb_ast.specs.Assignable.{is_assignable}
 use Rattle.bb_ast.specs.Syntax.{Expression, Net, Bit, Part, Sized, Plain, Not, Chain, Cond, Concat, Repeat, Operands, no_operand, operand, Arms, no_arm, arm, Parts, no_part, part}
 use Rattle.bb_ast.specs.Syntax.{PlainConns, Order, Named, PlainBody, Ports, Nets, Regs, Supply, Assign, Gates, Calls, Always, PlainHead, PlainModule}
 
@@ -58,7 +60,13 @@ IsFormedPair x = IsPrintable x.0 × IfSome x.1 IsFormedExpression
 
 -- both sides of an assignment
 abbrev pub IsFormedAssignment : Expression × Expression → Type 0
-IsFormedAssignment x = IsFormedExpression x.0 × IsFormedExpression x.1
+IsFormedAssignment x = IsFormedExpression x.0 × IsFormedExpression x.1 × (is_assignable x.0 ≡ true)
+
+-- a clock
+abbrev pub IsNetOrBit : Expression → Type 0
+IsNetOrBit (Net name) = Unit {0}
+IsNetOrBit (Bit name i) = Unit {0}
+IsNetOrBit e = ⊥
 
 -- a gate has two terminals or more
 abbrev pub IsFormedGate : Option (List ℕ) × List Expression → Type 0
@@ -81,7 +89,7 @@ IsFormedBody (Supply high range names) = IfSome range IsFormedRange × SomeEach 
 IsFormedBody (Assign all) = SomeEach IsFormedAssignment all
 IsFormedBody (Gates gate all) = SomeEach IsFormedGate all
 IsFormedBody (Calls name all) = IsPrintable name × SomeEach IsFormedCall all
-IsFormedBody (Always r) = IsFormedExpression r.clock × IsFormedExpression r.left × IsFormedExpression r.right
+IsFormedBody (Always r) = IsFormedExpression r.clock × IsFormedExpression r.left × IsFormedExpression r.right × IsNetOrBit r.clock × (is_assignable r.left ≡ true)
 
 -- a name of a header, with its declaration where the header has it
 abbrev pub IsFormedHead : PlainHead → Type 0

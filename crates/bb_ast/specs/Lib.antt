@@ -1,4 +1,5 @@
 pub mod Formed
+pub mod Sizes
 pub mod Syntax
 pub mod Views
 pub mod Folds

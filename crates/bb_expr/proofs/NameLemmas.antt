@@ -6,7 +6,6 @@ use Rattle.std.proofs.lemmas.List.Elements.{All-from_recursion, recursion_from_A
 use Rattle.bb_ast.specs.Syntax.{Expression, Net, Bit, Part, Sized, Plain, Not, Chain, Cond, Concat, Repeat, Operands, no_operand, operand, Arms, no_arm, arm, Parts, no_part, part}
 use Rattle.bb_ast.specs.Folds.{of_operands, of_arms, of_parts}
 use Rattle.bb_ast.specs.Names.{naming, names_in}
-use Rattle.bb_parse.specs.Laws.{SourcesAreFormed}
 use Rattle.bb_names.specs.Checked.{ModuleFacts}
 use Rattle.bb_expr.specs.Standing.{gathering, expressions_in}
 use Rattle.bb_expr.specs.Fit.{HasNet, IsFit, AreFit}
@@ -52,6 +51,6 @@ module _ (m : ModuleFacts) where
   names-fit : (e : Expression) → AreFit m e → All (HasNet m) (names_in e)
   names-fit e fit = All-from_recursion (HasNet m) (names_in e) (names-named e (recursion_from_All (IsFit m) (expressions_in e) fit.each))
 
-pub names_are_nets : SourcesAreFormed → NamesAreNets
-names_are_nets formed checked k e ok stands =
-    some-and (λ m. AreFit m e) (λ m. All (HasNet m) (names_in e)) (λ m fit. names-fit m e fit) (slice_get checked k) (standing_is_fit formed checked k e ok stands)
+pub names_are_nets : NamesAreNets
+names_are_nets checked k e ok stands =
+    some-and (λ m. AreFit m e) (λ m. All (HasNet m) (names_in e)) (λ m fit. names-fit m e fit) (slice_get checked k) (standing_is_fit checked k e ok stands)

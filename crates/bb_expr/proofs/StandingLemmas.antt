@@ -7,7 +7,6 @@ use Rattle.bb_ast.specs.Syntax.{Expression, Net, Bit, Part, Sized, Plain, Not, C
 use Rattle.bb_ast.specs.Syntax.{PlainConns, Order, Named, PlainBody, Ports, Nets, Regs, Supply, Assign, Gates, Calls, Always, PlainItem, PlainModule}
 use Rattle.bb_ast.specs.Folds.{fold_by, of_operands, of_arms, of_parts}
 use Rattle.bb_ast.specs.Formed.{IsFormedExpression, IsFormedConns, IsFormedBody, IsFormed}
-use Rattle.bb_parse.specs.Laws.{SourcesAreFormed}
 use Rattle.bb_names.specs.Checked.{ModuleFacts, syntax, HasNets}
 use Rattle.bb_expr.specs.Standing.{gathering, expressions_in, conns_expressions, item_expressions, StandsIn, StandsAt}
 use Rattle.bb_expr.specs.Fit.{IsFit, AreFit}
@@ -137,6 +136,6 @@ modules-fit text e [] formed clean nets k stands = stands
 modules-fit text e (m ∷ ms) formed clean nets zero stands = module-fit text m nets.0 formed.0 clean.0 e stands
 modules-fit text e (m ∷ ms) formed clean nets (suc k) stands = modules-fit text e ms formed.1 clean.1 nets.1 k stands
 
-pub standing_is_fit : SourcesAreFormed → StandingIsFit
-standing_is_fit formed checked k e ok stands =
-    modules-fit (map syntax checked) e checked (formed ok.read.0 (map syntax checked) ok.read.2) (sound-clean (map syntax checked) ok.sound) (recursion_from_All HasNets checked ok.each) k stands
+pub standing_is_fit : StandingIsFit
+standing_is_fit checked k e ok stands =
+    modules-fit (map syntax checked) e checked ok.read.formed (sound-clean (map syntax checked) ok.sound) (recursion_from_All HasNets checked ok.each) k stands

@@ -30,16 +30,12 @@ pub fn wider_adds_zeros()
 /// What stands in a checked module is fit, with all that stands in it.
 pub fn standing_is_fit()
     ensures { StandingIsFit }
-{
-    bb_parse::laws::sources_are_formed();
-}
+{}
 
 /// The names in what stands in a checked module are names of nets, each with its place.
 pub fn names_are_nets()
     ensures { NamesAreNets }
-{
-    bb_parse::laws::sources_are_formed();
-}
+{}
 
 /// What stands in an expression of a module stands in the module.
 pub fn parts_stand()

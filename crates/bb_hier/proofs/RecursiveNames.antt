@@ -5,6 +5,7 @@ use Rattle.std.specs.List.{enumerate_from, flat_map}
 use Rattle.std.proofs.lemmas.Grind.{common_steps}
 use Rattle.std.proofs.lemmas.List.{length-map}
 use Rattle.std.proofs.lemmas.Option.{slice_get_within, slice_get-get_or}
+use Rattle.bb_ast.specs.Sizes.{module_size, source_size}
 use Rattle.bb_ast.specs.Syntax.{PlainModule}
 use Rattle.bb_names.specs.Faults.{IsSound}
 use Rattle.bb_design.specs.Callees.{callees, called, calls, place_named}
@@ -42,11 +43,11 @@ called_there text m = all_from (λ k. k < length text) (callees text m) (λ k ha
 pub all_there : (text : List PlainModule) → All (All (λ k. k < length text)) (called text)
 all_there text = all_from (All (λ k. k < length text)) (called text) (λ list has. let m = from_map (callees text) text list has in subst (All (λ k. k < length text)) m.2 (called_there text m.0))
 
-pub places_there : (text : List PlainModule) (size : PlainModule → ℕ) (long : ℕ) → sum_by (λ m. 2 + size m) text ≤ long → long ≤ 33554432 → ArePlacesThere (called text)
-places_there text size long enough short = record {
+pub places_there : (text : List PlainModule) → source_size text ≤ 33554432 → ArePlacesThere (called text)
+places_there text small = record {
   there = all_from (All (λ k. k < length (map (callees text) text))) (map (callees text) text) (λ list has.
       subst (λ n. All (λ k. k < n) list) (sym (length-map text (callees text))) (listed list has));
-  few = omega (arith, length-map text (callees text), length_below size text, enough, short);
+  few = omega (arith, length-map text (callees text), length_below module_size text, small);
 }
   where
     listed : (list : List ℕ) → Contains (map (callees text) text) list → All (λ k. k < length text) list

@@ -14,7 +14,6 @@ use crate::size::is_too_large;
 use bb_design::ElabFault;
 use bb_design::laws::laws_of_designs;
 use bb_names::Checked;
-use bb_parse::laws::sources_are_formed;
 use std::alloc::Global;
 
 /// For each module the places of the modules that it instantiates, where the design with the module at a place on top is neither
@@ -26,7 +25,6 @@ pub fn hierarchy(alloc: Global, checked: &Checked, top: usize) -> Result<Vec<Vec
     ensures fault { IfErr result (λ fault. (fault ≡ NoMemory) ⊎ AtTop (map syntax checked.now) top (λ d. IsRefusalOf d fault)) }
 {
     laws_of_designs();
-    sources_are_formed();
     let _modules = checked.modules();
     let called = callees_of(alloc, checked)?;
     // The search for a recursion empties lists, so it has lists of its own.

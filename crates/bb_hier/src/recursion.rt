@@ -17,7 +17,6 @@ use bb_bits::{Name, NoMemory};
 use bb_design::laws::laws_of_designs;
 use bb_names::Checked;
 use bb_net::{BoxPins, Loose, LooseCell, NetFault, dependences, order, order_has_no_walk};
-use bb_parse::laws::texts_are_long;
 use std::alloc::Global;
 
 // The pins of the box that stands for the module at a place.
@@ -136,7 +135,6 @@ pub(crate) fn recursive_module(
     ensures none { IfOk result (λ found. IfNone found ((t : PlainModule) → slice_get (map syntax checked.now) top ≡ Some t → IsAbsent (design_on (map syntax checked.now) t) Recursion)) }
 {
     laws_of_designs();
-    texts_are_long();
     let modules = checked.modules();
     match first_recursive(alloc, called, top)? {
         Some(place) => Ok(Some(modules[place].module.name.clone()?)),

@@ -21,7 +21,6 @@ use bb_expr::laws::{
     assignable_is_nets, cells_are_counted, made_has_value, net_names_differ, values_have_width,
 };
 use bb_names::{Checked, NetInfo};
-use bb_parse::laws::texts_are_long;
 use std::alloc::Global;
 
 // The most bits of nets and instances together.
@@ -80,7 +79,6 @@ fn construct_cells(alloc: Global, checked: &Checked, place: usize) -> Result<u64
     ensures cells { IfOk result (λ cells. (m : PlainModule) → slice_get (map syntax checked.now) place ≡ Some m → cells ≡ capped (construct_cells m)) }
 {
     laws_of_designs();
-    texts_are_long();
     net_names_differ();
     let scope = &checked.modules()[place];
     let operators = items_cells(checked, place as u32, &scope.module.items);

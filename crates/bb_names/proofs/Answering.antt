@@ -67,6 +67,11 @@ err_answers (Ok x) fault all same h = absurd same
 err_answers (Err e) fault all same (inl no_memory) = inl (same ∙ no_memory)
 err_answers (Err e) fault all same (inr first) = inr (first ∙ ap Some (sym same))
 
+-- the first of the front is the first of all
+pub front_answers : (front back : List NameFault) (fault : NameFault) → (fault ≡ faults.NoMemory) ⊎ (first_of front ≡ Some fault) → (fault ≡ faults.NoMemory) ⊎ (first_of (front ++ back) ≡ Some fault)
+front_answers front back fault (inl no_memory) = inl no_memory
+front_answers front back fault (inr first) = inr (first_of-append front back ∙ ap (λ o. option_or o (first_of back)) first)
+
 -- an item's first fault is the module's, where nothing before it has one
 pub item_answers : {X Y : Type 0} (gives : List Y → Y → List NameFault) (v : X → Y) (xs : List X) (i : ℕ) (x : X) (front : List NameFault) (fault : NameFault) → i < length xs → x ≡ get_or xs i x → front ≡ [] → each_from gives [] (map v (take i xs)) ≡ []
     → (fault ≡ faults.NoMemory) ⊎ (first_of (gives (map v (take i xs)) (v x)) ≡ Some fault) → (fault ≡ faults.NoMemory) ⊎ (first_of (front ++ each_from gives [] (map v xs)) ≡ Some fault)

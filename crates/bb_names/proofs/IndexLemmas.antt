@@ -1,6 +1,8 @@
 -- What an index of names tells is what the module says.
 use Rattle.std.proofs.Common.{◌≡◌, ℕ, ◌+◌, Bool, true, false, cond, not, ◌||◌, ◌&&◌, List, [], ◌∷◌, ◌++◌, Option, None, Some, is_some, refl, sym, ap, ap₂, ◌∙◌, arith, map, filter, length, if◌then◌else◌}
-use Rattle.std.proofs.Common.{zero, suc, take, ◌-◌, ◌<◌, ◌≤◌, get_or, slice_get}
+use Rattle.std.proofs.lemmas.Grind.{common_steps}
+use Rattle.std.proofs.lemmas.List.{map-append}
+use Rattle.std.proofs.Common.{zero, suc, subst, take, ◌-◌, ◌<◌, ◌≤◌, get_or, slice_get}
 use Rattle.std.proofs.lemmas.Cmp.{nat_list_eq_equiv}
 use Rattle.std.proofs.lemmas.Option.{same_Some, slice_get_past, slice_get-get_or}
 use Rattle.std.specs.Prelude.{option_to_list, option_map, nat_lt, MatchOption, IfSome}
@@ -19,6 +21,7 @@ use Rattle.std.specs.Map.{lookup}
 use Rattle.bb_names.specs.Indexed.{head_names, ArePlaces}
 use Rattle.bb_names.proofs.Searches.{option_or-none, found-any, position-push}
 use Rattle.bb_bits.specs.Earlier.{has_name, once}
+use Rattle.bb_names.proofs.Noting.{seen-more, seen-all}
 use Rattle.bb_names.proofs.SummaryLemmas.{same_equal}
 
 pub position-any : {A : Type 0} (p : A → Bool) (k : ℕ) (xs : List A) → is_some (position_from p k xs) ≡ list_any p xs
@@ -84,6 +87,21 @@ place_added old new names x i absent long put before n =
     by true e None f = ap Some (omega (arith, long))
     by true e (Some k) f = absurd (grind (arith, absent, f, ap (λ z. lookup (same_name z) old) (same_equal x n e)))
     by false e o f = option_or-none o
+
+-- places in a loop over a list that is seen through a function
+pub places-none : (entries : List (List ℕ × ℕ)) → entries ≡ [] → ArePlaces entries []
+places-none entries none n = ap (lookup (same_name n)) none
+
+pub places-turn : {X Y : Type 0} (name : Y → List ℕ) (v : X → Y) (xs : List X) (i : ℕ) (x : X) (old new : List (List ℕ × ℕ)) → i < length xs → x ≡ get_or xs i x → ArePlaces old (map name (map v (take i xs)))
+    → ((names : List (List ℕ)) → ArePlaces old names → i ≡ length names → ArePlaces new (names ++ name (v x) ∷ [])) → ArePlaces new (map name (map v (take (i + 1) xs)))
+places-turn name v xs i x old new within at before step =
+    subst (ArePlaces new) (sym (ap (map name) (seen-more v xs i x within at) ∙ map-append name (map v (take i xs)) (v x ∷ []))) (step (map name (map v (take i xs))) before here)
+  where
+    here : i ≡ length (map name (map v (take i xs)))
+    here = grind (arith, common_steps, within)
+
+pub places-all : {X Y : Type 0} (name : Y → List ℕ) (v : X → Y) (xs : List X) (i : ℕ) (entries : List (List ℕ × ℕ)) → length xs ≤ i → ArePlaces entries (map name (map v (take i xs))) → ArePlaces entries (map name (map v xs))
+places-all name v xs i entries past here = subst (λ z. ArePlaces entries (map name z)) (seen-all v xs i past) here
 
 -- the first module of a name, by its place
 pub module_at : (n : List ℕ) (j : ℕ) (ms : List Module) (k : ℕ) → position_from (same_name n) j (map (λ m. m.name) ms) ≡ Some k → (j ≤ k) × (module_named (map module_view ms) n ≡ option_map module_view (slice_get ms (k - j)))

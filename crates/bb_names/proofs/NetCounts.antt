@@ -1,4 +1,4 @@
--- A module has not many more nets than its text has bytes.
+-- A module has at most two nets for each thing that its size counts.
 use Rattle.std.proofs.Common.{◌≡◌, ℕ, ◌+◌, ◌*◌, ◌≤◌, ◌<◌, ◌^◌, Bool, true, false, cond, not, List, [], ◌∷◌, ◌++◌, length, map, filter, Option, None, Some, refl, ap, ◌∙◌, arith, length-append, map-id}
 use Rattle.std.proofs.lemmas.List.{length-map}
 use Rattle.std.proofs.lemmas.List.Sums.{sum_by-cons}
@@ -9,7 +9,7 @@ use Rattle.bb_ast.specs.Names.{names_in, naming}
 use Rattle.bb_ast.specs.Folds.{of_operands, of_arms, of_parts}
 use Rattle.bb_ast.specs.Syntax.{Expression, Net, Bit, Part, Sized, Plain, Not, Chain, Cond, Concat, Repeat, Operands, no_operand, operand, Arms, no_arm, arm, Parts, no_part, part}
 use Rattle.bb_ast.specs.Syntax.{PlainConns, Order, Named, PlainBody, Ports, Nets, Regs, Supply, Assign, Gates, Calls, Always, PlainHead, PlainItem, PlainModule}
-use Rattle.bb_parse.specs.Sizes.{expression_size, operands_size, arms_size, parts_size, optional_size, pair_size, conns_size, gate_size, call_size, item_size, module_size}
+use Rattle.bb_ast.specs.Sizes.{source_size, expression_size, operands_size, arms_size, parts_size, optional_size, pair_size, conns_size, gate_size, call_size, item_size, module_size}
 use Rattle.bb_names.specs.declared.net.NetKind.TheVariants.{Wire, Reg}
 use Rattle.bb_names.specs.Declarations.{declared_by, declared_by_head, port_declaration, net_declaration, supply_kind, instance_declaration, names_in_optional, names_in_conns, implicit_places, implicit_names, is_declared}
 use Rattle.bb_names.specs.NetLists.{nets_declared_by}
@@ -112,10 +112,10 @@ nets-count m =
       items-count m.items,
     )
 
--- in a text, by its bytes
+-- in a source, by its size
 pub member-size : (size : PlainModule → ℕ) (front back : List PlainModule) (m : PlainModule) → size m ≤ sum_by size (front ++ m ∷ back)
 member-size size [] back m = rw (sum_by-cons size m back) (omega arith)
 member-size size (x ∷ front) back m = rw (sum_by-cons size x (front ++ m ∷ back)) (omega (arith, member-size size front back m))
 
-pub few_nets : (m : PlainModule) (front back : List PlainModule) (text : List ℕ) → sum_by (λ x. 2 + module_size x) (front ++ m ∷ back) ≤ length text → length text ≤ 33554432 → length (net_names m) < 2 ^ 32
-few_nets m front back text long short = omega (arith, nets-count m, member-size (λ x. 2 + module_size x) front back m, long, short)
+pub few_nets : (m : PlainModule) (front back : List PlainModule) → source_size (front ++ m ∷ back) ≤ 33554432 → length (net_names m) < 2 ^ 32
+few_nets m front back small = omega (arith, nets-count m, member-size (λ x. 2 + module_size x) front back m, small)

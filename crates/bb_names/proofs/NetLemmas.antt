@@ -1,8 +1,9 @@
 -- The names of nets in net order, and the place of each.
-use Rattle.std.proofs.Common.{◌≡◌, ℕ, zero, suc, ◌+◌, ◌-◌, ◌^◌, ◌<◌, ◌≤◌, min, Bool, true, false, cond, not, ◌||◌, ◌&&◌, List, [], ◌∷◌, ◌++◌, length, map, filter, get_or, Option, None, Some, refl, sym, ap, ap₂, ◌∙◌, subst, arith, append_assoc, length-append, if◌then◌else◌}
+use Rattle.std.proofs.Common.{◌≡◌, ℕ, zero, suc, ◌+◌, ◌-◌, ◌^◌, ◌<◌, ◌≤◌, min, Bool, true, false, cond, not, ◌||◌, ◌&&◌, List, [], ◌∷◌, ◌++◌, length, map, filter, get_or, take, Option, None, Some, refl, sym, ap, ap₂, ◌∙◌, subst, arith, append_assoc, length-append, if◌then◌else◌}
 use Rattle.std.proofs.Math.Nat.{min-eq_left}
 use Rattle.std.specs.Prelude.{is_some}
 use Rattle.std.specs.Map.{lookup}
+use Rattle.std.proofs.lemmas.Grind.{fold-append}
 use Rattle.std.proofs.lemmas.List.{map-append}
 use Rattle.std.proofs.lemmas.List.Elements.{filter-append}
 use Rattle.std.specs.List.{flat_map, list_all, IsDistinct, AllByRecursion}
@@ -13,10 +14,11 @@ use Rattle.bb_ast.specs.Syntax.{PlainHead, PlainItem, PlainModule}
 use Rattle.bb_names.specs.Declarations.{Declaration, declared_by, declared_by_head, implicit_names}
 use Rattle.bb_names.specs.Implicit.{all_added}
 use Rattle.bb_names.specs.Indexed.{head_names}
-use Rattle.bb_names.specs.NetLists.{all_placed, nets_declared_by}
+use Rattle.bb_names.specs.NetLists.{with_place, all_placed, nets_declared_by}
 use Rattle.bb_names.specs.Nets.{net_of, net_names}
 use Rattle.bb_bits.specs.Earlier.{has_name, once}
 use Rattle.bb_names.proofs.IndexLemmas.{has-once}
+use Rattle.bb_names.proofs.Noting.{seen-more, seen-all}
 use Rattle.bb_names.proofs.OnceLemmas.{all_added-append, all_added-once, all_added-new, others}
 use Rattle.bb_names.proofs.SummaryLemmas.{same_self}
 
@@ -133,6 +135,19 @@ all-placed ks (x ∷ xs) few =
     ap (λ b. all_placed (if b then placed 0 ks else placed 0 ks ++ (x, min (length (placed 0 ks)) (2 ^ 32 - 1)) ∷ []) xs) (placed-has 0 ks x)
     ∙ placed-step (has_name x ks) ks xs x refl (all-placed ks xs) (all-placed (ks ++ x ∷ []) xs) few
 
+-- names that are placed in two steps
+pub placed-then : (old mid new : List (List ℕ × ℕ)) (xs ys : List (List ℕ)) → mid ≡ all_placed old xs → new ≡ all_placed mid ys → new ≡ all_placed old (xs ++ ys)
+placed-then old mid new xs ys first second = second ∙ ap (λ z. all_placed z ys) first ∙ sym (fold-append with_place old xs ys)
+
+pub placed-turn : {X Y : Type 0} (name : Y → List ℕ) (v : X → Y) (xs : List X) (i : ℕ) (x : X) (old mid new : List (List ℕ × ℕ)) → i < length xs → x ≡ get_or xs i x
+    → mid ≡ all_placed old (map name (map v (take i xs))) → new ≡ all_placed mid (name (v x) ∷ []) → new ≡ all_placed old (map name (map v (take (i + 1) xs)))
+placed-turn name v xs i x old mid new within at before step =
+    placed-then old mid new (map name (map v (take i xs))) (name (v x) ∷ []) before step
+    ∙ ap (all_placed old) (sym (ap (map name) (seen-more v xs i x within at) ∙ map-append name (map v (take i xs)) (v x ∷ [])))
+
+pub placed-all : {X Y : Type 0} (name : Y → List ℕ) (v : X → Y) (xs : List X) (i : ℕ) (old new : List (List ℕ × ℕ)) → length xs ≤ i → new ≡ all_placed old (map name (map v (take i xs))) → new ≡ all_placed old (map name (map v xs))
+placed-all name v xs i old new past here = here ∙ ap (λ z. all_placed old (map name z)) (seen-all v xs i past)
+
 -- a new name goes behind the others
 pub inserted-behind : (entries : List (List ℕ × ℕ)) (n : List ℕ) (p : ℕ) → is_some (lookup (same_name n) entries) ≡ false → insert_entry same_name entries n p ≡ entries ++ (n, p) ∷ []
 inserted-behind [] n p new = refl
@@ -178,6 +193,20 @@ names-of m [] = refl
 names-of m (n ∷ ns) = ap (λ z. n ∷ z) (names-of m ns)
 
 -- a test of all elements, which are seen through a function
+all-push : {A : Type 0} (p : A → Bool) (xs : List A) (x : A) → list_all p xs ≡ true → p x ≡ true → list_all p (xs ++ x ∷ []) ≡ true
+all-push p [] x before here = ap (λ b. b && true) here
+all-push p (y ∷ ys) x before here = by (p y) before (λ rest. all-push p ys x rest here)
+  where
+    by : (b : Bool) → (b && list_all p ys) ≡ true → (list_all p ys ≡ true → list_all p (ys ++ x ∷ []) ≡ true) → (b && list_all p (ys ++ x ∷ [])) ≡ true
+    by true e more = more e
+    by false e more = e
+
+pub all-more : {X Y : Type 0} (p : Y → Bool) (v : X → Y) (xs : List X) (i : ℕ) (x : X) → i < length xs → x ≡ get_or xs i x → list_all p (map v (take i xs)) ≡ true → p (v x) ≡ true → list_all p (map v (take (i + 1) xs)) ≡ true
+all-more p v xs i x within at before here = ap (list_all p) (seen-more v xs i x within at) ∙ all-push p (map v (take i xs)) (v x) before here
+
+pub all-hold : {X Y : Type 0} (p : Y → Bool) (v : X → Y) (xs : List X) (i : ℕ) → length xs ≤ i → list_all p (map v (take i xs)) ≡ true → list_all p (map v xs) ≡ true
+all-hold p v xs i past here = ap (list_all p) (sym (seen-all v xs i past)) ∙ here
+
 pub all-fails : {X Y : Type 0} (p : Y → Bool) (v : X → Y) (xs : List X) (i : ℕ) (x : X) → i < length xs → x ≡ get_or xs i x → p (v x) ≡ false → list_all p (map v xs) ≡ false
 all-fails p v [] i x within at fails = absurd (omega (arith, within))
 all-fails p v (y ∷ ys) zero x within at fails = ap (λ b. b && list_all p (map v ys)) (ap (λ z. p (v z)) (sym at) ∙ fails)

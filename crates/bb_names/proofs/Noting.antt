@@ -58,7 +58,7 @@ seen-more v xs i x within at = ap (map v) (take_more xs i x within ∙ ap (λ y.
 pub seen-all : {X Y : Type 0} (v : X → Y) (xs : List X) (i : ℕ) → length xs ≤ i → map v (take i xs) ≡ map v xs
 seen-all v xs i past = ap (map v) (take_all i xs past)
 
-flat_map-push : {X Y : Type 0} (g : X → List Y) (xs : List X) (x : X) → flat_map g (xs ++ x ∷ []) ≡ flat_map g xs ++ g x
+pub flat_map-push : {X Y : Type 0} (g : X → List Y) (xs : List X) (x : X) → flat_map g (xs ++ x ∷ []) ≡ flat_map g xs ++ g x
 flat_map-push g xs x = flat_map-append g xs (x ∷ []) ∙ ap (λ z. flat_map g xs ++ z) (append-nil (g x))
 
 pub noted-turn : {X Y : Type 0} (text : List PlainModule) (m : PlainModule) (g : Y → List Spot) (v : X → Y) (xs : List X) (i : ℕ) (x : X) (f mid new : Found)

@@ -1,16 +1,18 @@
 -- Names that are added once, one after another, are the list of each where it stands first.
-use Rattle.std.proofs.Common.{◌≡◌, ℕ, Bool, true, false, cond, not, ◌||◌, ◌&&◌, List, [], ◌∷◌, ◌++◌, refl, sym, ap, ◌∙◌, append_assoc, append-nil, filter, if◌then◌else◌}
+use Rattle.std.proofs.Common.{◌≡◌, ℕ, ◌+◌, ◌<◌, ◌≤◌, length, take, map, get_or, Bool, true, false, cond, not, ◌||◌, ◌&&◌, List, [], ◌∷◌, ◌++◌, refl, sym, ap, ◌∙◌, append_assoc, append-nil, filter, if◌then◌else◌}
 use Rattle.std.proofs.lemmas.Grind.{fold-append}
 use Rattle.std.proofs.lemmas.List.Elements.{filter-append}
 use Rattle.std.proofs.lemmas.List.Folds.{list_any-append}
 use Rattle.std.proofs.lemmas.Cmp.{nat_list_eq_equiv}
 use Rattle.std.specs.Prelude.{is_none, is_some}
+use Rattle.std.specs.List.{flat_map}
 use Rattle.std.specs.Map.{lookup}
 use Rattle.bb_names.specs.declared.summary.Summary.{Summary}
 use Rattle.indexmap.specs.IndexSet.{insert_key}
 use Rattle.bb_bits.specs.Names.{same_name}
 use Rattle.bb_names.specs.Implicit.{all_added, grown}
 use Rattle.bb_bits.specs.Earlier.{has_name, once}
+use Rattle.bb_names.proofs.Noting.{flat_map-push, seen-more, seen-all}
 use Rattle.bb_names.proofs.SummaryLemmas.{same_equal}
 
 pub all_added-append : (old xs ys : List (List ℕ)) → all_added (all_added old xs) ys ≡ all_added old (xs ++ ys)
@@ -87,3 +89,14 @@ pub grown-once : (entries : List (List ℕ × Summary)) (declared : List ℕ →
     → grown entries [] names ≡ once (filter (λ n. not (declared n)) names)
 grown-once entries declared names tells =
     all_added-new (filter (λ n. is_none (lookup (same_name n) entries)) names) ∙ ap once (filter-same (λ n. is_none (lookup (same_name n) entries)) (λ n. not (declared n)) names (λ n. ap not (tells n)))
+
+-- a loop over a list that is seen through a function
+pub grown-turn : {X Y : Type 0} (entries : List (List ℕ × Summary)) (g : Y → List (List ℕ)) (v : X → Y) (xs : List X) (i : ℕ) (x : X) (old mid new : List (List ℕ))
+    → i < length xs → x ≡ get_or xs i x → mid ≡ grown entries old (flat_map g (map v (take i xs))) → new ≡ grown entries mid (g (v x)) → new ≡ grown entries old (flat_map g (map v (take (i + 1) xs)))
+grown-turn entries g v xs i x old mid new within at before step =
+    grown-then entries old mid new (flat_map g (map v (take i xs))) (g (v x)) before step
+    ∙ ap (grown entries old) (sym (ap (flat_map g) (seen-more v xs i x within at) ∙ flat_map-push g (map v (take i xs)) (v x)))
+
+pub grown-all : {X Y : Type 0} (entries : List (List ℕ × Summary)) (g : Y → List (List ℕ)) (v : X → Y) (xs : List X) (i : ℕ) (old new : List (List ℕ))
+    → length xs ≤ i → new ≡ grown entries old (flat_map g (map v (take i xs))) → new ≡ grown entries old (flat_map g (map v xs))
+grown-all entries g v xs i old new past here = here ∙ ap (λ z. grown entries old (flat_map g z)) (seen-all v xs i past)

@@ -66,3 +66,6 @@ pub sum-turn : {X Y : Type 0} (w : Y → ℕ) (v : X → Y) (xs : List X) (i : �
 sum-turn w v xs i x a b r within at f g h =
     saturated-add a b r (sum (map w (map v (take i xs)))) (w (v x)) f g h
     ∙ ap saturated (sym (ap (λ z. sum (map w z)) (seen-more v xs i x within at) ∙ ap sum (map-append w (map v (take i xs)) (v x ∷ [])) ∙ sum-push (map w (map v (take i xs))) (w (v x))))
+
+pub saturated-small : (r x : ℕ) → r ≡ x → r ≤ 2 ^ 32 → r ≡ saturated x
+saturated-small r x same small = omega (arith, same, small)

@@ -1,10 +1,12 @@
 -- A source without faults: its modules, each with its nets in net order, the place of each net by its name, and whether the
 -- module is empty.
-use Rattle.std.specs.Prelude.{◌≡◌, ◌≤◌, ℕ, Bool, List, map, length, All}
+use Rattle.std.specs.Prelude.{◌≡◌, ◌≤◌, ℕ, Bool, List, map, All}
+use Rattle.std.specs.List.{AllByRecursion}
 use Rattle.bb_ast.specs.declared.module.Module.{Module}
+use Rattle.bb_ast.specs.Formed.{IsFormed}
+use Rattle.bb_ast.specs.Sizes.{source_size}
 use Rattle.bb_ast.specs.Syntax.{PlainModule}
 use Rattle.bb_ast.specs.Views.{module_view}
-use Rattle.bb_parse.specs.Sources.{ReadsAs}
 use Rattle.bb_names.specs.declared.checked.CheckedModule.{CheckedModule}
 use Rattle.bb_names.specs.declared.net.NetInfo.{NetInfo}
 use Rattle.bb_names.specs.Nets.{nets_of, is_empty}
@@ -23,9 +25,10 @@ module_facts c = record { source = c.module; nets = c.nets.items; index = c.inde
 abbrev pub syntax : ModuleFacts → PlainModule
 syntax c = module_view c.source
 
--- the modules are those of a text that is no longer than a file may be
-abbrev pub HasText : List PlainModule → Type 0
-HasText modules = (text : List ℕ) × (length text ≤ 33554432) × ReadsAs text modules
+-- the modules are well formed, and no larger than the longest text that is read
+pub record AreFormedAndSmall (modules : List PlainModule) : Type 0 where
+  pub formed : AllByRecursion IsFormed modules
+  pub small : source_size modules ≤ 33554432
 
 pub record HasNets (c : ModuleFacts) : Type 0 where
   pub nets : c.nets ≡ nets_of (syntax c)
@@ -33,6 +36,6 @@ pub record HasNets (c : ModuleFacts) : Type 0 where
   pub empty : c.empty ≡ is_empty (syntax c)
 
 pub record IsChecked (modules : List ModuleFacts) : Type 0 where
-  pub read : HasText (map syntax modules)
+  pub read : AreFormedAndSmall (map syntax modules)
   pub sound : IsSound (map syntax modules)
   pub each : All HasNets modules

@@ -2,7 +2,7 @@
 
 ghost use Rattle.std.specs.Prelude.{◌≡◌, ◌<◌, ◌^◌, length, map, IfOk};
 ghost use Rattle.bb_ast.specs.Views.{module_view};
-ghost use Rattle.bb_names.specs.Checked.{module_facts, syntax, HasText, HasNets, IsChecked};
+ghost use Rattle.bb_names.specs.Checked.{module_facts, syntax, AreFormedAndSmall, HasNets, IsChecked};
 ghost use Rattle.bb_names.specs.Faults.{IsSound};
 ghost use Rattle.bb_names.specs.Nets.{net_names};
 
@@ -12,7 +12,6 @@ use crate::nets::{is_empty_module, nets_in};
 use crate::sources::IndexedSource;
 use bb_ast::Module;
 use bb_bits::{Name, NoMemory};
-use bb_parse::laws::texts_are_long;
 use indexmap::IndexMap;
 use std::alloc::Global;
 use std::marker::Model;
@@ -65,11 +64,10 @@ fn checked_module(alloc: Global, of: IndexedModule) -> Result<CheckedModule, NoM
 impl Checked {
     /// The modules of a source without faults.
     pub(crate) fn new(alloc: Global, source: IndexedSource) -> Result<Checked, NoMemory>
-        requires read { HasText (map module_view source) }
+        requires read { AreFormedAndSmall (map module_view source) }
         requires sound { IsSound (map module_view source) }
         ensures ok { IfOk result (λ checked. map syntax checked ≡ map module_view source) }
     {
-        texts_are_long();
         let mut modules = Vec::new(alloc);
         for of in source.into_modules() {
             modules.push(checked_module(alloc, of)?)?;

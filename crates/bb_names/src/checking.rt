@@ -4,7 +4,7 @@ ghost use Rattle.std.specs.Prelude.{◌≡◌, ◌⊎◌, IfOk, IfErr, MatchResu
 ghost use Rattle.bb_ast.specs.Views.{module_view, source_view};
 ghost use Rattle.bb_names.specs.declared.fault.NameFault.{NameFault};
 ghost use Rattle.bb_names.specs.declared.fault.NameFault.TheVariants.{NoMemory};
-ghost use Rattle.bb_names.specs.Checked.{HasText, syntax};
+ghost use Rattle.bb_names.specs.Checked.{AreFormedAndSmall, syntax};
 ghost use Rattle.bb_names.specs.Faults.{IsSound, IsFirstFault, faults_of};
 ghost use Rattle.bb_names.specs.Firsts.{Answers};
 
@@ -29,7 +29,7 @@ fn check_modules(alloc: Global, source: &IndexedSource) -> Result<(), NameFault>
 /// The statements are looked at one after another. In each, what is declared twice comes first, then what is not known,
 /// then bits that no net has, then widths, then what may not stand where it stands; and in each of these the leftmost.
 pub fn check(alloc: Global, source: Source) -> Result<Checked, NameFault>
-    requires read { HasText (source_view source) }
+    requires read { AreFormedAndSmall (source_view source) }
 
     // What is answered is the same modules, without a fault, or the first fault.
     ensures ok { IfOk result (λ checked. map syntax checked ≡ source_view source) }

@@ -1,5 +1,5 @@
 //! The declarations of a module, by the names that they declare.
-ghost use Rattle.std.specs.Prelude.{◌++◌, List, map, IfOk, OnOk};
+ghost use Rattle.std.specs.Prelude.{◌≡◌, ◌++◌, [], List, map, OnOk};
 ghost use Rattle.std.specs.List.{flat_map};
 ghost use Rattle.bb_ast.specs.Views.{head_view, body_view, named_view, call_view, module_view};
 ghost use Rattle.bb_names.specs.Declarations.{Declaration, declared_by_head, declared_by, declarations, instance_declaration};
@@ -10,8 +10,6 @@ use crate::net::NetKind;
 use crate::summary::{Declared, DeclaredAs, declare, supply_kind_of};
 use bb_ast::{Body, Call, Expr, Head, Module, Range};
 use bb_bits::{Name, NoMemory};
-use indexmap::IndexMap;
-use std::alloc::Global;
 
 fn declare_head(declared: &mut Declared, head: &Head) -> Result<(), NoMemory>
     ensures { (all : List Declaration) → Describes declared.old.entries all → OnOk result (Describes declared.new.entries (all ++ declared_by_head (head_view head.now))) }
@@ -82,13 +80,14 @@ fn declare_item(declared: &mut Declared, body: &Body) -> Result<(), NoMemory>
     }
 }
 
-pub(crate) fn declarations_of(alloc: Global, parsed: &Module) -> Result<Declared, NoMemory>
-    ensures { IfOk result (λ declared. Describes declared.entries (declarations (module_view parsed.now))) }
+/// Declares what a module declares, where nothing is declared yet.
+pub(crate) fn declare_all(declared: &mut Declared, parsed: &Module) -> Result<(), NoMemory>
+    requires none { declared.old.entries ≡ [] }
+    ensures { OnOk result (Describes declared.new.entries (declarations (module_view parsed.now))) }
 {
-    let mut declared = IndexMap::new(alloc);
-    declare_heads(&mut declared, &parsed.heads)?;
+    declare_heads(declared, &parsed.heads)?;
     for item in &parsed.items {
-        declare_item(&mut declared, &item.body)?;
+        declare_item(declared, &item.body)?;
     }
-    Ok(declared)
+    Ok(())
 }

@@ -178,17 +178,17 @@ fn add_item(set: &mut IndexSet<Name>, declared: &Declared, body: &Body) -> Resul
     }
 }
 
-/// The names of items that are implicit wires, each once, in the order in which they first stand there.
-pub(crate) fn implicit_wires(
-    alloc: Global,
+/// Adds the names of items that are implicit wires, each once, in the order in which they first stand there.
+pub(crate) fn add_implicit_wires(
+    set: &mut IndexSet<Name>,
     declared: &Declared,
     items: &[Item],
-) -> Result<IndexSet<Name>, NoMemory>
-    ensures { IfOk result (λ set. set.keys ≡ grown declared.now.entries [] (flat_map (λ item. implicit_places item.body) (map item_view items.now))) }
+) -> Result<(), NoMemory>
+    ensures { OnOk result (set.new.keys ≡ grown declared.now.entries set.old.keys
+        (flat_map (λ item. implicit_places item.body) (map item_view items.now))) }
 {
-    let mut set = IndexSet::new(alloc);
     for item in items {
-        add_item(&mut set, declared, &item.body)?;
+        add_item(set, declared, &item.body)?;
     }
-    Ok(set)
+    Ok(())
 }

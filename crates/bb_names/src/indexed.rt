@@ -1,15 +1,15 @@
 //! Modules with an index of their names, so that a text is not searched anew for each name in it.
-ghost use Rattle.std.specs.Prelude.{◌≡◌, map, option_to_list, IfOk};
+ghost use Rattle.std.specs.Prelude.{◌≡◌, [], map, option_to_list, IfOk, OnOk};
 ghost use Rattle.std.specs.List.{list_any, position_from};
 ghost use Rattle.bb_bits.specs.Names.{same_name};
 ghost use Rattle.bb_ast.specs.Views.{head_view, module_view};
 ghost use Rattle.bb_names.specs.Declarations.{direction_of, implicit_names, is_instance, is_known, is_port, kind_of, range_of, port_direction};
 ghost use Rattle.bb_names.specs.Faults.{is_input, is_input_port};
-ghost use Rattle.bb_names.specs.Indexed.{head_names, ArePlaces};
+ghost use Rattle.bb_names.specs.Indexed.{head_names, ArePlaces, IsIndexed};
 ghost use Rattle.bb_bits.specs.Earlier.{once};
 
-use crate::declaring::declarations_of;
-use crate::implicit::implicit_wires;
+use crate::declaring::declare_all;
+use crate::implicit::add_implicit_wires;
 use crate::net::NetKind;
 use crate::places::{Places, note_place};
 use crate::summary::{Declared, summary_of};
@@ -20,7 +20,7 @@ use std::alloc::Global;
 use std::marker::Model;
 
 /// What a module says of a name that stands for a net.
-#[derive(Clone, Copy, Debug)]
+#[derive(Clone, Copy)]
 pub(crate) struct NetFacts {
     /// Declared, or an implicit wire.
     pub known: bool,
@@ -30,13 +30,19 @@ pub(crate) struct NetFacts {
     pub dir: Option<Dir>,
 }
 
+/// The first place of each name of a header, what is declared of each name, and the implicit wires.
+#[derive(Drop)]
+struct NameIndex {
+    ports: Places,
+    declared: Declared,
+    implicit: IndexSet<Name>,
+}
+
 /// A module with an index of its names.
 #[derive(Drop)]
 pub(crate) struct IndexedModule {
     module: Module,
-    ports: Places,
-    declared: Declared,
-    implicit: IndexSet<Name>,
+    names: NameIndex,
 }
 
 impl Model for IndexedModule {
@@ -52,18 +58,47 @@ impl Model for IndexedModule {
 
     ghost view = { λ m. m.module };
 
-    ghost invariant = { λ m. IsIndexed (module_view m.module) m.ports.entries m.declared.entries m.implicit.keys };
+    ghost invariant = { λ m. IsIndexed (module_view m.module)
+        m.names.ports.entries m.names.declared.entries m.names.implicit.keys };
 }
 
-/// The first place of each name in a header.
-fn ports_of(alloc: Global, heads: &[Head]) -> Result<Places, NoMemory>
-    ensures { IfOk result (λ ports. ArePlaces ports.entries (map (λ head. head.name) (map head_view heads.now))) }
-{
-    let mut ports = IndexMap::new(alloc);
-    for (place, head) in heads.iter().enumerate() {
-        note_place(&mut ports, &head.name, place)?;
+impl NameIndex {
+    /// An index of no names.
+    fn new(alloc: Global) -> NameIndex
+        ensures ports { result.ports.entries ≡ [] }
+        ensures declared { result.declared.entries ≡ [] }
+        ensures implicit { result.implicit.keys ≡ [] }
+    {
+        NameIndex {
+            ports: IndexMap::new(alloc),
+            declared: IndexMap::new(alloc),
+            implicit: IndexSet::new(alloc),
+        }
     }
-    Ok(ports)
+}
+
+/// Notes the first place of each name in a header.
+fn note_ports(ports: &mut Places, heads: &[Head]) -> Result<(), NoMemory>
+    requires none { ports.old.entries ≡ [] }
+    ensures { OnOk result (ArePlaces ports.new.entries (map (λ head. head.name) (map head_view heads.now))) }
+{
+    for (place, head) in heads.iter().enumerate() {
+        note_place(ports, &head.name, place)?;
+    }
+    Ok(())
+}
+
+/// Notes what an index says of a module's names.
+fn note_names(names: &mut NameIndex, parsed: &Module) -> Result<(), NoMemory>
+    requires ports { names.old.ports.entries ≡ [] }
+    requires declared { names.old.declared.entries ≡ [] }
+    requires implicit { names.old.implicit.keys ≡ [] }
+    ensures { OnOk result (IsIndexed (module_view parsed.now)
+        names.new.ports.entries names.new.declared.entries names.new.implicit.keys) }
+{
+    note_ports(&mut names.ports, &parsed.heads)?;
+    declare_all(&mut names.declared, parsed)?;
+    add_implicit_wires(&mut names.implicit, &names.declared, &parsed.items)
 }
 
 fn is_input_direction(dir: Option<Dir>) -> bool
@@ -76,14 +111,11 @@ impl IndexedModule {
     pub(crate) fn new(alloc: Global, parsed: Module) -> Result<IndexedModule, NoMemory>
         ensures { IfOk result (λ m. m ≡ parsed) }
     {
-        let ports = ports_of(alloc, &parsed.heads)?;
-        let declared = declarations_of(alloc, &parsed)?;
-        let implicit = implicit_wires(alloc, &declared, &parsed.items)?;
+        let mut names = NameIndex::new(alloc);
+        note_names(&mut names, &parsed)?;
         Ok(IndexedModule {
             module: parsed,
-            ports,
-            declared,
-            implicit,
+            names,
         })
     }
 
@@ -103,25 +135,28 @@ impl IndexedModule {
     pub(crate) fn implicit(&self) -> &IndexSet<Name>
         ensures { result.now.keys ≡ once (implicit_names (module_view self.now)) }
     {
-        &self.implicit
+        &self.names.implicit
     }
 
     /// How many names are declared or stand for implicit wires; room is made for so many.
     pub(crate) fn name_count(&self) -> usize {
-        self.declared.len().saturating_add(self.implicit.len())
+        self.names
+            .declared
+            .len()
+            .saturating_add(self.names.implicit.len())
     }
 
     /// The first place of a name in the header.
     pub(crate) fn port_place(&self, name: &Name) -> Option<usize>
         ensures { result ≡ position_from (same_name name.now) 0 (head_names (module_view self.now)) }
     {
-        self.ports.get(name).copied()
+        self.names.ports.get(name).copied()
     }
 
     pub(crate) fn is_port(&self, name: &Name) -> bool
         ensures { result ≡ is_port (module_view self.now) name.now }
     {
-        self.ports.contains_key(name)
+        self.names.ports.contains_key(name)
     }
 
     /// What the module says of a name that stands for a net.
@@ -132,7 +167,7 @@ impl IndexedModule {
         ensures kind { result.kind ≡ kind_of (module_view self.now) name.now }
         ensures dir { result.dir ≡ direction_of (module_view self.now) name.now }
     {
-        match summary_of(&self.declared, name) {
+        match summary_of(&self.names.declared, name) {
             Some(s) if s.instance => NetFacts {
                 known: true,
                 instance: true,
@@ -148,7 +183,7 @@ impl IndexedModule {
                 dir: s.dir,
             },
             None => NetFacts {
-                known: self.implicit.contains(name),
+                known: self.names.implicit.contains(name),
                 instance: false,
                 range: None,
                 kind: NetKind::Wire,

@@ -108,16 +108,40 @@ fn add_items(index: &mut NetIndex, items: &[Item]) -> Result<(), NoMemory>
     Ok(())
 }
 
-/// The names of the nets of a module with their places in net order.
-fn index_of(alloc: Global, of: &IndexedModule) -> Result<NetIndex, NoMemory>
+/// Adds the names of the nets of a module, in net order.
+fn add_all(index: &mut NetIndex, of: &IndexedModule) -> Result<(), NoMemory>
+    requires none { index.old.entries ≡ [] }
     requires few { length (net_names (module_view of.now)) < 2 ^ 32 }
-    ensures { IfOk result (λ index. index.entries ≡ placed 0 (net_names (module_view of.now))) }
+    ensures { OnOk result (index.new.entries ≡ placed 0 (net_names (module_view of.now))) }
 {
-    let mut index = IndexMap::with_capacity(alloc, of.name_count())?;
-    add_heads(&mut index, &of.module().heads)?;
-    add_items(&mut index, &of.module().items)?;
-    add_names(&mut index, of.implicit().as_slice())?;
-    Ok(index)
+    add_heads(index, &of.module().heads)?;
+    add_items(index, &of.module().items)?;
+    add_names(index, of.implicit().as_slice())
+}
+
+/// Adds what a module says of the nets of an index, in its order.
+fn add_nets(all: &mut Vec<NetInfo>, of: &IndexedModule, index: &NetIndex) -> Result<(), NoMemory>
+    requires none { all.old.items ≡ [] }
+    ensures { OnOk result (all.new.items ≡ map (net_of (module_view of.now)) (map (λ e. e.0) index.now.entries)) }
+{
+    for name in index.keys() {
+        all.push(net(of, name)?)?;
+    }
+    Ok(())
+}
+
+/// Adds the nets of a module, in net order.
+fn fill(nets: &mut Nets, of: &IndexedModule) -> Result<(), NoMemory>
+    requires none { nets.old.all.items ≡ [] }
+    requires index { nets.old.index.entries ≡ [] }
+    requires few { length (net_names (module_view of.now)) < 2 ^ 32 }
+    ensures nets { OnOk result (nets.new.all.items ≡ nets_of (module_view of.now)) }
+    ensures index { OnOk result (nets.new.index.entries ≡ placed 0 (net_names (module_view of.now))) }
+{
+    nets.index.reserve(of.name_count())?;
+    add_all(&mut nets.index, of)?;
+    nets.all.reserve_exact(nets.index.len())?;
+    add_nets(&mut nets.all, of, &nets.index)
 }
 
 pub(crate) fn nets_in(alloc: Global, of: &IndexedModule) -> Result<Nets, NoMemory>
@@ -125,12 +149,12 @@ pub(crate) fn nets_in(alloc: Global, of: &IndexedModule) -> Result<Nets, NoMemor
     ensures nets { IfOk result (λ nets. nets.all.items ≡ nets_of (module_view of.now)) }
     ensures index { IfOk result (λ nets. nets.index.entries ≡ placed 0 (map (λ net. net.name) nets.all.items)) }
 {
-    let index = index_of(alloc, of)?;
-    let mut all = Vec::with_capacity(alloc, index.len())?;
-    for name in index.keys() {
-        all.push(net(of, name)?)?;
-    }
-    Ok(Nets { all, index })
+    let mut nets = Nets {
+        all: Vec::new(alloc),
+        index: IndexMap::new(alloc),
+    };
+    fill(&mut nets, of)?;
+    Ok(nets)
 }
 
 /// Whether a wire is a port and is not assigned.

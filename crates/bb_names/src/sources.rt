@@ -1,13 +1,15 @@
 //! The modules of a source with an index of their names, so that each instance finds its module at once.
-ghost use Rattle.std.specs.Prelude.{◌≡◌, List, map, option_map, IfOk};
+ghost use Rattle.std.specs.Prelude.{◌≡◌, ◌++◌, ◌∷◌, [], List, length, map, option_map, IfOk, OnOk};
+ghost use Rattle.std.specs.Vec.{vec_len};
 ghost use Rattle.std.specs.List.{position_from};
 ghost use Rattle.bb_bits.specs.Names.{same_name};
 ghost use Rattle.bb_ast.specs.Views.{module_view};
+ghost use Rattle.bb_names.specs.Indexed.{ArePlaces};
 ghost use Rattle.bb_names.specs.Spots.{module_named};
 
 use crate::indexed::IndexedModule;
 use crate::places::{Places, note_place};
-use bb_ast::Source;
+use bb_ast::{Module, Source};
 use bb_bits::{Name, NoMemory};
 use indexmap::IndexMap;
 use std::alloc::Global;
@@ -36,6 +38,24 @@ impl Model for IndexedSource {
     ghost invariant = { λ s. ArePlaces s.places.entries (map (λ m. m.name) s.modules.items) };
 }
 
+/// One more module behind the others, with the place of its name.
+fn add_module(
+    alloc: Global,
+    modules: &mut Vec<IndexedModule>,
+    places: &mut Places,
+    parsed: Module,
+) -> Result<(), NoMemory>
+    requires len { vec_len modules.old ≡ length modules.old.items }
+    ensures modules { OnOk result (modules.new.items ≡ modules.old.items ++ parsed ∷ []) }
+    ensures len { OnOk result (vec_len modules.new ≡ length modules.new.items) }
+    ensures places { ArePlaces places.old.entries (map (λ m. m.name) modules.old.items)
+        → OnOk result (ArePlaces places.new.entries (map (λ m. m.name) modules.new.items)) }
+{
+    note_place(places, &parsed.name, modules.len())?;
+    modules.push(IndexedModule::new(alloc, parsed)?)?;
+    Ok(())
+}
+
 impl IndexedSource {
     pub(crate) fn new(alloc: Global, source: Source) -> Result<IndexedSource, NoMemory>
         ensures { IfOk result (λ s. s ≡ source.modules.items) }
@@ -43,8 +63,7 @@ impl IndexedSource {
         let mut modules = Vec::new(alloc);
         let mut places = IndexMap::new(alloc);
         for parsed in source.modules {
-            note_place(&mut places, &parsed.name, modules.len())?;
-            modules.push(IndexedModule::new(alloc, parsed)?)?;
+            add_module(alloc, &mut modules, &mut places, parsed)?;
         }
         Ok(IndexedSource { modules, places })
     }

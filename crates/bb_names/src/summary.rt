@@ -14,7 +14,7 @@ use bb_bits::{Name, NoMemory};
 use indexmap::IndexMap;
 
 /// What one statement declares a name as: a direction, a kind or both, with a range or none; or an instance.
-#[derive(Clone, Copy, Debug)]
+#[derive(Clone, Copy)]
 pub(crate) struct DeclaredAs {
     pub dir: Option<Dir>,
     pub kind: Option<NetKind>,
@@ -23,7 +23,7 @@ pub(crate) struct DeclaredAs {
 }
 
 /// Which ranges some declarations have.
-#[derive(Clone, Copy, Debug)]
+#[derive(Clone, Copy)]
 pub(crate) enum Ranges {
     NoRange,
     Same(Option<Range>),
@@ -31,7 +31,7 @@ pub(crate) enum Ranges {
 }
 
 /// What the declarations of one name say together, in text order.
-#[derive(Clone, Copy, Debug)]
+#[derive(Clone, Copy)]
 pub(crate) struct Summary {
     /// The range of the first declaration.
     pub range: Option<Range>,

@@ -1,11 +1,12 @@
 //! Faults in an expression: its names, its selects, its parts and its width.
-ghost use Rattle.std.specs.Prelude.{◌≡◌, ◌++◌, ◌∷◌, [], ◌≤◌, ◌^◌, List, map, sum, OnOk, IfOk};
+ghost use Rattle.std.specs.Prelude.{◌≡◌, ◌+◌, ◌*◌, ◌++◌, ◌∷◌, [], ◌≤◌, ◌^◌, List, Some, None, map, sum, OnOk, IfOk};
 ghost use Rattle.std.specs.List.{flat_map};
 ghost use Rattle.bb_ast.specs.Syntax.{PlainModule};
 ghost use Rattle.bb_ast.specs.Views.{expression, operand_view, arm_view, module_view};
 ghost use Rattle.bb_names.specs.Declarations.{direction_of, range_of};
 ghost use Rattle.bb_names.specs.Faults.{is_input_port, width_in};
 ghost use Rattle.bb_names.specs.Firsts.{noted, noted_width, use_of, inner_spots, spots_of_part, saturated};
+ghost use Rattle.bb_names.specs.Ranges.{distance, range_width};
 ghost use Rattle.bb_names.specs.Spots.{Used, is_plain, spots_in};
 ghost use Rattle.bb_names.specs.Widths.{greatest};
 
@@ -45,6 +46,38 @@ pub(crate) fn look_at_name(
     Ok(facts)
 }
 
+/// Looks at a net, and gives its width.
+fn look_at_net(
+    of: &IndexedModule,
+    role: Role,
+    name: &Name,
+    found: &mut Found,
+) -> Result<u64, NoMemory>
+    ensures noted { (text : List PlainModule)
+        → OnOk result (found.new ≡ noted text (module_view of.now) found.old (Used (use_of role) name.now None ∷ [])) }
+    ensures width { IfOk result (λ w. w ≡ saturated (range_width (range_of (module_view of.now) name.now))) }
+{
+    let facts = look_at_name(of, role, name, None, found)?;
+    Ok(width_of(facts.range))
+}
+
+/// Looks at bits of a net, and gives how many there are.
+fn look_at_bits(
+    of: &IndexedModule,
+    role: Role,
+    name: &Name,
+    i: u32,
+    j: u32,
+    found: &mut Found,
+) -> Result<u64, NoMemory>
+    ensures noted { (text : List PlainModule)
+        → OnOk result (found.new ≡ noted text (module_view of.now) found.old (Used (use_of role) name.now (Some (i, j)) ∷ [])) }
+    ensures width { IfOk result (λ w. w ≡ saturated (distance i j + 1)) }
+{
+    look_at_name(of, role, name, Some((i, j)), found)?;
+    Ok(bits_between(i, j))
+}
+
 /// Looks at an expression with all that stands in it, and gives its own width, at most 2^64 - 1.
 #[cycle(expression)]
 pub(crate) fn look(
@@ -78,15 +111,9 @@ fn look_inside(
     ensures width { IfOk result (λ w. w ≡ saturated (width_in (module_view of.now) (expression expr.now))) }
 {
     match expr {
-        Expr::Net(name) => Ok(width_of(look_at_name(of, role, name, None, found)?.range)),
-        Expr::Bit(name, i) => {
-            look_at_name(of, role, name, Some((*i, *i)), found)?;
-            Ok(1)
-        }
-        Expr::Part(name, i, j) => {
-            look_at_name(of, role, name, Some((*i, *j)), found)?;
-            Ok(bits_between(*i, *j))
-        }
+        Expr::Net(name) => look_at_net(of, role, name, found),
+        Expr::Bit(name, i) => look_at_bits(of, role, name, *i, *i, found),
+        Expr::Part(name, i, j) => look_at_bits(of, role, name, *i, *j, found),
         Expr::Sized(bits) => Ok(bits.len() as u64),
         Expr::Plain(_) => Ok(32),
         Expr::Not(_, operand) => look(alloc, of, role, operand, found),
@@ -99,10 +126,7 @@ fn look_inside(
             Ok(wider(width, look(alloc, of, role, last, found)?))
         }
         Expr::Concat(parts) => look_at_parts(alloc, of, role, parts, found),
-        Expr::Repeat(count, parts) => {
-            let width = look_at_parts(alloc, of, role, parts, found)?;
-            Ok(width.saturating_mul(u64::from(*count)))
-        }
+        Expr::Repeat(count, parts) => look_at_copies(alloc, of, role, *count, parts, found),
     }
 }
 
@@ -176,7 +200,8 @@ fn look_at_parts(
     parts: &[Expr],
     found: &mut Found,
 ) -> Result<u64, NoMemory>
-    ensures noted { (text : List PlainModule) → OnOk result (found.new ≡ noted text (module_view of.now) found.old (flat_map (spots_of_part (use_of role)) (map expression parts.now))) }
+    ensures noted { (text : List PlainModule) → OnOk result (found.new ≡ noted text (module_view of.now) found.old
+        (flat_map (spots_of_part (use_of role)) (map expression parts.now))) }
     ensures width { IfOk result (λ w. w ≡ saturated (sum (map (width_in (module_view of.now)) (map expression parts.now)))) }
 {
     let mut width: u64 = 0;
@@ -185,6 +210,25 @@ fn look_at_parts(
         width = width.saturating_add(more);
     }
     Ok(width)
+}
+
+/// Looks at the parts of a replication, and gives the width of so many copies.
+#[cycle(expression)]
+fn look_at_copies(
+    alloc: Global,
+    of: &IndexedModule,
+    role: Role,
+    count: u32,
+    parts: &[Expr],
+    found: &mut Found,
+) -> Result<u64, NoMemory>
+    ensures noted { (text : List PlainModule) → OnOk result (found.new ≡ noted text (module_view of.now) found.old
+        (flat_map (spots_of_part (use_of role)) (map expression parts.now))) }
+    ensures width { IfOk result (λ w. w ≡
+        saturated (count * sum (map (width_in (module_view of.now)) (map expression parts.now)))) }
+{
+    let width = look_at_parts(alloc, of, role, parts, found)?;
+    Ok(width.saturating_mul(u64::from(count)))
 }
 
 /// Looks at an expression of which a word is told where it has not so many bits.

@@ -136,6 +136,26 @@ fn look_at_port(
     }
 }
 
+/// Looks at connections by name, where none stands before them.
+fn look_at_connections(
+    alloc: Global,
+    of: &IndexedModule,
+    target: Option<&IndexedModule>,
+    earlier: &mut IndexSet<Name>,
+    all: &[(Name, Option<Expr>)],
+    found: &mut Found,
+) -> Result<(), NoMemory>
+    requires none { earlier.old.keys ≡ [] }
+    ensures noted { (text : List PlainModule) → OnOk result (found.new ≡ noted text (module_view of.now) found.old
+        (conns_spots (option_map (λ t. module_view t.now) target.entry) (Named (map named_view all.now)))) }
+{
+    for (name, place) in all {
+        look_at_port(target, earlier, name, found)?;
+        look_at_place(alloc, of, pin_by_name(target, name), place, found)?;
+    }
+    Ok(())
+}
+
 /// Looks at connections by name.
 fn look_at_named(
     alloc: Global,
@@ -144,14 +164,11 @@ fn look_at_named(
     all: &[(Name, Option<Expr>)],
     found: &mut Found,
 ) -> Result<(), NoMemory>
-    ensures noted { (text : List PlainModule) → OnOk result (found.new ≡ noted text (module_view of.now) found.old (conns_spots (option_map (λ t. module_view t.now) target.entry) (Named (map named_view all.now)))) }
+    ensures noted { (text : List PlainModule) → OnOk result (found.new ≡ noted text (module_view of.now) found.old
+        (conns_spots (option_map (λ t. module_view t.now) target.entry) (Named (map named_view all.now)))) }
 {
     let mut earlier = IndexSet::new(alloc);
-    for (name, place) in all {
-        look_at_port(target, &mut earlier, name, found)?;
-        look_at_place(alloc, of, pin_by_name(target, name), place, found)?;
-    }
-    Ok(())
+    look_at_connections(alloc, of, target, &mut earlier, all, found)
 }
 
 /// Whether there are more places by order than ports.

@@ -16,7 +16,7 @@ use crate::summary::DeclaredAs;
 use bb_ast::Expr;
 
 /// What happens to a name.
-#[derive(Clone, Copy, Debug, PartialEq, Eq)]
+#[derive(Clone, Copy, PartialEq, Eq)]
 pub(crate) enum Role {
     Read,
     /// On the left of `assign`, in a wire with assignment, at a gate's output or in an output port's connection.

@@ -4,7 +4,7 @@ ghost use Rattle.std.specs.List.{flat_map};
 ghost use Rattle.bb_ast.specs.Views.{body_view, module_view};
 ghost use Rattle.bb_names.specs.Declarations.{Declaration, declared_by, declared_by_head};
 ghost use Rattle.bb_names.specs.Faults.{statement_faults, module_faults};
-ghost use Rattle.bb_names.specs.Firsts.{first_fault, Answers};
+ghost use Rattle.bb_names.specs.Firsts.{noted, first_fault, Answers};
 ghost use Rattle.bb_names.specs.Spots.{header_spots, item_spots};
 ghost use Rattle.bb_names.specs.Summaries.{Describes};
 
@@ -17,6 +17,7 @@ use crate::places::is_before;
 use crate::sources::IndexedSource;
 use crate::summary::Declared;
 use bb_ast::Item;
+use bb_bits::NoMemory;
 use indexmap::IndexMap;
 use std::alloc::Global;
 
@@ -28,6 +29,24 @@ fn answer(found: Found, line: u32) -> Result<(), NameFault>
         Some(fault) => Err(fault),
         None => Ok(()),
     }
+}
+
+/// Looks at the header of the module at a place.
+fn look_at_header(
+    source: &IndexedSource,
+    of: &IndexedModule,
+    place: usize,
+    earlier: &mut Declared,
+    found: &mut Found,
+) -> Result<(), NoMemory>
+    requires none { Describes earlier.old.entries [] }
+    ensures noted { OnOk result (found.new ≡ noted (map module_view source.now) (module_view of.now) found.old
+        (header_spots (take place (map module_view source.now)) (module_view of.now))) }
+    ensures declared { OnOk result (Describes earlier.new.entries (flat_map declared_by_head (module_view of.now).heads)) }
+{
+    let name = &of.module().name;
+    note(&mut found.twice, is_before(source.place(name), place), name)?;
+    look_at_heads(of, earlier, found)
 }
 
 fn check_header(
@@ -42,9 +61,7 @@ fn check_header(
     ensures declared { OnOk result (Describes earlier.new.entries (flat_map declared_by_head (module_view of.now).heads)) }
 {
     let mut found = Found::none();
-    let name = &of.module().name;
-    note(&mut found.twice, is_before(source.place(name), place), name)?;
-    look_at_heads(of, earlier, &mut found)?;
+    look_at_header(source, of, place, earlier, &mut found)?;
     answer(found, of.module().line)
 }
 
@@ -63,6 +80,26 @@ fn check_item(
     answer(found, item.line)
 }
 
+/// The first fault of the module at a place, where nothing is declared yet.
+fn check_statements(
+    alloc: Global,
+    source: &IndexedSource,
+    of: &IndexedModule,
+    place: usize,
+    earlier: &mut Declared,
+) -> Result<(), NameFault>
+    requires place { slice_get (map module_view source.now) place ≡ Some (module_view of.now) }
+    requires none { Describes earlier.old.entries [] }
+    ensures answers { Answers result (module_faults (map module_view source.now)
+        (take place (map module_view source.now)) (module_view of.now)) }
+{
+    check_header(source, of, place, earlier)?;
+    for item in &of.module().items {
+        check_item(alloc, source, of, earlier, item)?;
+    }
+    Ok(())
+}
+
 /// The first fault of the module at a place.
 pub(crate) fn check_module(
     alloc: Global,
@@ -71,12 +108,9 @@ pub(crate) fn check_module(
     place: usize,
 ) -> Result<(), NameFault>
     requires place { slice_get (map module_view source.now) place ≡ Some (module_view of.now) }
-    ensures answers { Answers result (module_faults (map module_view source.now) (take place (map module_view source.now)) (module_view of.now)) }
+    ensures answers { Answers result (module_faults (map module_view source.now)
+        (take place (map module_view source.now)) (module_view of.now)) }
 {
     let mut earlier = IndexMap::with_capacity(alloc, of.name_count())?;
-    check_header(source, of, place, &mut earlier)?;
-    for item in &of.module().items {
-        check_item(alloc, source, of, &mut earlier, item)?;
-    }
-    Ok(())
+    check_statements(alloc, source, of, place, &mut earlier)
 }

@@ -2,4 +2,4 @@ use Rattle.bb_expr.proofs.NameLemmas.{names_are_nets}
 use Rattle.bb_expr.proofs.laws.names_are_nets.Goals as goal
 
 pub returns : goal.returns
-returns c = names_are_nets c.sources_are_formed.ensures
+returns c = names_are_nets

@@ -31,5 +31,4 @@ returns-clause-finite c =
     let text = map syntax c.args.checked.now in
     let flat = subst (λ o. IfNone o (AtTop text c.args.top (λ d. IsAbsent d Recursion))) c.in_default.is c.in_ok-name.ensures.none in
     let shallow = subst (λ o. IfNone o (AtTop text c.args.top (λ d. IsAbsent d Depth))) c.in_default-2.is c.in_ok-name-2.ensures.none in
-    let read = c.modules-modules.ensures.checked.read in
-    finite text c.args.top (c.sources_are_formed.ensures read.0 text read.2) c.modules-modules.ensures.checked.sound flat shallow (c.in_ok-is_too_large.ensures.small c.if-branch.false)
+    finite text c.args.top c.modules-modules.ensures.checked.read.formed c.modules-modules.ensures.checked.sound flat shallow (c.in_ok-is_too_large.ensures.small c.if-branch.false)

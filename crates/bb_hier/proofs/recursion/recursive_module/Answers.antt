@@ -14,8 +14,7 @@ use Rattle.bb_hier.proofs.recursion.recursive_module.Goals as goal
 
 pub first_recursive-requires-clause-there : goal.first_recursive-requires-clause-there
 first_recursive-requires-clause-there c =
-    let read = c.modules-modules.ensures.checked.read in
-    subst ArePlacesThere (sym c.requires.called) (places_there (map syntax c.args.checked.now) _ _ (c.texts_are_long.ensures read.0 (map syntax c.args.checked.now) read.2) read.1)
+    subst ArePlacesThere (sym c.requires.called) (places_there (map syntax c.args.checked.now) c.modules-modules.ensures.checked.read.small)
 
 pub returns-in-None-clause-none : goal.returns-in-None-clause-none
 returns-in-None-clause-none c = λ t at.

@@ -19,9 +19,8 @@ use Rattle.bb_hier.proofs.size.construct_cells.Goals as goal
 
 pub overflow_cast-place : goal.overflow_cast-place
 overflow_cast-place c =
-    let read = c.modules.ensures.checked.read in
     let text = map syntax c.args.checked.now in
-    let there = places_there text _ _ (c.texts_are_long.ensures read.0 text read.2) read.1 in
+    let there = places_there text c.modules.ensures.checked.read.small in
     omega (arith, there.few, length-map text (callees text), length-map c.args.checked.now syntax, c.requires.place)
 
 pub items_cells-operators-requires-clause-stands : goal.items_cells-operators-requires-clause-stands

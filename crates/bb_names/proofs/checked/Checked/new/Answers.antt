@@ -3,7 +3,7 @@ use Rattle.std.proofs.lemmas.Grind.{common_steps}
 use Rattle.std.proofs.lemmas.List.{map-append}
 use Rattle.std.proofs.lemmas.List.Elements.{All-push}
 use Rattle.bb_ast.specs.Views.{module_view}
-use Rattle.bb_names.specs.Checked.{module_facts, syntax, HasText, HasNets}
+use Rattle.bb_names.specs.Checked.{module_facts, syntax, AreFormedAndSmall, HasNets}
 use Rattle.bb_names.specs.Faults.{IsSound}
 use Rattle.bb_names.proofs.NetCounts.{few_nets}
 use Rattle.bb_names.proofs.checked.Checked.new.Goals as goal
@@ -15,8 +15,8 @@ checked_module-requires c =
     let back = map module_view c.next.new.self.rest.items in
     let split : c.loop-of.of-iterator.rest.items ≡ c.in-Some.of ∷ c.next.new.self.rest.items = search rules in
     let all : front ++ m ∷ back ≡ map module_view c.args.source = ap (λ ms. front ++ map module_view ms) (sym split) ∙ c.loop-of.invariant.all in
-    let read = subst HasText (sym all) c.requires.read in
-    record { few = few_nets m front back read.0 (c.texts_are_long.ensures read.0 (front ++ m ∷ back) read.2) read.1 }
+    let read = subst AreFormedAndSmall (sym all) c.requires.read in
+    record { few = few_nets m front back read.small }
 
 pub loop-of-preserved : goal.loop-of-preserved
 loop-of-preserved c =
@@ -37,4 +37,4 @@ invariant_of-result c =
     let front = map syntax (map module_facts c.loop-of.modules.items) in
     let none : c.loop-of.of-iterator.rest.items ≡ [] = grind (arith, common_steps, c.in-None.ensures.steps.0) in
     let all = sym (append-nil front) ∙ ap (λ ms. front ++ map module_view ms) (sym none) ∙ c.loop-of.invariant.all in
-    record { read = subst HasText (sym all) c.requires.read; sound = subst IsSound (sym all) c.requires.sound; each = c.loop-of.invariant.each }
+    record { read = subst AreFormedAndSmall (sym all) c.requires.read; sound = subst IsSound (sym all) c.requires.sound; each = c.loop-of.invariant.each }

@@ -1,18 +1,19 @@
-use Rattle.std.proofs.Common.{◌≡◌, ◌++◌, ◌*◌, true, false, refl, ap, sym, subst, ◌∙◌, map, arith}
+use Rattle.std.proofs.Common.{◌≡◌, ◌+◌, ◌++◌, ◌*◌, true, false, refl, ap, sym, subst, ◌∙◌, map, arith}
 use Rattle.std.specs.Prelude.{sum, is_none, IfOk}
 use Rattle.std.specs.Option.{option_or}
 use Rattle.bb_names.specs.Declarations.{range_of}
 use Rattle.std.proofs.lemmas.Result.{on_ok_weaker}
 use Rattle.std.specs.List.{flat_map}
 use Rattle.bb_ast.specs.Views.{expression, operand_view, arm_view, module_view}
-use Rattle.bb_ast.specs.declared.expr.Expr.TheVariants.{outs-Net, outs-Bit, outs-Part, outs-Not, outs-Chain, outs-Concat, outs-Cond, outs-Repeat}
+use Rattle.bb_ast.specs.declared.expr.Expr.TheVariants.{outs-Net, outs-Bit, outs-Part, outs-Sized, outs-Plain, outs-Not, outs-Chain, outs-Concat, outs-Cond, outs-Repeat}
 use Rattle.bb_ast.specs.declared.expr.Expr.{out-Expr}
 use Rattle.bb_names.specs.Faults.{width_in, wrong_width}
 use Rattle.bb_names.specs.Firsts.{noted, use_of, spots_of_part, inner_spots, saturated, first_of, first_told}
+use Rattle.bb_names.specs.Ranges.{distance}
 use Rattle.bb_names.specs.Spots.{Whole, spots_in}
 use Rattle.bb_names.specs.Widths.{greatest}
 use Rattle.bb_names.proofs.ExpressionViews.{view-of, spots-chain, spots-cond, spots-concat, spots-repeat, width-chain, width-cond, width-concat, width-repeat}
-use Rattle.bb_names.proofs.Noting.{noted-turn, noted-all, noted-then, noted-part, noted-whole, put-left, kept-left}
+use Rattle.bb_names.proofs.Noting.{noted-none, seen-all, noted-turn, noted-all, noted-then, noted-part, noted-whole, put-left, kept-left}
 use Rattle.bb_names.proofs.WidthLemmas.{greatest-turn, sum-turn, saturated-max, saturated-times}
 use Rattle.bb_names.proofs.faults.expressions.+expression.Goals as goal
 
@@ -84,21 +85,6 @@ look-returns-else-free-clause-noted t c = λ text.
     noted-whole text m f c.look_inside.new.found e inner c.look_inside.new.found.width before
     (kept-left f.width (first_of (wrong_width text m (Whole e))) (first_told wrong_width text m inner) c.look_inside.new.found.width (ap (λ z. z.width) before) free)
 
-pub look_inside-returns-in_ok-look_at_name-in-Net-clause-noted : goal.look_inside-returns-in_ok-look_at_name-in-Net-clause-noted
-look_inside-returns-in_ok-look_at_name-in-Net-clause-noted t c = λ text.
-    let view = view-of c.args.expr.now _ (ap out-Expr c.in-Net.is ∙ outs-Net c.in-Net.name) in
-    c.in_ok-look_at_name-in-Net.ensures.noted text ∙ ap (λ z. noted text (module_view c.args.of.now) c.args.found.now (inner_spots (use_of c.args.role) z)) (sym view)
-
-pub look_inside-returns-in_ok-look_at_name-in-Bit-clause-noted : goal.look_inside-returns-in_ok-look_at_name-in-Bit-clause-noted
-look_inside-returns-in_ok-look_at_name-in-Bit-clause-noted t c = λ text.
-    let view = view-of c.args.expr.now _ (ap out-Expr c.in-Bit.is ∙ outs-Bit c.in-Bit.name c.in-Bit.i) in
-    c.in_ok-look_at_name-in-Bit.ensures.noted text ∙ ap (λ z. noted text (module_view c.args.of.now) c.args.found.now (inner_spots (use_of c.args.role) z)) (sym view)
-
-pub look_inside-returns-in_ok-look_at_name-in-Part-clause-noted : goal.look_inside-returns-in_ok-look_at_name-in-Part-clause-noted
-look_inside-returns-in_ok-look_at_name-in-Part-clause-noted t c = λ text.
-    let view = view-of c.args.expr.now _ (ap out-Expr c.in-Part.is ∙ outs-Part c.in-Part.name c.in-Part.i c.in-Part.j) in
-    c.in_ok-look_at_name-in-Part.ensures.noted text ∙ ap (λ z. noted text (module_view c.args.of.now) c.args.found.now (inner_spots (use_of c.args.role) z)) (sym view)
-
 pub look_inside-returns-in-Not-clause-noted : goal.look_inside-returns-in-Not-clause-noted
 look_inside-returns-in-Not-clause-noted t c = λ text.
     let m = module_view c.args.of.now in
@@ -166,20 +152,108 @@ look_inside-returns-in-Concat-clause-width t c =
     let all = ap (width_in m) view ∙ width-concat (range_of m) (map expression c.in-Concat.parts.items) in
     subst (λ z. IfOk c.look_at_parts.result (λ w. w ≡ saturated z)) (ap (λ es. sum (map (width_in m) (map expression es))) c.deref-in-Concat.ensures.value ∙ sym all) c.look_at_parts.ensures.width
 
-pub look_inside-returns-in_ok-width-in-Repeat-clause-noted : goal.look_inside-returns-in_ok-width-in-Repeat-clause-noted
-look_inside-returns-in_ok-width-in-Repeat-clause-noted t c = λ text.
+pub look-returns-in_ok-note_before-clause-width : goal.look-returns-in_ok-note_before-clause-width
+look-returns-in_ok-note_before-clause-width t c = c.in_ok-width.ensures.width
+
+pub look-returns-else-free-clause-width : goal.look-returns-else-free-clause-width
+look-returns-else-free-clause-width t c = c.in_ok-width.ensures.width
+
+pub look_at_operands-loop-operand-init : goal.look_at_operands-loop-operand-init
+look_at_operands-loop-operand-init t c = record { noted = λ text. sym (noted-none text (module_view c.args.of.now) c.args.found.now); width = refl }
+
+pub look_at_operands-returns-clause-width : goal.look_at_operands-returns-clause-width
+look_at_operands-returns-clause-width t c =
+    c.loop-operand.invariant.width ∙ ap (λ z. saturated (greatest (map (λ x. width_in (module_view c.args.of.now) x.1) z))) (seen-all operand_view c.args.rest.now c.loop-operand.operand-index c.loop-operand-test.false)
+
+pub look_at_arms-loop-condition-init : goal.look_at_arms-loop-condition-init
+look_at_arms-loop-condition-init t c = record { noted = λ text. sym (noted-none text (module_view c.args.of.now) c.args.found.now); width = refl }
+
+pub look_at_arms-returns-clause-width : goal.look_at_arms-returns-clause-width
+look_at_arms-returns-clause-width t c =
+    c.loop-condition.invariant.width ∙ ap (λ z. saturated (greatest (map (λ x. width_in (module_view c.args.of.now) x.1) z))) (seen-all arm_view c.args.arms.now c.loop-condition.condition-index c.loop-condition-test.false)
+
+pub look_at_part-returns-clause-width : goal.look_at_part-returns-clause-width
+look_at_part-returns-clause-width t c = c.look.ensures.width
+
+pub look_at_parts-loop-part-init : goal.look_at_parts-loop-part-init
+look_at_parts-loop-part-init t c = record { noted = λ text. sym (noted-none text (module_view c.args.of.now) c.args.found.now); width = refl }
+
+pub look_at_parts-returns-clause-width : goal.look_at_parts-returns-clause-width
+look_at_parts-returns-clause-width t c =
+    c.loop-part.invariant.width ∙ ap (λ z. saturated (sum (map (width_in (module_view c.args.of.now)) z))) (seen-all expression c.args.parts.now c.loop-part.part-index c.loop-part-test.false)
+
+pub look_at_copies-returns-clause-noted : goal.look_at_copies-returns-clause-noted
+look_at_copies-returns-clause-noted t c = c.in_ok-width.ensures.noted
+
+pub look_at_copies-returns-clause-width : goal.look_at_copies-returns-clause-width
+look_at_copies-returns-clause-width t c =
+    saturated-times c.in_ok-width.width c.saturating_mul.result (sum (map (width_in (module_view c.args.of.now)) (map expression c.args.parts.now))) c.args.count
+    c.in_ok-width.ensures.width (c.saturating_mul.ensures ∙ ap (λ k. saturated (c.in_ok-width.width * k)) c.from.ensures)
+
+pub look_inside-returns-in-Net-clause-noted : goal.look_inside-returns-in-Net-clause-noted
+look_inside-returns-in-Net-clause-noted t c = λ text.
+    let view = view-of c.args.expr.now _ (ap out-Expr c.in-Net.is ∙ outs-Net c.in-Net.name) in
+    on_ok_weaker c.look_at_net.result (λ step. step ∙ ap (λ z. noted text (module_view c.args.of.now) c.args.found.now (inner_spots (use_of c.args.role) z)) (sym view)) (c.look_at_net.ensures.noted text)
+
+pub look_inside-returns-in-Net-clause-width : goal.look_inside-returns-in-Net-clause-width
+look_inside-returns-in-Net-clause-width t c =
+    let m = module_view c.args.of.now in
+    let view = view-of c.args.expr.now _ (ap out-Expr c.in-Net.is ∙ outs-Net c.in-Net.name) in
+    subst (λ z. IfOk c.look_at_net.result (λ w. w ≡ saturated z)) (sym (ap (width_in m) view)) c.look_at_net.ensures.width
+
+pub look_inside-returns-in-Bit-clause-noted : goal.look_inside-returns-in-Bit-clause-noted
+look_inside-returns-in-Bit-clause-noted t c = λ text.
+    let view = view-of c.args.expr.now _ (ap out-Expr c.in-Bit.is ∙ outs-Bit c.in-Bit.name c.in-Bit.i) in
+    on_ok_weaker c.look_at_bits.result (λ step. step ∙ ap (λ z. noted text (module_view c.args.of.now) c.args.found.now (inner_spots (use_of c.args.role) z)) (sym view)) (c.look_at_bits.ensures.noted text)
+
+pub look_inside-returns-in-Bit-clause-width : goal.look_inside-returns-in-Bit-clause-width
+look_inside-returns-in-Bit-clause-width t c =
+    let m = module_view c.args.of.now in
+    let view = view-of c.args.expr.now _ (ap out-Expr c.in-Bit.is ∙ outs-Bit c.in-Bit.name c.in-Bit.i) in
+    let one : distance c.in-Bit.i c.in-Bit.i + 1 ≡ 1 = omega arith in
+    subst (λ z. IfOk c.look_at_bits.result (λ w. w ≡ saturated z)) (one ∙ sym (ap (width_in m) view)) c.look_at_bits.ensures.width
+
+pub look_inside-returns-in-Part-clause-noted : goal.look_inside-returns-in-Part-clause-noted
+look_inside-returns-in-Part-clause-noted t c = λ text.
+    let view = view-of c.args.expr.now _ (ap out-Expr c.in-Part.is ∙ outs-Part c.in-Part.name c.in-Part.i c.in-Part.j) in
+    on_ok_weaker c.look_at_bits-in-Part.result (λ step. step ∙ ap (λ z. noted text (module_view c.args.of.now) c.args.found.now (inner_spots (use_of c.args.role) z)) (sym view)) (c.look_at_bits-in-Part.ensures.noted text)
+
+pub look_inside-returns-in-Part-clause-width : goal.look_inside-returns-in-Part-clause-width
+look_inside-returns-in-Part-clause-width t c =
+    let m = module_view c.args.of.now in
+    let view = view-of c.args.expr.now _ (ap out-Expr c.in-Part.is ∙ outs-Part c.in-Part.name c.in-Part.i c.in-Part.j) in
+    subst (λ z. IfOk c.look_at_bits-in-Part.result (λ w. w ≡ saturated z)) (sym (ap (width_in m) view)) c.look_at_bits-in-Part.ensures.width
+
+pub look_inside-returns-in-Plain-clause-noted : goal.look_inside-returns-in-Plain-clause-noted
+look_inside-returns-in-Plain-clause-noted t c = λ text.
+    let m = module_view c.args.of.now in
+    let view = view-of c.args.expr.now _ (ap out-Expr c.in-Plain.is ∙ outs-Plain c.in-Plain.field-0) in
+    sym (noted-none text m c.args.found.now) ∙ ap (λ z. noted text m c.args.found.now (inner_spots (use_of c.args.role) z)) (sym view)
+
+pub look_inside-returns-in-Sized-clause-noted : goal.look_inside-returns-in-Sized-clause-noted
+look_inside-returns-in-Sized-clause-noted t c = λ text.
+    let m = module_view c.args.of.now in
+    let view = view-of c.args.expr.now _ (ap out-Expr c.in-Sized.is ∙ outs-Sized c.in-Sized.bits) in
+    sym (noted-none text m c.args.found.now) ∙ ap (λ z. noted text m c.args.found.now (inner_spots (use_of c.args.role) z)) (sym view)
+
+pub look_inside-returns-in-Not-clause-width : goal.look_inside-returns-in-Not-clause-width
+look_inside-returns-in-Not-clause-width t c =
+    let m = module_view c.args.of.now in
+    let view = view-of c.args.expr.now _ (ap out-Expr c.in-Not.is ∙ outs-Not c.in-Not.field-0 c.in-Not.operand) in
+    subst (λ z. IfOk c.look.result (λ w. w ≡ saturated z)) (ap (λ e. width_in m (expression e)) c.deref.ensures ∙ sym (ap (width_in m) view)) c.look.ensures.width
+
+pub look_inside-returns-in-Repeat-clause-noted : goal.look_inside-returns-in-Repeat-clause-noted
+look_inside-returns-in-Repeat-clause-noted t c = λ text.
     let m = module_view c.args.of.now in
     let f = c.args.found.now in
     let how = use_of c.args.role in
     let view = view-of c.args.expr.now _ (ap out-Expr c.in-Repeat.is ∙ outs-Repeat c.in-Repeat.count c.in-Repeat.parts) in
     let all = ap (inner_spots how) view ∙ spots-repeat how c.in-Repeat.count (map expression c.in-Repeat.parts.items) in
-    c.in_ok-width-in-Repeat.ensures.noted text ∙ ap (λ es. noted text m f (flat_map (spots_of_part how) (map expression es))) c.deref-in-Repeat.ensures.value ∙ ap (noted text m f) (sym all)
+    on_ok_weaker c.look_at_copies.result (λ step. step ∙ ap (λ es. noted text m f (flat_map (spots_of_part how) (map expression es))) c.deref-in-Repeat.ensures.value ∙ ap (noted text m f) (sym all)) (c.look_at_copies.ensures.noted text)
 
-pub look_inside-returns-in_ok-width-in-Repeat-clause-width : goal.look_inside-returns-in_ok-width-in-Repeat-clause-width
-look_inside-returns-in_ok-width-in-Repeat-clause-width t c =
+pub look_inside-returns-in-Repeat-clause-width : goal.look_inside-returns-in-Repeat-clause-width
+look_inside-returns-in-Repeat-clause-width t c =
     let m = module_view c.args.of.now in
     let view = view-of c.args.expr.now _ (ap out-Expr c.in-Repeat.is ∙ outs-Repeat c.in-Repeat.count c.in-Repeat.parts) in
     let all = ap (width_in m) view ∙ width-repeat (range_of m) c.in-Repeat.count (map expression c.in-Repeat.parts.items) in
-    saturated-times c.in_ok-width-in-Repeat.width c.saturating_mul.result (sum (map (width_in m) (map expression c.in-Repeat.parts.items))) c.in-Repeat.count
-    (c.in_ok-width-in-Repeat.ensures.width ∙ ap (λ es. saturated (sum (map (width_in m) (map expression es)))) c.deref-in-Repeat.ensures.value)
-    (c.saturating_mul.ensures ∙ ap (λ k. saturated (c.in_ok-width-in-Repeat.width * k)) c.from.ensures) ∙ ap saturated (sym all)
+    subst (λ z. IfOk c.look_at_copies.result (λ w. w ≡ saturated z)) (ap (λ es. c.in-Repeat.count * sum (map (width_in m) (map expression es))) c.deref-in-Repeat.ensures.value ∙ sym all) c.look_at_copies.ensures.width

@@ -8,7 +8,7 @@ use Rattle.bb_ast.specs.declared.expr.Expr.TheVariants.{outs-Chain, outs-Concat,
 use Rattle.bb_ast.specs.declared.expr.Expr.{out-Expr}
 use Rattle.bb_names.specs.Firsts.{first_of}
 use Rattle.bb_names.proofs.ExpressionViews.{view-of, names-chain, names-cond, names-concat, names-repeat}
-use Rattle.bb_names.proofs.Noting.{first_of-append, first-found}
+use Rattle.bb_names.proofs.Noting.{first_of-append, first-found, first-more, seen-all}
 use Rattle.bb_names.proofs.faults.registers.+first.Goals as goal
 
 pub first_name-returns-in-None : goal.first_name-returns-in-None
@@ -67,3 +67,29 @@ first_of_operands-returns-in-Some t c =
 pub first_of_parts-returns-in-Some : goal.first_of_parts-returns-in-Some
 first_of_parts-returns-in-Some t c =
     sym (first-found names_in expression c.args.parts.now c.loop-part.part-index c.part-item.result c.in-Some.name.now c.loop-part-test.true c.part-item.is c.loop-part.invariant (sym c.first_name.ensures ∙ ap (option_map (λ n. n.now)) c.in-Some.is))
+
+pub first_of_operands-loop-operand-preserved : goal.first_of_operands-loop-operand-preserved
+first_of_operands-loop-operand-preserved t c =
+    first-more (λ y. names_in y.1) operand_view c.args.rest.now c.loop-operand.operand-index c.loop-operand-item.result c.loop-operand-test.true c.loop-operand-item.is c.loop-operand.invariant
+    (sym c.first_name.ensures ∙ ap (option_map (λ n. n.now)) c.in_default.is)
+
+pub first_of_operands-returns : goal.first_of_operands-returns
+first_of_operands-returns t c = sym (sym (ap (λ z. first_of (flat_map (λ y. names_in y.1) z)) (seen-all operand_view c.args.rest.now c.loop-operand.operand-index c.loop-operand-test.false)) ∙ c.loop-operand.invariant)
+
+pub first_of_parts-loop-part-preserved : goal.first_of_parts-loop-part-preserved
+first_of_parts-loop-part-preserved t c =
+    first-more names_in expression c.args.parts.now c.loop-part.part-index c.part-item.result c.loop-part-test.true c.part-item.is c.loop-part.invariant
+    (sym c.first_name.ensures ∙ ap (option_map (λ n. n.now)) c.in_default.is)
+
+pub first_of_parts-returns : goal.first_of_parts-returns
+first_of_parts-returns t c = sym (sym (ap (λ z. first_of (flat_map names_in z)) (seen-all expression c.args.parts.now c.loop-part.part-index c.loop-part-test.false)) ∙ c.loop-part.invariant)
+
+pub first_of_arms-loop-condition-preserved : goal.first_of_arms-loop-condition-preserved
+first_of_arms-loop-condition-preserved t c =
+    first-more (λ y. names_in y.0 ++ names_in y.1) arm_view c.args.arms.now c.loop-condition.condition-index c.loop-condition-item.result c.loop-condition-test.true c.loop-condition-item.is c.loop-condition.invariant
+    (first_of-append (names_in (expression c.loop-condition-item.result.0)) (names_in (expression c.loop-condition-item.result.1))
+    ∙ ap (λ o. option_or o (first_of (names_in (expression c.loop-condition-item.result.1)))) (sym c.first_name.ensures ∙ ap (option_map (λ n. n.now)) c.in_default.is)
+    ∙ sym c.first_name-in-loop-condition.ensures ∙ ap (option_map (λ n. n.now)) c.in_default-first_name.is)
+
+pub first_of_arms-returns : goal.first_of_arms-returns
+first_of_arms-returns t c = sym (sym (ap (λ z. first_of (flat_map (λ y. names_in y.0 ++ names_in y.1) z)) (seen-all arm_view c.args.arms.now c.loop-condition.condition-index c.loop-condition-test.false)) ∙ c.loop-condition.invariant)

@@ -5,8 +5,15 @@ use Rattle.std.specs.Option.{option_and_then}
 use Rattle.bb_ast.specs.Views.{named_view, optional_view, module_view}
 use Rattle.bb_names.specs.Firsts.{noted, AreSame}
 use Rattle.bb_names.specs.Spots.{PortName, pin_named, joined_spots}
-use Rattle.bb_names.proofs.Noting.{each-turn, each-all, noted-then, seen-more}
-use Rattle.bb_names.proofs.faults.instances.look_at_named.Goals as goal
+use Rattle.bb_bits.specs.Earlier.{has_name}
+use Rattle.bb_names.proofs.Noting.{each-turn, each-all, noted-none, noted-then, seen-more}
+use Rattle.bb_names.proofs.faults.instances.look_at_connections.Goals as goal
+
+pub loop-name-init : goal.loop-name-init
+loop-name-init c = record {
+  noted = λ text. sym (noted-none text (module_view c.args.of.now) c.args.found.now);
+  names = λ n. ap (has_name n) c.requires.none;
+}
 
 pub loop-name-preserved : goal.loop-name-preserved
 loop-name-preserved c =

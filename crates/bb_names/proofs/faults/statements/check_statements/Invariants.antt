@@ -5,7 +5,7 @@ use Rattle.bb_names.specs.Declarations.{declared_by, declared_by_head}
 use Rattle.bb_names.specs.Firsts.{item_faults}
 use Rattle.bb_names.specs.Summaries.{Describes}
 use Rattle.bb_bits.specs.Earlier.{each_after}
-use Rattle.bb_names.proofs.faults.statements.check_module.Given as goal
+use Rattle.bb_names.proofs.faults.statements.check_statements.Given as goal
 
 abbrev pub invariant-loop-item : goal.invariant-loop-item
 invariant-loop-item l = record {

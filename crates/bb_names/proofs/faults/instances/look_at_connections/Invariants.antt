@@ -4,7 +4,7 @@ use Rattle.bb_ast.specs.Syntax.{PlainModule, Named}
 use Rattle.bb_ast.specs.Views.{module_view, named_view}
 use Rattle.bb_names.specs.Firsts.{noted, AreSame}
 use Rattle.bb_names.specs.Spots.{conns_spots}
-use Rattle.bb_names.proofs.faults.instances.look_at_named.Given as goal
+use Rattle.bb_names.proofs.faults.instances.look_at_connections.Given as goal
 
 abbrev pub invariant-loop-name : goal.invariant-loop-name
 invariant-loop-name l = record {
