@@ -6,6 +6,7 @@ use Rattle.std.specs.Option.{option_and_then}
 use Rattle.std.proofs.lemmas.Bool.Decides.{nat_tests}
 use Rattle.std.proofs.lemmas.List.Elements.{All-contains, All-take, All-drop, Contains-append_left, Contains-append_right}
 use Rattle.bb_ast.specs.declared.module.Range.{Range}
+use Rattle.bb_ast.specs.Formed.{IsFormed, IsNetOrBit}
 use Rattle.bb_ast.specs.Gates.{output_count}
 use Rattle.bb_ast.specs.Syntax.{Expression, Net, Bit, Part, Sized, Plain, Not, Chain, Cond, Concat, Repeat, PlainConns, Order, Named, PlainAlways, PlainBody, Ports, Nets, Regs, Supply, Assign, Gates, Calls, Always, PlainItem, PlainModule}
 use Rattle.bb_names.specs.declared.net.NetKind.TheVariants.{Wire}
@@ -23,10 +24,10 @@ use Rattle.bb_design.specs.Constructs.{Construct, Assignment, Register, SupplyNe
 use Rattle.bb_design.specs.NetBits.{written_bits, Bit as NetBit}
 use Rattle.bb_blast.specs.Outlining.{module_in, scope_of, module_constructs, FitsAt, IsClockAt, Fits, IsMakeable, IsModest}
 use Rattle.bb_lists.proofs.Places.{there_at, got-map}
-use Rattle.bb_lists.proofs.Members.{all_from, from_flat, from_map, contains-map, into_flat, contains_here, contains_there, contains_cases, none_in_nil, none_if}
+use Rattle.bb_lists.proofs.Members.{all_from, each_of, from_flat, from_map, contains-map, into_flat, contains_here, contains_there, contains_cases, none_in_nil, none_if}
 use Rattle.bb_blast.proofs.ModuleItems.{item_stands}
 use Rattle.bb_blast.proofs.ModulePlaces.{module-is, has_nets}
-use Rattle.bb_blast.proofs.RegisterItems.{IsOneName, HasClock, read_clock}
+use Rattle.bb_blast.proofs.RegisterItems.{HasClock, formed_clock}
 use Rattle.bb_blast.proofs.PortNets.{named_has}
 use Rattle.bb_design.specs.SoundSpots.{IsSoundSpot}
 use Rattle.bb_lists.proofs.Numbered.{from_numbered}
@@ -97,10 +98,10 @@ module _ (of_designs : DesignLaws) (checked : List ModuleFacts) (ok : IsChecked 
       let y = from_flat (λ y. connection i (option_and_then (λ m. pin_named m y.0) target) y.1) all c has in
       connection_fits i (option_and_then (λ m. pin_named m y.0.0) target) y.0.1 (λ x e. stands x (into_flat (λ z. option_to_list z.1) all y.0 x y.1 (subst (λ o. Contains (option_to_list o) x) (sym e) (contains_here x [])))) c y.2
 
-  clock_fits : (r : PlainAlways) → StandsAt checked k r.clock → IsSoundSpot text (scope_of m) (Clock r.clock) → IsOneName r.clock → IsClockAt checked k r.clock
+  clock_fits : (r : PlainAlways) → StandsAt checked k r.clock → IsSoundSpot text (scope_of m) (Clock r.clock) → IsNetOrBit r.clock → IsClockAt checked k r.clock
   clock_fits r stands sound one = record { fits = fits_standing r.clock stands; one = subst (λ (x : PlainModule). length (written_bits (scope_of x) r.clock) ≡ 1) (sym (module-is checked k f there)) (by r.clock sound one) }
     where
-      by : (e : Expression) → IsSoundSpot text (scope_of m) (Clock e) → IsOneName e → length (written_bits (scope_of m) e) ≡ 1
+      by : (e : Expression) → IsSoundSpot text (scope_of m) (Clock e) → IsNetOrBit e → length (written_bits (scope_of m) e) ≡ 1
       by (Net n) sound one = length-run {A = NetBit} (λ k. record { path = (scope_of m).path; net = n; place = k }) 0 (range_width (range_of m n)) ∙ of_designs.clock_width text (scope_of m) (Net n) sound (λ e. none_cons n [] e)
         where
           none_cons : (x : List ℕ) (xs : List (List ℕ)) → x ∷ xs ≡ [] → ⊥
@@ -192,6 +193,6 @@ module _ (of_designs : DesignLaws) (checked : List ModuleFacts) (ok : IsChecked 
       let spots = of_designs.sound_spots text ok.sound m in_text item.0 in_module in
       record {
         fits = body_fits spots.0 item.0.body spots.1 (λ x in_body. Contains-append_right (flat_map declared_by_head m.heads) (flat_map (λ (i : PlainItem). declared_by i.body) m.items) x (into_flat (λ (i : PlainItem). declared_by i.body) m.items item.0 x in_module in_body))
-            (item_stands checked k f there item.0 item.1) (read_clock ok.read.0 text ok.read.2 m in_text item.0 in_module) c item.2;
+            (item_stands checked k f there item.0 item.1) (formed_clock m (each_of IsFormed text ok.read.formed m in_text) item.0 in_module) c item.2;
         few = modest.cells c has;
       })

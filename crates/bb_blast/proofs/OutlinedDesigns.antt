@@ -7,13 +7,12 @@ use Rattle.std.proofs.lemmas.List.Folds.{length-flat_map-take}
 use Rattle.std.proofs.lemmas.List.Sums.{get_or-le-sum_by, sum_by-cons}
 use Rattle.std.proofs.lemmas.Option.{slice_get_within, get_or_from_slice_get, same_Some}
 use Rattle.std.proofs.lemmas.Slice.Zip.{AllZip-long}
+use Rattle.bb_ast.specs.Sizes.{call_size, item_size, module_size, source_size}
 use Rattle.bb_ast.specs.Syntax.{Expression, PlainConns, PlainBody, Ports, Nets, Regs, Supply, Assign, Gates, Calls, Always, PlainItem, PlainModule}
 use Rattle.bb_names.specs.Checked.{ModuleFacts, syntax, IsChecked}
 use Rattle.bb_names.specs.Declarations.{is_port}
 use Rattle.bb_names.specs.Nets.{nets_of, is_of_empty, is_empty}
 use Rattle.bb_names.specs.Spots.{module_named}
-use Rattle.bb_parse.specs.Laws.{TextsAreLong}
-use Rattle.bb_parse.specs.Sizes.{call_size, item_size, module_size}
 use Rattle.bb_blast.specs.declared.placed.Placed.{Placed}
 use Rattle.bb_design.specs.Constructs.{Construct, Assignment, GateInstance, Register, SupplyNet, InputConnection, OutputConnection, BoxContents, initial_construct, body_constructs, constructs_at, parts}
 use Rattle.bb_design.specs.Hierarchy.{Design, Scope, Instance, instance_of, instances_in, instances_of, scopes, path_to, is_top, is_box}
@@ -108,7 +107,7 @@ module _ (d : Design) (k : ℕ) (s : Scope) (at : IsScopeAt d k s) where
           let part : Contains (parts d) (s, c) = into_flat (λ s. map (λ c. (s, c)) (constructs_at d.text s)) (scopes d) s (s, c) (there_at (scopes d) k s at) (contains-map (λ c. (s, c)) (constructs_at d.text s) c (subst (λ l. Contains l c) (sym here) has)) in
           omega (arith, small, same_cells s c, le_sum cell_count_at (parts d) (s, c) part)
 
--- a text has no more instances than bytes
+-- a source has no more instances than its size
 calls_few : (target : List ℕ) (calls : List (List ℕ × PlainConns)) → length (map (instance_of target) calls) ≤ sum_by call_size calls
 calls_few target [] = omega arith
 calls_few target (x ∷ xs) = omega (arith, calls_few target xs, sum_by-cons call_size x xs)
@@ -127,16 +126,16 @@ items_few : (items : List PlainItem) → length (flat_map (λ item. instances_in
 items_few [] = omega arith
 items_few (x ∷ xs) = omega (arith, length-append (instances_in x.body) (flat_map (λ (item : PlainItem). instances_in item.body) xs), body_few x.body, items_few xs, sum_by-cons (λ (item : PlainItem). item_size item.body) x xs)
 
-modules_few : (text : List PlainModule) → length text ≤ sum_by (λ m. 2 + module_size m) text
+modules_few : (text : List PlainModule) → length text ≤ source_size text
 modules_few [] = omega arith
 modules_few (m ∷ ms) = omega (arith, modules_few ms, sum_by-cons (λ (m : PlainModule). 2 + module_size m) m ms)
 
-module _ (checked : List ModuleFacts) (ok : IsChecked checked) (long : TextsAreLong) where
+module _ (checked : List ModuleFacts) (ok : IsChecked checked) where
   pub text_small : length checked ≤ 33554432
-  text_small = omega (arith, ok.read.1, long ok.read.0 (map syntax checked) ok.read.2, modules_few (map syntax checked), length-map checked syntax)
+  text_small = omega (arith, ok.read.small, modules_few (map syntax checked), length-map checked syntax)
 
   instances_small : (m : PlainModule) → Contains (map syntax checked) m → length (instances_of m) ≤ 33554432
-  instances_small m has = omega (arith, ok.read.1, long ok.read.0 (map syntax checked) ok.read.2, le_sum (λ (m : PlainModule). 2 + module_size m) (map syntax checked) m has, items_few m.items)
+  instances_small m has = omega (arith, ok.read.small, le_sum (λ (m : PlainModule). 2 + module_size m) (map syntax checked) m has, items_few m.items)
 
   module _ (all : List Placed) (d : Design) (text : d.text ≡ map syntax checked) (are : ArePlaced d all) where
     pub scope_there : (k : ℕ) (p : Placed) → slice_get all k ≡ Some p → (s : Scope) × IsScopeAt d k s × IsPlacedAt d k s p

@@ -1,10 +1,10 @@
 -- Laws of checked modules by their places, of the numbers of their bits, and of what they store to.
 use Rattle.std.specs.Prelude.{◌≡◌, ℕ, ◌+◌, ◌<◌, ◌≤◌, List, flat_map, length, map, Contains, Some, slice_get}
+use Rattle.bb_ast.specs.Formed.{IsFormed}
 use Rattle.bb_ast.specs.Syntax.{Expression, PlainBody, Always, PlainItem, PlainModule}
 use Rattle.bb_names.specs.declared.net.NetInfo.{NetInfo}
 use Rattle.bb_names.specs.Checked.{ModuleFacts, HasNets, IsChecked, syntax}
 use Rattle.bb_names.specs.Ranges.{range_width}
-use Rattle.bb_parse.specs.Sources.{ReadsAs}
 use Rattle.bb_design.specs.Hierarchy.{Path, Scope}
 use Rattle.bb_design.specs.NetBits.{bits_of_net, written_bits}
 use Rattle.bb_blast.specs.Outlines.{net_start}
@@ -28,15 +28,15 @@ abbrev pub TextModulesStandAtPlaces : Type 0
 TextModulesStandAtPlaces = (checked : List ModuleFacts) (k : ℕ) (m : PlainModule) → slice_get (map syntax checked) k ≡ Some m → (k < length checked) × (module_in checked k ≡ m)
 
 -- the left side of a register has a bit
-abbrev pub IsWritten : Expression → Type 0
-IsWritten e = (s : Scope) → 1 ≤ length (written_bits s e)
+abbrev pub HasBits : Expression → Type 0
+HasBits e = (s : Scope) → 1 ≤ length (written_bits s e)
 
-abbrev pub HasLeft : PlainBody → Type 0
-HasLeft (Always r) = IsWritten r.left
-HasLeft body = Unit {0}
+abbrev pub LeftHasBits : PlainBody → Type 0
+LeftHasBits (Always r) = HasBits r.left
+LeftHasBits body = Unit {0}
 
 abbrev pub LeftSidesHaveBits : Type 0
-LeftSidesHaveBits = (text : List ℕ) (modules : List PlainModule) → ReadsAs text modules → (m : PlainModule) → Contains modules m → (item : PlainItem) → Contains m.items item → HasLeft item.body
+LeftSidesHaveBits = (m : PlainModule) → IsFormed m → (item : PlainItem) → Contains m.items item → LeftHasBits item.body
 
 -- these laws as one
 pub record ModuleLaws : Type 0 where

@@ -22,31 +22,30 @@ use bb_bits::NoMemory;
 use bb_design::laws::laws_of_designs;
 use bb_expr::laws::standing_is_fit;
 use bb_names::{Checked, CheckedModule};
-use bb_parse::laws::texts_are_long;
 use std::alloc::Global;
 
 // The outline of a module, where the modules of its instances stand at these places.
 fn outline_of(
     alloc: Global,
     checked: &Checked,
-    module: u32,
+    place: u32,
     starts: &[Vec<u32>],
     targets: &[u32],
 ) -> Result<Outline, NoMemory>
-    requires started { IsStarted checked.now (map (λ list. list.items) starts.now) «module» }
+    requires started { IsStarted checked.now (map (λ list. list.items) starts.now) place }
     requires targets { All (IsStarted checked.now (map (λ list. list.items) starts.now)) targets.now }
     requires few { length targets.now < 2 ^ 32 }
-    requires calls { AreCallsAt checked.now «module» targets.now 0 (instances_of (module_in checked.now «module»)) }
-    requires modest { IsModest (map syntax checked.now) (module_in checked.now «module») }
-    ensures outline { IfOk result (λ outline. IsOutline (map syntax checked.now) (module_in checked.now «module») outline) }
+    requires calls { AreCallsAt checked.now place targets.now 0 (instances_of (module_in checked.now place)) }
+    requires modest { IsModest (map syntax checked.now) (module_in checked.now place) }
+    ensures outline { IfOk result (λ outline. IsOutline (map syntax checked.now) (module_in checked.now place) outline) }
 {
     laws_of_designs();
     standing_is_fit();
-    let nets = &scope_at(checked, module).nets;
-    let own = &starts[module as usize];
+    let nets = &scope_at(checked, place).nets;
+    let own = &starts[place as usize];
     let inputs = port_bits(alloc, nets, own, true)?;
     let outputs = port_bits(alloc, nets, own, false)?;
-    let parts = parts_of(alloc, checked, module, starts, targets)?;
+    let parts = parts_of(alloc, checked, place, starts, targets)?;
     Ok(Outline {
         starts: Vec::from_slice(alloc, own)?,
         bits: count_bits(nets),
@@ -132,20 +131,20 @@ fn outline_at(
     checked: &Checked,
     starts: &[Vec<u32>],
     placed: &[Placed],
-    module: usize,
+    place: usize,
     copy: Option<usize>,
 ) -> Result<Outline, NoMemory>
     requires small { length checked.now < 2 ^ 32 }
-    requires copy { IfSome copy (λ k. IsSomeAnd (slice_get placed.now k) (λ p. p.module ≡ «module»)) }
+    requires copy { IfSome copy (λ k. IsSomeAnd (slice_get placed.now k) (λ p. p.module ≡ place)) }
     requires sited { All (IsSited checked.now placed.now) placed.now }
     requires started { All (λ p. IsStarted checked.now (map (λ list. list.items) starts.now) p.module) placed.now }
-    ensures outline { IfOk result (λ outline. IfSome copy (λ k. IsOutline (map syntax checked.now) (module_in checked.now «module») outline)) }
+    ensures outline { IfOk result (λ outline. IfSome copy (λ k. IsOutline (map syntax checked.now) (module_in checked.now place) outline)) }
 {
     match copy {
         Some(k) => {
             let scope = &placed[k];
             let targets = targets_of(alloc, placed, &scope.children)?;
-            outline_of(alloc, checked, module as u32, starts, &targets)
+            outline_of(alloc, checked, place as u32, starts, &targets)
         }
         None => Ok(Outline {
             starts: Vec::new(alloc),
@@ -166,7 +165,6 @@ pub fn outlines_of(
     requires design { (d : Design) × (d.text ≡ map syntax checked.now) × ArePlaced d placed.now × IsSmall d }
     ensures outlined { IfOk result (λ all. (d : Design) → d.text ≡ map syntax checked.now → ArePlaced d placed.now → IsSmall d → AreOutlined d placed.now all.items) }
 {
-    texts_are_long();
     let modules = checked.modules();
     let found = copies_of(alloc, modules.len(), placed)?;
     let starts = all_starts(alloc, checked, &found)?;

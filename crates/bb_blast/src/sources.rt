@@ -2,7 +2,7 @@
 //!
 //! A bit is given once, by its first driver; places and bits are counted in 32 bits, and a list that is longer is want of memory.
 
-ghost use Rattle.std.specs.Prelude.{◌≡◌, ◌+◌, length, slice_get, IfOk, OnOk};
+ghost use Rattle.std.specs.Prelude.{◌≡◌, ◌+◌, ◌≤◌, length, slice_get, IfOk, OnOk, OnErr};
 ghost use Rattle.bb_blast.specs.Listing.{given_one, given_all, place_or_zero, beside, in_row, all_given_by};
 
 use bb_bits::NoMemory;
@@ -15,16 +15,18 @@ pub(crate) struct Layout {
     pub others: u32,
 }
 
-/// The place that stands so far behind another. Places are counted in 32 bits: past them there is no memory.
+/// The place that stands so far behind another. Places are counted in 32 bits: it answers want of memory exactly from 2^32 on.
 pub fn behind(place: u32, offset: u32) -> Result<u32, NoMemory>
     ensures place { IfOk result (λ n. n ≡ place + offset) }
+    ensures past { OnErr result (4294967296 ≤ place + offset) }
 {
     place.checked_add(offset).ok_or(NoMemory)
 }
 
-/// How many numbers these are: fewer than 2^32, or there is no memory.
+/// How many numbers these are. It answers want of memory exactly from 2^32 on.
 pub fn count_of(numbers: &[u32]) -> Result<u32, NoMemory>
     ensures count { IfOk result (λ n. n ≡ length numbers.now) }
+    ensures past { OnErr result (4294967296 ≤ length numbers.now) }
 {
     if numbers.len() > u32::MAX as usize {
         return Err(NoMemory);
@@ -35,6 +37,7 @@ pub fn count_of(numbers: &[u32]) -> Result<u32, NoMemory>
 /// The place of the next cell, where the first of these stands at a place.
 pub(crate) fn next_place(start: u32, cells: &[LooseCell]) -> Result<u32, NoMemory>
     ensures place { IfOk result (λ n. n ≡ start + length cells.now) }
+    ensures past { OnErr result (4294967296 ≤ start + length cells.now) }
 {
     if cells.len() > u32::MAX as usize {
         return Err(NoMemory);

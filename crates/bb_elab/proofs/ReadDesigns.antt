@@ -4,7 +4,7 @@ use Rattle.std.proofs.lemmas.List.Elements.{All-contains}
 use Rattle.std.proofs.lemmas.Option.{slice_get_within}
 use Rattle.std.specs.Prelude.{slice_get, Result, Ok, Err, IfOk}
 use Rattle.bb_ast.specs.Syntax.{PlainModule}
-use Rattle.bb_names.specs.Checked.{HasText}
+use Rattle.bb_names.specs.Checked.{AreFormedAndSmall}
 use Rattle.bb_net.specs.Loose.{LooseList, IsLoose}
 use Rattle.bb_blast.specs.declared.stored.Stored.{Stored}
 use Rattle.bb_design.specs.Hierarchy.{Design}
@@ -57,7 +57,7 @@ three (Err e) p q r next = tt
 
 module _ (of_designs : DesignLaws) (of_modules : ModuleLaws) where
   -- a bit is read where its place is marked
-  pub reads_are : (text : List PlainModule) (l : LooseList) (stored : List Stored) (bits : ℕ) (first : ℕ) → first ≡ 2 + l.inputs → HasText text → (reads : List Bool) → length reads ≡ bits
+  pub reads_are : (text : List PlainModule) (l : LooseList) (stored : List Stored) (bits : ℕ) (first : ℕ) → first ≡ 2 + l.inputs → AreFormedAndSmall text → (reads : List Bool) → length reads ≡ bits
       → ((d : Design) (lowering : Lowering) → IsBounded d → IsLowering d lowering → IsListOf d lowering l → AreStored d stored → first ≡ 2 + length (cut_bits d)
       → (k : ℕ) (b : Bit) → slice_get (net_order d) k ≡ Some b → get_or reads k false ≡ true → IsRead d b)
       → ((d : Design) (lowering : Lowering) → IsBounded d → AreDrivenOnce d → IsLowering d lowering → IsListOf d lowering l → first ≡ 2 + length (cut_bits d) → AreTimed d (map (λ (x : Stored). x.clock) stored)
@@ -67,7 +67,7 @@ module _ (of_designs : DesignLaws) (of_modules : ModuleLaws) where
       let lowering = ok.listed.0 in
       let list = ok.listed.2 in
       let at : first ≡ 2 + length (cut_bits d) = is ∙ ap (λ n. 2 + n) list.inputs in
-      let timed = are_timed of_designs of_modules d ok.bounded ok.once (subst HasText (sym ok.of_text) read) stored ok.registers in
+      let timed = are_timed of_designs of_modules d ok.bounded ok.once (subst AreFormedAndSmall (sym ok.of_text) read) stored ok.registers in
       record {
         count = long ∙ ok.count;
         each = λ k b there. (

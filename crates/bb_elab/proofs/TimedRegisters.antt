@@ -4,8 +4,9 @@ use Rattle.std.proofs.lemmas.List.{map-append}
 use Rattle.std.proofs.lemmas.List.Elements.{All-contains, Contains-append_right}
 use Rattle.std.specs.Prelude.{slice_get}
 use Rattle.std.specs.List.{AllZip, find, flat_map, enumerate_from}
+use Rattle.bb_ast.specs.Formed.{IsFormed}
 use Rattle.bb_ast.specs.Syntax.{PlainAlways, PlainItem}
-use Rattle.bb_names.specs.Checked.{HasText}
+use Rattle.bb_names.specs.Checked.{AreFormedAndSmall}
 use Rattle.bb_blast.specs.declared.stored.Stored.{Stored}
 use Rattle.bb_design.specs.Constructs.{Construct, Assignment, GateInstance, Register, SupplyNet, InputConnection, OutputConnection, BoxContents, parts, body_constructs}
 use Rattle.bb_design.specs.Drivers.{Drive, driven, Free, drives, drives_at, driven_bits}
@@ -16,9 +17,9 @@ use Rattle.bb_blast.specs.Placements.{IsStoredAt, AreStored}
 use Rattle.bb_elab.specs.StoredNumbers.{AreTimed}
 use Rattle.bb_design.specs.Refusals.{AreDrivenOnce}
 use Rattle.bb_design.specs.Registers.{RegisterBit, stored, stored_at, registers}
-use Rattle.bb_lists.proofs.Members.{from_flat, from_map, contains-map, into_flat, contains_here, contains_there, contains_cases, none_in_nil, from_find, from_filter_map}
+use Rattle.bb_lists.proofs.Members.{each_of, from_flat, from_map, contains-map, into_flat, contains_here, contains_there, contains_cases, none_in_nil, from_find, from_filter_map}
 use Rattle.bb_lists.proofs.Apart.{apart_right, apart_append}
-use Rattle.bb_blast.specs.ModuleLaws.{HasLeft, ModuleLaws}
+use Rattle.bb_blast.specs.ModuleLaws.{LeftHasBits, ModuleLaws}
 use Rattle.bb_lists.proofs.Numbered.{from_numbered, numbered_there}
 use Rattle.bb_design.specs.DesignLaws.{DesignLaws}
 
@@ -102,7 +103,7 @@ module _ (of_designs : DesignLaws) (of_modules : ModuleLaws) (d : Design) (bound
       (subst (AllPairs ◌≢◌) (map-append (λ (x : Drive). x.bit) (map (driven Free) (top_inputs d)) (flat_map drives_at (parts d))) once)
 
   -- a register has a bit
-  has_left : HasText d.text → (s : Scope) (a : PlainAlways) → Contains (parts d) (s, Register a) → 1 ≤ length (written_bits s a.left)
+  has_left : AreFormedAndSmall d.text → (s : Scope) (a : PlainAlways) → Contains (parts d) (s, Register a) → 1 ≤ length (written_bits s a.left)
   has_left read s a has = let p = of_designs.part_of d s (Register a) has in by p.0 (is_box s) p.1
     where
       box_is_none : BoxContents ≡ Register a → ⊥
@@ -116,10 +117,10 @@ module _ (of_designs : DesignLaws) (of_modules : ModuleLaws) (d : Design) (bound
           either (inr none) = none_in_nil (Register a) none
       by there false h =
           let item = from_flat (λ (item : PlainItem). body_constructs d.text item.body) s.source.items (Register a) h in
-          let left = of_modules.left_sides read.0 d.text read.2 s.source (of_designs.of_text d s bounded.top there) item.0 item.1 in
-          subst HasLeft (of_designs.always_item d.text item.0.body a item.2) left s
+          let left = of_modules.left_sides s.source (each_of IsFormed d.text read.formed s.source (of_designs.of_text d s bounded.top there)) item.0 item.1 in
+          subst LeftHasBits (of_designs.always_item d.text item.0.body a item.2) left s
 
-  pub are_timed : HasText d.text → (all : List Stored) → AreStored d all → AreTimed d (map (λ (x : Stored). x.clock) all)
+  pub are_timed : AreFormedAndSmall d.text → (all : List Stored) → AreStored d all → AreTimed d (map (λ (x : Stored). x.clock) all)
   are_timed read all are s a has b clock =
       let first = some_there (written_bits s a.left) (has_left read s a has) in
       let c = first.0 in

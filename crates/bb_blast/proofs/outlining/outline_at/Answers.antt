@@ -26,17 +26,17 @@ pub targets_of-requires-clause-there : goal.targets_of-requires-clause-there
 targets_of-requires-clause-there c =
     let all = c.args.placed.now in
     let p = c.index-placed-k.result in
-    let is = there all c.args.module c.in-Some.k c.args.copy c.in-Some.is c.requires.copy p c.index-placed-k.is in
+    let is = there all c.args.place c.in-Some.k c.args.copy c.in-Some.is c.requires.copy p c.index-placed-k.is in
     let sited = all_at (IsSited c.args.checked.now all) all c.in-Some.k p c.requires.sited is in
     subst (All (λ k. k < length all)) (sym c.deref.ensures.value) (children_there c.args.checked.now all (map (λ (list : Vec ℕ Global). list.items) c.args.starts.now) c.requires.started p.children.items (instances_of (module_in c.args.checked.now p.module)) sited.children)
 
-pub overflow_cast-module : goal.overflow_cast-module
-overflow_cast-module c =
+pub overflow_cast-place : goal.overflow_cast-place
+overflow_cast-place c =
     let all = c.args.placed.now in
     let p = c.index-placed-k.result in
-    let is = there all c.args.module c.in-Some.k c.args.copy c.in-Some.is c.requires.copy p c.index-placed-k.is in
+    let is = there all c.args.place c.in-Some.k c.args.copy c.in-Some.is c.requires.copy p c.index-placed-k.is in
     let sited = all_at (IsSited c.args.checked.now all) all c.in-Some.k p c.requires.sited is in
-    omega (arith, sited.there, c.requires.small, number all c.args.module c.in-Some.k c.args.copy c.in-Some.is c.requires.copy p c.index-placed-k.is)
+    omega (arith, sited.there, c.requires.small, number all c.args.place c.in-Some.k c.args.copy c.in-Some.is c.requires.copy p c.index-placed-k.is)
 
 pub outline_of-requires : goal.outline_of-requires
 outline_of-requires c =
@@ -44,8 +44,8 @@ outline_of-requires c =
     let checked = c.args.checked.now in
     let starts = map (λ (list : Vec ℕ Global). list.items) c.args.starts.now in
     let p = c.index-placed-k.result in
-    let is = there all c.args.module c.in-Some.k c.args.copy c.in-Some.is c.requires.copy p c.index-placed-k.is in
-    let number = number all c.args.module c.in-Some.k c.args.copy c.in-Some.is c.requires.copy p c.index-placed-k.is in
+    let is = there all c.args.place c.in-Some.k c.args.copy c.in-Some.is c.requires.copy p c.index-placed-k.is in
+    let number = number all c.args.place c.in-Some.k c.args.copy c.in-Some.is c.requires.copy p c.index-placed-k.is in
     let sited = all_at (IsSited checked all) all c.in-Some.k p c.requires.sited is in
     let targets : c.deref-in-Some.result.now ≡ map (module_number all) p.children.items = c.deref-in-Some.ensures.value ∙ c.in_ok-targets-in-Some.ensures.targets ∙ ap (map (module_number all)) c.deref.ensures.value in
     record {

@@ -36,12 +36,12 @@ pub copies_of-requires : goal.copies_of-requires
 copies_of-requires c =
     let d = c.requires.design in
     let long : length c.modules-modules.result.now ≡ length c.args.checked.now = sym (length-map c.modules-modules.result.now module_facts) ∙ ap length c.modules-modules.ensures.modules in
-    record { there = λ k e lt. omega (arith, long, (all_sited c.args.checked.now c.modules-modules.ensures.checked c.texts_are_long.ensures c.args.placed.now d.0 d.1 d.2 d.3 k e lt).there) }
+    record { there = λ k e lt. omega (arith, long, (all_sited c.args.checked.now c.modules-modules.ensures.checked c.args.placed.now d.0 d.1 d.2 d.3 k e lt).there) }
 
 pub all_starts-requires-clause-modest : goal.all_starts-requires-clause-modest
 all_starts-requires-clause-modest c =
     let d = c.requires.design in
-    λ m k e. copies_bits c.args.checked.now c.args.placed.now (all_sited c.args.checked.now c.modules-modules.ensures.checked c.texts_are_long.ensures c.args.placed.now d.0 d.1 d.2 d.3) c.in_ok-found.found.items c.in_ok-found.ensures.copies m k
+    λ m k e. copies_bits c.args.checked.now c.args.placed.now (all_sited c.args.checked.now c.modules-modules.ensures.checked c.args.placed.now d.0 d.1 d.2 d.3) c.in_ok-found.found.items c.in_ok-found.ensures.copies m k
     (ap (λ l. slice_get l m) (sym c.deref.ensures.value) ∙ e)
 
 pub outline_at-requires : goal.outline_at-requires
@@ -51,9 +51,9 @@ outline_at-requires c =
     let found = c.in_ok-found.found.items in
     let k = c.loop-k.k in
     record {
-      small = omega (arith, text_small checked c.modules-modules.ensures.checked c.texts_are_long.ensures);
+      small = omega (arith, text_small checked c.modules-modules.ensures.checked);
       copy = if_copy c.args.placed.now found c.in_ok-found.ensures.copies k c.index.result.now (slice_get_read found (length found) k c.index.result.now refl (omega (arith, c.loop-k-test.true, c.len-k-end.ensures, c.in_ok-found.found.ok)) c.index.ensures);
-      sited = all_sited checked c.modules-modules.ensures.checked c.texts_are_long.ensures c.args.placed.now d.0 d.1 d.2 d.3;
+      sited = all_sited checked c.modules-modules.ensures.checked c.args.placed.now d.0 d.1 d.2 d.3;
       started = subst (λ (l : List (Vec ℕ Global)). All (λ p. IsStarted checked (map (λ (list : Vec ℕ Global). list.items) l) p.module) c.args.placed.now) (sym c.deref-in-loop-k.ensures.value)
           (copies_started checked c.args.placed.now (map (λ (list : Vec ℕ Global). list.items) c.in_ok-starts.starts.items) found c.in_ok-found.ensures.copies (λ m j e. c.in_ok-starts.ensures.started m j (ap (λ l. slice_get l m) c.deref.ensures.value ∙ e)));
     }
@@ -85,7 +85,7 @@ returns c = record {
       let checked = c.args.checked.now in
       let found = c.in_ok-found.found.items in
       let copy = c.in_ok-found.ensures.copies.each k p e in
-      let meant = source_meant checked c.modules-modules.ensures.checked c.texts_are_long.ensures c.args.placed.now d text are k s p at e in
+      let meant = source_meant checked c.modules-modules.ensures.checked c.args.placed.now d text are k s p at e in
       let o = c.loop-k.invariant.made p.module copy.0 (omega (arith, slice_get_within found p.module (Some copy.0) copy.1, c.loop-k-test.false, c.len-k-end.ensures, c.in_ok-found.found.ok)) copy.1 in
       (o.0, o.1, subst (λ m. IsOutline d.text m o.0) meant.1 (subst (λ t. IsOutline t (module_in checked p.module) o.0) (sym text) o.2));
 }
