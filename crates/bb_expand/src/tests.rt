@@ -1,5 +1,9 @@
 //! Small pairs. Their counts and tables were found by hand.
 
+ghost use Rattle.std.specs.Prelude.{◌≡◌, ◌+◌, ◌<◌, ◌∷◌, [], length, IfOk, OnOk};
+ghost use Rattle.std.specs.List.{AllZip};
+ghost use Rattle.bb_net.specs.Pairs.{NamesPins};
+
 use crate::{ExpandFault, Expanded, clause_count, expand};
 use bb_bits::{Name, Table};
 use bb_cnf::check;
@@ -7,12 +11,28 @@ use bb_net::{BoxName, Cell, Net, OutName, Pair};
 use std::alloc::Global;
 use std::test::Fail;
 
-// Two outputs, each of a box of its own that reads one of the two inputs. The first is to be the first input, and the second
-// is to be the second input or the first.
-fn two_boxes(alloc: Global, second: bool) -> Result<Pair, Fail> {
+// A net with two inputs and with outputs at the first of them and at a place.
+fn specification(alloc: Global, second: u32) -> Result<Net, Fail>
+    requires there { second < 4 }
+    ensures inputs { IfOk result (λ net. net.inputs ≡ 2) }
+    ensures cells { IfOk result (λ net. length net.cells ≡ 4) }
+    ensures boxes { IfOk result (λ net. net.boxes ≡ []) }
+    ensures outs { IfOk result (λ net. length net.outs ≡ 2) }
+{
     let mut spec = Net::start(alloc, 2)?;
     spec.add_out(2)?;
-    spec.add_out(if second { 3 } else { 2 })?;
+    spec.add_out(second)?;
+    Ok(spec)
+}
+
+// A net with two inputs, each of which a box reads that gives an output.
+fn implementation(alloc: Global) -> Result<Net, Fail>
+    ensures inputs { IfOk result (λ net. net.inputs ≡ 2) }
+    ensures cells { IfOk result (λ net. length net.cells ≡ 6) }
+    ensures boxes { IfOk result (λ net. net.boxes
+        ≡ record { ins = 2 ∷ []; outs = 4 ∷ [] } ∷ record { ins = 3 ∷ []; outs = 5 ∷ [] } ∷ []) }
+    ensures outs { IfOk result (λ net. length net.outs ≡ 2) }
+{
     let mut imp = Net::start(alloc, 2)?;
     let one = imp.add_box(vec![in alloc; 2]?)?;
     let two = imp.add_box(vec![in alloc; 3]?)?;
@@ -20,29 +40,70 @@ fn two_boxes(alloc: Global, second: bool) -> Result<Pair, Fail> {
     imp.add_out(pin)?;
     let pin = imp.push(Cell::BoxOut(two, 0))?;
     imp.add_out(pin)?;
-    let mut boxes = Vec::new(alloc);
-    boxes.push(BoxName::of(
-        Name::of(alloc, b"u1")?,
-        vec![in alloc; Name::of(alloc, b"i")?]?,
-        vec![in alloc; Name::of(alloc, b"o")?]?,
-    ))?;
-    boxes.push(BoxName::of(
-        Name::of(alloc, b"u2")?,
-        vec![in alloc; Name::of(alloc, b"i")?]?,
-        vec![in alloc; Name::of(alloc, b"o")?]?,
-    ))?;
-    let mut ins = Vec::new(alloc);
-    ins.push(Name::of(alloc, b"a")?)?;
-    ins.push(Name::of(alloc, b"b")?)?;
-    let mut outs = Vec::new(alloc);
-    outs.push(OutName {
+    Ok(imp)
+}
+
+fn name(alloc: Global, text: &[u8]) -> Result<Vec<Name>, Fail>
+    ensures { IfOk result (λ names. length names.items ≡ 1) }
+{
+    Ok(vec![in alloc; Name::of(alloc, text)?]?)
+}
+
+// The texts of a box with two pins.
+fn box_name(alloc: Global, path: &[u8]) -> Result<BoxName, Fail>
+    ensures ins { IfOk result (λ texts. length texts.ins ≡ 1) }
+    ensures outs { IfOk result (λ texts. length texts.outs ≡ 1) }
+{
+    let ins = name(alloc, b"i")?;
+    let outs = name(alloc, b"o")?;
+    Ok(BoxName::of(Name::of(alloc, path)?, ins, outs))
+}
+
+fn add_out_name(alloc: Global, names: &mut Vec<OutName>, text: &[u8]) -> Result<(), Fail>
+    ensures { OnOk result (length names.new.items ≡ length names.old.items + 1) }
+{
+    names.push(OutName {
         next: false,
-        text: Name::of(alloc, b"y1")?,
+        text: Name::of(alloc, text)?,
     })?;
-    outs.push(OutName {
-        next: false,
-        text: Name::of(alloc, b"y2")?,
-    })?;
+    Ok(())
+}
+
+fn input_names(alloc: Global) -> Result<Vec<Name>, Fail>
+    ensures { IfOk result (λ names. length names.items ≡ 2) }
+{
+    let mut names = name(alloc, b"a")?;
+    names.push(Name::of(alloc, b"b")?)?;
+    Ok(names)
+}
+
+fn output_names(alloc: Global) -> Result<Vec<OutName>, Fail>
+    ensures { IfOk result (λ names. length names.items ≡ 2) }
+{
+    let mut names = Vec::new(alloc);
+    add_out_name(alloc, &mut names, b"y1")?;
+    add_out_name(alloc, &mut names, b"y2")?;
+    Ok(names)
+}
+
+fn box_names(alloc: Global) -> Result<Vec<BoxName>, Fail>
+    ensures { IfOk result (λ names. AllZip NamesPins names.items
+        (record { ins = 2 ∷ []; outs = 4 ∷ [] } ∷ record { ins = 3 ∷ []; outs = 5 ∷ [] } ∷ [])) }
+{
+    let mut names = Vec::new(alloc);
+    names.push(box_name(alloc, b"u1")?)?;
+    names.push(box_name(alloc, b"u2")?)?;
+    Ok(names)
+}
+
+// Two outputs, each of a box of its own that reads one of the two inputs. The first is to be the first input, and the second
+// is to be the second input or the first.
+fn two_boxes(alloc: Global, second: bool) -> Result<Pair, Fail> {
+    let ins = input_names(alloc)?;
+    let outs = output_names(alloc)?;
+    let boxes = box_names(alloc)?;
+    let spec = specification(alloc, if second { 3 } else { 2 })?;
+    let imp = implementation(alloc)?;
     Ok(Pair::of(spec, imp, ins, outs, boxes))
 }
 

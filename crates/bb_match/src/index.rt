@@ -16,6 +16,15 @@ pub(crate) struct Index {
     pub outs: Places,
 }
 
+impl Index {
+    /// The texts of the registers alone.
+    pub fn into_reg_texts(self) -> Vec<Name>
+        ensures texts { result ≡ self.reg_texts }
+    {
+        self.reg_texts
+    }
+}
+
 // The texts of registers.
 fn texts_of(alloc: Global, regs: &[Reg]) -> Result<Vec<Name>, NoMemory>
     ensures texts { IfOk result (λ texts. texts.items ≡ map (λ r. r.text) regs.now) }

@@ -63,7 +63,7 @@ reads_any n boxes (Mux a b c) h = h
 reads_any n boxes (BoxOut b p) h = All-nil (λ a. a < n)
 reads_any n boxes (Copy p) h = h
 
-reads_whole : (boxes : List Pins) (c : LooseCell) → (IsOutput c → ⊥) → (a : ℕ) → Contains (operands boxes c) a → Contains (operands [] c) a
+pub reads_whole : (boxes : List Pins) (c : LooseCell) → (IsOutput c → ⊥) → (a : ℕ) → Contains (operands boxes c) a → Contains (operands [] c) a
 reads_whole boxes (Const b) out a h = h
 reads_whole boxes (Input i) out a h = h
 reads_whole boxes (Not a) out m h = h

@@ -41,6 +41,13 @@ at_old to k q m p free a = elim (cases_eq m k) [
 pub at_new : (to : List (Option ℕ)) (k q : ℕ) → k < length to → IsAt (set to k (Some q)) k q
 at_new to k q lt = get_or-set_same to k (Some q) None lt
 
+-- the first cells stand where they are, and one more
+pub first_more : (to : List (Option ℕ)) (k : ℕ) → k < length to → ((j : ℕ) → j < k → IsAt to j j) → IsOpen to k → (j : ℕ) → j < k + 1 → IsAt (set to k (Some k)) j j
+first_more to k lt before free j h = elim (cases_eq j k) [
+  | inl e ↦ subst (λ i. IsAt (set to k (Some k)) i i) (sym e) (at_new to k k lt)
+  | inr ne ↦ at_old to k k j j free (before j (omega arith))
+]
+
 pub at_cases : (to : List (Option ℕ)) (k q m p : ℕ) → k < length to → IsAt (set to k (Some q)) m p → ((m ≡ k) × (p ≡ q)) ⊎ IsAt to m p
 at_cases to k q m p lt a = elim (cases_eq m k) [
   | inl e ↦ inl (e, sym (at_unique (set to k (Some q)) k q p (at_new to k q lt) (subst (λ j. IsAt (set to k (Some q)) j p) e a)))

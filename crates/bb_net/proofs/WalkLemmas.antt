@@ -1,14 +1,15 @@
 -- A search along dependence finds each place to which a walk leads.
 use Rattle.std.proofs.Common.{◌≡◌, ℕ, ◌+◌, ◌<◌, ◌≤◌, zero, suc, Bool, true, false, not, cond, List, [], ◌∷◌, ◌++◌, length, take, get_or, set, replicate, refl, sym, ap, subst, ◌∙◌, inl, inr, arith, get_or-set_same, get_or-set_other}
-use Rattle.std.specs.Prelude.{Contains, slice_index}
+use Rattle.std.specs.Prelude.{All, Contains, slice_index}
 use Rattle.std.specs.Bool.{Decides}
 use Rattle.std.proofs.lemmas.Bool.{cases_eq, cases_lt, both_ways}
 use Rattle.std.proofs.lemmas.List.{length-set, length-replicate, get_or-replicate, get_or_past, length_push, take_more}
 use Rattle.std.proofs.lemmas.List.Elements.{All-contains, Contains-push, Contains-append_left, Contains-append_right, Contains-push_cases}
 use Rattle.std.proofs.lemmas.List.Sums.{sum_by-set}
+use Rattle.bb_net.specs.Netlists.{Pins, box_at}
 use Rattle.bb_net.specs.Values.{bit_of}
 use Rattle.bb_net.specs.Loose.{LooseList, loose_at, operands, IsLoose, Reaches, DependsOn, IsOnClosedWalk}
-use Rattle.bb_net.specs.Walks.{IsMarked, IsSearched, CellsRise}
+use Rattle.bb_net.specs.Walks.{IsMarked, IsSearched, AreDone, CellsRise}
 use Rattle.bb_net.proofs.PlaceLists.{Contains-one, Contains-none, Reaches-push}
 
 itself : (p k : ℕ) → p ≡ k → Contains (p ∷ []) k
@@ -38,6 +39,18 @@ IsMarked-new p seen stack lt is =
 pub IsMarked-pushed : (p : ℕ) (seen : List Bool) (stack pushed : List ℕ) → p < length seen → bit_of seen p ≡ false → pushed ≡ stack ++ p ∷ [] → IsMarked (p ∷ []) seen stack (set seen p true) pushed
 IsMarked-pushed p seen stack pushed lt is e = subst (IsMarked (p ∷ []) seen stack (set seen p true)) (sym e) (IsMarked-new p seen stack lt is)
 
+-- places that were all seen before
+pub IsMarked-seen : (places : List ℕ) (seen : List Bool) (stack : List ℕ) → ((k : ℕ) → Contains places k → bit_of seen k ≡ true) → IsMarked places seen stack seen stack
+IsMarked-seen places seen stack here = record {
+  whole = refl {A = ℕ};
+  stays = λ k h. h;
+  marked = here;
+  only = λ k h. inl h;
+  kept = λ k has. has;
+  pushed = λ k has. inl has;
+  work = refl {A = ℕ};
+}
+
 -- places marked one after another
 IsMarked-more : (ps : List ℕ) (p : ℕ) (s0 : List Bool) (t0 : List ℕ) (s1 : List Bool) (t1 : List ℕ) (s2 : List Bool) (t2 : List ℕ) → IsMarked ps s0 t0 s1 t1 → IsMarked (p ∷ []) s1 t1 s2 t2 → IsMarked (ps ++ p ∷ []) s0 t0 s2 t2
 IsMarked-more ps p s0 t0 s1 t1 s2 t2 a b = record {
@@ -64,6 +77,27 @@ none_seen n k h = elim (cases_lt k n) [
   | inl below ↦ absurd (both_ways true (sym h ∙ get_or-replicate n k false false below) refl)
   | inr past ↦ absurd (both_ways true (sym h ∙ get_or_past (replicate n false) k false (omega (arith, past, length-replicate n false))) refl)
 ]
+
+-- the boxes whose pins are marked: none at first, and then one more
+pub AreDone-none : (l : LooseList) (seen done : List Bool) → done ≡ replicate (length l.boxes) false → AreDone l seen done
+AreDone-none l seen done e = record {
+  whole = ap length e ∙ length-replicate (length l.boxes) false;
+  pins = λ b a h has. none_seen (length l.boxes) b (subst (λ bits. bit_of bits b ≡ true) e h);
+}
+
+pub AreDone-more : (l : LooseList) (old new done : List Bool) (b : ℕ) (before after : List ℕ) → AreDone l old done → IsMarked (box_at l.boxes b).ins old before new after → AreDone l new (set done b true)
+AreDone-more l old new done b before after is m = record {
+  whole = length-set done b true ∙ is.whole;
+  pins = λ c a h has. elim (cases_eq c b) [
+    | inl e ↦ m.marked a (subst (λ d. Contains (box_at l.boxes d).ins a) e has)
+    | inr ne ↦ m.stays a (is.pins c a (sym (get_or-set_other done b c true false ne) ∙ h) has)
+  ];
+}
+
+-- the input pins of a box are places
+pub pins_among : (l : LooseList) (b n : ℕ) (pins : Pins) (ins : List ℕ) → IsLoose l → n ≡ length l.cells → pins ≡ box_at l.boxes b → ins ≡ pins.ins → All (λ k. k < n) ins
+pins_among l b n pins ins loose e f g =
+    subst (λ m. All (λ k. k < m) ins) (sym e) (subst (All (λ k. k < length l.cells)) (sym (g ∙ ap (λ (q : Pins). q.ins) f)) (loose.pins_there b))
 
 IsSearched-start : (l : LooseList) (start : ℕ) (seen : List Bool) (stack : List ℕ) → IsLoose l → start < length l.cells → IsMarked (operands l.boxes (loose_at l start)) (replicate (length l.cells) false) [] seen stack → IsSearched l start seen stack
 IsSearched-start l start seen stack loose lt m =
@@ -127,6 +161,14 @@ IsSearched-popped l start p s all t seen stack loose old e m = IsSearched-more l
 
 pub IsSearched-top : (l : LooseList) (start p : ℕ) (s : List Bool) (all t : List ℕ) → IsSearched l start s all → all ≡ t ++ p ∷ [] → p < length l.cells
 IsSearched-top l start p s all t old e = old.there p (subst (λ xs. Contains xs p) (sym e) (Contains-push t p))
+
+-- a number above the ranks of the first places and of the next one
+pub above_more : (ranks places : List ℕ) (i old new : ℕ) → i < length places → ((a : ℕ) → Contains (take i places) a → slice_index ranks a < old) → old ≤ new → slice_index ranks (get_or places i 0) < new
+    → (a : ℕ) → Contains (take (i + 1) places) a → slice_index ranks a < new
+above_more ranks places i old new lt before le here a has = elim (Contains-push_cases (take i places) (get_or places i 0) a (subst (λ xs. Contains xs a) (take_more places i 0 lt) has)) [
+  | inl h ↦ let under = before a h in omega (arith, under, le)
+  | inr e ↦ subst (λ j. slice_index ranks j < new) e here
+]
 
 -- ranks that rise do not rise along a walk
 ranks_down : (l : LooseList) (ranks : List ℕ) → IsLoose l → CellsRise l ranks → (n k m : ℕ) → k < length l.cells → Reaches n l k m → slice_index ranks m ≤ slice_index ranks k

@@ -12,7 +12,7 @@ use bb_bits::NoMemory;
 /// A cell of a list, or a box of it.
 ///
 /// Boxes count on their own, since each output pin of a box reads all its input pins.
-#[derive(Clone, Copy, Debug, PartialEq, Eq)]
+#[derive(Clone, Copy, PartialEq, Eq)]
 enum Node {
     Cell(u32),
     Box(u32),
@@ -78,24 +78,37 @@ struct Search {
 // The node that a node reads as operand i.
 fn read(loose: &Loose, node: Node, i: usize) -> Option<Node> {
     match node {
-        Node::Cell(k) => match loose.cells.get(k as usize)? {
-            LooseCell::Const(_) | LooseCell::Input(_) => None,
-            LooseCell::Not(a) | LooseCell::Copy(a) => nth(&[*a], i),
-            LooseCell::And(a, b) | LooseCell::Or(a, b) | LooseCell::Xor(a, b) => nth(&[*a, *b], i),
-            LooseCell::Mux(c, t, e) => nth(&[*c, *t, *e], i),
-            LooseCell::BoxOut(b, _) if i == 0 => Some(Node::Box(*b)),
-            LooseCell::BoxOut(_, _) => None,
-        },
+        Node::Cell(k) => read_by_cell(*loose.cells.get(k as usize)?, i),
         Node::Box(b) => nth(loose.boxes.get(b as usize)?.ins(), i),
     }
 }
 
+fn read_by_cell(cell: LooseCell, i: usize) -> Option<Node> {
+    if let LooseCell::BoxOut(b, _) = cell {
+        return (i == 0).then_some(Node::Box(b));
+    }
+    let (places, count) = cell.operands();
+    nth(&places[..count], i)
+}
+
 fn nth(places: &[u32], i: usize) -> Option<Node> {
-    let place = places.get(i)?;
-    Some(Node::Cell(*place))
+    places.get(i).map(|place| Node::Cell(*place))
 }
 
 impl Search {
+    fn new(loose: &Loose) -> Result<Search, NoMemory> {
+        let alloc = loose.allocator();
+        Ok(Search {
+            found: Ranks::zero(loose)?,
+            low: Ranks::zero(loose)?,
+            ranks: Ranks::zero(loose)?,
+            open: Vec::new(alloc),
+            path: Vec::new(alloc),
+            time: 0,
+            components: 0,
+        })
+    }
+
     fn find(&mut self, node: Node) -> Result<(), NoMemory> {
         self.time = self.time.saturating_add(1);
         self.found.set(node, self.time);
@@ -145,6 +158,18 @@ impl Search {
         }
     }
 
+    // Searches from each cell that no search has found.
+    fn search_all(&mut self, loose: &Loose) -> Result<(), NoMemory>
+        requires list { IsLoose loose.now }
+    {
+        for k in 0..loose.cell_count() as u32 {
+            if self.found.get(Node::Cell(k)) == 0 {
+                self.search(loose, Node::Cell(k))?;
+            }
+        }
+        Ok(())
+    }
+
     // Searches from a cell.
     fn search(&mut self, loose: &Loose, root: Node) -> Result<(), NoMemory> {
         self.find(root)?;
@@ -168,21 +193,7 @@ impl Search {
 pub(crate) fn components(loose: &Loose) -> Result<Ranks, NoMemory>
     requires list { IsLoose loose.now }
 {
-    let alloc = loose.allocator();
-    let mut search = Search {
-        found: Ranks::zero(loose)?,
-        low: Ranks::zero(loose)?,
-        ranks: Ranks::zero(loose)?,
-        open: Vec::new(alloc),
-        path: Vec::new(alloc),
-        time: 0,
-        components: 0,
-    };
-    for k in 0..loose.cell_count() as u32 {
-        let root = Node::Cell(k);
-        if search.found.get(root) == 0 {
-            search.search(loose, root)?;
-        }
-    }
+    let mut search = Search::new(loose)?;
+    search.search_all(loose)?;
     Ok(search.ranks)
 }

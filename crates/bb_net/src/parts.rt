@@ -1,11 +1,26 @@
 //! The cells and boxes of a list in any order, by their numbers.
 
-ghost use Rattle.std.specs.Prelude.{◌≡◌, ◌<◌, length};
+ghost use Rattle.std.specs.Prelude.{◌≡◌, ◌<◌, ◌≤◌, [], length, take};
 ghost use Rattle.bb_net.specs.Netlists.{box_at};
-ghost use Rattle.bb_net.specs.Loose.{loose_at};
+ghost use Rattle.bb_net.specs.Loose.{loose_at, operands};
 
 use crate::{BoxPins, Loose, LooseCell};
 use std::alloc::Global;
+
+impl LooseCell {
+    // The places that a cell reads which is no output pin of a box: the first so many of three.
+    pub(crate) fn operands(self) -> ([u32; 3], usize)
+        ensures count { result.1 ≤ 3 }
+        ensures places { take result.1 result.0 ≡ operands [] self }
+    {
+        match self {
+            LooseCell::Const(_) | LooseCell::Input(_) | LooseCell::BoxOut(_, _) => ([0, 0, 0], 0),
+            LooseCell::Not(a) | LooseCell::Copy(a) => ([a, 0, 0], 1),
+            LooseCell::And(a, b) | LooseCell::Or(a, b) | LooseCell::Xor(a, b) => ([a, b, 0], 2),
+            LooseCell::Mux(c, t, e) => ([c, t, e], 3),
+        }
+    }
+}
 
 impl Loose {
     // The number of cells.

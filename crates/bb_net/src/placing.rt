@@ -15,7 +15,7 @@ use std::mem;
 
 /// Who waits for a cell to get its place: a cell that reads it, or a box that reads it at this input pin, where the pins
 /// before it have their places.
-#[derive(Clone, Copy, Debug)]
+#[derive(Clone, Copy)]
 pub(crate) enum Waiter {
     Cell(u32),
     Box(u32, usize),
@@ -63,7 +63,7 @@ impl Waiters {
 
 /// What becomes of a cell whose operands have their places: another cell in the netlist, no cell of its own for a copy,
 /// which stands where the cell stands that it copies, or, for an output pin, a cell that comes with its box.
-#[derive(Clone, Copy, Debug)]
+#[derive(Clone, Copy)]
 pub(crate) enum Moved {
     New(Cell),
     Same(u32),

@@ -1,6 +1,6 @@
 //! Numbers that tell cells apart from closed walks: along a walk of dependence they never rise.
 
-ghost use Rattle.std.specs.Prelude.{◌≡◌, ◌+◌, ◌<◌, ◌≤◌, ℕ, true, All, Contains, length, slice_index};
+ghost use Rattle.std.specs.Prelude.{◌≡◌, ◌+◌, ◌<◌, ◌≤◌, ℕ, [], true, All, Contains, length, slice_index};
 ghost use Rattle.bb_net.specs.Netlists.{box_at};
 ghost use Rattle.bb_net.specs.Loose.{IsLoose, loose_at, operands};
 ghost use Rattle.bb_net.specs.Walks.{BoxesRise, CellsRise};
@@ -19,6 +19,14 @@ fn above(ranks: &[u32], places: &[u32]) -> u64
     above
 }
 
+// A number above the ranks of the cells that a cell reads which is no output pin of a box.
+fn above_gate(cell: LooseCell, ranks: &[u32]) -> u64
+    ensures above { (a : ℕ) → Contains (operands [] cell) a → slice_index ranks.now a < result }
+{
+    let (places, count) = cell.operands();
+    above(ranks, &places[..count])
+}
+
 // A number above the ranks of the operands of a cell.
 pub(crate) fn above_operands(loose: &Loose, ranks: &Ranks, place: u32) -> u64
     requires list { IsLoose loose.now }
@@ -27,14 +35,8 @@ pub(crate) fn above_operands(loose: &Loose, ranks: &Ranks, place: u32) -> u64
     ensures above { (a : ℕ) → Contains (operands loose.now.boxes (loose_at loose.now place)) a → slice_index ranks.now.cells.items a < result }
 {
     match loose.cell(place) {
-        LooseCell::Const(_) | LooseCell::Input(_) => 0,
-        LooseCell::Not(a) | LooseCell::Copy(a) => above(&ranks.cells, &[a]),
-        LooseCell::And(a, b) | LooseCell::Or(a, b) | LooseCell::Xor(a, b) => above(
-            &ranks.cells,
-            &[a, b],
-        ),
-        LooseCell::Mux(c, t, e) => above(&ranks.cells, &[c, t, e]),
         LooseCell::BoxOut(b, _) => u64::from(rank_at(&ranks.boxes, b)) + 1,
+        cell => above_gate(cell, &ranks.cells),
     }
 }
 

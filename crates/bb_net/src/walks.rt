@@ -41,20 +41,8 @@ fn mark_gate(cell: LooseCell, seen: &mut [bool], stack: &mut Vec<u32>) -> Result
     requires there { All (λ k. k < length seen.old) (operands [] cell) }
     ensures ok { OnOk result (IsMarked (operands [] cell) seen.old stack.old.items seen.new stack.new.items) }
 {
-    match cell {
-        LooseCell::Const(_) | LooseCell::Input(_) | LooseCell::BoxOut(_, _) => mark_all(
-            &[],
-            seen,
-            stack,
-        ),
-        LooseCell::Not(a) | LooseCell::Copy(a) => mark_all(&[a], seen, stack),
-        LooseCell::And(a, b) | LooseCell::Or(a, b) | LooseCell::Xor(a, b) => mark_all(
-            &[a, b],
-            seen,
-            stack,
-        ),
-        LooseCell::Mux(c, t, e) => mark_all(&[c, t, e], seen, stack),
-    }
+    let (places, count) = cell.operands();
+    mark_all(&places[..count], seen, stack)
 }
 
 // Marks the places at the input pins of a box, unless that was done for another output pin of the box.

@@ -1,5 +1,5 @@
 -- the tables of the cells of a netlist
-use Rattle.std.proofs.Common.{◌≡◌, ◌<◌, ℕ, zero, suc, ◌+◌, Bool, not, ◌&&◌, ◌||◌, if◌then◌else◌, List, [], ◌∷◌, length, take, refl, sym, ap, ap₂, ◌∙◌, subst, arith}
+use Rattle.std.proofs.Common.{◌≡◌, ◌<◌, ◌≤◌, ℕ, zero, suc, ◌+◌, Bool, not, ◌&&◌, ◌||◌, if◌then◌else◌, List, [], ◌∷◌, length, take, refl, sym, ap, ap₂, ◌∙◌, subst, arith}
 use Rattle.std.specs.Prelude.{slice_index_or}
 use Rattle.std.proofs.lemmas.List.Sums.{sum_by-cons}
 use Rattle.bb_bits.specs.Bits.{xor}
@@ -15,6 +15,17 @@ use Rattle.bb_sym.proofs.FunctionTables.{table_same, combined-table, constant-ta
 -- a netlist has a value
 abbrev pub ValueExists : Type 0
 ValueExists = (net : Netlist) (x : List Bool) (box : ℕ → ℕ → List Bool → Bool) → IsOrdered net → IsValue net x box (value_of net x box)
+
+-- a cell of a netlist is asked no more where there are more inputs, and what boxes read does not matter
+pub reads_more : (inputs n place : ℕ) (boxes : List Pins) (cell : Cell) → inputs ≤ n → ReadsBefore inputs boxes place cell → ReadsBefore n [] place cell
+reads_more inputs n place boxes (Const b) le reads = tt
+reads_more inputs n place boxes (Input i) le reads = omega (arith, le, reads)
+reads_more inputs n place boxes (Not a) le reads = reads
+reads_more inputs n place boxes (And a b) le reads = reads
+reads_more inputs n place boxes (Or a b) le reads = reads
+reads_more inputs n place boxes (Xor a b) le reads = reads
+reads_more inputs n place boxes (Mux c t e) le reads = reads
+reads_more inputs n place boxes (BoxOut b p) le reads = λ k d l. absurd (omega (arith, l))
 
 -- only the places that a cell reads count
 pub cell_table-same : (n first inputs place : ℕ) (starts : List ℕ) (boxes : List Pins) (at by : ℕ → Truth) → ((k : ℕ) → k < place → at k ≡ by k) → (cell : Cell) → ReadsBefore inputs boxes place cell →

@@ -50,9 +50,6 @@ from_one t b h = subst (IsBeadOf b) (sym (only t h.0 h.1)) h.2
 pub listed : {X : Type 0} (f : ℕ → X) (a n i j : ℕ) → i < n → a + i ≡ j → Contains (map f (range_with_len a n)) (f j)
 listed f a n i j l e = (i, (let whole = length-map-range_with_len f a n in omega (arith, whole, l)), get_or-map-range_with_len f a n i j (f j) l e)
 
-kept_held : (old new : NodeStore) → Keeps old new → (b : Truth) → IsHeld old b → IsHeld new b
-kept_held old new kept b h = (h.0, kept.refs h.0 h.1, subst (IsBeadOf b) (sym (kept.tables h.0 h.1)) h.2)
-
 pub keeps_self : (s : NodeStore) → Keeps s s
 keeps_self s = record { vars = refl; limit = refl; refs = λ r ref. ref; views = λ r ref. refl; tables = λ r ref. refl }
 

@@ -31,7 +31,7 @@ returns-then-pin-ins c =
         placing = λ woken p. (let below = All-get_or (λ j. j < length l.cells) pins pin 0 lt (p.list.pins_there b) in
             rw (e, ins) (IsPlacing-box_waits l s.net s.to.items s.numbers.items s.numbered.items s.waiting.items s.fresh.items _ b c.args.from woken pin p lt before (omega (arith, below, p.queue.width)) free));
         less = omega arith;
-        numbers = refl;
+        numbers = refl {A = List ℕ};
       });
     }
 
@@ -50,6 +50,6 @@ returns c =
       ok = record {
         placing = λ woken p. IsPlacing-box_ready l s.net s.to.items s.numbers.items s.numbered.items s.waiting.items s.fresh.items _ _ b c.args.from woken _ refl c.in_ok-push.ensures.permutation (c.in_ok-push.ensures.heap_order p.heap) p all;
         less = omega arith;
-        numbers = refl;
+        numbers = refl {A = List ℕ};
       };
     }

@@ -1,4 +1,4 @@
-use Rattle.std.proofs.Common.{◌<◌, [], length, refl, sym, ap, subst, ◌∙◌, arith}
+use Rattle.std.proofs.Common.{ℕ, ◌<◌, List, [], length, refl, sym, ap, subst, ◌∙◌, arith}
 use Rattle.std.specs.Prelude.{Contains}
 use Rattle.std.proofs.lemmas.List.{length_push}
 use Rattle.bb_net.specs.Loose.{loose_at, operands}
@@ -20,7 +20,7 @@ returns-then-is_some c =
             let at = placed_read s.to.items c.args.k c.index.result.now (omega (arith, lt, p.begun.whole)) c.index.ensures (sym c.if-is_some.ensures) in
             IsPlacing-skip c.args.loose.now s.net s.to.items s.numbers.items s.numbered.items s.waiting.items s.fresh.items _ c.args.k woken [] p (λ o. at_open s.to.items c.args.k at.0 at.1 o));
         less = omega arith;
-        numbers = refl;
+        numbers = refl {A = List ℕ};
       };
     }
 
@@ -75,7 +75,7 @@ returns-in-Ok-New c =
             let within : k < length s.to.items = omega (arith, lt, p.begun.whole) in
             let free = open_read s.to.items k c.index.result.now within c.index.ensures (sym c.if-is_some.ensures) in
             omega (arith, ap open_count f, ap length g, open_count-set s.to.items k (length s.net.cells) within free, length_push s.fresh.items k));
-        numbers = refl;
+        numbers = refl {A = List ℕ};
       });
     }
 
@@ -97,7 +97,7 @@ returns-in-Ok-Same c =
             let within : k < length s.to.items = omega (arith, lt, p.begun.whole) in
             let free = open_read s.to.items k c.index.result.now within c.index.ensures (sym c.if-is_some.ensures) in
             omega (arith, ap open_count f, ap length g, open_count-set s.to.items k q within free, length_push s.fresh.items k));
-        numbers = refl;
+        numbers = refl {A = List ℕ};
       });
     }
 
@@ -110,7 +110,7 @@ returns-in-Ok-WithBox c =
       ok = record {
         placing = λ woken p. IsPlacing-skip l s.net s.to.items s.numbers.items s.numbered.items s.waiting.items s.fresh.items _ c.args.k woken [] p (λ o. is);
         less = omega arith;
-        numbers = refl;
+        numbers = refl {A = List ℕ};
       };
     }
 
@@ -128,6 +128,34 @@ returns-in-Err c =
             let below = All-contains (λ j. j < length l.cells) _ a (p.list.there k lt) (operand_whole l.boxes (loose_at l k) a reads) in
             rw e (IsPlacing-cell_waits l s.net s.to.items s.numbers.items s.numbered.items s.waiting.items s.fresh.items _ k woken a p (omega (arith, below, p.queue.width)) free reads));
         less = omega arith;
-        numbers = refl;
+        numbers = refl {A = List ℕ};
       });
     }
+
+pub index-requires : goal.index-requires
+index-requires c =
+    let l = c.args.loose.now in
+    let s = c.args.s.now in
+    let lt = woken_cell l s.net s.to.items s.numbers.items s.numbered.items s.waiting.items s.fresh.items _ c.args.k c.requires.placing.0 [] c.requires.placing.1 in
+    omega (arith, lt, c.requires.placing.1.begun.whole, s.to.ok.0)
+
+pub cell-requires : goal.cell-requires
+cell-requires c =
+    let l = c.args.loose.now in
+    let s = c.args.s.now in
+    let lt = woken_cell l s.net s.to.items s.numbers.items s.numbered.items s.waiting.items s.fresh.items _ c.args.k c.requires.placing.0 [] c.requires.placing.1 in
+    record { there = lt }
+
+pub put-requires-clause-there : goal.put-requires-clause-there
+put-requires-clause-there c =
+    let l = c.args.loose.now in
+    let s = c.args.s.now in
+    let lt = woken_cell l s.net s.to.items s.numbers.items s.numbered.items s.waiting.items s.fresh.items _ c.args.k c.requires.placing.0 [] c.requires.placing.1 in
+    omega (arith, lt, c.requires.placing.1.begun.whole, s.to.ok.0)
+
+pub put_at-requires : goal.put_at-requires
+put_at-requires c =
+    let l = c.args.loose.now in
+    let s = c.args.s.now in
+    let lt = woken_cell l s.net s.to.items s.numbers.items s.numbered.items s.waiting.items s.fresh.items _ c.args.k c.requires.placing.0 [] c.requires.placing.1 in
+    record { there = omega (arith, lt, c.requires.placing.1.begun.whole, s.to.ok.0) }

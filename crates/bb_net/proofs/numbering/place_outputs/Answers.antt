@@ -1,4 +1,4 @@
-use Rattle.std.proofs.Common.{◌≡◌, ◌<◌, length, ap, subst, ◌∙◌, arith}
+use Rattle.std.proofs.Common.{◌≡◌, ℕ, ◌<◌, List, length, refl, ap, subst, ◌∙◌, arith}
 use Rattle.std.specs.Prelude.{slice_index}
 use Rattle.bb_net.specs.Netlists.{Pins, box_at}
 use Rattle.bb_net.proofs.BuiltCells.{room_for}
@@ -51,3 +51,6 @@ loop-p-preserved c =
           (IsComing-next l s.net s.to.items s.numbers.items c.args.b c.args.number c.loop-p.p p.list p.built c.loop-p.invariant.coming lt);
       numbers = c.loop-p.invariant.numbers;
     }
+
+pub loop-p-init : goal.loop-p-init
+loop-p-init c = record { placing = c.requires.placing; coming = c.requires.coming; numbers = refl {A = List ℕ} }

@@ -1,5 +1,10 @@
-use Rattle.bb_net.proofs.WalkLemmas.{IsMarked-take}
+use Rattle.std.proofs.Common.{[]}
+use Rattle.bb_net.proofs.PlaceLists.{Contains-none}
+use Rattle.bb_net.proofs.WalkLemmas.{IsMarked-seen, IsMarked-take}
 use Rattle.bb_net.proofs.walks.mark_all.Goals as goal
+
+pub loop-place-init : goal.loop-place-init
+loop-place-init c = IsMarked-seen [] c.args.seen.now c.args.stack.now.items (λ k has. Contains-none k has)
 
 pub loop-place-preserved : goal.loop-place-preserved
 loop-place-preserved c =

@@ -1,12 +1,12 @@
-use Rattle.std.proofs.Common.{rules, IsErrOf, subst, subst₂, sym, ap, ◌∙◌, ◌≡◌, ◌<◌, ◌+◌, List, length, arith}
+use Rattle.std.proofs.Common.{rules, IsErrOf, subst, subst₂, sym, ap, ◌∙◌, ◌≡◌, ℕ, ◌<◌, ◌≤◌, ◌+◌, List, [], length, arith}
 use Rattle.bb_net.specs.declared.cell.Cell.{Cell}
 use Rattle.bb_net.specs.declared.cell.Cell.TheVariants.{Input, BoxOut}
-use Rattle.bb_net.specs.Netlists.{cell_at}
+use Rattle.bb_net.specs.Netlists.{ReadsBefore, cell_at}
 use Rattle.bb_uniq.specs.declared.store.Ref.{Ref}
 use Rattle.bb_uniq.specs.Meaning.{truth_of, Adds, IsTooMany}
 use Rattle.bb_sym.specs.declared.fault.RungFault.TheVariants.{Nodes}
 use Rattle.bb_sym.specs.Made.{AreRefs, cell_table, ref_at}
-use Rattle.bb_sym.proofs.CellTables.{input_variable, pin_variable}
+use Rattle.bb_sym.proofs.CellTables.{input_variable, pin_variable, reads_more}
 use Rattle.bb_sym.proofs.MadeLemmas.{AreRefs-push, keeps_then}
 use Rattle.bb_sym.proofs.NetLoop.{CellsMade, next_table, next_refused, next_made, whole_makes}
 use Rattle.bb_sym.proofs.cells.net_cells.Goals as goal
@@ -68,3 +68,14 @@ pub returns-clause-makes : goal.returns-clause-makes
 returns-clause-makes c = λ r reads.
     let count : c.loop-cell.cell-index ≡ length c.args.net.now.cells = search rules in
     whole_makes c.args.d.now.store c.loop-cell.d.store c.args.net.now c.loop-cell.made.items c.loop-cell.cell-index r count (c.loop-cell.invariant.3 r reads)
+
+pub cell_diagram-requires-clause-reads : goal.cell_diagram-requires-clause-reads
+cell_diagram-requires-clause-reads c =
+    let net = c.args.net.now in
+    let i = c.loop-cell.cell-index in
+    let vars = c.loop-cell.d.store.vars in
+    let there : i < length net.cells = omega (arith, c.loop-cell-test.true, ap length c.cells-cells.ensures.cells) in
+    let enough : net.inputs ≤ vars = omega (arith, c.requires.inputs, c.loop-cell.invariant.2.vars) in
+    let places : length c.deref.result.now ≡ i = ap length c.deref.ensures.value ∙ c.loop-cell.invariant.0 in
+    subst₂ (λ (m : ℕ) (cells : List Cell). ReadsBefore vars [] m (cell_at cells i)) (sym places) (sym c.cells-cells.ensures.cells)
+    (reads_more net.inputs vars i net.boxes (cell_at net.cells i) enough (c.cells-cells.ensures.kept.ordered i there))
