@@ -122,10 +122,10 @@ module _ (laws : Laws) (spec imp : Design) (p : NetPair) (spec_allowed : IsAllow
   no_boxes : length (boxes spec) ≡ 0
   no_boxes = sym (ap length pair.spec_stands.listed.boxes ∙ length-map (enumerate_from 0 (boxes spec)) _ ∙ length-enumerate_from 0 (boxes spec)) ∙ sym pair.spec_stands.ordered.box_count ∙ no_pins
 
-  spec_fit : (contents : Contents) → FitDesign spec contents
+  pub spec_fit : (contents : Contents) → FitDesign spec contents
   spec_fit contents k s lt = absurd (omega (arith, lt, no_boxes))
 
-  spec_tables : (contents : Contents) → AreTablesOf f contents []
+  pub spec_tables : (contents : Contents) → AreTablesOf f contents []
   spec_tables contents = record {
     fit = record {
       count = sym no_pins;
@@ -139,35 +139,35 @@ module _ (laws : Laws) (spec imp : Design) (p : NetPair) (spec_allowed : IsAllow
   without_boxes : (xs : List Bool) → flat f.net xs [] ≡ flat_with f.net xs []
   without_boxes xs = laws.by_boxes f.net pair.spec_stands.netlist xs (free_bit f.net.boxes []) (tabled_bit []) (λ b q fits pin. absurd (omega (arith, fits, no_pins)))
 
-  out_count : length f.net.outs ≡ length p.imp.outs
+  pub out_count : length f.net.outs ≡ length p.imp.outs
   out_count = ap (λ (net : Netlist). length net.outs) (sym pair.paired.spec_stays) ∙ pair.kept.beside.outputs
 
-  in_count : length (cut_inputs f) ≡ p.imp.inputs
+  pub in_count : length (cut_inputs f) ≡ p.imp.inputs
   in_count = length-append (map TopInput f.ins) (map State (register_texts f)) ∙ ap₂ ◌+◌ (length-map f.ins TopInput) (length-map (register_texts f) State ∙ length-map f.regs (λ (r : Reg). r.text))
       ∙ sym pair.spec_flat.named.inputs ∙ ap (λ (net : Netlist). net.inputs) (sym pair.paired.spec_stays) ∙ pair.kept.beside.inputs
 
-  cut_count : length (cut_outputs f) ≡ length f.net.outs
+  pub cut_count : length (cut_outputs f) ≡ length f.net.outs
   cut_count = length-append (map TopOutput f.outs) (map NextState (register_texts f)) ∙ ap₂ ◌+◌ (length-map f.outs TopOutput) (length-map (register_texts f) NextState ∙ length-map f.regs (λ (r : Reg). r.text)) ∙ sym pair.spec_flat.named.outputs
 
-  imp_cut_count : length (cut_outputs g) ≡ length g.net.outs
+  pub imp_cut_count : length (cut_outputs g) ≡ length g.net.outs
   imp_cut_count = length-append (map TopOutput g.outs) (map NextState (register_texts g)) ∙ ap₂ ◌+◌ (length-map g.outs TopOutput) (length-map (register_texts g) NextState ∙ length-map g.regs (λ (r : Reg). r.text)) ∙ sym pair.imp_flat.named.outputs
 
   module _ (contents : Contents) (tables : List TableBits) (fit : FitDesign imp contents) (are : AreTablesOf g contents tables) (x : Vector) where
     abbrev xs : List Bool
     xs = map x (cut_inputs f)
 
-    spec_bit : ℕ → Bool
+    unfoldable pub spec_bit : ℕ → Bool
     spec_bit j = bit_out laws spec f spec_allowed pair.spec_stands pair.spec_flat contents [] (spec_fit contents) (spec_tables contents) x j
 
-    imp_bit : ℕ → Bool
+    unfoldable pub imp_bit : ℕ → Bool
     imp_bit j = bit_out laws imp g imp_allowed pair.imp_stands pair.imp_flat contents tables fit are x j
 
     -- the bits of the pair are those of the designs
-    wanted_is : (j : ℕ) → wanted_bit p.spec xs j ≡ spec_bit j
+    pub wanted_is : (j : ℕ) → wanted_bit p.spec xs j ≡ spec_bit j
     unfolding spec_bit
     wanted_is j = ap (λ (net : Netlist). bit_of (flat net xs []) (get_or net.outs j 0)) pair.paired.spec_stays ∙ ap (λ bits. bit_of bits (get_or f.net.outs j 0)) (without_boxes xs)
 
-    out_is : (j i : ℕ) → slice_get pair.paired.picks j ≡ Some i → i < length g.net.outs → out_bit p.imp (flat_with p.imp xs tables) j ≡ imp_bit i
+    pub out_is : (j i : ℕ) → slice_get pair.paired.picks j ≡ Some i → i < length g.net.outs → out_bit p.imp (flat_with p.imp xs tables) j ≡ imp_bit i
     unfolding imp_bit
     out_is j i at fits =
         let re = pair.paired.rearranged in
@@ -180,7 +180,7 @@ module _ (laws : Laws) (spec imp : Design) (p : NetPair) (spec_allowed : IsAllow
         ∙ ap (λ ys. bit_of (flat_with g.net ys tables) k) (picked_bits x (cut_inputs f) numbers (cut_inputs g) pair.paired.inputs)
 
     -- an output of the specification and that of its name in the implementation
-    other_place : (j : ℕ) (o : CutOutput) → slice_get (cut_outputs f) j ≡ Some o → (i : ℕ) × (slice_get pair.paired.picks j ≡ Some i) × (slice_get (cut_outputs g) i ≡ Some o)
+    pub other_place : (j : ℕ) (o : CutOutput) → slice_get (cut_outputs f) j ≡ Some o → (i : ℕ) × (slice_get pair.paired.picks j ≡ Some i) × (slice_get (cut_outputs g) i ≡ Some o)
     other_place j o at = picked_at (cut_outputs g) pair.paired.picks (cut_outputs f) j o pair.paired.outputs at
 
     module _ (w v : World) (is_w : IsWorld spec contents w) (has_w : HasVector spec x w) (is_v : IsWorld imp contents v) (has_v : HasVector imp x v) where

@@ -83,7 +83,7 @@ zip_texts d (x ∷ xs) [] all = absurd all
 zip_texts d (x ∷ xs) (y ∷ ys) all = ap₂ ◌∷◌ all.0.text (zip_texts d xs ys all.1)
 
 module _ (d : Design) (f : FlatNet) (stands : StandsFor d f) where
-  registers_are : register_texts f ≡ map (λ r. bit_text d r.bit) (registers d)
+  pub registers_are : register_texts f ≡ map (λ r. bit_text d r.bit) (registers d)
   registers_are = zip_texts d (registers d) f.regs stands.regs
 
   pub vector_bits_are : (x : Vector) → vector_bits d x ≡ map x (cut_inputs f)

@@ -1,3 +1,4 @@
 pub mod AlikePairs
 pub mod DesignAgreement
 pub mod DesignRefusals
+pub mod Mistakes

@@ -3,6 +3,7 @@
 ghost use Rattle.bb_agree.specs.AlikePairs.{PairsForDesignsAreAlike};
 ghost use Rattle.bb_agree.specs.DesignAgreement.{DesignsAgreeWithThemselves, NoTablesNoContents, SpelledContentsAgree, TablesAgreeAsContents, TablesSpellContents};
 ghost use Rattle.bb_agree.specs.DesignRefusals.{StandingNetsAreTakenAlike, DesignRefusalsAreOne, NotPairAndRefusal};
+ghost use Rattle.bb_agree.specs.Mistakes.{MistakesRefute, PairsAreNamed, WrongOutputsAreMistakes, WrongVectorsAreMistakes};
 
 use bb_alike::laws::rearranged_stay_alike;
 use bb_cells::list_laws::standing_nets_give_outputs;
@@ -121,3 +122,41 @@ pub fn pairs_for_designs_are_alike()
     standing_nets_are_named_alike();
     standing_nets_are_alike();
 }
+
+/// Where an output of a pair that stands for two sound designs is always wrong at a vector, that shows a mistake there.
+pub fn wrong_outputs_are_mistakes()
+    ensures { WrongOutputsAreMistakes }
+{
+    value_goes_by_boxes();
+    rearranged_keeps_values();
+    standing_nets_give_outputs();
+    tables_give_outputs();
+    contents_have_tables();
+    tables_have_contents();
+    flat_nets_have_cuts_apart();
+    fitting_nets_have_their_outputs();
+}
+
+/// Where some output of it is wrong at a vector whatever the boxes give, that shows a mistake.
+pub fn wrong_vectors_are_mistakes()
+    ensures { WrongVectorsAreMistakes }
+{
+    value_goes_by_boxes();
+    rearranged_keeps_values();
+    standing_nets_give_outputs();
+    tables_give_outputs();
+    contents_have_tables();
+    tables_have_contents();
+    flat_nets_have_cuts_apart();
+    fitting_nets_have_their_outputs();
+}
+
+/// In such a pair inputs and outputs have the names of those of the specification.
+pub fn pairs_are_named()
+    ensures { PairsAreNamed }
+{}
+
+/// Where a vector shows a mistake, no contents agree.
+pub fn mistakes_refute()
+    ensures { MistakesRefute }
+{}

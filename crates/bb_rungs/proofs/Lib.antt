@@ -13,6 +13,8 @@ pub mod AlikeTold
 pub mod AlikeWitnesses
 pub mod ErrorLaw
 pub mod Findings
+pub mod FoundLaw
+pub mod InputTexts
 pub mod OneWitness
 pub mod OneWord
 pub mod OpenLaw

@@ -34,11 +34,11 @@ same_fronts (x ∷ a) b (y ∷ c) d long same =
     (ap (λ n. n ∷ a) (ap first_byte same) ∙ ap (λ l. y ∷ l) rest.0, rest.1)
 
 -- a bit has one byte
-one_byte : (b : Bool) → length (bit_text b) ≡ 1
+pub one_byte : (b : Bool) → length (bit_text b) ≡ 1
 one_byte true = refl
 one_byte false = refl
 
-same_bit : (a b : Bool) → bit_text a ≡ bit_text b → a ≡ b
+pub same_bit : (a b : Bool) → bit_text a ≡ bit_text b → a ≡ b
 same_bit true true e = refl
 same_bit false false e = refl
 same_bit true false e = absurd (omega (arith, ap first_byte e))

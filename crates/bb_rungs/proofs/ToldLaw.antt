@@ -70,12 +70,14 @@ module _ (vectors : PatternsAreVectors) (p : NetPair) (o : Options) (kept : IsPa
   said_told Expand said (Decided small few (expanded.Error vectors cnf refutation) is same) = subst (SaidTells p) (sym same) tt
   said_told Expand said (Decided small few (expanded.Repair tables) is same) = subst (SaidTells p) (sym same) (tables_told tables.items is)
 
-  climb_told : (rungs : List Rung) (lines : List Line) → Climbs p o rungs lines → All (λ (line : Line). SaidTells p line.said) lines
-  climb_told [] [] Top = All-nil _
-  climb_told [] (line ∷ more) climb = elim climb [ ]
-  climb_told (r ∷ rest) [] climb = elim climb [ ]
-  climb_told (r ∷ rest) (line ∷ []) (End is says last) = All-cons (λ (line : Line). SaidTells p line.said) line [] (said_told r line.said says) (All-nil _)
-  climb_told (r ∷ rest) (line ∷ more) (Step is says on behind) = All-cons (λ (line : Line). SaidTells p line.said) line more (said_told r line.said says) (climb_told rest more behind)
+-- what holds of all that checks may say holds of each line of a climb
+module _ (p : NetPair) (o : Options) (P : Said → Type 0) (each : (r : Rung) (said : Said) → MaySay p o r said → P said) where
+  pub climb_each : (rungs : List Rung) (lines : List Line) → Climbs p o rungs lines → All (λ (line : Line). P line.said) lines
+  climb_each [] [] Top = All-nil _
+  climb_each [] (line ∷ more) climb = elim climb [ ]
+  climb_each (r ∷ rest) [] climb = elim climb [ ]
+  climb_each (r ∷ rest) (line ∷ []) (End is says last) = All-cons (λ (line : Line). P line.said) line [] (each r line.said says) (All-nil _)
+  climb_each (r ∷ rest) (line ∷ more) (Step is says on behind) = All-cons (λ (line : Line). P line.said) line more (each r line.said says) (climb_each rest more behind)
 
 pub climbs_are_told : PatternsAreVectors → ClimbsAreTold
-climbs_are_told vectors p o lines kept climb = climb_told vectors p o kept _ lines climb
+climbs_are_told vectors p o lines kept climb = climb_each p o (SaidTells p) (said_told vectors p o kept) _ lines climb

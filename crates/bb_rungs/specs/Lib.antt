@@ -3,4 +3,5 @@ pub mod Laws
 pub mod LeftOpen
 pub mod Reports
 pub mod Rungs
+pub mod ShownVectors
 pub mod TableLines

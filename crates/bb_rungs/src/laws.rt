@@ -1,9 +1,10 @@
 //! Laws of what checks say. Each function has a law as its contract and does nothing.
 
 ghost use Rattle.bb_rungs.specs.Laws.{ErrorsExcludeTables, RepairsAgree, LinesFixTables, TextsFixTables, ClimbsAreTold, ClimbsLeaveOpen, LeftOpenIsTold, DecidersDecide, ErrorsStay, ClimbsSayAlike};
+ghost use Rattle.bb_rungs.specs.ShownVectors.{FoundVectorsAreMistakes, InputLinesFixVectors};
 
 use crate::alike_laws::alike_climbs_say_alike;
-use bb_net::conditions_weaken;
+use bb_net::{conditions_weaken, known_is_value};
 use bb_tern::laws::patterns_are_vectors;
 
 /// Where a check says that there is an error, no tables agree.
@@ -28,6 +29,19 @@ pub fn lines_fix_tables()
 pub fn texts_fix_tables()
     ensures { TextsFixTables }
 {}
+
+/// Input lines of the same names with the same text show one vector.
+pub fn input_lines_fix_vectors()
+    ensures { InputLinesFixVectors }
+{}
+
+/// Each vector that checks find shows a mistake of the pair, at the output that is told with it.
+pub fn found_vectors_are_mistakes()
+    ensures { FoundVectorsAreMistakes }
+{
+    patterns_are_vectors();
+    known_is_value();
+}
 
 /// What checks find can be told by the names of the pair.
 pub fn climbs_are_told()
