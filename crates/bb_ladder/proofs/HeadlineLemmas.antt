@@ -1,21 +1,22 @@
--- What statuses 0, 1, 3 and 4 say of the two files: the tables of the report make the designs agree, no contents of the boxes do, each
--- check leaves the question open, or a read failed.
+-- What statuses 0, 1, 3 and 4 say of the two files: the tables of the report make the designs agree, no contents of the boxes do and
+-- its vectors show mistakes, each check leaves the question open, or a read failed.
 use Rattle.std.proofs.Common.{◌≡◌, ◌<◌, ◌⊎◌, ℕ, List, length, take, Option, Some, None, arith, sym, ◌∙◌, ap, subst}
 use Rattle.std.proofs.lemmas.List.{take_all, length-take}
 use Rattle.bb_outside.specs.Counts.{Reads, Rose}
 use Rattle.bb_ladder.specs.declared.answer.TheConstants.{READ_LIMIT}
 use Rattle.bb_ladder.specs.declared.asked.Asked.{Asked as TextsAsked}
 use Rattle.bb_ladder.specs.Answers.{Question, AfterSpec, ImpUnread, ImpLong, BothRead, OfFiles, SpecUnread, SpecLong, SpecRead, MayAnswer, Usage, Asked, AreTexts}
+use Rattle.bb_ladder.specs.ShownMistakes.{AreShown, ErrorsAreShown}
 use Rattle.bb_ladder.specs.TextAnswers.{Judges, Refused, Judged, ErrorsRefute, RepairsFinish, OpenAnswersLeaveOpen, DecidedAreAnswered, LeftOpenAreAnswered}
 use Rattle.bb_ladder.specs.TextPairs.{AreRefuted, AreFinished, AreLeftOpen, AreDecided}
 use Rattle.bb_ladder.proofs.TextPairLaws.{report_status}
 
 -- a front that is shorter than the limit is the whole
-whole_front : (n : ℕ) (text front : List ℕ) → front ≡ take n text → length front < n → front ≡ text
+pub whole_front : (n : ℕ) (text front : List ℕ) → front ≡ take n text → length front < n → front ≡ text
 whole_front n text front e short =
     let l = length-take n text in let m = ap length e in e ∙ take_all n text (omega arith)
 
-same_question : (a b : Question) → Some a ≡ Some b → a ≡ b
+pub same_question : (a b : Question) → Some a ≡ Some b → a ≡ b
 same_question a b e = cc
 
 -- what a status says of two texts that are judged, where no refusal and no failed read has that status
@@ -50,6 +51,10 @@ repair_sound finish = answer_so AreFinished 0 (λ e. omega (arith, e)) (λ e. om
 pub error_sound : ErrorsRefute → (words : List (List ℕ)) (holds : List ℕ → Option (List ℕ)) (before after : Reads) (status : ℕ) (text : List ℕ) (q : Question) (spec imp : List ℕ) → MayAnswer words holds before after status text → status ≡ 1
     → AreTexts words holds q spec imp → AreRefuted q.asked spec imp
 error_sound refute = answer_so (λ asked spec imp text. AreRefuted asked spec imp) 1 (λ e. omega (arith, e)) (λ e. omega (arith, e)) refute
+
+pub shown_sound : ErrorsAreShown → (words : List (List ℕ)) (holds : List ℕ → Option (List ℕ)) (before after : Reads) (status : ℕ) (text : List ℕ) (q : Question) (spec imp : List ℕ) → MayAnswer words holds before after status text → status ≡ 1
+    → AreTexts words holds q spec imp → AreShown q.asked spec imp text
+shown_sound shown = answer_so AreShown 1 (λ e. omega (arith, e)) (λ e. omega (arith, e)) shown
 
 pub open_sound : OpenAnswersLeaveOpen → (words : List (List ℕ)) (holds : List ℕ → Option (List ℕ)) (before after : Reads) (status : ℕ) (text : List ℕ) (q : Question) (spec imp : List ℕ) → MayAnswer words holds before after status text → status ≡ 3
     → AreTexts words holds q spec imp → AreLeftOpen q.asked spec imp

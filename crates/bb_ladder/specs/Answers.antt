@@ -3,6 +3,7 @@ use Rattle.std.specs.Prelude.{◌≡◌, ℕ, ◌<◌, true, false, List, length
 use Rattle.bb_outside.specs.Counts.{IsRead, Reads, Rose}
 use Rattle.bb_ladder.specs.declared.answer.TheConstants.{READ_LIMIT}
 use Rattle.bb_ladder.specs.declared.asked.Asked.{Asked as TextsAsked}
+use Rattle.bb_ladder.specs.ShownMistakes.{AreShown}
 use Rattle.bb_ladder.specs.TextAnswers.{Judges}
 use Rattle.bb_ladder.specs.TextPairs.{AreFinished, AreLeftOpen, AreRefuted}
 use Rattle.bb_words.specs.Asked.{Request, asked}
@@ -51,4 +52,4 @@ pub record AreTexts (words : List (List ℕ)) (holds : List ℕ → Option (List
 abbrev pub AnswersSpeakOfTexts : Type 0
 AnswersSpeakOfTexts = (words : List (List ℕ)) (holds : List ℕ → Option (List ℕ)) (before after : Reads) (status : ℕ) (text : List ℕ) (q : Question) (spec imp : List ℕ)
     → MayAnswer words holds before after status text → AreTexts words holds q spec imp
-    → (status ≡ 0 → AreFinished q.asked spec imp text) × (status ≡ 1 → AreRefuted q.asked spec imp) × (status ≡ 3 → AreLeftOpen q.asked spec imp)
+    → (status ≡ 0 → AreFinished q.asked spec imp text) × (status ≡ 1 → AreRefuted q.asked spec imp × AreShown q.asked spec imp text) × (status ≡ 3 → AreLeftOpen q.asked spec imp)

@@ -6,4 +6,6 @@ pub mod TextRefusals
 pub mod TextPairs
 pub mod RefusalLines
 pub mod TextAnswers
+pub mod ShownMistakes
 pub mod Answers
+pub mod CallRefusals

@@ -37,6 +37,11 @@ DecidedAreAnswered = (asked : Asked) (spec imp : List ℕ) (status : ℕ) (text 
 abbrev pub LeftOpenAreAnswered : Type 0
 LeftOpenAreAnswered = (asked : Asked) (spec imp : List ℕ) (status : ℕ) (text : List ℕ) → Judges asked spec imp status text → AreLeftOpen asked spec imp → status ≡ 3
 
+-- status 2 tells the first refusal of the two texts
+abbrev pub JudgedRefusalsAreFirst : Type 0
+JudgedRefusalsAreFirst = (asked : Asked) (spec imp : List ℕ) (status : ℕ) (text : List ℕ) → Judges asked spec imp status text → status ≡ 2
+    → (refusal : Refusal) × IsRefusal asked spec imp refusal × (text ≡ refusal_line refusal)
+
 -- where two texts have a refusal, its line is the only answer
 abbrev pub RefusedAreAnsweredOnce : Type 0
 RefusedAreAnsweredOnce = (asked : Asked) (spec imp : List ℕ) (refusal : Refusal) (status : ℕ) (text : List ℕ) → IsRefusal asked spec imp refusal → Judges asked spec imp status text → (status ≡ 2) × (text ≡ refusal_line refusal)

@@ -8,18 +8,16 @@ ghost use Rattle.bb_rungs.specs.Rungs.{IsClimb};
 ghost use Rattle.bb_ladder.specs.declared.answer.TheConstants.{READ_LIMIT};
 ghost use Rattle.bb_ladder.specs.declared.refusal.Refusal.{Refusal};
 ghost use Rattle.bb_ladder.specs.RefusalLines.{refusal_line};
+ghost use Rattle.bb_ladder.specs.ShownMistakes.{AreShown};
 ghost use Rattle.bb_ladder.specs.TextAnswers.{Judges};
-ghost use Rattle.bb_ladder.specs.TextPairs.{AreDecided, AreFinished, AreLeftOpen, AreRefuted};
+ghost use Rattle.bb_ladder.specs.TextPairs.{AreDecided, AreFinished, AreLeftOpen, AreRefuted, IsRefusal};
 
 use crate::answer::Answer;
 use crate::asked::Asked;
 use crate::pair_texts::{keeps, pair_of};
 use crate::refusal::Refusal;
 use crate::refusal_words::push_refusal;
-use crate::text_laws::{
-    decided_are_answered, errors_refute, left_open_are_answered, open_answers_leave_open,
-    repairs_finish,
-};
+use crate::text_laws::answers_are_meant;
 use bb_bits::NoMemory;
 use bb_net::Pair;
 use bb_rungs::{Options, climb, climbs_are_told, report, verdict_of};
@@ -67,9 +65,10 @@ fn answer(alloc: Global, spec: &[u8], imp: &[u8], asked: &Asked) -> Result<Answe
 
 /// What is answered to the text of the specification and that of the implementation, whoever read them.
 ///
-/// Status 0 says that the tables at the end of the report make the two agree, status 1 that no contents of the boxes do, status 3 that
-/// each check that is asked for leaves the question open, and status 2 that the line is their first refusal. Where a check that is asked
-/// for decides, the status is 0 or 1, and where each leaves the question open, it is 3.
+/// Status 0 says that the tables at the end of the report make the two agree, status 1 that no contents of the boxes do and that
+/// the vectors of the report show mistakes, status 3 that each check that is asked for leaves the question open, and status 2 that
+/// the line is their first refusal. Where a check that is asked for decides, the status is 0 or 1, where each leaves the question
+/// open, it is 3, and where the two have a refusal, it is 2.
 ///
 /// # Errors
 ///
@@ -81,14 +80,13 @@ pub fn judge_pair(alloc: Global, spec: &[u8], imp: &[u8], asked: &Asked) -> Resu
     ensures answer { IfOk result (λ answer. Judges asked.now spec.now imp.now answer.status answer.report.items) }
     ensures repairable { IfOk result (λ answer. answer.status ≡ 0 → AreFinished asked.now spec.now imp.now answer.report.items) }
     ensures error { IfOk result (λ answer. answer.status ≡ 1 → AreRefuted asked.now spec.now imp.now) }
+    ensures shown { IfOk result (λ answer. answer.status ≡ 1 → AreShown asked.now spec.now imp.now answer.report.items) }
     ensures left_open { IfOk result (λ answer. answer.status ≡ 3 → AreLeftOpen asked.now spec.now imp.now) }
+    ensures refused { IfOk result (λ answer. answer.status ≡ 2 → (refusal : Refusal) × IsRefusal asked.now spec.now imp.now refusal × (answer.report.items ≡ refusal_line refusal)) }
+    ensures stays_refused { IfOk result (λ answer. (refusal : Refusal) → IsRefusal asked.now spec.now imp.now refusal → (answer.status ≡ 2) × (answer.report.items ≡ refusal_line refusal)) }
     ensures decided { IfOk result (λ answer. AreDecided asked.now spec.now imp.now → (answer.status ≡ 0) ⊎ (answer.status ≡ 1)) }
     ensures stays_open { IfOk result (λ answer. AreLeftOpen asked.now spec.now imp.now → answer.status ≡ 3) }
 {
-    repairs_finish();
-    errors_refute();
-    open_answers_leave_open();
-    decided_are_answered();
-    left_open_are_answered();
+    answers_are_meant();
     answer(alloc, spec, imp, asked)
 }

@@ -21,8 +21,6 @@ pub use pair_texts::pair_of;
 pub use refusal::Refusal;
 pub use refusal_words::push_refusal;
 pub use running::run;
-pub use side::{
-    design_or_fault, flat_of, not_design_and_fault, side_faults_are_one, text_designs_are_one,
-};
+pub use side::{flat_of, texts_have_designs};
 pub use side_fault::SideFault;
 pub use side_words::push_side_fault;

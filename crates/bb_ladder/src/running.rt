@@ -5,14 +5,13 @@ ghost use Rattle.bb_outside.specs.Counts.{Rose};
 ghost use Rattle.bb_options.specs.Rungs.{AreBounds};
 ghost use Rattle.bb_ladder.specs.declared.answer.TheConstants.{READ_LIMIT};
 ghost use Rattle.bb_ladder.specs.Answers.{AfterSpec, AreTexts, MayAnswer, OfFiles, Question as TextQuestion};
+ghost use Rattle.bb_ladder.specs.CallRefusals.{AreTold, IsCallRefusal};
+ghost use Rattle.bb_ladder.specs.ShownMistakes.{AreShown};
 ghost use Rattle.bb_ladder.specs.TextPairs.{AreDecided, AreFinished, AreLeftOpen, AreRefuted};
 
 use crate::answer::{Answer, READ_LIMIT, say};
 use crate::judging::judge_pair;
-use crate::text_laws::{
-    decided_are_answered, errors_refute, left_open_are_answered, open_answers_leave_open,
-    repairs_finish,
-};
+use crate::text_laws::{answers_are_meant, calls_are_refused};
 use crate::words::{Question, question_of};
 use bb_bits::NoMemory;
 use bb_outside::{FileFault, Files, Sink, put_all};
@@ -103,6 +102,12 @@ pub fn run<F: Files, K: Sink>(alloc: Global, words: &[String], files: &mut F, ou
     // An error is reported only where no contents of the boxes make every output and every next state agree on every vector.
     ensures error { result ≡ 1 → (q : TextQuestion) (spec imp : List ℕ) → AreTexts (map string_bytes words.now) (F.holds files.old) q spec imp → AreRefuted q.asked spec imp }
 
+    // And the report shows how: behind the line of a check that finds it at a vector stand the output that is wrong there, where
+    // one is told, and the vector, at which the two designs differ whatever the boxes contain.
+    ensures shown { result ≡ 1 → (q : TextQuestion) (spec imp : List ℕ)
+        → AreTexts (map string_bytes words.now) (F.holds files.old) q spec imp
+        → (text : List ℕ) × (K.written out.new ≡ append_known (K.written out.old) text) × AreShown q.asked spec imp text }
+
     // The question is left open only where, for each pair that stands for the texts, each check that is asked for finds neither a mistake
     // nor tables, or would need more nodes or clauses than it may have, or wider tables.
     ensures left_open { result ≡ 3 → (q : TextQuestion) (spec imp : List ℕ) → AreTexts (map string_bytes words.now) (F.holds files.old) q spec imp → AreLeftOpen q.asked spec imp }
@@ -118,6 +123,15 @@ pub fn run<F: Files, K: Sink>(alloc: Global, words: &[String], files: &mut F, ou
         → AreLeftOpen q.asked spec imp → (Rose (F.reads files.old).faults (F.reads files.new).faults → ⊥) → (Rose (K.faults out.old) (K.faults out.new) → ⊥)
         → (result ≡ 3) ⊎ (result ≡ 5) }
 
+    // Status 2 tells the first thing for which the call is refused: its words, the length of a file, or what is wrong with the two texts.
+    ensures refused { result ≡ 2 → AreTold (map string_bytes words.now) (F.holds files.old)
+        → (line : List ℕ) × (K.written out.new ≡ append_known (K.written out.old) line) × IsCallRefusal (map string_bytes words.now) (F.holds files.old) line }
+
+    // And where the call is to be refused and no failure was counted, that is told, unless memory runs out.
+    ensures stays_refused { (line : List ℕ) → IsCallRefusal (map string_bytes words.now) (F.holds files.old) line
+        → (Rose (F.reads files.old).faults (F.reads files.new).faults → ⊥) → (Rose (K.faults out.old) (K.faults out.new) → ⊥)
+        → ((result ≡ 2) × (K.written out.new ≡ append_known (K.written out.old) line)) ⊎ (result ≡ 5) }
+
     // What the files hold stays, and a file or the sink is blamed only where a failure was counted in this call.
     ensures kept { (n : List ℕ) → F.holds files.new n ≡ F.holds files.old n }
     ensures unread { result ≡ 4 → Rose (F.reads files.old).faults (F.reads files.new).faults }
@@ -125,11 +139,8 @@ pub fn run<F: Files, K: Sink>(alloc: Global, words: &[String], files: &mut F, ou
     ensures reads_never_fall { (F.reads files.old).faults ≤ (F.reads files.new).faults }
     ensures faults_never_fall { K.faults out.old ≤ K.faults out.new }
 {
-    repairs_finish();
-    errors_refute();
-    open_answers_leave_open();
-    decided_are_answered();
-    left_open_are_answered();
+    answers_are_meant();
+    calls_are_refused();
     let Ok(answer) = answer(alloc, words, files) else {
         return 5;
     };

@@ -39,6 +39,8 @@ fn checked_of(alloc: Global, text: &[u8]) -> Result<Checked, SideFault>
     ensures sound { IfOk result (λ checked. IsSound (map syntax checked)) }
     ensures fault { IfErr result (λ fault. (fault ≡ SideFault.NoMemory) ⊎ ((name : Option (List ℕ)) → IsSideFault name text.now fault)) }
 {
+    bb_parse::laws::sources_are_formed();
+    bb_parse::laws::texts_are_long();
     let source = source_of(alloc, text)?;
     Ok(check(alloc, source)?)
 }
@@ -58,52 +60,30 @@ pub fn flat_of(alloc: Global, text: &[u8], top: Option<&[u8]>) -> Result<Flat, S
     ensures only_fault { (first : SideFault) → IsSideFault (option_copied top.entry) text.now first
         → MatchResult result (λ flat. ⊥) (λ fault. (fault ≡ first) ⊎ (fault ≡ SideFault.NoMemory)) }
 {
-    side_faults_are_one();
-    not_design_and_fault();
+    texts_have_designs();
     let checked = checked_of(alloc, text)?;
     Ok(elaborate(alloc, &checked, top)?)
 }
 
-/// A text has at most one design for a top.
-pub fn text_designs_are_one()
-    ensures { TextDesignsAreOne }
-{
-    bb_parse::laws::texts_read_once();
-}
-
-/// A text has at most one first fault for a top.
-pub fn side_faults_are_one()
-    ensures { SideFaultsAreOne }
+/// A text has one design or one first fault for a top, and not both.
+pub fn texts_have_designs()
+    ensures designs { TextDesignsAreOne }
+    ensures faults { SideFaultsAreOne }
+    ensures not_both { NotDesignAndFault }
+    ensures either { DesignOrFault }
 {
     bb_lex::laws::tokens_are_one();
     bb_lex::laws::bad_lines_are_one();
     bb_lex::laws::not_tokens_and_bad_line();
+    bb_lex::laws::tokens_or_bad_line();
+    bb_parse::laws::texts_read_once();
     bb_parse::laws::faults_are_one();
     bb_parse::laws::not_source_and_fault();
-    bb_parse::laws::texts_read_once();
+    bb_parse::laws::source_or_fault();
     bb_names::laws::first_faults_are_one();
     bb_names::laws::not_sound_and_fault();
-    bb_design::laws::first_refusals_are_one();
-}
-
-/// No text has a design and a fault.
-pub fn not_design_and_fault()
-    ensures { NotDesignAndFault }
-{
-    bb_lex::laws::tokens_are_one();
-    bb_lex::laws::not_tokens_and_bad_line();
-    bb_parse::laws::not_source_and_fault();
-    bb_parse::laws::texts_read_once();
-    bb_names::laws::not_sound_and_fault();
-    bb_design::laws::not_sound_and_refused();
-}
-
-/// A text has a design or a fault.
-pub fn design_or_fault()
-    ensures { DesignOrFault }
-{
-    bb_lex::laws::tokens_or_bad_line();
-    bb_parse::laws::source_or_fault();
     bb_names::laws::sound_or_fault();
+    bb_design::laws::first_refusals_are_one();
+    bb_design::laws::not_sound_and_refused();
     bb_design::laws::sound_or_refused();
 }

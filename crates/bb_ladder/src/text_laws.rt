@@ -2,19 +2,23 @@
 //! a law as its contract and does nothing.
 
 ghost use Rattle.bb_ladder.specs.Answers.{AnswersSpeakOfTexts};
-ghost use Rattle.bb_ladder.specs.TextAnswers.{ErrorsRefute, RepairsFinish, OpenAnswersLeaveOpen, DecidedAreAnswered, LeftOpenAreAnswered, RefusedAreAnsweredOnce, ReportsAreOne, StatusesAreOne};
+ghost use Rattle.bb_ladder.specs.CallRefusals.{CallRefusalsAreOne, RefusalsAreTold, RefusedCallsAreTold};
+ghost use Rattle.bb_ladder.specs.ShownMistakes.{ErrorsAreShown};
+ghost use Rattle.bb_ladder.specs.TextAnswers.{ErrorsRefute, RepairsFinish, OpenAnswersLeaveOpen, DecidedAreAnswered, LeftOpenAreAnswered, JudgedRefusalsAreFirst, RefusedAreAnsweredOnce, ReportsAreOne, StatusesAreOne};
 ghost use Rattle.bb_ladder.specs.TextPairs.{DesignsAreAllowed, NotPairAndRefusal, RefusalsAreOne, TextPairsAreAlike};
 
-use crate::side::{not_design_and_fault, side_faults_are_one, text_designs_are_one};
+use crate::side::texts_have_designs;
 use bb_agree::laws::{
-    design_refusals_are_one, no_tables_no_contents, not_pair_and_refusal,
+    design_refusals_are_one, no_tables_no_contents, not_pair_and_refusal, pairs_are_named,
     pairs_for_designs_are_alike, spelled_contents_agree, tables_spell_contents,
+    wrong_outputs_are_mistakes, wrong_vectors_are_mistakes,
 };
 use bb_design::laws::sound_texts_are_allowed;
 use bb_parse::laws::sources_are_formed;
 use bb_rungs::{
     alike_pairs_are_decided, alike_pairs_are_left_open, alike_reports_are_one, climbs_leave_open,
-    deciders_decide, errors_exclude_tables, left_open_is_told, repairs_agree,
+    deciders_decide, errors_exclude_tables, found_vectors_are_mistakes, left_open_is_told,
+    repairs_agree,
 };
 
 /// The design of a text is one of which the laws of designs speak.
@@ -30,9 +34,7 @@ pub fn refusals_are_one()
     ensures { RefusalsAreOne }
 {
     designs_are_allowed();
-    text_designs_are_one();
-    side_faults_are_one();
-    not_design_and_fault();
+    texts_have_designs();
     design_refusals_are_one();
 }
 
@@ -41,8 +43,7 @@ pub fn no_pair_and_refusal()
     ensures { NotPairAndRefusal }
 {
     designs_are_allowed();
-    text_designs_are_one();
-    not_design_and_fault();
+    texts_have_designs();
     not_pair_and_refusal();
 }
 
@@ -51,74 +52,51 @@ pub fn text_pairs_are_alike()
     ensures { TextPairsAreAlike }
 {
     designs_are_allowed();
-    text_designs_are_one();
+    texts_have_designs();
     pairs_for_designs_are_alike();
 }
 
-/// An error is told only where no contents agree.
-pub fn errors_refute()
-    ensures { ErrorsRefute }
+/// What is answered to two texts is meant so, and comes where it is due.
+pub fn answers_are_meant()
+    // An error is told only where no contents agree, and its vectors show mistakes; tables only where all that they spell agree.
+    ensures errors { ErrorsRefute }
+    ensures shown { ErrorsAreShown }
+    ensures repairs { RepairsFinish }
+    // The question is left open only where each check that is asked for leaves it open, and there it is; where one decides, it is not.
+    ensures opens { OpenAnswersLeaveOpen }
+    ensures left_open { LeftOpenAreAnswered }
+    ensures decided { DecidedAreAnswered }
+    // Status 2 tells the first refusal, and where there is one, its line is the only answer.
+    ensures refusals { JudgedRefusalsAreFirst }
+    ensures refused { RefusedAreAnsweredOnce }
 {
     designs_are_allowed();
+    refusals_are_one();
+    no_pair_and_refusal();
+    text_pairs_are_alike();
     errors_exclude_tables();
     no_tables_no_contents();
-}
-
-/// A design is told as finished only with tables whose contents make the two agree.
-pub fn repairs_finish()
-    ensures { RepairsFinish }
-{
-    designs_are_allowed();
+    found_vectors_are_mistakes();
+    wrong_outputs_are_mistakes();
+    wrong_vectors_are_mistakes();
+    pairs_are_named();
     repairs_agree();
     tables_spell_contents();
     spelled_contents_agree();
-}
-
-/// The question is left open only where each check that is asked for leaves it open.
-pub fn open_answers_leave_open()
-    ensures { OpenAnswersLeaveOpen }
-{
-    text_pairs_are_alike();
     alike_pairs_are_left_open();
     climbs_leave_open();
-}
-
-/// Where a check that is asked for decides, the answer is an error or tables.
-pub fn decided_are_answered()
-    ensures { DecidedAreAnswered }
-{
-    no_pair_and_refusal();
-    text_pairs_are_alike();
+    left_open_is_told();
     alike_pairs_are_decided();
     deciders_decide();
-}
-
-/// Where each check that is asked for leaves the question open, that is the answer.
-pub fn left_open_are_answered()
-    ensures { LeftOpenAreAnswered }
-{
-    no_pair_and_refusal();
-    left_open_is_told();
-}
-
-/// Where two texts have a refusal, its line is the only answer.
-pub fn refused_are_answered_once()
-    ensures { RefusedAreAnsweredOnce }
-{
-    refusals_are_one();
-    no_pair_and_refusal();
 }
 
 /// Two texts have one status, whichever pair stands for them.
 pub fn statuses_are_one()
     ensures { StatusesAreOne }
 {
-    text_designs_are_one();
+    texts_have_designs();
     no_pair_and_refusal();
-    repairs_finish();
-    errors_refute();
-    open_answers_leave_open();
-    left_open_are_answered();
+    answers_are_meant();
 }
 
 /// Two texts have one report, whichever pair stands for them, but for what stands behind the line of the expansion.
@@ -133,7 +111,15 @@ pub fn reports_are_one()
 pub fn answers_speak_of_texts()
     ensures { AnswersSpeakOfTexts }
 {
-    repairs_finish();
-    errors_refute();
-    open_answers_leave_open();
+    answers_are_meant();
+}
+
+/// A call has at most one first refusal. Status 2 tells it, and it is told unless a failed read was counted.
+pub fn calls_are_refused()
+    ensures once { CallRefusalsAreOne }
+    ensures refusals { RefusalsAreTold }
+    ensures refused { RefusedCallsAreTold }
+{
+    refusals_are_one();
+    answers_are_meant();
 }

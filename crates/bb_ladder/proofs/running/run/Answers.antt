@@ -1,5 +1,6 @@
 use Rattle.std.proofs.Common.{inl}
-use Rattle.bb_ladder.proofs.HeadlineLemmas.{decided_sound, error_sound, open_complete, open_sound, repair_sound, unread_rose}
+use Rattle.bb_ladder.proofs.CallRefusalLaws.{told_at_two}
+use Rattle.bb_ladder.proofs.HeadlineLemmas.{decided_sound, error_sound, open_complete, open_sound, repair_sound, shown_sound, unread_rose}
 use Rattle.bb_ladder.proofs.running.run.Goals as goal
 
 pub returns-in-Ok-put_all-clause-whole : goal.returns-in-Ok-put_all-clause-whole
@@ -12,21 +13,38 @@ returns-clause-front g c = λ six.
 
 pub returns-in-Ok-put_all-clause-repairable : goal.returns-in-Ok-put_all-clause-repairable
 returns-in-Ok-put_all-clause-repairable g c = λ zero q spec imp texts.
-    (c.in-Ok.answer.report.items, rw c.deref.ensures.value at c.in-Ok-put_all.ensures.ok, repair_sound c.repairs_finish.ensures _ _ _ _ c.in-Ok.answer.status c.in-Ok.answer.report.items q spec imp c.in-Ok.ensures.answer zero texts)
+    (c.in-Ok.answer.report.items, rw c.deref.ensures.value at c.in-Ok-put_all.ensures.ok, repair_sound c.answers_are_meant.ensures.repairs _ _ _ _ c.in-Ok.answer.status c.in-Ok.answer.report.items q spec imp c.in-Ok.ensures.answer zero texts)
 
 pub returns-in-Ok-put_all-clause-error : goal.returns-in-Ok-put_all-clause-error
-returns-in-Ok-put_all-clause-error g c = λ one q spec imp texts. error_sound c.errors_refute.ensures _ _ _ _ c.in-Ok.answer.status c.in-Ok.answer.report.items q spec imp c.in-Ok.ensures.answer one texts
+returns-in-Ok-put_all-clause-error g c = λ one q spec imp texts. error_sound c.answers_are_meant.ensures.errors _ _ _ _ c.in-Ok.answer.status c.in-Ok.answer.report.items q spec imp c.in-Ok.ensures.answer one texts
+
+pub returns-in-Ok-put_all-clause-shown : goal.returns-in-Ok-put_all-clause-shown
+returns-in-Ok-put_all-clause-shown g c = λ one q spec imp texts.
+    (c.in-Ok.answer.report.items, rw c.deref.ensures.value at c.in-Ok-put_all.ensures.ok, shown_sound c.answers_are_meant.ensures.shown _ _ _ _ c.in-Ok.answer.status c.in-Ok.answer.report.items q spec imp c.in-Ok.ensures.answer one texts)
 
 pub returns-in-Ok-put_all-clause-left_open : goal.returns-in-Ok-put_all-clause-left_open
-returns-in-Ok-put_all-clause-left_open g c = λ three q spec imp texts. open_sound c.open_answers_leave_open.ensures _ _ _ _ c.in-Ok.answer.status c.in-Ok.answer.report.items q spec imp c.in-Ok.ensures.answer three texts
+returns-in-Ok-put_all-clause-left_open g c = λ three q spec imp texts. open_sound c.answers_are_meant.ensures.opens _ _ _ _ c.in-Ok.answer.status c.in-Ok.answer.report.items q spec imp c.in-Ok.ensures.answer three texts
 
 pub returns-in-Ok-put_all-clause-unread : goal.returns-in-Ok-put_all-clause-unread
 returns-in-Ok-put_all-clause-unread g c = λ four. unread_rose _ _ _ _ c.in-Ok.answer.status c.in-Ok.answer.report.items c.in-Ok.ensures.answer four
 
 pub returns-in-Ok-put_all-clause-decided : goal.returns-in-Ok-put_all-clause-decided
 returns-in-Ok-put_all-clause-decided g c = λ q spec imp texts spec_short imp_short decided calm quiet. inl
-    (decided_sound c.decided_are_answered.ensures q spec imp spec_short imp_short decided _ _ _ _ c.in-Ok.answer.status c.in-Ok.answer.report.items texts calm c.in-Ok.ensures.answer)
+    (decided_sound c.answers_are_meant.ensures.decided q spec imp spec_short imp_short decided _ _ _ _ c.in-Ok.answer.status c.in-Ok.answer.report.items texts calm c.in-Ok.ensures.answer)
 
 pub returns-in-Ok-put_all-clause-stays_open : goal.returns-in-Ok-put_all-clause-stays_open
 returns-in-Ok-put_all-clause-stays_open g c = λ q spec imp texts spec_short imp_short left calm quiet. inl
-    (open_complete c.left_open_are_answered.ensures q spec imp spec_short imp_short left _ _ _ _ c.in-Ok.answer.status c.in-Ok.answer.report.items texts calm c.in-Ok.ensures.answer)
+    (open_complete c.answers_are_meant.ensures.left_open q spec imp spec_short imp_short left _ _ _ _ c.in-Ok.answer.status c.in-Ok.answer.report.items texts calm c.in-Ok.ensures.answer)
+
+pub returns-in-Ok-put_all-clause-refused : goal.returns-in-Ok-put_all-clause-refused
+returns-in-Ok-put_all-clause-refused g c = λ two told. (
+  c.in-Ok.answer.report.items,
+  rw c.deref.ensures.value at c.in-Ok-put_all.ensures.ok,
+  told_at_two c.calls_are_refused.ensures.refusals _ _ _ _ c.in-Ok.answer.status c.in-Ok.answer.report.items c.in-Ok.ensures.answer two told,
+)
+
+pub returns-in-Ok-put_all-clause-stays_refused : goal.returns-in-Ok-put_all-clause-stays_refused
+returns-in-Ok-put_all-clause-stays_refused g c = λ line refused calm quiet.
+    let is = c.calls_are_refused.ensures.refused _ _ _ _ c.in-Ok.answer.status c.in-Ok.answer.report.items line c.in-Ok.ensures.answer refused calm in
+    let written = rw c.deref.ensures.value at c.in-Ok-put_all.ensures.ok in
+    inl (is.0, rw is.1 at written)

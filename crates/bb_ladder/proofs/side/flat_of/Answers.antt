@@ -20,10 +20,10 @@ returns-in_err-checked-clause-fault c =
     (λ fault e. subst (λ f. (f ≡ NoMemory) ⊎ IsSideFault (option_copied c.args.top) c.args.text.now f) (sym e) is) told
 
 pub returns-in_err-checked-clause-only_sound : goal.returns-in_err-checked-clause-only_sound
-returns-in_err-checked-clause-only_sound c = fails_by_memory (option_copied c.args.top) c.args.text.now c.not_design_and_fault.ensures c.from_residual.result (returns-in_err-checked-clause-fault c)
+returns-in_err-checked-clause-only_sound c = fails_by_memory (option_copied c.args.top) c.args.text.now c.texts_have_designs.ensures.not_both c.from_residual.result (returns-in_err-checked-clause-fault c)
 
 pub returns-in_err-checked-clause-only_fault : goal.returns-in_err-checked-clause-only_fault
-returns-in_err-checked-clause-only_fault c = fails_by_fault (option_copied c.args.top) c.args.text.now c.side_faults_are_one.ensures c.from_residual.result c.from_residual.ensures.0 (returns-in_err-checked-clause-fault c)
+returns-in_err-checked-clause-only_fault c = fails_by_fault (option_copied c.args.top) c.args.text.now c.texts_have_designs.ensures.faults c.from_residual.result c.from_residual.ensures.0 (returns-in_err-checked-clause-fault c)
 
 pub returns-in_err-elaborate-clause-fault : goal.returns-in_err-elaborate-clause-fault
 returns-in_err-elaborate-clause-fault c =
@@ -33,13 +33,13 @@ returns-in_err-elaborate-clause-fault c =
     (λ fault e. subst (λ f. (f ≡ NoMemory) ⊎ IsSideFault (option_copied c.args.top) c.args.text.now f) (sym e) is) told
 
 pub returns-in_err-elaborate-clause-only_sound : goal.returns-in_err-elaborate-clause-only_sound
-returns-in_err-elaborate-clause-only_sound c = fails_by_memory (option_copied c.args.top) c.args.text.now c.not_design_and_fault.ensures c.from_residual-in_err-elaborate.result (returns-in_err-elaborate-clause-fault c)
+returns-in_err-elaborate-clause-only_sound c = fails_by_memory (option_copied c.args.top) c.args.text.now c.texts_have_designs.ensures.not_both c.from_residual-in_err-elaborate.result (returns-in_err-elaborate-clause-fault c)
 
 pub returns-in_err-elaborate-clause-only_fault : goal.returns-in_err-elaborate-clause-only_fault
-returns-in_err-elaborate-clause-only_fault c = fails_by_fault (option_copied c.args.top) c.args.text.now c.side_faults_are_one.ensures c.from_residual-in_err-elaborate.result c.from_residual-in_err-elaborate.ensures.0 (returns-in_err-elaborate-clause-fault c)
+returns-in_err-elaborate-clause-only_fault c = fails_by_fault (option_copied c.args.top) c.args.text.now c.texts_have_designs.ensures.faults c.from_residual-in_err-elaborate.result c.from_residual-in_err-elaborate.ensures.0 (returns-in_err-elaborate-clause-fault c)
 
 pub returns-clause-ok : goal.returns-clause-ok
 returns-clause-ok c = design_stands (option_copied c.args.top) c.args.text.now _ c.in_ok-elaborate.field-0 c.in_ok-checked.ensures.ok c.in_ok-checked.ensures.sound c.in_ok-elaborate.ensures.sound c.in_ok-elaborate.ensures.ok
 
 pub returns-clause-only_fault : goal.returns-clause-only_fault
-returns-clause-only_fault c = λ first is. let d = returns-clause-ok c in c.not_design_and_fault.ensures (option_copied c.args.top) c.args.text.now d.0 first d.1 is
+returns-clause-only_fault c = λ first is. let d = returns-clause-ok c in c.texts_have_designs.ensures.not_both (option_copied c.args.top) c.args.text.now d.0 first d.1 is

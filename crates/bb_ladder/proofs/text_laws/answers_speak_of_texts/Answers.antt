@@ -1,9 +1,12 @@
-use Rattle.bb_ladder.proofs.HeadlineLemmas.{error_sound, open_sound, repair_sound}
+use Rattle.bb_ladder.proofs.HeadlineLemmas.{error_sound, open_sound, repair_sound, shown_sound}
 use Rattle.bb_ladder.proofs.text_laws.answers_speak_of_texts.Goals as goal
 
 pub returns : goal.returns
 returns c = λ words holds before after status text q spec imp answer texts. (
-  (λ zero. repair_sound c.repairs_finish.ensures words holds before after status text q spec imp answer zero texts),
-  (λ one. error_sound c.errors_refute.ensures words holds before after status text q spec imp answer one texts),
-  (λ three. open_sound c.open_answers_leave_open.ensures words holds before after status text q spec imp answer three texts),
+  (λ zero. repair_sound c.answers_are_meant.ensures.repairs words holds before after status text q spec imp answer zero texts),
+  (λ one. (
+    error_sound c.answers_are_meant.ensures.errors words holds before after status text q spec imp answer one texts,
+    shown_sound c.answers_are_meant.ensures.shown words holds before after status text q spec imp answer one texts,
+  )),
+  (λ three. open_sound c.answers_are_meant.ensures.opens words holds before after status text q spec imp answer three texts),
 )

@@ -2,4 +2,4 @@ use Rattle.bb_ladder.proofs.TextPairLaws.{no_pair_and_refusal}
 use Rattle.bb_ladder.proofs.text_laws.no_pair_and_refusal.Goals as goal
 
 pub returns : goal.returns
-returns c = no_pair_and_refusal c.designs_are_allowed.ensures c.text_designs_are_one.ensures c.not_design_and_fault.ensures c.not_pair_and_refusal.ensures
+returns c = no_pair_and_refusal c.designs_are_allowed.ensures c.texts_have_designs.ensures.designs c.texts_have_designs.ensures.not_both c.not_pair_and_refusal.ensures
