@@ -8,6 +8,8 @@ mod designs;
 #[cfg(test)]
 mod pair_tests;
 #[cfg(test)]
+mod reading;
+#[cfg(test)]
 mod refusal_tests;
 #[cfg(test)]
 mod size_tests;

@@ -1,5 +1,6 @@
 //! What the reader and elaboration say of a text, as one short line.
 
+use crate::reading::source_of;
 use bb_bits::Name;
 use bb_elab::{ElabFault, Flat, elaborate};
 use bb_names::{NameFault, check};
@@ -57,8 +58,7 @@ pub(crate) fn flat_of(
     top: Option<&[u8]>,
 ) -> Result<Flat, Fail> {
     assert!(rt; text.len() <= 33_554_432);
-    let tokens = bb_lex::tokens(alloc, text)?;
-    let source = bb_parse::source(alloc, &tokens, text)?;
+    let source = source_of(alloc, text)?;
     let checked = check(alloc, source)?;
     let flat = elaborate(alloc, &checked, top)?;
     Ok(flat)
@@ -72,8 +72,7 @@ pub(crate) fn told(
     top: Option<&[u8]>,
 ) -> Result<String, Fail> {
     assert!(rt; text.len() <= 33_554_432);
-    let tokens = bb_lex::tokens(alloc, text)?;
-    let source = bb_parse::source(alloc, &tokens, text)?;
+    let source = source_of(alloc, text)?;
     let mut out = String::new(alloc);
     match check(alloc, source) {
         Ok(checked) => match elaborate(alloc, &checked, top) {

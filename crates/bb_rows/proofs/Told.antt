@@ -1,10 +1,11 @@
 -- What was written into an empty sink is the report, and the files are those that were given.
-use Rattle.std.proofs.Common.{◌≡◌, ℕ, List, [], ◌∷◌, codes, Some, refl, sym, ap, subst}
+use Rattle.std.proofs.Common.{◌≡◌, ◌<◌, ℕ, List, [], ◌∷◌, codes, Some, refl, sym, ap, subst}
 use Rattle.std.specs.Prelude.{option_map}
 use Rattle.std.specs.Io.KnownBytes.{append_known}
 use Rattle.bb_outside.specs.Counts.{Reads}
 use Rattle.bb_outside.specs.MemFiles.{HeldFiles, text_under, reads_of}
 use Rattle.bb_ladder.specs.Answers.{MayAnswer, AreTexts, Question, question}
+use Rattle.bb_ladder.specs.CallRefusals.{AreTold, IsCallRefusal}
 use Rattle.bb_words.specs.Laws.{PlainWordsAreFiles, files_alone}
 use Rattle.bb_rows.specs.Memory.{holds, none_read, MayTell}
 
@@ -33,6 +34,18 @@ pub asked : (words known : List (List ℕ)) (files : List (List ℕ × List ℕ)
 asked words known files spec imp q s i e f texts =
     subst (λ (w : List (List ℕ)). AreTexts w (λ name. Some (text_under files name)) q s i) (sym e)
     (subst (λ (fs : List (List ℕ × List ℕ)). AreTexts known (λ name. Some (text_under fs name)) q s i) (sym f) texts)
+
+-- files in memory tell what they hold
+pub all_told : (words : List (List ℕ)) (files : List (List ℕ × List ℕ)) → AreTold words (λ name. Some (text_under files name))
+all_told words files q asks = (text_under files q.spec, refl, λ low. (text_under files q.imp, refl))
+
+-- the refusal of what was read is that of the words and the two texts
+pub refused_so : (words known : List (List ℕ)) (files : List (List ℕ × List ℕ)) (spec imp line : List ℕ)
+    → words ≡ known → files ≡ (codes "s.v", spec) ∷ (codes "i.v", imp) ∷ []
+    → IsCallRefusal words (λ name. Some (text_under files name)) line → IsCallRefusal known (holds spec imp) line
+refused_so words known files spec imp line e f refused =
+    subst (λ (w : List (List ℕ)). IsCallRefusal w (holds spec imp) line) e
+    (subst (λ (fs : List (List ℕ × List ℕ)). IsCallRefusal words (λ name. Some (text_under fs name)) line) f refused)
 
 -- the question of the two names
 abbrev pub named : Question

@@ -123,6 +123,30 @@ const NOR_IMPL: &str =
 module bx(i,o); input i; output o; endmodule
 "#;
 
+const TWINS_SPEC: &str = r#"// The same, and the opposite.
+module twins(a, b, same, other);
+  input a, b;
+  output same, other;
+  buf (same, a);
+  not (other, b);
+endmodule
+"#;
+
+const TWINS_IMPL: &str =
+    r#"// Two instances of one empty module: two boxes, each with contents of its own.
+module twins(a, b, same, other);
+  input a, b;
+  output same, other;
+  part u1(a, same);
+  part u2(b, other);
+endmodule
+
+module part(i, o);
+  input i;
+  output o;
+endmodule
+"#;
+
 const UNDEFINED_SPEC: &str = r#"module s(a,y);
   input a;
   output y;
@@ -170,6 +194,12 @@ fn examples_have_their_reports(rt: HostRuntime) -> Result<(), Fail> {
             NOR_IMPL,
             1,
             "rung ternary error\noutput y\ninput a=0 b=0\nverdict error\n",
+        ),
+        (
+            TWINS_SPEC,
+            TWINS_IMPL,
+            0,
+            "rung ternary none\nrung symbolic none\nrung local none\nrung output none\nrung input none\nrung expand repair\ntable u1 o 01\ntable u2 o 10\nverdict repairable\n",
         ),
         (
             UNDEFINED_SPEC,

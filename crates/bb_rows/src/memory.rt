@@ -1,6 +1,7 @@
 //! One run of the top call over two texts in memory.
 ghost use Rattle.std.specs.Prelude.{◌≡◌, ◌<◌, ◌≤◌, ◌∷◌, [], ℕ, List, length, take, map, codes, string_bytes, IfOk};
 ghost use Rattle.bb_ladder.specs.Answers.{AreTexts, Question, question};
+ghost use Rattle.bb_ladder.specs.CallRefusals.{IsCallRefusal};
 ghost use Rattle.bb_ladder.specs.TextPairs.{AreFinished, AreLeftOpen, AreRefuted};
 ghost use Rattle.bb_rows.specs.Memory.{MayTell, holds};
 ghost use Rattle.bb_words.specs.Laws.{files_alone};
@@ -89,6 +90,10 @@ pub fn run_in_memory(
         → AreTexts (map (λ text. text.now) texts.now) (holds spec.now imp.now) q s i → AreRefuted q.asked s i) }
     ensures left_open { IfOk result (λ outcome. outcome.status ≡ 3 → (q : Question) (s i : List ℕ)
         → AreTexts (map (λ text. text.now) texts.now) (holds spec.now imp.now) q s i → AreLeftOpen q.asked s i) }
+
+    // A refusal tells the first thing for which the call is refused.
+    ensures refused { IfOk result (λ outcome. outcome.status ≡ 2
+        → IsCallRefusal (map (λ text. text.now) texts.now) (holds spec.now imp.now) outcome.report.items) }
 
     // So it is where the words are the two names.
     ensures refuted { IfOk result (λ outcome. outcome.status ≡ 1 → (program : List ℕ)

@@ -1,6 +1,6 @@
 //! What the options ask for: reports under bounds and of some of the checks, tops by their names, and words that ask for nothing.
 use crate::run_in_memory;
-use std::alloc::Global;
+use std::alloc::{AllocError, Global};
 use std::process::Abort;
 use std::test::Fail;
 
@@ -96,55 +96,29 @@ fn checks_are_those_asked_for(rt: HostRuntime) -> Result<(), Fail> {
     Ok(())
 }
 
+// The words that ask for one check, within so many nodes.
+fn one_check(alloc: Global, rung: &str, nodes: &str) -> Result<String, AllocError> {
+    format!(in alloc; "bbeq s.v i.v --from {rung} --to {rung} --nodes {nodes}")
+}
+
 #[test]
 fn nodes_are_bounded(rt: HostRuntime) -> Result<(), Fail> {
-    for (options, status, report) in [
-        (
-            "--from symbolic --to symbolic --nodes 2",
-            3,
-            "rung symbolic none\nverdict open\n",
-        ),
-        (
-            "--from symbolic --to symbolic --nodes 1",
-            3,
-            "rung symbolic nodes\nverdict open\n",
-        ),
-        (
-            "--from local --to local --nodes 5",
-            3,
-            "rung local none\nverdict open\n",
-        ),
-        (
-            "--from local --to local --nodes 4",
-            3,
-            "rung local nodes\nverdict open\n",
-        ),
-        (
-            "--from output --to output --nodes 5",
-            3,
-            "rung output none\nverdict open\n",
-        ),
-        (
-            "--from output --to output --nodes 4",
-            3,
-            "rung output nodes\nverdict open\n",
-        ),
-        (
-            "--from input --to input --nodes 12",
-            0,
-            "rung input repair\ntable u o 10\nverdict repairable\n",
-        ),
-        (
-            "--from input --to input --nodes 11",
-            3,
-            "rung input nodes\nverdict open\n",
-        ),
+    for (rung, nodes, said) in [
+        ("symbolic", "2", "none"),
+        ("symbolic", "1", "nodes"),
+        ("local", "5", "none"),
+        ("local", "4", "nodes"),
+        ("output", "5", "none"),
+        ("output", "4", "nodes"),
+        ("input", "11", "nodes"),
     ] {
-        let mut line = String::from_str(rt.alloc(), "bbeq s.v i.v ")?;
-        line.push_str(options)?;
-        expect_asked(&rt, rt.alloc(), &line, (INVERTER, BOX), status, report)?;
+        let line = one_check(rt.alloc(), rung, nodes)?;
+        let report = format!(in rt.alloc(); "rung {rung} {said}\nverdict open\n")?;
+        expect_asked(&rt, rt.alloc(), &line, (INVERTER, BOX), 3, &report)?;
     }
-    Ok(())
+    let line = one_check(rt.alloc(), "input", "12")?;
+    let report = "rung input repair\ntable u o 10\nverdict repairable\n";
+    expect_asked(&rt, rt.alloc(), &line, (INVERTER, BOX), 0, report)
 }
 
 #[test]

@@ -1,9 +1,10 @@
 //! Texts and the first fault of each, or the nets of its modules: kinds, lines and names are worked out by hand.
 
 use crate::expression_telling::tell_name;
+use crate::reading::source_of;
 use crate::tables::{halves, is_row, with_breaks};
 use bb_bits::Name;
-use bb_names::{CheckedModule, NameFault, check};
+use bb_names::{CheckedModule, NameFault, NetInfo, check};
 use std::alloc::{AllocError, Global};
 use std::process::Abort;
 use std::test::Fail;
@@ -13,38 +14,48 @@ fn tell_fault(out: &mut String, kind: &str, line: u32, name: &Name) -> Result<()
     tell_name(out, name)
 }
 
+// The kind of a net, its range and its direction.
+fn tell_facts(out: &mut String, net: &NetInfo) -> Result<(), AllocError> {
+    write!(out, " {:?}", net.kind)?;
+    if let Some(range) = net.range {
+        write!(out, " {}:{}", range.left, range.right)?;
+    }
+    match net.port {
+        Some(dir) => write!(out, " {dir:?}"),
+        None => Ok(()),
+    }
+}
+
+// The place of a net by its name.
+fn tell_place(out: &mut String, place: Option<&u32>) -> Result<(), AllocError> {
+    match place {
+        Some(place) => write!(out, " {place},"),
+        None => out.push_str(" ?,"),
+    }
+}
+
+fn tell_net(out: &mut String, found: &CheckedModule, net: &NetInfo) -> Result<(), AllocError> {
+    out.push_str(" ")?;
+    tell_name(out, &net.name)?;
+    tell_facts(out, net)?;
+    tell_place(out, found.index.get(&net.name))
+}
+
 fn tell_module(out: &mut String, found: &CheckedModule) -> Result<(), AllocError> {
     if !out.is_empty() {
         out.push(' ')?;
     }
     tell_name(out, &found.module.name)?;
-    if found.empty {
-        out.push_str(" empty")?;
-    }
-    out.push_str(":")?;
+    out.push_str(if found.empty { " empty:" } else { ":" })?;
     for net in &found.nets {
-        out.push_str(" ")?;
-        tell_name(out, &net.name)?;
-        write!(out, " {:?}", net.kind)?;
-        if let Some(range) = net.range {
-            write!(out, " {}:{}", range.left, range.right)?;
-        }
-        if let Some(dir) = net.port {
-            write!(out, " {dir:?}")?;
-        }
-        match found.index.get(&net.name) {
-            Some(place) => write!(out, " {place}")?,
-            None => out.push_str(" ?")?,
-        }
-        out.push_str(",")?;
+        tell_net(out, found, net)?;
     }
     out.push_str(";")
 }
 
 fn told(rt: &impl Abort, alloc: Global, text: &[u8]) -> Result<String, Fail> {
     assert!(rt; text.len() <= 33_554_432);
-    let tokens = bb_lex::tokens(alloc, text)?;
-    let source = bb_parse::source(alloc, &tokens, text)?;
+    let source = source_of(alloc, text)?;
     let mut out = String::new(alloc);
     match check(alloc, source) {
         Ok(checked) => {

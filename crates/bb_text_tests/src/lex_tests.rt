@@ -9,26 +9,41 @@ use std::alloc::{AllocError, Global};
 use std::process::Abort;
 use std::test::Fail;
 
-/// Writes what a token says: its kind, a name's bytes, a number's bits or value, and its place.
-fn tell(alloc: Global, out: &mut String, token: &Token, text: &[u8]) -> Result<(), AllocError>
+fn tell_bytes(out: &mut String, bytes: &[u8]) -> Result<(), AllocError> {
+    for b in bytes {
+        out.push(char::from(*b))?;
+    }
+    Ok(())
+}
+
+fn tell_bits(out: &mut String, bits: &[bool]) -> Result<(), AllocError> {
+    for bit in bits {
+        out.push_str(if *bit { "1" } else { "0" })?;
+    }
+    Ok(())
+}
+
+/// Writes what kind of token it is: a name's bytes, a number's bits or value.
+fn tell_kind(alloc: Global, out: &mut String, token: &Token, text: &[u8]) -> Result<(), AllocError>
     requires { IsTokenOf token.now text.now }
 {
     match token.kind {
         Kind::Name => {
             out.push_str("name ")?;
-            for b in name_bytes(token, text) {
-                out.push(char::from(*b))?;
-            }
+            tell_bytes(out, name_bytes(token, text))
         }
-        Kind::Word(keyword) => write!(out, "{keyword:?}")?,
-        Kind::Sized => {
-            for bit in &sized_bits(alloc, token, text)? {
-                out.push_str(if *bit { "1" } else { "0" })?;
-            }
-        }
-        Kind::Plain => write!(out, "{}", plain_value(token, text))?,
-        Kind::Mark(mark) => write!(out, "{mark:?}")?,
+        Kind::Word(keyword) => write!(out, "{keyword:?}"),
+        Kind::Sized => tell_bits(out, &sized_bits(alloc, token, text)?),
+        Kind::Plain => write!(out, "{}", plain_value(token, text)),
+        Kind::Mark(mark) => write!(out, "{mark:?}"),
     }
+}
+
+/// Writes what a token says, and its place.
+fn tell(alloc: Global, out: &mut String, token: &Token, text: &[u8]) -> Result<(), AllocError>
+    requires { IsTokenOf token.now text.now }
+{
+    tell_kind(alloc, out, token, text)?;
     let start = token.start;
     let end = token.end;
     let line = token.line;

@@ -10,6 +10,8 @@ mod lex_tests;
 #[cfg(test)]
 mod parse_tests;
 #[cfg(test)]
+mod reading;
+#[cfg(test)]
 mod tables;
 #[cfg(test)]
 mod telling;

@@ -272,7 +272,18 @@ fn the_first_statement_decides(rt: HostRuntime) -> Result<(), Fail> {
             ";\nendmodule",
             "statement line 2",
         ),
-        // Behind a lone [ no : counts, and a lone ] opens nothing.
+    ] {
+        let text = nested(rt.alloc(), front, turn, back)?;
+        let found = told(&rt, rt.alloc(), text.as_bytes())?;
+        assert_eq!(rt; found.as_str(), expected);
+    }
+    Ok(())
+}
+
+// Behind a lone [ no : counts, and a lone ] opens nothing.
+#[test]
+fn lone_brackets_open_nothing(rt: HostRuntime) -> Result<(), Fail> {
+    for (front, turn, back, expected) in [
         (
             "module m;\nassign y = [",
             ("b ? c : ", 200, ""),

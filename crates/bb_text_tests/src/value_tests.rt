@@ -1,5 +1,6 @@
 //! Values of expressions, worked out by hand, each at its own width and in a wider context.
 
+use crate::reading::source_of;
 use crate::values::tell_values;
 use bb_names::check;
 use std::alloc::Global;
@@ -14,8 +15,7 @@ fn told(
     width: u32,
 ) -> Result<String, Fail> {
     assert!(rt; text.len() <= 33_554_432);
-    let tokens = bb_lex::tokens(alloc, text)?;
-    let source = bb_parse::source(alloc, &tokens, text)?;
+    let source = source_of(alloc, text)?;
     let checked = check(alloc, source)?;
     let mut out = String::new(alloc);
     tell_values(alloc, &checked, nets, width, &mut out)?;

@@ -1,5 +1,5 @@
 use Rattle.std.proofs.Common.{◌∙◌, ap, map, string_bytes}
-use Rattle.bb_rows.proofs.Told.{asked, fresh, grown, named, names_ask, told}
+use Rattle.bb_rows.proofs.Told.{all_told, asked, fresh, grown, named, names_ask, refused_so, told}
 use Rattle.bb_rows.proofs.memory.run_in_memory.Goals as goal
 
 pub returns-clause-whole : goal.returns-clause-whole
@@ -41,3 +41,9 @@ returns-clause-left_open c = λ three q s i texts. c.run-status.ensures.left_ope
 pub returns-clause-refuted : goal.returns-clause-refuted
 returns-clause-refuted c = λ one program names. c.run-status.ensures.error one named _ _
     (asked _ _ _ _ _ named _ _ (ap (map string_bytes) c.deref.ensures.value ∙ c.in_ok-words.ensures) c.in_ok-files.ensures.files (names_ask c.plain_words_are_files.ensures program _ _ _ names))
+
+pub returns-clause-refused : goal.returns-clause-refused
+returns-clause-refused c = λ two.
+    let found = c.run-status.ensures.refused two (all_told (map string_bytes c.deref.result.now) c.in_ok-files.files.files) in
+    let is_text = c.in_ok-report.ensures.items ∙ c.bytes.ensures ∙ grown _ _ found.0 c.in_ok-sink.ensures found.1 in
+    rw is_text (refused_so _ _ _ _ _ found.0 (ap (map string_bytes) c.deref.ensures.value ∙ c.in_ok-words.ensures) c.in_ok-files.ensures.files found.2)

@@ -1,0 +1,22 @@
+//! The source that a text reads as.
+
+ghost use Rattle.std.specs.Prelude.{◌≤◌, length, IfOk};
+ghost use Rattle.bb_ast.specs.Views.{source_view};
+ghost use Rattle.bb_names.specs.Checked.{AreFormedAndSmall};
+
+use bb_ast::Source;
+use bb_parse::laws::{sources_are_formed, texts_are_long};
+use std::alloc::Global;
+use std::test::Fail;
+
+/// The source of a text, which is well formed and no larger than the text.
+pub(crate) fn source_of(alloc: Global, text: &[u8]) -> Result<Source, Fail>
+    requires short { length text.now ≤ 33554432 }
+    ensures read { IfOk result (λ source. AreFormedAndSmall (source_view source)) }
+{
+    sources_are_formed();
+    texts_are_long();
+    let tokens = bb_lex::tokens(alloc, text)?;
+    let source = bb_parse::source(alloc, &tokens, text)?;
+    Ok(source)
+}
