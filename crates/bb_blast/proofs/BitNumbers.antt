@@ -1,5 +1,5 @@
 -- The numbers of bits in net order, and what they are for the bits of a scope, of its nets and of its instances.
-use Rattle.std.proofs.Common.{◌≡◌, ℕ, zero, suc, ◌+◌, ◌<◌, ◌==◌, Bool, true, false, if◌then◌else◌, List, [], ◌∷◌, flat_map, length, take, get_or, Contains, Some, refl, sym, ap, ◌∙◌, subst, arith, true≢false}
+use Rattle.std.proofs.Common.{◌≡◌, ℕ, zero, suc, ◌+◌, ◌^◌, ◌<◌, ◌≤◌, ◌==◌, Bool, true, false, if◌then◌else◌, List, [], ◌∷◌, flat_map, length, take, get_or, Contains, Some, refl, sym, ap, ◌∙◌, subst, arith, true≢false}
 use Rattle.std.specs.Prelude.{slice_get, slice_index, IfSome}
 use Rattle.std.specs.Option.{option_map_or, option_and_then}
 use Rattle.std.proofs.lemmas.Option.{slice_get_within, slice_get-get_or, get_or_from_slice_get}
@@ -13,13 +13,16 @@ use Rattle.bb_expr.specs.FitLaws.{NetNamesDiffer}
 use Rattle.bb_expr.specs.Lowered.{Reads, name_at}
 use Rattle.bb_blast.specs.declared.outline.Outline.{Outline}
 use Rattle.bb_blast.specs.declared.placed.Placed.{Placed}
-use Rattle.bb_design.specs.Hierarchy.{Instance, Design, Scope, instances_of, path_to, scopes}
+use Rattle.bb_design.specs.Hierarchy.{Instance, Design, Scope, instances, instances_of, path_to, scopes}
 use Rattle.bb_design.specs.NetBits.{Bit, same_bit, bits_of_net, scope_bits, net_order}
+use Rattle.bb_blast.specs.Counting.{capped, behind}
 use Rattle.bb_blast.specs.Listing.{Site, inner_first, site_of}
 use Rattle.bb_design.specs.Allowed.{IsBounded}
+use Rattle.bb_design.specs.Refusals.{most_bits}
 use Rattle.bb_blast.specs.Outlines.{IsOutline, net_start}
 use Rattle.bb_blast.specs.Placements.{ArePlaced, IsScopeAt, IsChildAt}
 use Rattle.bb_bits.specs.Closures.{IsDistinct}
+use Rattle.bb_blast.proofs.CappedNumbers.{capped_small}
 use Rattle.bb_blast.proofs.NetNumbers.{got_run}
 use Rattle.bb_lists.proofs.Places.{got_flat}
 use Rattle.bb_lists.proofs.Zips.{zip_other}
@@ -30,6 +33,18 @@ use Rattle.bb_design.specs.DesignLaws.{DesignLaws}
 unfoldable pub place_among : List Bit → Bit → ℕ
 place_among [] b = 0
 place_among (x ∷ xs) b = if same_bit b x then 0 else suc (place_among xs b)
+
+place_within : (xs : List Bit) (b : Bit) → place_among xs b ≤ length xs
+unfolding place_among
+place_within [] b = omega arith
+place_within (x ∷ xs) b = by (same_bit b x) (place_within xs b)
+  where
+    by : (t : Bool) → place_among xs b ≤ length xs → (if t then 0 else suc (place_among xs b)) ≤ suc (length xs)
+    by true le = omega arith
+    by false le = omega (arith, le)
+
+few_below : (most top n long more : ℕ) → n ≤ long → long + more ≤ most → most < top → n < top
+few_below most top n long more le few small = omega (arith, le, few, small)
 
 module _ (of_designs : DesignLaws) where
   standing : (xs : List Bit) → IsDistinct xs → (k : ℕ) (b : Bit) → slice_get xs k ≡ Some b → place_among xs b ≡ k
@@ -72,6 +87,11 @@ module _ (of_designs : DesignLaws) (names : NetNamesDiffer) (d : Design) (bounde
   unfolding bit_number
   numbered k b e = standing of_designs (net_order d) (of_designs.distinct d bounded.faultless bounded.top) k b e
 
+  -- in a small design no number of a bit is capped
+  pub number_small : (b : Bit) → capped (bit_number d b) ≡ bit_number d b
+  unfolding bit_number
+  number_small b = capped_small (place_among (net_order d) b) (few_below most_bits (2 ^ 32) (place_among (net_order d) b) (length (net_order d)) (length (instances d)) (place_within (net_order d) b) bounded.small.0 (omega arith))
+
   pub told_apart : (k : ℕ) (b c : Bit) → slice_get (net_order d) k ≡ Some b → same_bit b c ≡ (k == bit_number d c)
   unfolding bit_number
   told_apart k b c e = by (same_bit b c) (k == place_among (net_order d) c) refl refl
@@ -86,11 +106,11 @@ module _ (of_designs : DesignLaws) (names : NetNamesDiffer) (d : Design) (bounde
 
 -- what the numbers of a scope tell
 pub record IsSiteOf (d : Design) (s : Scope) (site : Site) : Type 0 where
-  pub own : (i : ℕ) (b : Bit) → slice_get (scope_bits s) i ≡ Some b → bit_number d b ≡ site.first + i
+  pub own : (i : ℕ) (b : Bit) → slice_get (scope_bits s) i ≡ Some b → bit_number d b ≡ behind site.first i
   pub nets : (n i : ℕ) → Reads (nets_of s.source) 0 (steps.Net n i)
       → bit_number d (record { path = s.path; net = name_at (nets_of s.source) n; place = i }) ≡ site.first + slice_index site.starts n + i
   pub inner : (j : ℕ) (called : Instance) (target : PlainModule) → slice_get (instances_of s.source) j ≡ Some called → module_named d.text called.target ≡ Some target
-      → (i : ℕ) (b : Bit) → slice_get (scope_bits (record { path = path_to s.path called.name; source = target })) i ≡ Some b → bit_number d b ≡ site.inner j + i
+      → (i : ℕ) (b : Bit) → slice_get (scope_bits (record { path = path_to s.path called.name; source = target })) i ≡ Some b → bit_number d b ≡ behind (site.inner j) i
 
 inner_first_is : (placed : List Placed) (p : Placed) (j c : ℕ) (q : Placed) → slice_get p.children.items j ≡ Some c → slice_get placed c ≡ Some q → inner_first placed p j ≡ q.first
 inner_first_is placed p j c q child there =
@@ -102,9 +122,13 @@ module _ (of_designs : DesignLaws) (names : NetNamesDiffer) (d : Design) (bounde
   first_bits k s p at has i b e =
       numbered of_designs names d bounded (p.first + i) b (ap (λ n. slice_get (net_order d) (n + i)) (are.each k s p at has).first ∙ got_flat scope_bits (scopes d) k s i b at e)
 
+  -- as 32 bits tell it
+  pub held_bits : (k : ℕ) (s : Scope) (p : Placed) → IsScopeAt d k s → slice_get placed k ≡ Some p → (i : ℕ) (b : Bit) → slice_get (scope_bits s) i ≡ Some b → bit_number d b ≡ behind p.first i
+  held_bits k s p at has i b e = sym (number_small of_designs names d bounded b) ∙ ap capped (first_bits k s p at has i b e)
+
   pub site_is : (k : ℕ) (s : Scope) (p : Placed) (o : Outline) → IsScopeAt d k s → slice_get placed k ≡ Some p → IsOutline d.text s.source o → IsSiteOf d s (site_of placed p o)
   site_is k s p o at has outline = record {
-    own = first_bits k s p at has;
+    own = held_bits k s p at has;
     nets = λ n i reads.
         let all = nets_of s.source in
         let net = get_or all n (net_of s.source []) in
@@ -124,7 +148,7 @@ module _ (of_designs : DesignLaws) (names : NetNamesDiffer) (d : Design) (bounde
         let stands : IsScopeAt d c (record { path = path_to s.path called.name; source = target }) = subst (λ m. IsScopeAt d c (record { path = path_to s.path called.name; source = m })) same child.2.2 in
         let q = placed_there c (record { path = path_to s.path called.name; source = target }) stands in
         let inner : inner_first placed p j ≡ q.0.first = inner_first_is placed p j c q.0 child.1 q.1 in
-        first_bits c (record { path = path_to s.path called.name; source = target }) q.0 stands q.1 i b e ∙ ap (λ n. n + i) (sym inner);
+        held_bits c (record { path = path_to s.path called.name; source = target }) q.0 stands q.1 i b e ∙ ap (λ n. behind n i) (sym inner);
   }
     where
       none : (i : ℕ) → 0 + i ≡ i

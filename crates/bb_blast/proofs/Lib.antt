@@ -1,4 +1,5 @@
 pub mod BitNumbers
+pub mod CappedNumbers
 pub mod Connections
 pub mod GivenPlaces
 pub mod LeftBits

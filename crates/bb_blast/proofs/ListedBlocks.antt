@@ -1,7 +1,7 @@
 -- The constructs of a design one after another: their places are in a row, and their cells are those that the parts of the
 -- modules put there, scope by scope.
-use Rattle.std.proofs.Common.{◌≡◌, ℕ, zero, suc, ◌+◌, ◌-◌, Bool, true, false, if◌then◌else◌, List, [], ◌∷◌, ◌++◌, map, flat_map, take, length, All, Option, Some, None, refl, sym, ap, ◌∙◌, subst, arith, length-append, append_assoc, append-nil}
-use Rattle.std.specs.Prelude.{slice_get}
+use Rattle.std.proofs.Common.{◌≡◌, ℕ, zero, suc, ◌+◌, ◌-◌, Bool, true, false, if◌then◌else◌, List, [], ◌∷◌, ◌++◌, map, flat_map, take, length, All, Option, Some, None, refl, sym, ap, ap₂, ◌∙◌, subst, arith, length-append, append_assoc, append-nil}
+use Rattle.std.specs.Prelude.{slice_get, slice_index}
 use Rattle.std.specs.List.{fold, enumerate_from}
 use Rattle.std.specs.Option.{option_map_or}
 use Rattle.std.proofs.lemmas.List.{length-map, map-append}
@@ -15,12 +15,13 @@ use Rattle.bb_blast.specs.declared.placed.Placed.{Placed}
 use Rattle.bb_design.specs.Hierarchy.{Design, Scope}
 use Rattle.bb_design.specs.NetBits.{Bit}
 use Rattle.bb_design.specs.Constructs.{Construct, BoxContents}
-use Rattle.bb_blast.specs.Listing.{Sources, Site, Sheet, given_one, given_all, constant_place, site_of, with_part, with_parts, with_scope}
+use Rattle.bb_blast.specs.Counting.{capped, behind}
+use Rattle.bb_blast.specs.Listing.{Sources, Site, Sheet, Terminals, given_one, given_all, constant_place, site_of, with_steps, with_terminals, with_part, with_parts, with_scope}
 use Rattle.bb_blast.specs.Outlines.{IsPartOf}
-use Rattle.bb_cells.specs.Places.{Place, Constant, Input, NetBit, Step, Joined, Inverted, BoxPin, Numbering, Lowering, Steps, IsLoweringOf, given_at, data_at, places_at}
+use Rattle.bb_cells.specs.Places.{Place, Constant, Input, NetBit, Step, Joined, Inverted, BoxPin, Numbering, Lowering, Steps, IsLoweringOf, AreSteps, given_at, data_at, places_at}
 use Rattle.bb_blast.proofs.BitNumbers.{bit_number, IsSiteOf}
 use Rattle.bb_blast.proofs.ListedConstructs.{HasInputs, part_puts}
-use Rattle.bb_blast.proofs.ListedParts.{lowereds, steps_before, Puts, pair}
+use Rattle.bb_blast.proofs.ListedParts.{lowereds, Puts, pair}
 use Rattle.bb_blast.proofs.PlacesInRow.{Entry, AreInRow, both_rows, no_row, cells_in}
 
 -- a part where it stands; a box has none
@@ -100,6 +101,7 @@ module _ (d : Design) (lowering : Lowering) (number : Numbering) (nets start : �
     pub sources : last.sources ≡ given_all (sheet_at k).sources (map (pair d lowering number nets start) (flat_map (given_at lowering) (enumerate_from k xs)))
     pub next : last.next ≡ given_all (sheet_at k).next (map (pair d lowering number nets start) (flat_map (data_at lowering) (enumerate_from k xs)))
     pub lowered : All (IsLoweringOf lowering) (enumerate_from k xs)
+    pub steps : All (AreSteps lowering number) (enumerate_from k xs)
 
   joined : (a b c : Sources) (xs ys : List (Bit × Place)) → b ≡ given_all a (map (pair d lowering number nets start) xs) → c ≡ given_all b (map (pair d lowering number nets start) ys)
       → c ≡ given_all a (map (pair d lowering number nets start) (xs ++ ys))
@@ -117,6 +119,7 @@ module _ (d : Design) (lowering : Lowering) (number : Numbering) (nets start : �
         sources = ap (λ n. (sheet_at n).sources) same;
         next = ap (λ n. (sheet_at n).next) same;
         lowered = All-nil _;
+        steps = All-nil _;
       }
   put_all k (x ∷ xs) puts =
       build (put_all (k + 1) xs (λ i y e. subst (λ n. Puts d lowering number nets start (n, y) (sheet_at n) (sheet_at (suc n))) (omega arith) (puts (suc i) y e)))
@@ -140,6 +143,7 @@ module _ (d : Design) (lowering : Lowering) (number : Numbering) (nets start : �
             sources = joined (sheet_at k).sources (sheet_at (k + 1)).sources (sheet_at (k + 1 + length xs)).sources (given_at lowering (k, x)) (flat_map (given_at lowering) (enumerate_from (k + 1) xs)) here.sources rest.sources;
             next = joined (sheet_at k).next (sheet_at (k + 1)).next (sheet_at (k + 1 + length xs)).next (data_at lowering (k, x)) (flat_map (data_at lowering) (enumerate_from (k + 1) xs)) here.next rest.next;
             lowered = All-cons (IsLoweringOf lowering) (k, x) (enumerate_from (k + 1) xs) here.lowered rest.lowered;
+            steps = All-cons (AreSteps lowering number) (k, x) (enumerate_from (k + 1) xs) here.steps rest.steps;
           })
 
 -- the blocks of a design
@@ -147,15 +151,25 @@ module _ (d : Design) (bs : List Block) (nets start : ℕ) (first : Sheet) (pins
   abbrev pub sheet_at : ℕ → Sheet
   sheet_at k = fold (with_block nets start) first (take k bs)
 
+  abbrev terminals_at : Site → List Lowered → ℕ → Terminals
+  terminals_at site ls k = with_terminals start (behind nets site.first) site.starts (sheet_at k).cells ls
+
+  -- the numbers of the steps of an expression of a block
+  abbrev numbers_at : Site → List Lowered → ℕ → ℕ → List ℕ
+  numbers_at site ls k x = option_map_or (λ l. (with_steps start (behind nets site.first) site.starts (terminals_at site (take x ls) k).cells l).numbers) (slice_get ls x) []
+
+  abbrev site_at : ℕ → Site
+  site_at k = option_map_or (λ b. b.site) (slice_get bs k) nowhere
+
   unfoldable pub number_of : Numbering
   number_of (Constant b) = constant_place b
-  number_of (Input i) = 2 + i
-  number_of (NetBit b) = nets + bit_number d b
-  number_of (Step k x j) = start + length (sheet_at k).cells + steps_before (lowereds_at bs k) x + j
+  number_of (Input i) = behind 2 i
+  number_of (NetBit b) = behind nets (bit_number d b)
+  number_of (Step k x j) = slice_index (numbers_at (site_at k) (lowereds_at bs k) k x) j
   number_of (Joined k zero) = 0
-  number_of (Joined k (suc x)) = start + length (sheet_at k).cells + steps_before (lowereds_at bs k) (length (lowereds_at bs k)) + x
-  number_of (Inverted k) = start + length (sheet_at k).cells + steps_before (lowereds_at bs k) (length (lowereds_at bs k)) + (length (lowereds_at bs k) - 1)
-  number_of (BoxPin b p) = start + pins_before b + p
+  number_of (Joined k (suc x)) = capped (start + length (terminals_at (site_at k) (lowereds_at bs k) k).cells + x)
+  number_of (Inverted k) = capped (start + length (terminals_at (site_at k) (lowereds_at bs k) k).cells + (length (lowereds_at bs k) - 1))
+  number_of (BoxPin b p) = behind (start + pins_before b) p
 
   pub block_puts : (k : ℕ) (b : Block) (s : Scope) (c : Construct) → slice_get bs k ≡ Some b → IsBlockOf d b (s, c) → HasInputs c
       → Puts d (lowering_of bs) number_of nets start (k, (s, c)) (sheet_at k) (sheet_at (suc k))
@@ -169,12 +183,15 @@ module _ (d : Design) (bs : List Block) (nets start : ℕ) (first : Sheet) (pins
         sources = refl;
         next = refl;
         lowered = All-nil _;
+        steps = All-nil _;
       })
       by (Some q) e stands =
           let ls : lowereds_at bs k ≡ lowereds q = ap (λ (o : Option Block). option_map_or (λ (b : Block). block_lowereds b.item) o []) at ∙ ap block_lowereds e in
+          let site : site_at k ≡ b.site = ap (λ (o : Option Block). option_map_or (λ (b : Block). b.site) o nowhere) at in
           part_puts d (lowering_of bs) number_of nets start (λ b. refl) (λ b. refl) k s b.site stands.0 (sheet_at k) q c stands.1 (record {
             is = λ x l there. ap (λ z. steps_of (slice_get z x)) ls ∙ ap steps_of there;
-            stands = λ x j. ap (λ z. start + length (sheet_at k).cells + steps_before z x + j) ls;
-            joins = λ i. ap (λ z. start + length (sheet_at k).cells + steps_before z (length z) + i) ls;
-            inverts = ap (λ z. start + length (sheet_at k).cells + steps_before z (length z) + (length z - 1)) ls;
+            stands = λ x l there j. ap₂ (λ z y. slice_index (numbers_at z y k x) j) site ls
+                ∙ ap (λ (o : Option Lowered). slice_index (option_map_or (λ (l : Lowered). (with_steps start (behind nets b.site.first) b.site.starts (terminals_at b.site (take x (lowereds q)) k).cells l).numbers) o []) j) there;
+            joins = λ i. ap₂ (λ z y. capped (start + length (terminals_at z y k).cells + i)) site ls;
+            inverts = ap₂ (λ z y. capped (start + length (terminals_at z y k).cells + (length y - 1))) site ls;
           }) some

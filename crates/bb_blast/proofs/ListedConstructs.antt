@@ -1,5 +1,5 @@
 -- Each part of a module puts behind others what its construct has to have there.
-use Rattle.std.proofs.Common.{◌≡◌, ℕ, zero, suc, ◌+◌, ◌-◌, ◌≤◌, Bool, List, [], ◌∷◌, ◌++◌, map, flat_map, take, length, All, Some, refl, sym, ap, ap₂, ◌∙◌, subst, arith, length-append, append_assoc, append-nil}
+use Rattle.std.proofs.Common.{◌≡◌, ℕ, zero, suc, ◌+◌, ◌-◌, ◌≤◌, Bool, List, [], ◌∷◌, ◌++◌, map, flat_map, length, All, Some, refl, sym, ap, ap₂, ◌∙◌, subst, arith, length-append, append_assoc, append-nil}
 use Rattle.std.specs.Prelude.{slice_get}
 use Rattle.std.specs.List.{AllZip, enumerate_from, range_with_len}
 use Rattle.std.proofs.lemmas.List.{length-map, map-append}
@@ -20,13 +20,15 @@ use Rattle.bb_design.specs.NetBits.{Bit, scope_bits, bits_named, pin_bits, writt
 use Rattle.bb_design.specs.Contexts.{width_of, context_width}
 use Rattle.bb_bits.specs.Bits.{low_bits}
 use Rattle.bb_design.specs.Constructs.{Construct, Assignment, GateInstance, Register, SupplyNet, InputConnection, OutputConnection}
+use Rattle.bb_blast.specs.Counting.{behind}
 use Rattle.bb_blast.specs.Listing.{Site, Sheet, Terminals, given_all, constant_place, with_gate, with_terminals, with_part}
 use Rattle.bb_blast.specs.Outlines.{IsMadeIn, IsPinIn, IsPartOf}
-use Rattle.bb_cells.specs.Places.{Constant, NetBit, Step, Numbering, Lowering, Steps, step_places, terminal_place, gate_place, joining_places, inverting_place, places_at}
+use Rattle.bb_cells.specs.Places.{Constant, NetBit, Step, Numbering, Lowering, Steps, step_places, terminal_place, gate_place, joining_places, inverting_place, places_at, AreSteps}
 use Rattle.bb_blast.proofs.BitNumbers.{bit_number, IsSiteOf}
 use Rattle.bb_blast.proofs.ListedGates.{GateFits, gate_fits}
-use Rattle.bb_blast.proofs.ListedParts.{lowereds, steps_before, are_long, Puts, beside_is, all_is, net_place_is, AreLoweredAt, own_bits, inner_bits, one_lowered, one_cells, one_places, low_places, expression_row}
-use Rattle.bb_blast.proofs.ListedSteps.{TerminalsFit, terminals_fit, steps_from}
+use Rattle.bb_blast.proofs.CappedNumbers.{behind_first, behind_second}
+use Rattle.bb_blast.proofs.ListedParts.{lowereds, are_long, Puts, beside_is, all_is, net_place_is, AreLoweredAt, own_bits, inner_bits, one_lowered, one_cells, one_row, one_steps, one_places, low_places}
+use Rattle.bb_blast.proofs.ListedSteps.{TerminalsFit, terminals_fit, steps_from, AllStandWell}
 use Rattle.bb_blast.proofs.PlacesInRow.{Entry, AreInRow, both_rows, no_row, cells_in, map-same}
 use Rattle.bb_lists.proofs.Maps.{map-twice}
 
@@ -37,21 +39,12 @@ zipped_left R (u ∷ xs) [] all k x e = absurd all
 zipped_left R (u ∷ xs) (z ∷ ys) all zero x e = let same : u ≡ x = grind (arith, e) in (z, subst (λ v. R v z) same all.0)
 zipped_left R (u ∷ xs) (z ∷ ys) all (suc k) x e = zipped_left R xs ys all.1 k x e
 
-steps_next : (ls : List Lowered) (i : ℕ) (l : Lowered) → slice_get ls i ≡ Some l → steps_before ls (suc i) ≡ steps_before ls i + length l.steps.items
-steps_next [] i l e = absurd (grind (arith, e))
-steps_next (m ∷ ls) zero l e =
-    let same : m ≡ l = grind (arith, e) in
-    length-append m.steps.items [] ∙ omega (arith, ap (λ (z : Lowered). length z.steps.items) same)
-steps_next (m ∷ ls) (suc i) l e =
-    length-append m.steps.items (flat_map (λ (l : Lowered). l.steps.items) (take (suc i) ls))
-    ∙ omega (arith, steps_next ls i l e, length-append m.steps.items (flat_map (λ (l : Lowered). l.steps.items) (take i ls)))
-
 -- the gates among constructs have inputs
 abbrev pub HasInputs : Construct → Type 0
 HasInputs (GateInstance gate outs ins) = 1 ≤ length ins
 HasInputs c = Unit {0}
 
-module _ (d : Design) (lowering : Lowering) (number : Numbering) (nets start : ℕ) (constants : (b : Bool) → number (Constant b) ≡ constant_place b) (net_places : (b : Bit) → number (NetBit b) ≡ nets + bit_number d b)
+module _ (d : Design) (lowering : Lowering) (number : Numbering) (nets start : ℕ) (constants : (b : Bool) → number (Constant b) ≡ constant_place b) (net_places : (b : Bit) → number (NetBit b) ≡ behind nets (bit_number d b))
     (k : ℕ) (s : Scope) (site : Site) (is_site : IsSiteOf d s site) (a : Sheet) where
   abbrev AreAtHere : List Lowered → Type 0
   AreAtHere ls = AreLoweredAt d lowering number nets start constants net_places k s site is_site a ls
@@ -69,32 +62,31 @@ module _ (d : Design) (lowering : Lowering) (number : Numbering) (nets start : �
       (gate_lowered (i + 1) ls es all.1 (λ x m f. ap (lowering k) (omega arith) ∙ is (suc x) m f))
 
   module _ (gate : Gate) (ins : List Lowered) (es : List Expression) (made : AllZip (λ l e. IsMadeIn s.source l e (λ s. width_of s e)) ins es) (at : AreAtHere ins) (some : 1 ≤ length es) where
-    count : ℕ
-    count = length ins - 1
-
     counted : length ins ≡ suc (length ins - 1)
     counted = omega (arith, some, AllZip-long (λ l e. IsMadeIn s.source l e (λ s. width_of s e)) ins es made)
 
     abbrev terminals : Terminals
-    terminals = with_terminals start (nets + site.first) site.starts a.cells ins
+    terminals = with_terminals start (behind nets site.first) site.starts a.cells ins
 
-    terminals_are : TerminalsFit lowering number k s (nets + site.first) site.starts constants (net_place_is d lowering number nets start constants net_places k s site is_site a) start (record { cells = a.cells; places = [] }) terminals 0 (length ins) (start + length a.cells + steps_before ins (length ins))
-    terminals_are = terminals_fit lowering number k s (nets + site.first) site.starts constants (net_place_is d lowering number nets start constants net_places k s site is_site a) start ins 0 (record { cells = a.cells; places = [] })
-        (λ x. start + length a.cells + steps_before ins x)
-        (λ i l e. record { is = ap (lowering k) (omega arith) ∙ at.is i l e; stands = λ j. ap (λ x. number (Step k x j)) (omega arith) ∙ at.stands i j; earlier = (zipped_left (λ l e. IsMadeIn s.source l e (λ s. width_of s e)) ins es made i l e).1.earlier })
-        (omega arith) (λ i l e. omega (arith, steps_next ins i l e))
+    terminals_are : TerminalsFit lowering number k s start (behind nets site.first) site.starts constants (net_place_is d lowering number nets start constants net_places k s site is_site a) (record { cells = a.cells; places = [] }) terminals 0 (length ins)
+    terminals_are = terminals_fit lowering number k s start (behind nets site.first) site.starts constants (net_place_is d lowering number nets start constants net_places k s site is_site a) ins 0 (record { cells = a.cells; places = [] })
+        (λ i l e. record {
+          is = ap (lowering k) (omega arith) ∙ at.is i l e;
+          stands = λ j. ap (λ x. number (Step k x j)) (omega arith) ∙ at.stands i l e j;
+          earlier = (zipped_left (λ l e. IsMadeIn s.source l e (λ s. width_of s e)) ins es made i l e).1.earlier;
+        })
 
-    pub gate_is : GateFits lowering number k gate start terminals.cells (with_gate start (nets + site.first) site.starts gate a.cells ins) (joining_places lowering number k gate (suc (length ins - 1)) ++ inverting_place lowering number k gate (suc (length ins - 1))) (gate_place lowering gate k (suc (length ins - 1)))
+    pub gate_is : GateFits lowering number k gate start terminals.cells (with_gate start (behind nets site.first) site.starts gate a.cells ins) (joining_places lowering number k gate (suc (length ins - 1)) ++ inverting_place lowering number k gate (suc (length ins - 1))) (gate_place lowering gate k (suc (length ins - 1)))
     gate_is = gate_fits lowering number k gate start (length ins - 1) terminals.cells terminals.places (terminals_are.places ∙ ap (λ n. map (λ x. number (terminal_place lowering k x)) (range_with_len 0 n)) counted)
-        (λ i. at.joins i ∙ omega (arith, terminals_are.long)) (at.inverts ∙ omega (arith, terminals_are.long))
+        at.joins at.inverts
 
     abbrev gate_entries : List Entry
     gate_entries = joining_places lowering number k gate (suc (length ins - 1)) ++ inverting_place lowering number k gate (suc (length ins - 1))
 
     abbrev gate_steps : List Entry
-    gate_steps = steps_from lowering number k s (nets + site.first) site.starts constants (net_place_is d lowering number nets start constants net_places k s site is_site a) 0 (length ins)
+    gate_steps = steps_from lowering number k s start (behind nets site.first) site.starts constants (net_place_is d lowering number nets start constants net_places k s site is_site a) 0 (length ins)
 
-    gate_cells_are : (with_gate start (nets + site.first) site.starts gate a.cells ins).cells ≡ a.cells ++ cells_in (gate_steps ++ gate_entries)
+    gate_cells_are : (with_gate start (behind nets site.first) site.starts gate a.cells ins).cells ≡ a.cells ++ cells_in (gate_steps ++ gate_entries)
     gate_cells_are = gate_is.cells ∙ ap (λ c. c ++ cells_in gate_entries) terminals_are.cells ∙ append_assoc a.cells (cells_in gate_steps) (cells_in gate_entries) ∙ ap (λ c. a.cells ++ c) (sym (map-append (λ (e : Entry). e.1) gate_steps gate_entries))
 
     gate_row : AreInRow number (start + length a.cells) (gate_steps ++ gate_entries)
@@ -102,13 +94,19 @@ module _ (d : Design) (lowering : Lowering) (number : Numbering) (nets start : �
         let long : length terminals.cells ≡ length a.cells + length gate_steps = ap length terminals_are.cells ∙ length-append a.cells (cells_in gate_steps) ∙ ap (λ n. length a.cells + n) (length-map {B = LooseCell} gate_steps (λ (e : Entry). e.1)) in
         both_rows number (start + length a.cells) gate_steps gate_entries terminals_are.row (subst (λ n. AreInRow number n gate_entries) (omega (arith, long)) gate_is.row)
 
+    gate_steps_are : (outs : List Expression) → AreSteps lowering number (k, (s, GateInstance gate outs es))
+    gate_steps_are outs =
+        let same : length ins ≡ length es = sym (AllZip-long (λ l e. IsMadeIn s.source l e (λ s. width_of s e)) ins es made) in
+        subst (λ n. All (AllStandWell lowering number k s start (behind nets site.first) site.starts constants (net_place_is d lowering number nets start constants net_places k s site is_site a)) (range_with_len 0 n))
+        (same ∙ sym (length-map {B = Expression × ℕ} es (λ e. (e, width_of s e)))) terminals_are.steps
+
     gate_places_are : (outs : List Expression) → gate_steps ++ gate_entries ≡ places_at lowering number (k, (s, GateInstance gate outs es))
     gate_places_are outs =
         let same : length ins ≡ length es = sym (AllZip-long (λ l e. IsMadeIn s.source l e (λ s. width_of s e)) ins es made) in
-        ap₂ (λ (n m : ℕ). steps_from lowering number k s (nets + site.first) site.starts constants (net_place_is d lowering number nets start constants net_places k s site is_site a) 0 n ++ (joining_places lowering number k gate m ++ inverting_place lowering number k gate m))
+        ap₂ (λ (n m : ℕ). steps_from lowering number k s start (behind nets site.first) site.starts constants (net_place_is d lowering number nets start constants net_places k s site is_site a) 0 n ++ (joining_places lowering number k gate m ++ inverting_place lowering number k gate m))
         (same ∙ sym (length-map {B = Expression × ℕ} es (λ e. (e, width_of s e)))) (sym counted ∙ same)
 
-    gate_place_is : (with_gate start (nets + site.first) site.starts gate a.cells ins).place ≡ number (gate_place lowering gate k (length es))
+    gate_place_is : (with_gate start (behind nets site.first) site.starts gate a.cells ins).place ≡ number (gate_place lowering gate k (length es))
     gate_place_is = gate_is.place ∙ ap (λ n. number (gate_place lowering gate k n)) (sym counted ∙ sym (AllZip-long (λ l e. IsMadeIn s.source l e (λ s. width_of s e)) ins es made))
 
   abbrev Here : Part → Construct → Type 0
@@ -116,40 +114,44 @@ module _ (d : Design) (lowering : Lowering) (number : Numbering) (nets start : �
 
   -- the places of the bits of a port
   pin_places : (instance : ℕ) (numbers : List ℕ) (i : List ℕ) (port : Pin) → IsPinIn d.text s.source instance numbers i port
-      → map number (map NetBit (pin_bits (path_to s.path i) port)) ≡ map (λ j. nets + site.inner instance + j) numbers
+      → map number (map NetBit (pin_bits (path_to s.path i) port)) ≡ map (behind (behind nets (site.inner instance))) numbers
   pin_places instance numbers i port is =
-      map-twice NetBit number (pin_bits (path_to s.path i) port) ∙ map-same (λ b. number (NetBit b)) (λ b. nets + bit_number d b) net_places (pin_bits (path_to s.path i) port)
-      ∙ sym (map-twice (bit_number d) (λ n. nets + n) (pin_bits (path_to s.path i) port))
-      ∙ ap (map (λ n. nets + n)) (inner_bits d lowering number nets start constants net_places k s site is_site a instance numbers i port is)
-      ∙ map-twice (λ j. site.inner instance + j) (λ n. nets + n) numbers ∙ map-same (λ j. nets + (site.inner instance + j)) (λ j. nets + site.inner instance + j) (λ j. omega arith) numbers
+      map-twice NetBit number (pin_bits (path_to s.path i) port) ∙ map-same (λ b. number (NetBit b)) (λ b. behind nets (bit_number d b)) net_places (pin_bits (path_to s.path i) port)
+      ∙ sym (map-twice (bit_number d) (behind nets) (pin_bits (path_to s.path i) port))
+      ∙ ap (map (behind nets)) (inner_bits d lowering number nets start constants net_places k s site is_site a instance numbers i port is)
+      ∙ map-twice (behind (site.inner instance)) (behind nets) numbers
+      ∙ map-same (λ j. behind nets (behind (site.inner instance) j)) (behind (behind nets (site.inner instance))) (λ j. behind_second nets (site.inner instance) j ∙ sym (behind_first nets (site.inner instance) j)) numbers
 
   pub part_puts : (q : Part) (c : Construct) → IsPartOf d.text s.source q c → AreAtHere (lowereds q) → HasInputs c → Here q c
   part_puts (part.Assignment left right) (Assignment l r) is at some = record {
-    cells = ap (λ c. a.cells ++ c) (sym (one_cells d lowering number nets start constants net_places k s site is_site a right at r (context_width s l r) is.1));
-    row = expression_row d lowering number nets start constants net_places k s site is_site a right at r (context_width s l r) is.1;
-    sources = ap (given_all a.sources) (sym (beside_is d lowering number nets start (written_bits s l) (low_bits (length (written_bits s l)) (step_places lowering k 0)) site.first left.items (start + length a.cells) (low_bits (length left.items) right.bits.items)
+    cells = one_cells d lowering number nets start constants net_places k s site is_site a right at r (context_width s l r) is.1;
+    row = one_row d lowering number nets start constants net_places k s site is_site a right at r (context_width s l r) is.1;
+    sources = ap (given_all a.sources) (sym (beside_is d lowering number nets start (written_bits s l) (low_bits (length (written_bits s l)) (step_places lowering k 0)) site.first left.items _
         (own_bits d lowering number nets start constants net_places k s site is_site a left.items (λ s. written_bits s l) is.0)
         (low_places d lowering number nets start constants net_places k s site is_site a right at r (context_width s l r) is.1 (length (written_bits s l)) (length left.items) (sym (are_long (scope_bits s) left.items (written_bits s l) (is.0 s.path))))));
     next = refl;
     lowered = one_lowered d lowering number nets start constants net_places k s site is_site a right at r (context_width s l r) is.1;
+    steps = one_steps d lowering number nets start constants net_places k s site is_site a right at r (context_width s l r) is.1;
   }
   part_puts (part.Gate gate outs ins) (GateInstance g os es) is at some =
       subst (λ (z : Gate). Puts d lowering number nets start (k, (s, GateInstance z os es)) a (with_part nets start site a (part.Gate gate outs ins))) is.0 (record {
         cells = gate_cells_are gate ins.items es is.2 at some ∙ ap (λ l. a.cells ++ cells_in l) (gate_places_are gate ins.items es is.2 at some os);
         row = subst (AreInRow number (start + length a.cells)) (gate_places_are gate ins.items es is.2 at some os) (gate_row gate ins.items es is.2 at some);
-        sources = ap (given_all a.sources) (sym (all_is d lowering number nets start (flat_map (written_bits s) os) (gate_place lowering gate k (length es)) site.first outs.items (with_gate start (nets + site.first) site.starts gate a.cells ins.items).place
+        sources = ap (given_all a.sources) (sym (all_is d lowering number nets start (flat_map (written_bits s) os) (gate_place lowering gate k (length es)) site.first outs.items (with_gate start (behind nets site.first) site.starts gate a.cells ins.items).place
             (own_bits d lowering number nets start constants net_places k s site is_site a outs.items (λ s. flat_map (written_bits s) os) is.1) (gate_place_is gate ins.items es is.2 at some)));
         next = refl;
         lowered = gate_lowered 0 ins.items es is.2 (λ x l e. ap (lowering k) (omega arith) ∙ at.is x l e);
+        steps = gate_steps_are gate ins.items es is.2 at some os;
       })
   part_puts (part.Register left right clock falling) (Register r) is at some = record {
-    cells = ap (λ c. a.cells ++ c) (sym (one_cells d lowering number nets start constants net_places k s site is_site a right at r.right (context_width s r.left r.right) is.1));
-    row = expression_row d lowering number nets start constants net_places k s site is_site a right at r.right (context_width s r.left r.right) is.1;
+    cells = one_cells d lowering number nets start constants net_places k s site is_site a right at r.right (context_width s r.left r.right) is.1;
+    row = one_row d lowering number nets start constants net_places k s site is_site a right at r.right (context_width s r.left r.right) is.1;
     sources = refl;
-    next = ap (given_all a.next) (sym (beside_is d lowering number nets start (written_bits s r.left) (low_bits (length (written_bits s r.left)) (step_places lowering k 0)) site.first left.items (start + length a.cells) (low_bits (length left.items) right.bits.items)
+    next = ap (given_all a.next) (sym (beside_is d lowering number nets start (written_bits s r.left) (low_bits (length (written_bits s r.left)) (step_places lowering k 0)) site.first left.items _
         (own_bits d lowering number nets start constants net_places k s site is_site a left.items (λ s. written_bits s r.left) is.0)
         (low_places d lowering number nets start constants net_places k s site is_site a right at r.right (context_width s r.left r.right) is.1 (length (written_bits s r.left)) (length left.items) (sym (are_long (scope_bits s) left.items (written_bits s r.left) (is.0 s.path))))));
     lowered = one_lowered d lowering number nets start constants net_places k s site is_site a right at r.right (context_width s r.left r.right) is.1;
+    steps = one_steps d lowering number nets start constants net_places k s site is_site a right at r.right (context_width s r.left r.right) is.1;
   }
   part_puts (part.Supply high bits) (SupplyNet h n) is at some = record {
     cells = sym (append-nil a.cells);
@@ -158,21 +160,24 @@ module _ (d : Design) (lowering : Lowering) (number : Numbering) (nets start : �
         (own_bits d lowering number nets start constants net_places k s site is_site a bits.items (λ s. bits_named s n) is.1) (ap constant_place is.0 ∙ sym (constants h))));
     next = refl;
     lowered = All-nil _;
+    steps = All-nil _;
   }
   part_puts (part.Input instance pin value) (InputConnection i port e) is at some = record {
-    cells = ap (λ c. a.cells ++ c) (sym (one_cells d lowering number nets start constants net_places k s site is_site a value at e (width_of s e) is.1));
-    row = expression_row d lowering number nets start constants net_places k s site is_site a value at e (width_of s e) is.1;
-    sources = ap (given_all a.sources) (sym (beside_is d lowering number nets start (pin_bits (path_to s.path i) port) (step_places lowering k 0) (site.inner instance) pin.items (start + length a.cells) value.bits.items
+    cells = one_cells d lowering number nets start constants net_places k s site is_site a value at e (width_of s e) is.1;
+    row = one_row d lowering number nets start constants net_places k s site is_site a value at e (width_of s e) is.1;
+    sources = ap (given_all a.sources) (sym (beside_is d lowering number nets start (pin_bits (path_to s.path i) port) (step_places lowering k 0) (site.inner instance) pin.items _
         (inner_bits d lowering number nets start constants net_places k s site is_site a instance pin.items i port is.0) (one_places d lowering number nets start constants net_places k s site is_site a value at e (width_of s e) is.1)));
     next = refl;
     lowered = one_lowered d lowering number nets start constants net_places k s site is_site a value at e (width_of s e) is.1;
+    steps = one_steps d lowering number nets start constants net_places k s site is_site a value at e (width_of s e) is.1;
   }
   part_puts (part.Output instance pin left) (OutputConnection i port e) is at some = record {
     cells = sym (append-nil a.cells);
     row = no_row number (start + length a.cells);
-    sources = ap (given_all a.sources) (sym (beside_is d lowering number nets start (written_bits s e) (map NetBit (pin_bits (path_to s.path i) port)) site.first left.items (nets + site.inner instance) pin.items
+    sources = ap (given_all a.sources) (sym (beside_is d lowering number nets start (written_bits s e) (map NetBit (pin_bits (path_to s.path i) port)) site.first left.items _
         (own_bits d lowering number nets start constants net_places k s site is_site a left.items (λ s. written_bits s e) is.1) (pin_places instance pin.items i port is.0)));
     next = refl;
     lowered = All-nil _;
+    steps = All-nil _;
   }
   part_puts q c is at some = absurd is

@@ -1,5 +1,5 @@
 -- The list of cells that is made by numbers is the list of cells of the design.
-use Rattle.std.proofs.Common.{◌≡◌, ℕ, suc, ◌+◌, ◌<◌, ◌^◌, Bool, true, false, List, [], ◌∷◌, ◌++◌, map, flat_map, take, length, replicate, Some, None, refl, sym, ap, ap₂, ◌∙◌, subst, arith, length-append}
+use Rattle.std.proofs.Common.{◌≡◌, ℕ, suc, ◌+◌, ◌<◌, ◌≤◌, ◌^◌, Bool, true, false, cond, List, [], ◌∷◌, ◌++◌, map, filter, flat_map, take, length, replicate, Some, None, refl, sym, ap, ap₂, ◌∙◌, subst, arith, length-append}
 use Rattle.std.specs.Prelude.{slice_get}
 use Rattle.std.specs.List.{fold, enumerate_from, range_with_len}
 use Rattle.std.proofs.lemmas.List.{length-map, map-append, length-replicate, take_all}
@@ -15,21 +15,27 @@ use Rattle.bb_net.specs.Loose.{LooseList}
 use Rattle.bb_blast.specs.declared.outline.Outline.{Outline}
 use Rattle.bb_blast.specs.declared.placed.Placed.{Placed}
 use Rattle.bb_blast.specs.declared.stored.Stored.{Stored}
-use Rattle.bb_design.specs.Hierarchy.{Design, root, boxes, scopes}
+use Rattle.bb_design.specs.Hierarchy.{Design, Scope, root, boxes, instances, is_box, scopes}
 use Rattle.bb_design.specs.NetBits.{Bit, scope_bits, net_order, input_bits, output_bits, top_inputs, top_outputs}
 use Rattle.bb_design.specs.Constructs.{parts}
-use Rattle.bb_blast.specs.Listing.{Sources, Sheet, Boxed, given_one, given_all, place_or_zero, in_row, constant_place, bit_count, input_numbers, boxed_in, sheet_on, cells_before, outs_of, finished, first_sources, listed}
+use Rattle.bb_blast.specs.Counting.{capped, behind}
+use Rattle.bb_blast.specs.Listing.{Sources, Sheet, Boxed, given_one, given_all, place_or_zero, in_row, constant_place, bit_count, input_numbers, boxed_in, sheet_on, cells_before, outs_of, finished, first_sources, listed_on, listed}
 use Rattle.bb_design.specs.Allowed.{IsBounded}
+use Rattle.bb_design.specs.Refusals.{most_bits, most_cells}
+use Rattle.bb_design.specs.Sizes.{cells_in as cells_in_design}
 use Rattle.bb_blast.specs.Outlines.{IsOutline}
 use Rattle.bb_blast.specs.Placements.{ArePlaced, AreOutlined, AreStored, IsStoredAt}
-use Rattle.bb_cells.specs.Places.{Place, Constant, Input, NetBit, BoxPin, Numbering, Lowering, IsLowering, given_at, given_by_box, given, data_at, data_places, place_in, box_places, places_at, front_places, places, IsListOf}
+use Rattle.bb_cells.specs.Places.{Place, Constant, Input, NetBit, BoxPin, Numbering, Lowering, IsLowering, given_at, given_by_box, given, data_at, data_places, place_in, box_places, places_at, front_places, operator_places, places, IsListOf}
+use Rattle.bb_cells.specs.ListLaws.{PlacesAreFew}
 use Rattle.bb_design.specs.Registers.{RegisterBit, registers, cut_bits}
-use Rattle.bb_blast.proofs.BitNumbers.{bit_number, numbered, first_bits}
+use Rattle.bb_blast.proofs.BitNumbers.{bit_number, numbered, number_small, held_bits}
+use Rattle.bb_blast.proofs.CappedNumbers.{capped_small, behind_second, row_small}
 use Rattle.bb_lists.proofs.Places.{there_at}
 use Rattle.bb_blast.proofs.GivenPlaces.{given_long, noted}
 use Rattle.bb_lists.proofs.Zips.{zip_other}
 use Rattle.bb_blast.proofs.ListedBlocks.{Block, IsBlockOf, with_block, blocks_of, scopes_fold, lowering_of, sheet_at, number_of, block_puts, PutAll, put_all}
 use Rattle.bb_blast.proofs.ListedBoxes.{PutsBoxes, boxes_put}
+use Rattle.bb_lists.proofs.Numbered.{length-enumerated}
 use Rattle.bb_lists.proofs.Ranges.{length-range}
 use Rattle.bb_blast.proofs.ListedParts.{numbers_are, Puts, pair}
 use Rattle.bb_blast.proofs.ListedScopes.{has_inputs, blocks_are, boxes_are, counted}
@@ -37,7 +43,30 @@ use Rattle.bb_blast.proofs.PlacesInRow.{Entry, AreInRow, both_rows, cells_in, ro
 use Rattle.bb_lists.proofs.Maps.{same_by_places, map-twice}
 use Rattle.bb_design.specs.DesignLaws.{DesignLaws}
 
-module _ (of_designs : DesignLaws) (names : NetNamesDiffer) (d : Design) (bounded : IsBounded d) (placed : List Placed) (are : ArePlaced d placed) (outlines : List Outline) (outlined : AreOutlined d placed outlines)
+-- sums of what a small design has
+below_both : (a b top n m : ℕ) → n ≤ a → m ≤ b → a + b < top → n + m < top
+below_both a b top n m le more few = omega (arith, le, more, few)
+
+below : (top n m : ℕ) → n ≤ m → m < top → n < top
+below top n m le few = omega (arith, le, few)
+
+filtered : {A : Type 0} (test : A → Bool) (xs : List A) → length (filter test xs) ≤ length xs
+filtered test [] = omega arith
+filtered test (x ∷ xs) = by (test x) (filtered test xs)
+  where
+    by : (t : Bool) → length (filter test xs) ≤ length xs → length (cond t (x ∷ filter test xs) (filter test xs)) ≤ suc (length xs)
+    by true le = omega (arith, le)
+    by false le = omega (arith, le)
+
+-- boxes have as many places as pins
+pins_long : (n : ℕ) (ss : List Scope) → length (flat_map box_places (enumerate_from n ss)) ≡ length (flat_map output_bits ss)
+pins_long n [] = refl
+pins_long n (s ∷ ss) =
+    length-append (box_places (n, s)) (flat_map box_places (enumerate_from (n + 1) ss))
+    ∙ ap₂ ◌+◌ (length-map {B = Entry} (enumerate_from 0 (output_bits s)) (λ (x : ℕ × Bit). (BoxPin n x.0, cell.BoxOut n x.0)) ∙ length-enumerated 0 (output_bits s)) (pins_long (n + 1) ss)
+    ∙ sym (length-append (output_bits s) (flat_map output_bits ss))
+
+module _ (of_designs : DesignLaws) (names : NetNamesDiffer) (few : PlacesAreFew) (d : Design) (bounded : IsBounded d) (placed : List Placed) (are : ArePlaced d placed) (outlines : List Outline) (outlined : AreOutlined d placed outlines)
     (stored : List Stored) (store : AreStored d stored) (p : Placed) (top : Outline) (first_at : slice_get placed 0 ≡ Some p) (top_at : slice_get outlines p.module ≡ Some top) (ins : List ℕ) (ins_are : ins ≡ input_numbers top stored)
     (bits : ℕ) (bits_are : bits ≡ bit_count placed outlines) (nets : ℕ) (nets_are : nets ≡ 2 + length ins) (start : ℕ) (start_is : start ≡ nets + bits) where
   abbrev boxed : Boxed
@@ -61,11 +90,11 @@ module _ (of_designs : DesignLaws) (names : NetNamesDiffer) (d : Design) (bounde
   abbrev sheet : Sheet
   sheet = sheet_on nets start placed outlines boxed (replicate bits None)
 
-  net_places : (b : Bit) → number (NetBit b) ≡ nets + bit_number d b
+  net_places : (b : Bit) → number (NetBit b) ≡ behind nets (bit_number d b)
   unfolding number_of
   net_places b = refl
 
-  pins_stand : (n x : ℕ) → number (BoxPin n x) ≡ start + length (flat_map output_bits (take n (boxes d))) + x
+  pins_stand : (n x : ℕ) → number (BoxPin n x) ≡ behind (start + length (flat_map output_bits (take n (boxes d)))) x
   unfolding number_of
   pins_stand n x = refl
 
@@ -77,7 +106,7 @@ module _ (of_designs : DesignLaws) (names : NetNamesDiffer) (d : Design) (bounde
   unfolding number_of
   constants_are b = refl
 
-  inputs_are : (i : ℕ) → number (Input i) ≡ 2 + i
+  inputs_are : (i : ℕ) → number (Input i) ≡ behind 2 i
   unfolding number_of
   inputs_are i = refl
 
@@ -88,16 +117,11 @@ module _ (of_designs : DesignLaws) (names : NetNamesDiffer) (d : Design) (bounde
       subst (IsOutline d.text d.top) same o.2
 
   -- the top begins with the first bit
-  top_first : (i : ℕ) (b : Bit) → slice_get (scope_bits (root d)) i ≡ Some b → bit_number d b ≡ 0 + i
-  top_first i b e = first_bits of_designs names d bounded placed are 0 (root d) p refl first_at i b e ∙ ap (λ n. n + i) (are.each 0 (root d) p refl first_at).first
+  top_first : (i : ℕ) (b : Bit) → slice_get (scope_bits (root d)) i ≡ Some b → bit_number d b ≡ behind 0 i
+  top_first i b e = held_bits of_designs names d bounded placed are 0 (root d) p refl first_at i b e ∙ ap (λ n. behind n i) (are.each 0 (root d) p refl first_at).first
 
   bits_whole : bits ≡ length (net_order d)
   bits_whole = bits_are ∙ counted of_designs names d bounded placed are outlines outlined
-
-  boxes_fit : PutsBoxes d lowering number nets start net_places 0 (boxes d) (record { cells = []; sources = first_sources bits ins; boxes = [] }) boxed
-  boxes_fit = boxes_put d lowering number nets start net_places outlines (boxes d) pins_stand (scopes d) placed [] (record { cells = []; sources = first_sources bits ins; boxes = [] }) are.count
-      (λ k s p at has. boxes_are of_designs names d bounded placed are outlines outlined lowering number nets start net_places (boxes d) pins_stand k s p at has)
-      (record { counted = refl; whole = refl; long = refl })
 
   parts_fit : PutAll d lowering number nets start (sheet_at d blocks nets start begun pins_before) 0 (parts d) sheet
   parts_fit =
@@ -113,23 +137,46 @@ module _ (of_designs : DesignLaws) (names : NetNamesDiffer) (d : Design) (bounde
           ap (fold (with_block nets start) begun) (take_all (0 + length (parts d)) blocks (omega (arith, AllZip-long (IsBlockOf d) blocks (parts d) (blocks_are of_designs names d bounded placed are outlines outlined))))
           ∙ sym (scopes_fold nets start placed outlines begun placed)
 
+  pub is_lowering : IsLowering d lowering
+  is_lowering = parts_fit.lowered
+
+  -- a small design has few places, boxes and pins
+  few_places : length (places d lowering number) < 2 ^ 32
+  few_places = below (2 ^ 32) (length (places d lowering number)) (cells_in_design d + length (net_order d)) (few d lowering number bounded is_lowering)
+      (below_both most_cells most_bits (2 ^ 32) (cells_in_design d) (length (net_order d)) bounded.small.1 (omega (arith, bounded.small.0)) (omega arith))
+
+  few_boxes : length (boxes d) < 2 ^ 32
+  few_boxes = below (2 ^ 32) (length (boxes d)) (1 + (length (net_order d) + length (instances d))) (omega (arith, filtered is_box (scopes d)))
+      (below_both 1 most_bits (2 ^ 32) 1 (length (net_order d) + length (instances d)) (omega arith) bounded.small.0 (omega arith))
+
+  few_pins : length (flat_map output_bits (boxes d)) < 2 ^ 32
+  few_pins = below (2 ^ 32) (length (flat_map output_bits (boxes d))) (length (places d lowering number))
+      (omega (arith, length-append (front_places d lowering number) (operator_places d lowering number), length-append (flat_map box_places (enumerate_from 0 (boxes d))) (flat_map (places_at lowering number) (enumerate_from 0 (parts d))), pins_long 0 (boxes d)))
+      few_places
+
+  boxes_fit : PutsBoxes d lowering number nets start net_places 0 (boxes d) (record { cells = []; sources = first_sources bits ins; boxes = [] }) boxed
+  boxes_fit = boxes_put d lowering number nets start net_places outlines (boxes d) pins_stand few_boxes few_pins (scopes d) placed [] (record { cells = []; sources = first_sources bits ins; boxes = [] }) are.count
+      (λ k s p at has. boxes_are of_designs names d bounded placed are outlines outlined lowering number nets start net_places (boxes d) pins_stand few_boxes few_pins k s p at has)
+      (record { counted = refl; whole = refl; long = refl })
+
   abbrev noting : Bit × Place → ℕ × ℕ
   noting = pair d lowering number nets start
 
   -- what gives each bit
 
-  register_numbers : map (λ (x : Stored). 0 + x.bit) stored ≡ map (λ (r : RegisterBit). bit_number d r.bit) (registers d)
-  register_numbers = same_zipped (IsStoredAt d) (λ (x : Stored). 0 + x.bit) (λ (r : RegisterBit). bit_number d r.bit) stored (registers d) store (λ x r is. omega (arith, numbered of_designs names d bounded x.bit r.bit is.bit))
+  register_numbers : map (λ (x : Stored). behind 0 x.bit) stored ≡ map (λ (r : RegisterBit). bit_number d r.bit) (registers d)
+  register_numbers = same_zipped (IsStoredAt d) (λ (x : Stored). behind 0 x.bit) (λ (r : RegisterBit). bit_number d r.bit) stored (registers d) store
+      (λ x r is. let at : 0 + x.bit ≡ bit_number d r.bit = omega (arith, numbered of_designs names d bounded x.bit r.bit is.bit) in ap capped at ∙ number_small of_designs names d bounded r.bit)
 
-  cut_numbers : map (λ i. 0 + i) ins ≡ map (bit_number d) (cut_bits d)
+  cut_numbers : map (behind 0) ins ≡ map (bit_number d) (cut_bits d)
   cut_numbers =
-      ap (map (λ i. 0 + i)) ins_are ∙ map-append (λ i. 0 + i) top.inputs.items (map (λ (x : Stored). x.bit) stored)
+      ap (map (behind 0)) ins_are ∙ map-append (behind 0) top.inputs.items (map (λ (x : Stored). x.bit) stored)
       ∙ ap₂ ◌++◌ (sym (numbers_are (bit_number d) (scope_bits (root d)) 0 top_first top.inputs.items (input_bits (root d)) (top_outline.inputs [])))
-      (map-twice (λ (x : Stored). x.bit) (λ i. 0 + i) stored ∙ register_numbers ∙ sym (map-twice (λ (r : RegisterBit). r.bit) (bit_number d) (registers d)))
+      (map-twice (λ (x : Stored). x.bit) (behind 0) stored ∙ register_numbers ∙ sym (map-twice (λ (r : RegisterBit). r.bit) (bit_number d) (registers d)))
       ∙ sym (map-append (bit_number d) (top_inputs d) (map (λ (r : RegisterBit). r.bit) (registers d)))
 
-  cut_long : length ins ≡ length (cut_bits d)
-  cut_long = sym (length-map ins (λ i. 0 + i)) ∙ ap length cut_numbers ∙ length-map (cut_bits d) (bit_number d)
+  pub cut_long : length ins ≡ length (cut_bits d)
+  cut_long = sym (length-map ins (behind 0)) ∙ ap length cut_numbers ∙ length-map (cut_bits d) (bit_number d)
 
   abbrev given_inputs : List (Bit × Place)
   given_inputs = map (λ x. (x.1, Input x.0)) (enumerate_from 0 (cut_bits d))
@@ -142,7 +189,7 @@ module _ (of_designs : DesignLaws) (names : NetNamesDiffer) (d : Design) (bounde
 
   inputs_noted : in_row 0 ins 2 ≡ map noting given_inputs
   inputs_noted =
-      rows_same (λ i. 0 + i) (bit_number d) (λ i. 2 + i) (λ i. number (Input i)) 0 ins (cut_bits d) cut_numbers (λ i. sym (inputs_are i))
+      rows_same (behind 0) (bit_number d) (behind 2) (λ i. number (Input i)) 0 ins (cut_bits d) cut_numbers (λ i. sym (inputs_are i))
       ∙ sym (map-twice {B = Bit × Place} (λ (x : ℕ × Bit). (x.1, Input x.0)) noting (enumerate_from 0 (cut_bits d)))
 
   joined : (xs ys : List (Bit × Place)) (a : Sources) → given_all (given_all a (map noting xs)) (map noting ys) ≡ given_all a (map noting (xs ++ ys))
@@ -192,12 +239,12 @@ module _ (of_designs : DesignLaws) (names : NetNamesDiffer) (d : Design) (bounde
   nets_long = length-map {B = Entry} (net_order d) (λ b. (NetBit b, cell.Copy (number (place_in (given d lowering) b))))
 
   constant_row : AreInRow number 0 constant_entries
-  constant_row = record { row = ap₂ (λ (m n : ℕ). m ∷ n ∷ []) (constants_are false) (constants_are true) }
+  constant_row = record { row = ap₂ (λ (m n : ℕ). m ∷ n ∷ []) (constants_are false ∙ sym (capped_small 0 (omega arith))) (constants_are true ∙ sym (capped_small 1 (omega arith))) }
 
   input_row : AreInRow number 2 input_entries
   input_row = record {
-    row = map-twice {B = Entry} (λ i. (Input i, cell.Input i)) (λ (e : Entry). number e.0) (range_with_len 0 (length (cut_bits d))) ∙ map-same (λ i. number (Input i)) (λ i. 2 + i) inputs_are (range_with_len 0 (length (cut_bits d)))
-        ∙ moved_row 2 0 (length (cut_bits d)) ∙ ap (range_with_len 2) (cut_long_back ∙ sym inputs_long);
+    row = map-twice {B = Entry} (λ i. (Input i, cell.Input i)) (λ (e : Entry). number e.0) (range_with_len 0 (length (cut_bits d))) ∙ map-same (λ i. number (Input i)) (behind 2) inputs_are (range_with_len 0 (length (cut_bits d)))
+        ∙ moved_row 2 0 (length (cut_bits d)) ∙ ap (λ n. map capped (range_with_len 2 n)) (cut_long_back ∙ sym inputs_long);
   }
     where
       cut_long_back : length (cut_bits d) ≡ length ins
@@ -206,7 +253,7 @@ module _ (of_designs : DesignLaws) (names : NetNamesDiffer) (d : Design) (bounde
   net_row : AreInRow number nets net_entries
   net_row = record {
     row = map-twice {B = Entry} (λ b. (NetBit b, cell.Copy (number (place_in (given d lowering) b)))) (λ (e : Entry). number e.0) (net_order d)
-        ∙ row_of (λ b. number (NetBit b)) (net_order d) nets (λ k b e. net_places b ∙ ap (λ n. nets + n) (numbered of_designs names d bounded k b e)) ∙ ap (range_with_len nets) (sym nets_long);
+        ∙ row_of (λ b. number (NetBit b)) (net_order d) nets (λ k b e. net_places b ∙ ap (behind nets) (numbered of_designs names d bounded k b e)) ∙ ap (λ n. map capped (range_with_len nets n)) (sym nets_long);
   }
 
   front_row : AreInRow number 0 (front_places d lowering number)
@@ -239,39 +286,62 @@ module _ (of_designs : DesignLaws) (names : NetNamesDiffer) (d : Design) (bounde
 
   outs_are : outs_of nets top stored sheet.next ≡ map (λ b. number (NetBit b)) (top_outputs d) ++ map number (data_places d lowering)
   outs_are = ap₂ ◌++◌
-      (map-same (λ i. nets + i) (λ i. nets + (0 + i)) (λ i. omega arith) top.outputs.items ∙ sym (map-twice (λ i. 0 + i) (λ n. nets + n) top.outputs.items)
-      ∙ ap (map (λ n. nets + n)) (sym (numbers_are (bit_number d) (scope_bits (root d)) 0 top_first top.outputs.items (output_bits (root d)) (top_outline.outputs [])))
-      ∙ map-twice (bit_number d) (λ n. nets + n) (top_outputs d) ∙ map-same (λ b. nets + bit_number d b) (λ b. number (NetBit b)) (λ b. sym (net_places b)) (top_outputs d))
+      (map-same (behind nets) (λ i. behind nets (behind 0 i)) (λ i. ap (behind nets) (omega arith) ∙ sym (behind_second nets 0 i)) top.outputs.items ∙ sym (map-twice (behind 0) (behind nets) top.outputs.items)
+      ∙ ap (map (behind nets)) (sym (numbers_are (bit_number d) (scope_bits (root d)) 0 top_first top.outputs.items (output_bits (root d)) (top_outline.outputs [])))
+      ∙ map-twice (bit_number d) (behind nets) (top_outputs d) ∙ map-same (λ b. behind nets (bit_number d b)) (λ b. number (NetBit b)) (λ b. sym (net_places b)) (top_outputs d))
       (same_zipped (IsStoredAt d) (λ (x : Stored). place_or_zero (slice_get sheet.next x.bit)) (λ (r : RegisterBit). number (place_in data_given r.bit)) stored (registers d) store (λ x r is.
       ap (λ z. place_or_zero (slice_get z x.bit)) next_is
       ∙ noted of_designs names d bounded lowering number nets start zero_is bits x.bit r.bit (omega (arith, slice_get_within (net_order d) x.bit r.bit is.bit, bits_whole)) is.bit data_given)
       ∙ sym (map-twice (λ (r : RegisterBit). place_in data_given r.bit) number (registers d)))
 
-  pub is_lowering : IsLowering d lowering
-  is_lowering = parts_fit.lowered
+  -- the numbers of all places are as they would be if nothing were capped
+  exact_row : map (λ (x : Entry). number x.0) (places d lowering number) ≡ range_with_len 0 (length (places d lowering number))
+  exact_row = all_row.row ∙ row_small (length (places d lowering number)) (omega (arith, few_places))
 
-  pub is_list : length (cells_before (length ins) sheet.sources ++ sheet.cells) < 2 ^ 32 → IsListOf d lowering (finished (length ins) nets top stored boxed.boxes sheet)
-  is_list fits = record {
+  exact_front : map (λ (x : Entry). number x.0) (front_places d lowering number) ≡ range_with_len 0 (length (front_places d lowering number))
+  exact_front = front_row.row ∙ row_small (length (front_places d lowering number)) (omega (arith, few_places, length-append (front_places d lowering number) (operator_places d lowering number)))
+
+  pub is_list : IsListOf d lowering (finished (length ins) nets top stored boxed.boxes sheet)
+  is_list = record {
     number = number;
     inputs = cut_long;
-    front = front_row.row;
-    numbers = subst (IsPermutation (map (λ (x : Entry). number x.0) (places d lowering number))) (all_row.row ∙ ap (range_with_len 0) (sym (length-map {B = LooseCell} (places d lowering number) (λ (e : Entry). e.1)) ∙ ap length (sym cells_are)))
+    front = exact_front;
+    numbers = subst (IsPermutation (map (λ (x : Entry). number x.0) (places d lowering number))) (exact_row ∙ ap (range_with_len 0) (sym (length-map {B = LooseCell} (places d lowering number) (λ (e : Entry). e.1)) ∙ ap length (sym cells_are)))
         (IsPermutation-refl (map (λ (x : Entry). number x.0) (places d lowering number)));
-    cells = cells_stand number (places d lowering number) (finished (length ins) nets top stored boxed.boxes sheet) all_row cells_are;
+    cells = cells_stand number (places d lowering number) (finished (length ins) nets top stored boxed.boxes sheet) exact_row cells_are;
     boxes = boxes_fit.boxes;
     outs = outs_are;
-    fits = fits;
+    steps = parts_fit.steps;
   }
 
+-- the list of a small design, where nothing is capped
+listed_exact : (placed : List Placed) (outlines : List Outline) (stored : List Stored) (top : Outline) → length (input_numbers top stored) ≤ most_cells → bit_count placed outlines ≤ most_bits
+    → listed placed outlines stored top ≡ listed_on (input_numbers top stored) (length (input_numbers top stored)) (bit_count placed outlines) (2 + length (input_numbers top stored))
+    (2 + length (input_numbers top stored) + bit_count placed outlines) placed outlines stored top
+listed_exact placed outlines stored top few_inputs few_bits =
+    let ins = input_numbers top stored in
+    let bits = bit_count placed outlines in
+    let count : capped (length ins) ≡ length ins = capped_small (length ins) (below (2 ^ 32) (length ins) most_cells few_inputs (omega arith)) in
+    let whole : capped bits ≡ bits = capped_small bits (below (2 ^ 32) bits most_bits few_bits (omega arith)) in
+    let nets : behind 2 (length ins) ≡ 2 + length ins = capped_small (2 + length ins) (below_both 2 most_cells (2 ^ 32) 2 (length ins) (omega arith) few_inputs (omega arith)) in
+    let start : behind (2 + length ins) bits ≡ 2 + length ins + bits =
+    capped_small (2 + length ins + bits) (below_both (2 + most_cells) most_bits (2 ^ 32) (2 + length ins) bits (omega (arith, few_inputs)) few_bits (omega arith)) in
+    ap (λ c. listed_on ins c (capped bits) (behind 2 c) (behind (behind 2 c) (capped bits)) placed outlines stored top) count
+    ∙ ap (λ b. listed_on ins (length ins) b (behind 2 (length ins)) (behind (behind 2 (length ins)) b) placed outlines stored top) whole
+    ∙ ap (λ n. listed_on ins (length ins) bits n (behind n bits) placed outlines stored top) nets
+    ∙ ap (λ n. listed_on ins (length ins) bits (2 + length ins) n placed outlines stored top) start
+
 module _ (of_designs : DesignLaws) where
-  pub listed_is_list : NetNamesDiffer → (d : Design) (placed : List Placed) (outlines : List Outline) (stored : List Stored) (p : Placed) (top : Outline) (l : LooseList) → l ≡ listed placed outlines stored top → length l.cells < 2 ^ 32
+  pub listed_is_list : NetNamesDiffer → PlacesAreFew → (d : Design) (placed : List Placed) (outlines : List Outline) (stored : List Stored) (p : Placed) (top : Outline) (l : LooseList) → l ≡ listed placed outlines stored top
       → slice_get placed 0 ≡ Some p → slice_get outlines p.module ≡ Some top → ArePlaced d placed → AreOutlined d placed outlines → AreStored d stored → IsBounded d → (lowering : Lowering) × IsLowering d lowering × IsListOf d lowering l
-  listed_is_list names d placed outlines stored p top l is fits first_at top_at are outlined store bounded =
+  listed_is_list names few d placed outlines stored p top l is first_at top_at are outlined store bounded =
       let ins = input_numbers top stored in
       let bits = bit_count placed outlines in
-      let nets = 2 + length ins in (
-        lowering of_designs names d bounded placed are outlines outlined stored store p top first_at top_at ins refl bits refl nets refl (nets + bits) refl,
-        is_lowering of_designs names d bounded placed are outlines outlined stored store p top first_at top_at ins refl bits refl nets refl (nets + bits) refl,
-        subst (IsListOf d (lowering of_designs names d bounded placed are outlines outlined stored store p top first_at top_at ins refl bits refl nets refl (nets + bits) refl)) (sym is)
-            (is_list of_designs names d bounded placed are outlines outlined stored store p top first_at top_at ins refl bits refl nets refl (nets + bits) refl (subst (λ (z : LooseList). length z.cells < 2 ^ 32) is fits)),
+      let nets = 2 + length ins in
+      let whole : bits ≡ length (net_order d) = counted of_designs names d bounded placed are outlines outlined in
+      let long : length ins ≡ length (cut_bits d) = cut_long of_designs names few d bounded placed are outlines outlined stored store p top first_at top_at ins refl bits refl nets refl (nets + bits) refl in
+      let exact = listed_exact placed outlines stored top (omega (arith, long, bounded.small.1)) (omega (arith, whole, bounded.small.0)) in (
+        lowering of_designs names few d bounded placed are outlines outlined stored store p top first_at top_at ins refl bits refl nets refl (nets + bits) refl,
+        is_lowering of_designs names few d bounded placed are outlines outlined stored store p top first_at top_at ins refl bits refl nets refl (nets + bits) refl,
+        subst (IsListOf d (lowering of_designs names few d bounded placed are outlines outlined stored store p top first_at top_at ins refl bits refl nets refl (nets + bits) refl)) (sym (is ∙ exact)) (is_list of_designs names few d bounded placed are outlines outlined stored store p top first_at top_at ins refl bits refl nets refl (nets + bits) refl),
       )

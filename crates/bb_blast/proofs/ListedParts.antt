@@ -1,6 +1,7 @@
 -- What a construct puts behind others: its places, with their cells in a row, and what it drives.
-use Rattle.std.proofs.Common.{◌≡◌, ℕ, suc, ◌+◌, ◌-◌, Bool, List, [], ◌∷◌, ◌++◌, map, flat_map, zip, take, drop, length, get_or, All, Some, None, refl, sym, ap, ap₂, ◌∙◌, subst, arith, append-nil}
-use Rattle.std.specs.Prelude.{slice_get}
+use Rattle.std.proofs.Common.{◌≡◌, ℕ, suc, ◌+◌, ◌-◌, Bool, List, [], ◌∷◌, ◌++◌, map, zip, take, drop, length, get_or, All, Some, None, refl, sym, ap, ap₂, ◌∙◌, subst, arith, append-nil}
+use Rattle.std.specs.Prelude.{slice_get, slice_index}
+use Rattle.std.specs.List.{enumerate_from}
 use Rattle.std.proofs.lemmas.List.{length-map}
 use Rattle.std.proofs.lemmas.List.Elements.{All-nil, All-cons}
 use Rattle.bb_ast.specs.Syntax.{Expression}
@@ -10,19 +11,22 @@ use Rattle.bb_names.specs.Spots.{Pin}
 use Rattle.bb_expr.specs.declared.step.BitStep.TheVariants as steps
 use Rattle.bb_expr.specs.declared.step.Lowered.{Lowered}
 use Rattle.bb_expr.specs.Lowered.{Reads, IsLowered}
+use Rattle.bb_net.specs.declared.loose.LooseCell.{LooseCell}
 use Rattle.bb_blast.specs.declared.outline.Part.{Part}
 use Rattle.bb_blast.specs.declared.outline.Part.TheVariants as part
 use Rattle.bb_design.specs.Hierarchy.{Design, Scope, path_to}
 use Rattle.bb_design.specs.NetBits.{Bit, scope_bits, pin_bits}
 use Rattle.bb_bits.specs.Bits.{low_bits}
 use Rattle.bb_design.specs.Constructs.{Construct}
-use Rattle.bb_blast.specs.Listing.{Site, Sheet, given_all, beside, all_given_by, constant_place, cells_of_steps, net_bit_place}
+use Rattle.bb_blast.specs.Counting.{capped, behind}
+use Rattle.bb_blast.specs.Listing.{Site, Sheet, given_all, beside, all_given_by, constant_place, net_bit_place, with_steps, bit_places, with_terminals}
 use Rattle.bb_blast.specs.Outlines.{AreBitsIn, IsPinIn}
 use Rattle.bb_bits.specs.Places.{AreAt}
-use Rattle.bb_cells.specs.Places.{Place, Constant, NetBit, Step, Joined, Inverted, Numbering, Lowering, Steps, IsLoweringOf, step_places, step_cells, net_place, given_at, data_at, places_at}
+use Rattle.bb_cells.specs.Places.{Place, Constant, NetBit, Step, Joined, Inverted, Numbering, Lowering, Steps, IsLoweringOf, IsStepAt, AreSteps, step_places, step_cells, net_place, given_at, data_at, places_at}
 use Rattle.bb_lists.proofs.LowBits.{low-map}
 use Rattle.bb_blast.proofs.BitNumbers.{bit_number, IsSiteOf}
-use Rattle.bb_blast.proofs.ListedSteps.{IsLoweredAt, steps_cells, steps_row}
+use Rattle.bb_blast.proofs.CappedNumbers.{behind_first}
+use Rattle.bb_blast.proofs.ListedSteps.{IsLoweredAt, StepsFit, expression_fits}
 use Rattle.bb_blast.proofs.PlacesInRow.{AreInRow, cells_in, map-same}
 use Rattle.bb_lists.proofs.Maps.{map-twice}
 
@@ -35,10 +39,6 @@ lowereds (part.Supply high bits) = []
 lowereds (part.Input instance pin value) = value ∷ []
 lowereds (part.Output instance pin left) = []
 
--- how many steps the expressions before one have
-abbrev pub steps_before : List Lowered → ℕ → ℕ
-steps_before ls x = length (flat_map (λ l. l.steps.items) (take x ls))
-
 map-zip : {A B C D : Type 0} (f : A → C) (g : B → D) (xs : List A) (ys : List B) → map (λ (y : A × B). (f y.0, g y.1)) (zip xs ys) ≡ zip (map f xs) (map g ys)
 map-zip f g [] ys = refl
 map-zip f g (x ∷ xs) [] = refl
@@ -48,8 +48,8 @@ pub are_long : (all : List Bit) (numbers : List ℕ) (bits : List Bit) → AreAt
 are_long all numbers bits are = sym (length-map numbers (slice_get all)) ∙ ap length are ∙ length-map bits Some
 
 -- numbers of bits that are counted from a number on
-pub numbers_are : (f : Bit → ℕ) (all : List Bit) (first : ℕ) → ((i : ℕ) (b : Bit) → slice_get all i ≡ Some b → f b ≡ first + i) → (numbers : List ℕ) (bits : List Bit) → AreAt all numbers bits
-    → map f bits ≡ map (λ i. first + i) numbers
+pub numbers_are : (f : Bit → ℕ) (all : List Bit) (first : ℕ) → ((i : ℕ) (b : Bit) → slice_get all i ≡ Some b → f b ≡ behind first i) → (numbers : List ℕ) (bits : List Bit) → AreAt all numbers bits
+    → map f bits ≡ map (behind first) numbers
 numbers_are f all first own [] [] are = refl
 numbers_are f all first own [] (b ∷ bits) are = absurd (grind (arith, are))
 numbers_are f all first own (n ∷ numbers) [] are = absurd (grind (arith, are))
@@ -67,39 +67,43 @@ module _ (d : Design) (lowering : Lowering) (number : Numbering) (nets start : �
     pub sources : b.sources ≡ given_all a.sources (map pair (given_at lowering x))
     pub next : b.next ≡ given_all a.next (map pair (data_at lowering x))
     pub lowered : IsLoweringOf lowering x
+    pub steps : AreSteps lowering number x
 
-  pub beside_is : (bits : List Bit) (places : List Place) (first : ℕ) (numbers : List ℕ) (base : ℕ) (steps : List ℕ) → map (bit_number d) bits ≡ map (λ i. first + i) numbers → map number places ≡ map (λ j. base + j) steps
-      → map pair (zip bits places) ≡ beside first numbers base steps
-  beside_is bits places first numbers base steps p q = map-zip (bit_number d) number bits places ∙ ap₂ zip p q
+  pub beside_is : (bits : List Bit) (places : List Place) (first : ℕ) (numbers : List ℕ) (given : List ℕ) → map (bit_number d) bits ≡ map (behind first) numbers → map number places ≡ given
+      → map pair (zip bits places) ≡ beside first numbers given
+  beside_is bits places first numbers given p q = map-zip (bit_number d) number bits places ∙ ap₂ zip p q
 
-  pub all_is : (bits : List Bit) (place : Place) (first : ℕ) (numbers : List ℕ) (at : ℕ) → map (bit_number d) bits ≡ map (λ i. first + i) numbers → at ≡ number place
+  pub all_is : (bits : List Bit) (place : Place) (first : ℕ) (numbers : List ℕ) (at : ℕ) → map (bit_number d) bits ≡ map (behind first) numbers → at ≡ number place
       → map pair (map (λ b. (b, place)) bits) ≡ all_given_by first numbers at
   all_is bits place first numbers at p q =
       map-twice {B = Bit × Place} (λ b. (b, place)) pair bits ∙ sym (map-twice {C = ℕ × ℕ} (bit_number d) (λ n. (n, number place)) bits)
-      ∙ ap (map {B = ℕ × ℕ} (λ n. (n, number place))) p ∙ map-twice {C = ℕ × ℕ} (λ i. first + i) (λ n. (n, number place)) numbers
-      ∙ ap (λ (m : ℕ). map {B = ℕ × ℕ} (λ i. (first + i, m)) numbers) (sym q)
+      ∙ ap (map {B = ℕ × ℕ} (λ n. (n, number place))) p ∙ map-twice {C = ℕ × ℕ} (behind first) (λ n. (n, number place)) numbers
+      ∙ ap (λ (m : ℕ). map {B = ℕ × ℕ} (λ i. (behind first i, m)) numbers) (sym q)
 
-  module _ (constants : (b : Bool) → number (Constant b) ≡ constant_place b) (net_places : (b : Bit) → number (NetBit b) ≡ nets + bit_number d b)
+  module _ (constants : (b : Bool) → number (Constant b) ≡ constant_place b) (net_places : (b : Bit) → number (NetBit b) ≡ behind nets (bit_number d b))
       (k : ℕ) (s : Scope) (site : Site) (is_site : IsSiteOf d s site) (a : Sheet) where
-    base : ℕ
-    base = start + length a.cells
+    pub net_place_is : (n i : ℕ) → Reads (nets_of s.source) 0 (steps.Net n i) → number (net_place s n i) ≡ net_bit_place (behind nets site.first) site.starts n i
+    net_place_is n i reads =
+        net_places _ ∙ ap (behind nets) (is_site.nets n i reads) ∙ ap capped (omega arith)
+        ∙ sym (ap (λ m. behind m i) (behind_first nets site.first (slice_index site.starts n)) ∙ behind_first nets (site.first + slice_index site.starts n) i)
 
-    pub net_place_is : (n i : ℕ) → Reads (nets_of s.source) 0 (steps.Net n i) → number (net_place s n i) ≡ net_bit_place (nets + site.first) site.starts n i
-    net_place_is n i reads = net_places _ ∙ omega (arith, is_site.nets n i reads)
+    -- the cells of so many expressions behind those before
+    abbrev pub cells_after : List Lowered → List LooseCell
+    cells_after ls = (with_terminals start (behind nets site.first) site.starts a.cells ls).cells
 
-    -- where the places of these expressions stand
+    -- what the places of these expressions and of what joins them are numbered
     pub record AreLoweredAt (ls : List Lowered) : Type 0 where
       pub is : (x : ℕ) (l : Lowered) → slice_get ls x ≡ Some l → lowering k x ≡ record { all = l.steps.items; bits = l.bits.items }
-      pub stands : (x j : ℕ) → number (Step k x j) ≡ start + length a.cells + steps_before ls x + j
-      pub joins : (i : ℕ) → number (Joined k (suc i)) ≡ start + length a.cells + steps_before ls (length ls) + i
-      pub inverts : number (Inverted k) ≡ start + length a.cells + steps_before ls (length ls) + (length ls - 1)
+      pub stands : (x : ℕ) (l : Lowered) → slice_get ls x ≡ Some l → (j : ℕ) → number (Step k x j) ≡ slice_index (with_steps start (behind nets site.first) site.starts (cells_after (take x ls)) l).numbers j
+      pub joins : (i : ℕ) → number (Joined k (suc i)) ≡ capped (start + length (cells_after ls) + i)
+      pub inverts : number (Inverted k) ≡ capped (start + length (cells_after ls) + (length ls - 1))
 
     -- bits on a left side
-    pub own_bits : (numbers : List ℕ) (bits : Scope → List Bit) → AreBitsIn s.source numbers bits → map (bit_number d) (bits s) ≡ map (λ i. site.first + i) numbers
+    pub own_bits : (numbers : List ℕ) (bits : Scope → List Bit) → AreBitsIn s.source numbers bits → map (bit_number d) (bits s) ≡ map (behind site.first) numbers
     own_bits numbers bits are = numbers_are (bit_number d) (scope_bits s) site.first is_site.own numbers (bits s) (are s.path)
 
     -- bits of a port of an instance
-    pub inner_bits : (instance : ℕ) (numbers : List ℕ) (i : List ℕ) (pin : Pin) → IsPinIn d.text s.source instance numbers i pin → map (bit_number d) (pin_bits (path_to s.path i) pin) ≡ map (λ j. site.inner instance + j) numbers
+    pub inner_bits : (instance : ℕ) (numbers : List ℕ) (i : List ℕ) (pin : Pin) → IsPinIn d.text s.source instance numbers i pin → map (bit_number d) (pin_bits (path_to s.path i) pin) ≡ map (behind (site.inner instance)) numbers
     inner_bits instance numbers i pin is =
         ap (λ (n : List ℕ). map (bit_number d) (pin_bits (path_to s.path n) pin)) (sym is.named)
         ∙ numbers_are (bit_number d) (scope_bits (record { path = path_to s.path is.called.name; source = is.target })) (site.inner instance) (is_site.inner instance is.called is.target is.there is.meant) numbers
@@ -107,22 +111,31 @@ module _ (d : Design) (lowering : Lowering) (number : Numbering) (nets start : �
 
     -- a construct with one expression
     module _ (l : Lowered) (at : AreLoweredAt (l ∷ [])) (e : Expression) (w : ℕ) (made : IsLowered (nets_of s.source) (range_of s.source) e w l.steps.items l.bits.items) where
-      one_at : IsLoweredAt lowering number k s (nets + site.first) site.starts constants net_place_is 0 (start + length a.cells) l
-      one_at = record { is = at.is 0 l refl; stands = λ j. at.stands 0 j ∙ omega arith; earlier = made.earlier }
+      one_at : IsLoweredAt lowering number k s start (behind nets site.first) site.starts constants net_place_is 0 a.cells l
+      one_at = record { is = at.is 0 l refl; stands = at.stands 0 l refl; earlier = made.earlier }
+
+      one_fits : StepsFit lowering number k s start (behind nets site.first) site.starts constants net_place_is 0 0 a.cells (with_steps start (behind nets site.first) site.starts a.cells l).cells (lowering k 0).all
+      one_fits = expression_fits lowering number k s start (behind nets site.first) site.starts constants net_place_is 0 a.cells l one_at
 
       pub one_lowered : All (λ (x : ℕ × (Expression × ℕ)). IsLowered (nets_of s.source) (range_of s.source) x.1.0 x.1.1 (lowering k x.0).all (lowering k x.0).bits) ((0, (e, w)) ∷ [])
       one_lowered = All-cons (λ (x : ℕ × (Expression × ℕ)). IsLowered (nets_of s.source) (range_of s.source) x.1.0 x.1.1 (lowering k x.0).all (lowering k x.0).bits) (0, (e, w)) [] (subst (λ (z : Steps). IsLowered (nets_of s.source) (range_of s.source) e w z.all z.bits) (sym (at.is 0 l refl)) made) (All-nil _)
 
-      pub one_cells : cells_in ((step_cells lowering number k s 0 ++ []) ++ []) ≡ cells_of_steps (nets + site.first) site.starts (start + length a.cells) l.steps.items
-      one_cells = ap cells_in (append-nil (step_cells lowering number k s 0 ++ []) ∙ append-nil (step_cells lowering number k s 0))
-          ∙ steps_cells lowering number k s (nets + site.first) site.starts constants net_place_is 0 (start + length a.cells) l one_at
+      alone : (step_cells lowering number k 0 ++ []) ++ [] ≡ step_cells lowering number k 0
+      alone = append-nil (step_cells lowering number k 0 ++ []) ∙ append-nil (step_cells lowering number k 0)
 
-      pub expression_row : AreInRow number (start + length a.cells) ((step_cells lowering number k s 0 ++ []) ++ [])
-      expression_row = subst (AreInRow number (start + length a.cells)) (sym (append-nil (step_cells lowering number k s 0 ++ []) ∙ append-nil (step_cells lowering number k s 0)))
-          (steps_row lowering number k s (nets + site.first) site.starts constants net_place_is 0 (start + length a.cells) l one_at)
+      pub one_cells : (with_steps start (behind nets site.first) site.starts a.cells l).cells ≡ a.cells ++ cells_in ((step_cells lowering number k 0 ++ []) ++ [])
+      one_cells = one_fits.cells ∙ ap (λ l. a.cells ++ cells_in l) (sym alone)
 
-      pub one_places : map number (step_places lowering k 0) ≡ map (λ j. start + length a.cells + j) l.bits.items
-      one_places = ap (λ (z : Steps). map number (map (Step k 0) z.bits)) (at.is 0 l refl) ∙ map-twice (Step k 0) number l.bits.items ∙ map-same _ _ one_at.stands l.bits.items
+      pub one_row : AreInRow number (start + length a.cells) ((step_cells lowering number k 0 ++ []) ++ [])
+      one_row = subst (AreInRow number (start + length a.cells)) (sym alone) one_fits.row
 
-      pub low_places : (n m : ℕ) → n ≡ m → map number (low_bits n (step_places lowering k 0)) ≡ map (λ j. start + length a.cells + j) (low_bits m l.bits.items)
-      low_places n m same = low-map number n (step_places lowering k 0) ∙ ap₂ (λ (i : ℕ) (p : List ℕ). low_bits i p) same one_places ∙ sym (low-map (λ j. start + length a.cells + j) m l.bits.items)
+      pub one_steps : All (λ x. All (λ y. IsStepAt number s y.1 (number (Step k x y.0))) (enumerate_from 0 (lowering k x).all)) (0 ∷ [])
+      one_steps = All-cons (λ x. All (λ y. IsStepAt number s y.1 (number (Step k x y.0))) (enumerate_from 0 (lowering k x).all)) 0 [] one_fits.steps (All-nil _)
+
+      pub one_places : map number (step_places lowering k 0) ≡ bit_places start (behind nets site.first) site.starts a.cells l
+      one_places =
+          ap (λ (z : Steps). map number (map (Step k 0) z.bits)) (at.is 0 l refl) ∙ map-twice (Step k 0) number l.bits.items
+          ∙ map-same (λ j. number (Step k 0 j)) (slice_index (with_steps start (behind nets site.first) site.starts a.cells l).numbers) one_at.stands l.bits.items
+
+      pub low_places : (n m : ℕ) → n ≡ m → map number (low_bits n (step_places lowering k 0)) ≡ low_bits m (bit_places start (behind nets site.first) site.starts a.cells l)
+      low_places n m same = low-map number n (step_places lowering k 0) ∙ ap₂ (λ (i : ℕ) (p : List ℕ). low_bits i p) same one_places

@@ -10,12 +10,13 @@ use Rattle.bb_blast.specs.declared.placed.Placed.{Placed}
 use Rattle.bb_design.specs.Hierarchy.{Design, Scope, scopes}
 use Rattle.bb_design.specs.NetBits.{Bit, scope_bits, net_order}
 use Rattle.bb_design.specs.Constructs.{Construct, GateInstance, BoxContents, body_constructs, constructs_at, parts}
+use Rattle.bb_blast.specs.Counting.{behind}
 use Rattle.bb_blast.specs.Listing.{bit_count, site_of}
 use Rattle.bb_design.specs.Allowed.{IsBounded}
 use Rattle.bb_blast.specs.Outlines.{IsOutline, IsPartOf}
 use Rattle.bb_blast.specs.Placements.{ArePlaced, AreOutlined, IsScopeAt}
 use Rattle.bb_cells.specs.Places.{NetBit, Numbering, Lowering}
-use Rattle.bb_blast.proofs.BitNumbers.{bit_number, first_bits, site_is}
+use Rattle.bb_blast.proofs.BitNumbers.{bit_number, held_bits, site_is}
 use Rattle.bb_blast.proofs.ListedBlocks.{nowhere, blocks_in, blocks_of, IsBlockOf}
 use Rattle.bb_blast.proofs.ListedBoxes.{IsBoxedSo}
 use Rattle.bb_blast.proofs.ListedConstructs.{HasInputs}
@@ -61,15 +62,15 @@ module _ (of_designs : DesignLaws) (names : NetNamesDiffer) (d : Design) (bounde
   pub blocks_are : AllZip (IsBlockOf d) (flat_map (blocks_of placed outlines) placed) (parts d)
   blocks_are = zip_flat {D = Scope × Construct} (IsBlockOf d) (blocks_of placed outlines) (λ s. map (λ c. (s, c)) (constructs_at d.text s)) placed (scopes d) are.count (λ k p s has at. scope_blocks k s p has at)
 
-  pub boxes_are : (lowering : Lowering) (number : Numbering) (nets start : ℕ) (net_places : (b : Bit) → number (NetBit b) ≡ nets + bit_number d b) (all : List Scope) (pins_stand : _)
-      (k : ℕ) (s : Scope) (p : Placed) → IsScopeAt d k s → slice_get placed k ≡ Some p → IsBoxedSo d lowering number nets start net_places outlines all pins_stand s p
-  boxes_are lowering number nets start net_places all pins_stand k s p at has =
+  pub boxes_are : (lowering : Lowering) (number : Numbering) (nets start : ℕ) (net_places : (b : Bit) → number (NetBit b) ≡ behind nets (bit_number d b)) (all : List Scope) (pins_stand : _) (few : _) (few_pins : _)
+      (k : ℕ) (s : Scope) (p : Placed) → IsScopeAt d k s → slice_get placed k ≡ Some p → IsBoxedSo d lowering number nets start net_places outlines all pins_stand few few_pins s p
+  boxes_are lowering number nets start net_places all pins_stand few few_pins k s p at has =
       let o = outlined k s p at has in
       record {
         boxed = (are.each k s p at has).boxed;
         outline = o.0;
         found = o.1;
-        pins = record { own = first_bits of_designs names d bounded placed are k s p at has; inputs = o.2.inputs s.path; outputs = o.2.outputs s.path };
+        pins = record { own = held_bits of_designs names d bounded placed are k s p at has; inputs = o.2.inputs s.path; outputs = o.2.outputs s.path };
       }
 
   counts_from : (ss : List Scope) (ps : List Placed) (n : ℕ) → length ps ≡ length ss → ((i : ℕ) (s : Scope) (p : Placed) → slice_get ss i ≡ Some s → slice_get ps i ≡ Some p → option_map_or (λ o. o.bits) (slice_get outlines p.module) 0 ≡ length (scope_bits s))

@@ -16,9 +16,10 @@ use Rattle.bb_blast.specs.declared.box_cells.BoxedLists.{BoxedLists}
 use Rattle.bb_blast.specs.declared.outline.Part.{Part}
 use Rattle.bb_blast.specs.declared.outline.Part.TheVariants as part
 use Rattle.bb_blast.specs.declared.outline.Outline.{Outline}
-use Rattle.bb_blast.specs.declared.part_cells.SheetLists.{SheetLists}
 use Rattle.bb_blast.specs.declared.placed.Placed.{Placed}
+use Rattle.bb_blast.specs.declared.sheet.SheetLists.{SheetLists}
 use Rattle.bb_blast.specs.declared.stored.Stored.{Stored}
+use Rattle.bb_blast.specs.Counting.{capped, behind}
 use Rattle.bb_bits.specs.Bits.{low_bits}
 use Rattle.bb_design.specs.GateFunctions.{inverts}
 use Rattle.bb_cells.specs.Places.{step_cell, join_cell}
@@ -46,23 +47,23 @@ place_or_zero (Some (Some place)) = place
 place_or_zero (Some None) = 0
 place_or_zero None = 0
 
--- bits from a number on, each with a place from a number on
-abbrev pub beside : ℕ → List ℕ → ℕ → List ℕ → List (ℕ × ℕ)
-beside first bits base steps = zip (map (λ i. first + i) bits) (map (λ k. base + k) steps)
+-- bits from a number on, each with its place
+abbrev pub beside : ℕ → List ℕ → List ℕ → List (ℕ × ℕ)
+beside first bits places = zip (map (behind first) bits) places
 
 -- bits from a number on, with places in a row
 abbrev pub in_row : ℕ → List ℕ → ℕ → List (ℕ × ℕ)
-in_row first bits base = map (λ x. (first + x.1, base + x.0)) (enumerate_from 0 bits)
+in_row first bits base = map (λ x. (behind first x.1, behind base x.0)) (enumerate_from 0 bits)
 
 abbrev pub all_given_by : ℕ → List ℕ → ℕ → List (ℕ × ℕ)
-all_given_by first bits place = map (λ i. (first + i, place)) bits
+all_given_by first bits place = map (λ i. (behind first i, place)) bits
 
 abbrev pub constant_place : Bool → ℕ
 constant_place b = if b then 1 else 0
 
 -- the place of a bit of a net, where those of the scope stand from a place on and those of each net from a number on
 abbrev pub net_bit_place : ℕ → List ℕ → ℕ → ℕ → ℕ
-net_bit_place bits starts n i = bits + slice_index starts n + i
+net_bit_place bits starts n i = behind (behind bits (slice_index starts n)) i
 
 -- a scope: the number of its first bit, those of the first bits of its nets, and those of the first bits of its instances
 pub record Site : Type 0 where
@@ -70,13 +71,35 @@ pub record Site : Type 0 where
   pub starts : List ℕ
   pub inner : ℕ → ℕ
 
--- the cells of steps, the first of which stands at a place
-abbrev pub cells_of_steps : ℕ → List ℕ → ℕ → List BitStep → List LooseCell
-cells_of_steps bits starts base steps = map (step_cell constant_place (λ a. base + a) (net_bit_place bits starts)) steps
+-- cells, and the numbers of the steps of an expression so far
+pub record Numbered : Type 0 where
+  pub cells : List LooseCell
+  pub numbers : List ℕ
 
--- cells with those of an expression behind them, where the first cell stands at the place start
-abbrev pub with_steps : ℕ → ℕ → List ℕ → List LooseCell → Lowered → List LooseCell
-with_steps start bits starts cells l = cells ++ cells_of_steps bits starts (start + length cells) l.steps.items
+-- the number of a step, where the next operator stands at a place
+abbrev pub step_number : ℕ → List ℕ → ℕ → BitStep → ℕ
+step_number bits starts next (steps.Const b) = constant_place b
+step_number bits starts next (steps.Net n i) = net_bit_place bits starts n i
+step_number bits starts next step = next
+
+abbrev pub with_cell : List LooseCell → Option LooseCell → List LooseCell
+with_cell cells None = cells
+with_cell cells (Some c) = cells ++ c ∷ []
+
+-- a step behind those before it, where the first cell stands at the place start
+abbrev pub with_step : ℕ → ℕ → List ℕ → Numbered → BitStep → Numbered
+with_step start bits starts n step = record {
+  cells = with_cell n.cells (step_cell (slice_index n.numbers) step);
+  numbers = n.numbers ++ step_number bits starts (behind start (length n.cells)) step ∷ [];
+}
+
+-- cells with those of an expression behind them, and the numbers of its steps
+abbrev pub with_steps : ℕ → ℕ → List ℕ → List LooseCell → Lowered → Numbered
+with_steps start bits starts cells l = fold (with_step start bits starts) (record { cells = cells; numbers = [] }) l.steps.items
+
+-- the places of the bits of an expression that stands behind these cells
+abbrev pub bit_places : ℕ → ℕ → List ℕ → List LooseCell → Lowered → List ℕ
+bit_places start bits starts cells l = map (slice_index (with_steps start bits starts cells l).numbers) l.bits.items
 
 -- a step reads one of so many nets
 abbrev pub IsNetBelow : ℕ → BitStep → Type 0
@@ -96,7 +119,10 @@ pub record Terminals : Type 0 where
   pub places : List ℕ
 
 abbrev pub with_terminal : ℕ → ℕ → List ℕ → Terminals → Lowered → Terminals
-with_terminal start bits starts t l = record { cells = with_steps start bits starts t.cells l; places = t.places ++ (start + length t.cells + slice_index l.bits.items 0) ∷ [] }
+with_terminal start bits starts t l = record {
+  cells = (with_steps start bits starts t.cells l).cells;
+  places = t.places ++ slice_index (with_steps start bits starts t.cells l).numbers (slice_index l.bits.items 0) ∷ [];
+}
 
 abbrev pub with_terminals : ℕ → ℕ → List ℕ → List LooseCell → List Lowered → Terminals
 with_terminals start bits starts cells ins = fold (with_terminal start bits starts) (record { cells = cells; places = [] }) ins
@@ -107,14 +133,14 @@ pub record Joining : Type 0 where
   pub place : ℕ
 
 abbrev pub joined_to : ℕ → Gate → Joining → ℕ → Joining
-joined_to start gate j terminal = record { cells = j.cells ++ join_cell gate j.place terminal ∷ []; place = start + length j.cells }
+joined_to start gate j terminal = record { cells = j.cells ++ join_cell gate j.place terminal ∷ []; place = behind start (length j.cells) }
 
 abbrev pub joined : ℕ → Gate → List LooseCell → List ℕ → Joining
 joined start gate cells [] = record { cells = cells; place = 0 }
 joined start gate cells (first ∷ rest) = fold (joined_to start gate) (record { cells = cells; place = first }) rest
 
 abbrev pub inverted : ℕ → Gate → Joining → Joining
-inverted start gate j = if inverts gate then record { cells = j.cells ++ cell.Not j.place ∷ []; place = start + length j.cells } else j
+inverted start gate j = if inverts gate then record { cells = j.cells ++ cell.Not j.place ∷ []; place = behind start (length j.cells) } else j
 
 -- the cells of a gate, and its place
 abbrev pub with_gate : ℕ → ℕ → List ℕ → Gate → List LooseCell → List Lowered → Joining
@@ -138,37 +164,46 @@ IsPartAmong n m (part.Supply high bits) = Unit {0}
 IsPartAmong n m (part.Input instance pin value) = (instance < m) × HasNetsBelow n value
 IsPartAmong n m (part.Output instance pin left) = instance < m
 
-abbrev pub with_part : ℕ → ℕ → Site → Sheet → Part → Sheet
-with_part nets start s sheet (part.Assignment left right) = record {
-  cells = with_steps start (nets + s.first) s.starts sheet.cells right;
-  sources = given_all sheet.sources (beside s.first left.items (start + length sheet.cells) (low_bits (length left.items) right.bits.items));
-  next = sheet.next;
-}
-with_part nets start s sheet (part.Gate gate outs ins) = record {
-  cells = (with_gate start (nets + s.first) s.starts gate sheet.cells ins.items).cells;
-  sources = given_all sheet.sources (all_given_by s.first outs.items (with_gate start (nets + s.first) s.starts gate sheet.cells ins.items).place);
-  next = sheet.next;
-}
-with_part nets start s sheet (part.Register left right clock falling) = record {
-  cells = with_steps start (nets + s.first) s.starts sheet.cells right;
+-- bits that are given, and register bits that get their next state
+abbrev pub giving : Sheet → List (ℕ × ℕ) → Sheet
+giving sheet xs = record { cells = sheet.cells; sources = given_all sheet.sources xs; next = sheet.next }
+
+abbrev pub giving_next : Sheet → List (ℕ × ℕ) → Sheet
+giving_next sheet xs = record { cells = sheet.cells; sources = sheet.sources; next = given_all sheet.next xs }
+
+abbrev pub with_expression : ℕ → ℕ → List ℕ → Sheet → Lowered → Sheet
+with_expression start bits starts sheet l = record {
+  cells = (with_steps start bits starts sheet.cells l).cells;
   sources = sheet.sources;
-  next = given_all sheet.next (beside s.first left.items (start + length sheet.cells) (low_bits (length left.items) right.bits.items));
-}
-with_part nets start s sheet (part.Supply high bits) = record {
-  cells = sheet.cells;
-  sources = given_all sheet.sources (all_given_by s.first bits.items (constant_place high));
   next = sheet.next;
 }
-with_part nets start s sheet (part.Input instance pin value) = record {
-  cells = with_steps start (nets + s.first) s.starts sheet.cells value;
-  sources = given_all sheet.sources (beside (s.inner instance) pin.items (start + length sheet.cells) value.bits.items);
+
+-- a gate gives all its outputs
+abbrev pub driven_by : Sheet → Joining → ℕ → List ℕ → Sheet
+driven_by sheet gate first outs = record {
+  cells = gate.cells;
+  sources = given_all sheet.sources (all_given_by first outs gate.place);
   next = sheet.next;
 }
-with_part nets start s sheet (part.Output instance pin left) = record {
-  cells = sheet.cells;
-  sources = given_all sheet.sources (beside s.first left.items (nets + s.inner instance) pin.items);
-  next = sheet.next;
-}
+
+abbrev pub with_part : ℕ → ℕ → Site → Sheet → Part → Sheet
+with_part nets start s sheet (part.Assignment left right) =
+    let bits = behind nets s.first in
+    giving (with_expression start bits s.starts sheet right)
+    (beside s.first left.items (low_bits (length left.items) (bit_places start bits s.starts sheet.cells right)))
+with_part nets start s sheet (part.Gate gate outs ins) =
+    driven_by sheet (with_gate start (behind nets s.first) s.starts gate sheet.cells ins.items) s.first outs.items
+with_part nets start s sheet (part.Register left right clock falling) =
+    let bits = behind nets s.first in
+    giving_next (with_expression start bits s.starts sheet right)
+    (beside s.first left.items (low_bits (length left.items) (bit_places start bits s.starts sheet.cells right)))
+with_part nets start s sheet (part.Supply high bits) = giving sheet (all_given_by s.first bits.items (constant_place high))
+with_part nets start s sheet (part.Input instance pin value) =
+    let bits = behind nets s.first in
+    giving (with_expression start bits s.starts sheet value)
+    (beside (s.inner instance) pin.items (bit_places start bits s.starts sheet.cells value))
+with_part nets start s sheet (part.Output instance pin left) =
+    giving sheet (beside s.first left.items (map (behind (behind nets (s.inner instance))) pin.items))
 
 -- the number of the first bit of an instance that stands in a scope
 abbrev pub inner_first : List Placed → Placed → ℕ → ℕ
@@ -203,9 +238,12 @@ boxed_view b = record { cells = b.cells.items; sources = b.sources.items; boxes 
 abbrev pub with_pins : ℕ → ℕ → ℕ → Boxed → Option Outline → Boxed
 with_pins nets start first b None = b
 with_pins nets start first b (Some o) = record {
-  cells = b.cells ++ map (cell.BoxOut (length b.boxes)) (range_with_len 0 (length o.outputs.items));
-  sources = given_all b.sources (in_row first o.outputs.items (start + length b.cells));
-  boxes = b.boxes ++ record { ins = map (λ i. nets + first + i) o.inputs.items; outs = range_with_len (start + length b.cells) (length o.outputs.items) } ∷ [];
+  cells = b.cells ++ map (cell.BoxOut (capped (length b.boxes))) (range_with_len 0 (capped (length o.outputs.items)));
+  sources = given_all b.sources (in_row first o.outputs.items (behind start (length b.cells)));
+  boxes = b.boxes ++ record {
+    ins = map (behind (behind nets first)) o.inputs.items;
+    outs = map (behind (behind start (length b.cells))) (range_with_len 0 (capped (length o.outputs.items)));
+  } ∷ [];
 }
 
 abbrev pub with_box : ℕ → ℕ → List Outline → Boxed → Placed → Boxed
@@ -230,7 +268,7 @@ abbrev pub cells_before : ℕ → Sources → List LooseCell
 cells_before inputs sources = cell.Const false ∷ cell.Const true ∷ map cell.Input (range_with_len 0 inputs) ++ map (λ x. cell.Copy (place_or_zero (Some x))) sources
 
 abbrev pub outs_of : ℕ → Outline → List Stored → Sources → List ℕ
-outs_of nets top stored next = map (λ i. nets + i) top.outputs.items ++ map (λ x. place_or_zero (slice_get next x.bit)) stored
+outs_of nets top stored next = map (behind nets) top.outputs.items ++ map (λ x. place_or_zero (slice_get next x.bit)) stored
 
 abbrev pub finished : ℕ → ℕ → Outline → List Stored → List Pins → Sheet → LooseList
 finished inputs nets top stored boxes sheet = record {
@@ -243,14 +281,16 @@ finished inputs nets top stored boxes sheet = record {
 abbrev pub first_sources : ℕ → List ℕ → Sources
 first_sources bits inputs = given_all (replicate bits None) (in_row 0 inputs 2)
 
--- the list of cells, for so many bits and these inputs
-abbrev pub listed_on : ℕ → List ℕ → ℕ → ℕ → List Placed → List Outline → List Stored → Outline → LooseList
-listed_on bits inputs nets start placed outlines stored top =
+-- the list of cells, for these inputs, so many, and so many bits
+abbrev pub listed_on : List ℕ → ℕ → ℕ → ℕ → ℕ → List Placed → List Outline → List Stored → Outline → LooseList
+listed_on inputs count bits nets start placed outlines stored top =
     let b = boxed_in nets start placed outlines (first_sources bits inputs) in
-    finished (length inputs) nets top stored b.boxes (sheet_on nets start placed outlines b (replicate bits None))
+    finished count nets top stored b.boxes (sheet_on nets start placed outlines b (replicate bits None))
 
 abbrev pub listed : List Placed → List Outline → List Stored → Outline → LooseList
 listed placed outlines stored top =
     let inputs = input_numbers top stored in
-    let bits = bit_count placed outlines in
-    listed_on bits inputs (2 + length inputs) (2 + length inputs + bits) placed outlines stored top
+    let count = capped (length inputs) in
+    let bits = capped (bit_count placed outlines) in
+    let nets = behind 2 count in
+    listed_on inputs count bits nets (behind nets bits) placed outlines stored top

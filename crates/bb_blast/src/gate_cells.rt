@@ -7,8 +7,8 @@ ghost use Rattle.bb_design.specs.GateFunctions.{inverts};
 ghost use Rattle.bb_cells.specs.Places.{join_cell};
 ghost use Rattle.bb_blast.specs.Listing.{IsInputAmong, with_terminals, joined, inverted, with_gate};
 
-use crate::sources::{behind, next_place};
-use crate::step_cells::{Spot, add_steps};
+use crate::sources::next_place;
+use crate::step_cells::{Spot, add_steps, number_at};
 use bb_ast::Gate;
 use bb_bits::NoMemory;
 use bb_expr::Lowered;
@@ -45,6 +45,7 @@ fn first_bit(lowered: &Lowered) -> u32
 fn add_terminals(
     spot: Spot<'_>,
     ins: &[Lowered],
+    numbers: &mut Vec<u32>,
     places: &mut Vec<u32>,
     cells: &mut Vec<LooseCell>,
 ) -> Result<(), NoMemory>
@@ -54,8 +55,8 @@ fn add_terminals(
 {
     places.clear();
     for lowered in ins {
-        let base = add_steps(spot, lowered, cells)?;
-        places.push(behind(base, first_bit(lowered))?)?;
+        add_steps(spot, lowered, numbers, cells)?;
+        places.push(number_at(numbers, first_bit(lowered)))?;
     }
     Ok(())
 }
@@ -75,7 +76,7 @@ fn add_joins(
     };
     let mut place = *first;
     for terminal in rest {
-        let next = next_place(start, cells)?;
+        let next = next_place(start, cells);
         cells.push(join_cell(gate, place, *terminal))?;
         place = next;
     }
@@ -95,17 +96,18 @@ fn add_inverter(
     if !inverts(gate) {
         return Ok(place);
     }
-    let next = next_place(start, cells)?;
+    let next = next_place(start, cells);
     cells.push(LooseCell::Not(place))?;
     Ok(next)
 }
 
-/// Puts the cells of a gate behind others, and gives its place. The places of its inputs are noted in a list that is there to be
-/// used again.
+/// Puts the cells of a gate behind others, and gives its place. The numbers of steps and the places of its inputs are noted in
+/// lists that are there to be used again.
 pub(crate) fn add_gate(
     spot: Spot<'_>,
     gate: &Gate,
     ins: &[Lowered],
+    numbers: &mut Vec<u32>,
     places: &mut Vec<u32>,
     cells: &mut Vec<LooseCell>,
 ) -> Result<u32, NoMemory>
@@ -113,7 +115,7 @@ pub(crate) fn add_gate(
     ensures place { IfOk result (λ place. place ≡ (with_gate spot.entry.others spot.entry.bits spot.entry.starts.now gate.now cells.old.items ins.now).place) }
     ensures added { IfOk result (λ place. cells.new.items ≡ (with_gate spot.entry.others spot.entry.bits spot.entry.starts.now gate.now cells.old.items ins.now).cells) }
 {
-    add_terminals(spot, ins, places, cells)?;
+    add_terminals(spot, ins, numbers, places, cells)?;
     let place = add_joins(spot.others, gate, places, cells)?;
     add_inverter(spot.others, gate, place, cells)
 }

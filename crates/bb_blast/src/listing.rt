@@ -4,8 +4,9 @@
 //! make, scope by scope. Since the places of the first two are known beforehand, what gives each bit is noted while the others
 //! are made, and the copies are made last.
 
-ghost use Rattle.std.specs.Prelude.{All, ◌≡◌, ◌^◌, ◌<◌, None, length, replicate, IfOk};
+ghost use Rattle.std.specs.Prelude.{All, ◌≡◌, ◌<◌, None, length, replicate, IfOk};
 ghost use Rattle.std.specs.List.{fold};
+ghost use Rattle.bb_blast.specs.Counting.{capped};
 ghost use Rattle.bb_blast.specs.Listing.{IsScopeAmong, sheet_view, boxed_view, first_sources, input_numbers, bit_count, boxed_in, cells_before, outs_of, finished, with_scope, listed};
 ghost use Rattle.bb_design.specs.Hierarchy.{Design};
 ghost use Rattle.bb_design.specs.Allowed.{IsBounded};
@@ -15,26 +16,28 @@ ghost use Rattle.bb_design.specs.Refusals.{AreDrivenOnce};
 
 use crate::box_cells::{BoxedLists, add_boxes, moved};
 use crate::outline::Outline;
-use crate::part_cells::{SheetLists, add_scopes, outline_of};
+use crate::part_cells::{add_scopes, outline_of};
 use crate::placed::Placed;
+use crate::sheet::SheetLists;
 use crate::sources::{Layout, behind, count_of, give_in_row, place_or_zero};
 use crate::stored::Stored;
 use bb_bits::NoMemory;
+use bb_cells::list_laws::places_are_few;
 use bb_design::laws::laws_of_designs;
 use bb_expr::laws::net_names_differ;
 use bb_net::{BoxPins, Loose, LooseCell};
 use std::alloc::Global;
 
 // How many bits the nets of all scopes have.
-fn bit_count(placed: &[Placed], outlines: &[Outline]) -> Result<u32, NoMemory>
+fn bit_count(placed: &[Placed], outlines: &[Outline]) -> u32
     requires there { All (λ p. p.module < length outlines.now) placed.now }
-    ensures count { IfOk result (λ n. n ≡ bit_count placed.now outlines.now) }
+    ensures count { result ≡ capped (bit_count placed.now outlines.now) }
 {
     let mut count = 0;
     for scope in placed {
-        count = behind(count, outline_of(outlines, scope).bits)?;
+        count = behind(count, outline_of(outlines, scope).bits);
     }
-    Ok(count)
+    count
 }
 
 // The bits that are inputs.
@@ -54,7 +57,7 @@ fn first_sources(alloc: Global, bits: u32, inputs: &[u32]) -> Result<Vec<Option<
     ensures sources { IfOk result (λ sources. sources.items ≡ first_sources bits inputs.now) }
 {
     let mut sources = vec![in alloc; None; bits as usize]?;
-    give_in_row(&mut sources, 0, inputs, 2)?;
+    give_in_row(&mut sources, 0, inputs, 2);
     Ok(sources)
 }
 
@@ -136,6 +139,7 @@ fn sheet_on(
         cells,
         sources,
         next,
+        numbers: Vec::new(alloc),
         places: Vec::new(alloc),
     };
     add_scopes(layout, placed, outlines, &mut sheet)?;
@@ -153,13 +157,9 @@ fn finished(
     sheet: &SheetLists,
 ) -> Result<Loose, NoMemory>
     ensures list { IfOk result (λ l. l ≡ finished inputs nets top.now stored.now boxes.items (sheet_view sheet.now)) }
-    ensures fits { IfOk result (λ l. length l.cells < 2 ^ 32) }
 {
     let mut cells = cells_before(alloc, inputs, &sheet.sources)?;
     cells.extend_from_slice(&sheet.cells)?;
-    if cells.len() > u32::MAX as usize {
-        return Err(NoMemory);
-    }
     let outs = outs_of(alloc, nets, top, stored, &sheet.next)?;
     Ok(Loose::of(inputs, cells, boxes, outs))
 }
@@ -175,15 +175,14 @@ fn listed(
     requires there { All (λ p. p.module < length outlines.now) placed.now }
     requires scopes { All (IsScopeAmong placed.now outlines.now) placed.now }
     ensures list { IfOk result (λ l. l ≡ listed placed.now outlines.now stored.now top.now) }
-    ensures fits { IfOk result (λ l. length l.cells < 2 ^ 32) }
 {
     let inputs = input_numbers(alloc, top, stored)?;
-    let count = count_of(&inputs)?;
-    let bits = bit_count(placed, outlines)?;
-    let nets = behind(2, count)?;
+    let count = count_of(&inputs);
+    let bits = bit_count(placed, outlines);
+    let nets = behind(2, count);
     let layout = Layout {
         nets,
-        others: behind(nets, bits)?,
+        others: behind(nets, bits),
     };
     let sources = first_sources(alloc, bits, &inputs)?;
     let BoxedLists {
@@ -208,6 +207,7 @@ pub fn list_cells(
 {
     laws_of_designs();
     net_names_differ();
+    places_are_few();
     let top = outline_of(outlines, &placed[0]);
     let list = listed(alloc, placed, outlines, stored, top)?;
     Ok(list)

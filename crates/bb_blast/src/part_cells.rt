@@ -4,27 +4,14 @@
 
 ghost use Rattle.std.specs.Prelude.{◌≡◌, ◌<◌, All, length, Some, slice_get, OnOk};
 ghost use Rattle.std.specs.List.{fold};
-ghost use Rattle.bb_bits.specs.Bits.{low_bits};
 ghost use Rattle.bb_blast.specs.Listing.{IsPartAmong, IsScopeAmong, sheet_view, with_part, inner_first, with_parts, with_scope};
 
-use crate::gate_cells::add_gate;
 use crate::outline::{Outline, Part};
 use crate::placed::Placed;
-use crate::sources::{Layout, behind, give_all, give_beside};
-use crate::step_cells::{Spot, add_steps, constant_place};
+use crate::sheet::{SheetLists, put_assignment, put_gate, put_input, put_output, put_register};
+use crate::sources::{Layout, behind, give_all};
+use crate::step_cells::{Spot, constant_place};
 use bb_bits::NoMemory;
-use bb_net::LooseCell;
-
-/// The cells so far behind the bits of nets, the place that gives each bit, and the one that gives each register bit its next
-/// state.
-#[derive(Debug, Drop)]
-pub(crate) struct SheetLists {
-    pub cells: Vec<LooseCell>,
-    pub sources: Vec<Option<u32>>,
-    pub next: Vec<Option<u32>>,
-    /// The places of the inputs of a gate, kept so that their memory is used again.
-    pub places: Vec<u32>,
-}
 
 // The number of the first bit of an instance that stands in a scope.
 fn inner_first(placed: &[Placed], scope: &Placed, instance: u32) -> u32
@@ -43,13 +30,6 @@ pub fn outline_of<'a>(outlines: &'a [Outline], scope: &Placed) -> &'a Outline
     &outlines[scope.module]
 }
 
-// So many of the last of these.
-fn low_bits(count: usize, steps: &[u32]) -> &[u32]
-    ensures low { result.now ≡ low_bits count steps.now }
-{
-    &steps[steps.len().saturating_sub(count)..]
-}
-
 // Puts what a construct makes behind what others made.
 fn add_part(
     layout: Layout,
@@ -63,46 +43,35 @@ fn add_part(
     requires children { All (λ c. c < length placed.now) scope.now.children.items }
     ensures added { OnOk result (sheet_view sheet.new ≡ with_part layout.nets layout.others (record { first = scope.now.first; starts = starts.now; inner = inner_first placed.now scope.now }) (sheet_view sheet.old) part.now) }
 {
+    let first = scope.first;
     let spot = Spot {
         others: layout.others,
-        bits: behind(layout.nets, scope.first)?,
+        bits: behind(layout.nets, first),
         starts,
     };
-    let first = scope.first;
     match part {
-        Part::Assignment { left, right } => {
-            let base = add_steps(spot, right, &mut sheet.cells)?;
-            let steps = low_bits(left.len(), &right.bits);
-            give_beside(&mut sheet.sources, first, left, base, steps)
-        }
-        Part::Gate { gate, outs, ins } => {
-            let place = add_gate(spot, gate, ins, &mut sheet.places, &mut sheet.cells)?;
-            give_all(&mut sheet.sources, first, outs, place)
-        }
-        Part::Register { left, right, .. } => {
-            let base = add_steps(spot, right, &mut sheet.cells)?;
-            let steps = low_bits(left.len(), &right.bits);
-            give_beside(&mut sheet.next, first, left, base, steps)
-        }
+        Part::Assignment { left, right } => put_assignment(spot, first, left, right, sheet),
+        Part::Gate { gate, outs, ins } => put_gate(spot, first, gate, outs, ins, sheet),
+        Part::Register { left, right, .. } => put_register(spot, first, left, right, sheet),
         Part::Supply { high, bits } => {
-            give_all(&mut sheet.sources, first, bits, constant_place(*high))
+            give_all(&mut sheet.sources, first, bits, constant_place(*high));
+            Ok(())
         }
         Part::Input {
             instance,
             pin,
             value,
         } => {
-            let base = add_steps(spot, value, &mut sheet.cells)?;
             let inner = inner_first(placed, scope, *instance);
-            give_beside(&mut sheet.sources, inner, pin, base, &value.bits)
+            put_input(spot, inner, pin, value, sheet)
         }
         Part::Output {
             instance,
             pin,
             left,
         } => {
-            let base = behind(layout.nets, inner_first(placed, scope, *instance))?;
-            give_beside(&mut sheet.sources, first, left, base, pin)
+            let inner = behind(layout.nets, inner_first(placed, scope, *instance));
+            put_output(inner, first, pin, left, sheet)
         }
     }
 }

@@ -1,11 +1,11 @@
 //! Which place gives each bit of a net.
 //!
-//! A bit is given once, by its first driver; places and bits are counted in 32 bits, and a list that is longer is want of memory.
+//! A bit is given once, by its first driver. Places and bits are counted in 32 bits, which hold all of a design that is small.
 
-ghost use Rattle.std.specs.Prelude.{◌≡◌, ◌+◌, ◌≤◌, length, slice_get, IfOk, OnOk, OnErr};
+ghost use Rattle.std.specs.Prelude.{◌≡◌, length, slice_get};
+ghost use Rattle.bb_blast.specs.Counting.{capped, behind};
 ghost use Rattle.bb_blast.specs.Listing.{given_one, given_all, place_or_zero, beside, in_row, all_given_by};
 
-use bb_bits::NoMemory;
 use bb_net::LooseCell;
 
 /// Where the parts of the list begin: the place of the first bit of a net, and that of the first cell behind the bits of nets.
@@ -15,34 +15,28 @@ pub(crate) struct Layout {
     pub others: u32,
 }
 
-/// The place that stands so far behind another. Places are counted in 32 bits: it answers want of memory exactly from 2^32 on.
-pub fn behind(place: u32, offset: u32) -> Result<u32, NoMemory>
-    ensures place { IfOk result (λ n. n ≡ place + offset) }
-    ensures past { OnErr result (4294967296 ≤ place + offset) }
+/// The number that stands so far behind another, or the largest of 32 bits where it would be larger.
+#[tactic(auto, unfolding(crate::specs::Counting::capped))]
+pub(crate) fn behind(number: u32, offset: u32) -> u32
+    ensures number { result ≡ behind number offset }
 {
-    place.checked_add(offset).ok_or(NoMemory)
+    number.saturating_add(offset)
 }
 
-/// How many numbers these are. It answers want of memory exactly from 2^32 on.
-pub fn count_of(numbers: &[u32]) -> Result<u32, NoMemory>
-    ensures count { IfOk result (λ n. n ≡ length numbers.now) }
-    ensures past { OnErr result (4294967296 ≤ length numbers.now) }
+/// How many these are, or the largest number of 32 bits where they are more.
+#[tactic(auto, unfolding(crate::specs::Counting::capped))]
+pub(crate) fn count_of<T>(items: &[T]) -> u32
+    ensures count { result ≡ capped (length items.now) }
 {
-    if numbers.len() > u32::MAX as usize {
-        return Err(NoMemory);
-    }
-    Ok(numbers.len() as u32)
+    items.len().min(u32::MAX as usize) as u32
 }
 
 /// The place of the next cell, where the first of these stands at a place.
-pub(crate) fn next_place(start: u32, cells: &[LooseCell]) -> Result<u32, NoMemory>
-    ensures place { IfOk result (λ n. n ≡ start + length cells.now) }
-    ensures past { OnErr result (4294967296 ≤ start + length cells.now) }
+#[tactic(auto, unfolding(crate::specs::Counting::capped))]
+pub(crate) fn next_place(start: u32, cells: &[LooseCell]) -> u32
+    ensures place { result ≡ behind start (length cells.now) }
 {
-    if cells.len() > u32::MAX as usize {
-        return Err(NoMemory);
-    }
-    behind(start, cells.len() as u32)
+    behind(start, count_of(cells))
 }
 
 /// The place that gives a bit; what nothing gives is the constant 0.
@@ -64,50 +58,31 @@ fn give(sources: &mut [Option<u32>], bit: u32, place: u32)
     }
 }
 
-/// Bits from a number on are given, each by the place of its step; what is longer is cut off at its end.
-pub(crate) fn give_beside(
-    sources: &mut [Option<u32>],
-    first: u32,
-    bits: &[u32],
-    base: u32,
-    steps: &[u32],
-) -> Result<(), NoMemory>
-    ensures given { OnOk result (sources.new ≡ given_all sources.old (beside first bits.now base steps.now)) }
+/// Bits from a number on are given, each by its place; what is longer is cut off at its end.
+pub(crate) fn give_beside(sources: &mut [Option<u32>], first: u32, bits: &[u32], places: &[u32])
+    ensures given { sources.new ≡ given_all sources.old (beside first bits.now places.now) }
 {
-    for k in 0..bits.len().min(steps.len()) {
-        give(sources, behind(first, bits[k])?, behind(base, steps[k])?);
+    for k in 0..bits.len().min(places.len()) {
+        give(sources, behind(first, bits[k]), places[k]);
     }
-    Ok(())
 }
 
 /// Bits from a number on are given by places in a row.
-pub(crate) fn give_in_row(
-    sources: &mut [Option<u32>],
-    first: u32,
-    bits: &[u32],
-    base: u32,
-) -> Result<(), NoMemory>
-    ensures given { OnOk result (sources.new ≡ given_all sources.old (in_row first bits.now base)) }
+pub(crate) fn give_in_row(sources: &mut [Option<u32>], first: u32, bits: &[u32], base: u32)
+    ensures given { sources.new ≡ given_all sources.old (in_row first bits.now base) }
 {
     let mut place = base;
     for bit in bits {
-        give(sources, behind(first, *bit)?, place);
-        place = behind(place, 1)?;
+        give(sources, behind(first, *bit), place);
+        place = behind(place, 1);
     }
-    Ok(())
 }
 
 /// Bits from a number on are all given by one place.
-pub(crate) fn give_all(
-    sources: &mut [Option<u32>],
-    first: u32,
-    bits: &[u32],
-    place: u32,
-) -> Result<(), NoMemory>
-    ensures given { OnOk result (sources.new ≡ given_all sources.old (all_given_by first bits.now place)) }
+pub(crate) fn give_all(sources: &mut [Option<u32>], first: u32, bits: &[u32], place: u32)
+    ensures given { sources.new ≡ given_all sources.old (all_given_by first bits.now place) }
 {
     for bit in bits {
-        give(sources, behind(first, *bit)?, place);
+        give(sources, behind(first, *bit), place);
     }
-    Ok(())
 }

@@ -1,7 +1,7 @@
 -- The operators in two lists of cells of one design have the same formulas, each as often: those of expressions are, one for one, the
 -- cells of the expression, however it is lowered.
-use Rattle.std.proofs.Common.{◌≡◌, ℕ, ◌+◌, ◌-◌, ◌<◌, ◌≤◌, Bool, true, false, if◌then◌else◌, List, [], ◌∷◌, ◌++◌, map, filter, flat_map, filter_map, length, get_or, Contains, Some, None, refl, sym, ap, ap₂, ◌∙◌, subst, arith}
-use Rattle.std.specs.List.{cons_option, enumerate_from, range_with_len}
+use Rattle.std.proofs.Common.{◌≡◌, ℕ, ◌+◌, ◌-◌, ◌<◌, ◌≤◌, Bool, true, false, if◌then◌else◌, List, [], ◌∷◌, ◌++◌, map, filter, flat_map, length, get_or, Contains, refl, sym, ap, ap₂, ◌∙◌, subst, arith}
+use Rattle.std.specs.List.{enumerate_from, range_with_len}
 use Rattle.std.specs.List.Sorted.{IsPermutation}
 use Rattle.std.proofs.lemmas.List.{map-append}
 use Rattle.std.proofs.lemmas.List.Elements.{filter-append}
@@ -13,7 +13,8 @@ use Rattle.bb_ast.specs.declared.module.Gate.TheVariants as gates
 use Rattle.bb_ast.specs.Syntax.{Expression, Plain}
 use Rattle.bb_names.specs.Nets.{nets_of}
 use Rattle.bb_expr.specs.declared.step.BitStep.{BitStep}
-use Rattle.bb_expr.specs.Lowered.{is_operator, operators, term_at}
+use Rattle.bb_expr.specs.declared.step.BitStep.TheVariants as steps
+use Rattle.bb_expr.specs.Lowered.{operators, term_at}
 use Rattle.bb_expr.specs.Terms.{Term}
 use Rattle.bb_net.specs.Loose.{LooseList}
 use Rattle.bb_net.specs.declared.loose.LooseCell.TheVariants as cell
@@ -22,9 +23,9 @@ use Rattle.bb_design.specs.NetBits.{Bit, output_bits}
 use Rattle.bb_design.specs.Contexts.{made_in}
 use Rattle.bb_design.specs.Constructs.{Construct, Assignment, GateInstance, Register, SupplyNet, InputConnection, OutputConnection, BoxContents, parts}
 use Rattle.bb_design.specs.GateFunctions.{inverts}
-use Rattle.bb_cells.specs.Places.{Place, Constant, Step, Joined, Inverted, BoxPin, Numbering, lowered_in, Lowering, IsLowering, terminal_place, joined_place, step_cell, net_place, step_cells, join_cell, joining_places, inverting_place, gate_places, places_at, box_places, operator_places, IsListOf}
+use Rattle.bb_cells.specs.Places.{Place, Step, Joined, Inverted, BoxPin, Numbering, lowered_in, Lowering, IsLowering, terminal_place, joined_place, step_cells, join_cell, joining_places, inverting_place, gate_places, places_at, box_places, operator_places, IsListOf}
 use Rattle.bb_cells.proofs.AlikePlaces.{there, here, step_here}
-use Rattle.bb_cells.proofs.CellCounts.{is_kept, step_kept}
+use Rattle.bb_cells.proofs.CellCounts.{is_kept, operator_entries, operators_from}
 use Rattle.bb_lists.proofs.Numbered.{numbered_at}
 use Rattle.bb_lists.proofs.Ranges.{from_range}
 use Rattle.bb_cells.proofs.ListedEntries.{Entry}
@@ -72,27 +73,20 @@ module _ (v w : Place → Formula) where
 
 -- the operators among the steps of an expression
 
-module _ (d : Design) (lowering : Lowering) (number : Numbering) (lowered : IsLowering d lowering) (v : Place → Formula) (at : List ℕ → ℕ → Formula) (term : ℕ → Term) (k x : ℕ) (s : Scope) where
-  abbrev entry : ℕ × BitStep → Entry
-  entry y = (Step k x y.0, step_cell (λ b. number (Constant b)) (λ a. number (Step k x a)) (λ n i. number (net_place s n i)) y.1)
-
-  abbrev operators_from : ℕ → List BitStep → List Term
-  operators_from a all = filter_map (λ (y : ℕ × BitStep). if is_operator y.1 then Some (term y.0) else None) (enumerate_from a all)
-
-  -- those behind the first, without copies
-  abbrev others : ℕ → List BitStep → List Entry
-  others a all = filter (λ y. is_kept y.1) (map entry (enumerate_from (a + 1) all))
-
-  kept_steps : (a : ℕ) (all : List BitStep) → ((j : ℕ) → a ≤ j → j < a + length all → v (Step k x j) ≡ term_formula at (term j)) → kept_formulas v (map entry (enumerate_from a all)) ≡ map (term_formula at) (operators_from a all)
+module _ (number : Numbering) (v : Place → Formula) (at : List ℕ → ℕ → Formula) (term : ℕ → Term) (k x : ℕ) where
+  kept_steps : (a : ℕ) (all : List BitStep) → ((j : ℕ) → a ≤ j → j < a + length all → v (Step k x j) ≡ term_formula at (term j)) → kept_formulas v (operator_entries number k x a all) ≡ map (term_formula at) (operators_from term a all)
   kept_steps a [] each = refl
-  kept_steps a (b ∷ all) each =
-      ap (λ o. map (λ (y : Entry). v y.0) (if o then entry (a, b) ∷ others a all else others a all)) (step_kept d lowering number lowered (λ b. number (Constant b)) (λ a. number (Step k x a)) (λ n i. number (net_place s n i)) b)
-      ∙ by (is_operator b) (kept_steps (a + 1) all (λ j low high. each j (omega (arith, low)) (omega (arith, high))))
+  kept_steps a (b ∷ all) each = by b (each a (omega arith) (omega arith)) (kept_steps (a + 1) all (λ j low high. each j (omega (arith, low)) (omega (arith, high))))
     where
-      by : (o : Bool) → map (λ (y : Entry). v y.0) (others a all) ≡ map (term_formula at) (operators_from (a + 1) all)
-          → map (λ (y : Entry). v y.0) (if o then entry (a, b) ∷ others a all else others a all) ≡ map (term_formula at) (cons_option (if o then Some (term a) else None) (operators_from (a + 1) all))
-      by true same = ap₂ ◌∷◌ (each a (omega arith) (omega arith)) same
-      by false same = same
+      by : (b : BitStep) → v (Step k x a) ≡ term_formula at (term a) → kept_formulas v (operator_entries number k x (a + 1) all) ≡ map (term_formula at) (operators_from term (a + 1) all)
+          → kept_formulas v (operator_entries number k x a (b ∷ all)) ≡ map (term_formula at) (operators_from term a (b ∷ all))
+      by (steps.Const t) here rest = rest
+      by (steps.Net n i) here rest = rest
+      by (steps.Not p) here rest = ap₂ ◌∷◌ here rest
+      by (steps.And p q) here rest = ap₂ ◌∷◌ here rest
+      by (steps.Or p q) here rest = ap₂ ◌∷◌ here rest
+      by (steps.Xor p q) here rest = ap₂ ◌∷◌ here rest
+      by (steps.Mux p q r) here rest = ap₂ ◌∷◌ here rest
 
 module _ (d : Design) (one other : Lowering) (l m : LooseList) (list : IsListOf d one l) (more : IsListOf d other m) (lowered : IsLowering d one) (also : IsLowering d other) (wired : IsWired d)
     (numbers : List ℕ) (at : ℕ → Formula) (meets : AreLooseFormulas m numbers at) where
@@ -104,25 +98,25 @@ module _ (d : Design) (one other : Lowering) (l m : LooseList) (list : IsListOf 
 
   module _ (k : ℕ) (s : Scope) (c : Construct) (has : Contains (enumerate_from 0 (parts d)) (k, (s, c))) where
     -- the steps of an expression
-    steps_alike : (x : ℕ) (e : Expression) (w : ℕ) → Contains (enumerate_from 0 (lowered_in (s, c))) (x, (e, w)) → Alike v u (step_cells one list.number k s x) (step_cells other more.number k s x)
+    steps_alike : (x : ℕ) (e : Expression) (w : ℕ) → Contains (enumerate_from 0 (lowered_in (s, c))) (x, (e, w)) → Alike v u (step_cells one list.number k x) (step_cells other more.number k x)
     steps_alike x e w at_x =
         let low = lowered_at d one lowered k s c has x e w at_x in
         let low_other = lowered_at d other also k s c has x e w at_x in
         let f = term_formula (formulas_in u s) in
         let nets = nets_of s.source in
-        let left : kept_formulas v (step_cells one list.number k s x) ≡ map f (operators nets (one k x).all) =
-        kept_steps d one list.number lowered v (formulas_in u s) (term_at nets (one k x).all) k x s 0 (one k x).all (λ j p q. step_here d one other m more lowered also wired numbers at meets k s c has x j) in
-        let right : kept_formulas u (step_cells other more.number k s x) ≡ map f (operators nets (other k x).all) =
-        kept_steps d other more.number also u (formulas_in u s) (term_at nets (other k x).all) k x s 0 (other k x).all
+        let left : kept_formulas v (step_cells one list.number k x) ≡ map f (operators nets (one k x).all) =
+        kept_steps list.number v (formulas_in u s) (term_at nets (one k x).all) k x 0 (one k x).all (λ j p q. step_here d one other m more lowered also wired numbers at meets k s c has x j) in
+        let right : kept_formulas u (step_cells other more.number k x) ≡ map f (operators nets (other k x).all) =
+        kept_steps more.number u (formulas_in u s) (term_at nets (other k x).all) k x 0 (other k x).all
         (λ j p q. step_formula d other m more also numbers at meets k s c has x e w at_x j (omega (arith, q))) in
         let cells = (made_in s e w).cells in
-        subst (λ l. IsPermutation l (kept_formulas u (step_cells other more.number k s x))) (sym left) (subst (IsPermutation (map f (operators nets (one k x).all))) (sym right)
+        subst (λ l. IsPermutation l (kept_formulas u (step_cells other more.number k x))) (sym left) (subst (IsPermutation (map f (operators nets (one k x).all))) (sym right)
         (IsPermutation-trans (map f (operators nets (one k x).all)) (map f cells) (map f (operators nets (other k x).all))
         (IsPermutation-sym (map f cells) (map f (operators nets (one k x).all)) (IsPermutation-map f cells (operators nets (one k x).all) low.cells))
         (IsPermutation-map f cells (operators nets (other k x).all) low_other.cells)))
 
-    all_steps : Alike v u (flat_map (step_cells one list.number k s) (range_with_len 0 (length (lowered_in (s, c))))) (flat_map (step_cells other more.number k s) (range_with_len 0 (length (lowered_in (s, c)))))
-    all_steps = each_alike v u (step_cells one list.number k s) (step_cells other more.number k s) (range_with_len 0 (length (lowered_in (s, c)))) (λ x among.
+    all_steps : Alike v u (flat_map (step_cells one list.number k) (range_with_len 0 (length (lowered_in (s, c))))) (flat_map (step_cells other more.number k) (range_with_len 0 (length (lowered_in (s, c)))))
+    all_steps = each_alike v u (step_cells one list.number k) (step_cells other more.number k) (range_with_len 0 (length (lowered_in (s, c)))) (λ x among.
         let r = from_range 0 (length (lowered_in (s, c))) x among in
         let e = get_or (lowered_in (s, c)) x (Plain 0, 0) in
         steps_alike x e.0 e.1 (numbered_at (lowered_in (s, c)) x (Plain 0, 0) (omega (arith, r.1))))
@@ -162,7 +156,7 @@ module _ (d : Design) (one other : Lowering) (l m : LooseList) (list : IsListOf 
   part_alike : (k : ℕ) (s : Scope) (c : Construct) → Contains (enumerate_from 0 (parts d)) (k, (s, c)) → Alike v u (places_at one list.number (k, (s, c))) (places_at other more.number (k, (s, c)))
   part_alike k s c has =
       let places = range_with_len 0 (length (lowered_in (s, c))) in
-      both_alike v u (flat_map (step_cells one list.number k s) places) (gate_places one list.number k c) (flat_map (step_cells other more.number k s) places) (gate_places other more.number k c) (all_steps k s c has) (gates_alike k c)
+      both_alike v u (flat_map (step_cells one list.number k) places) (gate_places one list.number k c) (flat_map (step_cells other more.number k) places) (gate_places other more.number k c) (all_steps k s c has) (gates_alike k c)
 
   pins_alike : (b : ℕ × Scope) → Alike v u (box_places b) (box_places b)
   pins_alike (b, s) = same_alike v u (box_places (b, s)) (box_places (b, s)) (mapped_same v u (λ (y : ℕ × Bit). (BoxPin b y.0, cell.BoxOut b y.0)) (λ (y : ℕ × Bit). (BoxPin b y.0, cell.BoxOut b y.0)) (λ y. refl) (λ y. refl) (enumerate_from 0 (output_bits s)))

@@ -1,8 +1,7 @@
 -- Netlists that stand for one design are alike: what stands at a place of the one list has the formula of the same place of the other.
-use Rattle.std.proofs.Common.{◌≡◌, ℕ, ◌<◌, List, [], ◌∷◌, ◌++◌, map, flat_map, find, length, get_or, Contains, Option, Some, None, false, refl, sym, ap, ap₂, ◌∙◌, subst, arith}
+use Rattle.std.proofs.Common.{◌≡◌, ℕ, ◌<◌, List, [], ◌∷◌, ◌++◌, map, flat_map, length, get_or, Contains, refl, sym, ap, ap₂, ◌∙◌, subst, arith}
 use Rattle.std.specs.List.{enumerate_from}
 use Rattle.std.specs.List.Sorted.{IsPermutation}
-use Rattle.std.specs.Option.{option_map_or}
 use Rattle.std.proofs.lemmas.List.{map-append}
 use Rattle.std.proofs.lemmas.List.Sorted.{IsPermutation-sym, IsPermutation-trans, IsPermutation-map}
 use Rattle.bb_alike.specs.Formulas.{Formula, formula_at, cell_formulas, pin_formulas}
@@ -11,29 +10,27 @@ use Rattle.bb_net.specs.declared.loose.LooseCell.{LooseCell}
 use Rattle.bb_net.specs.Netlists.{Pins, box_at}
 use Rattle.bb_net.specs.Orders.{moved_pins}
 use Rattle.bb_cells.specs.AlikeNets.{StandingNetsAreAlike}
-use Rattle.bb_design.specs.Constructs.{Construct, Assignment, GateInstance, Register, SupplyNet, InputConnection, OutputConnection, BoxContents, parts}
-use Rattle.bb_design.specs.Contexts.{context_width}
+use Rattle.bb_design.specs.Constructs.{parts}
 use Rattle.bb_net.specs.Flats.{FlatNet}
 use Rattle.bb_design.specs.Hierarchy.{Design, Scope, root, scopes, is_box, boxes}
 use Rattle.bb_design.specs.Allowed.{IsAllowed}
-use Rattle.bb_design.specs.NetBits.{Bit, same_bit, net_order, input_bits, output_bits, top_outputs, written_bits, scope_bits}
-use Rattle.bb_cells.specs.Places.{Place, Constant, NetBit, BoxPin, step_places, data_at, data_places, place_in, operator_places, places, pins_of}
+use Rattle.bb_design.specs.NetBits.{Bit, net_order, input_bits, output_bits, top_outputs, scope_bits}
+use Rattle.bb_cells.specs.Places.{Place, NetBit, BoxPin, data_at, data_places, place_in, operator_places, places, pins_of}
 use Rattle.bb_design.specs.Registers.{RegisterBit, registers}
 use Rattle.bb_cells.specs.Stands.{StandsFor}
 use Rattle.bb_cells.proofs.AlikeCells.{kept_formulas, operators_alike}
-use Rattle.bb_cells.proofs.AlikeEquations.{formulas, formula_is, formulas_meet}
+use Rattle.bb_cells.proofs.AlikeEquations.{formulas, formula_is, data_is, formulas_meet}
 use Rattle.bb_cells.proofs.AlikePlaces.{there, here, data_same, place_same}
 use Rattle.bb_cells.proofs.LooseLists.{lists_are_loose}
 use Rattle.bb_lists.proofs.Places.{got}
-use Rattle.bb_lists.proofs.Members.{from_flat, from_drop, contains_here, contains_there, none_in_nil, kept_from, from_find, into_flat}
+use Rattle.bb_lists.proofs.Members.{contains_here, contains_there, kept_from, into_flat}
 use Rattle.bb_cells.proofs.ContentTables.{list_count}
 use Rattle.bb_lists.proofs.Numbered.{numbered_at, from_numbered}
-use Rattle.bb_cells.proofs.GivenPins.{steps_plain}
 use Rattle.bb_cells.proofs.KeptCells.{kept_operators, moved, one_to_one, kept_listed}
 use Rattle.bb_cells.proofs.ListedEntries.{Entry}
-use Rattle.bb_cells.proofs.ListedPlaces.{IsListed, listed_below, constant_listed, net_listed, pin_listed, box_is}
+use Rattle.bb_cells.proofs.ListedPlaces.{IsListed, listed_below, net_listed, pin_listed, box_is}
+use Rattle.bb_cells.proofs.ListedSources.{data_in}
 use Rattle.bb_design.specs.Wired.{IsWired}
-use Rattle.bb_lists.proofs.Zips.{zip_parts}
 use Rattle.bb_lists.proofs.Maps.{map-twice, same_by_places}
 use Rattle.bb_cells.proofs.StandingNames.{box_order}
 use Rattle.bb_design.specs.DesignLaws.{DesignLaws}
@@ -60,26 +57,29 @@ module _ (of_designs : DesignLaws) (keeps : OrderKeepsFormulas) (d : Design) (f 
   abbrev u : Place → Formula
   u = there d s.lowering t.lowering t.cells t.listed s.lowered t.lowered wires s.numbers second meets
 
-  abbrev Listed : Place → Type 0
-  Listed p = (c : LooseCell) × IsListed d s.lowering s.cells s.listed p c
+  -- those for the places of the one list, by its numbers
+  abbrev chosen : ℕ → Formula
+  chosen = formulas of_designs d s.lowering t.lowering s.cells t.cells s.listed t.listed s.lowered t.lowered wires s.numbers second meets
 
-  -- what is listed has in its netlist the formula that comes from the other
-  here_is : (p : Place) → Listed p → first (s.listed.number p) ≡ v p
-  here_is p (c, has) =
-      let same = (keeps s.cells f.net s.numbers (lists_are_loose of_designs d s.lowering s.cells allowed.bounded s.lowered s.listed) s.netlist s.ordered
-      (formulas of_designs d s.lowering t.lowering s.cells t.cells s.listed t.listed s.lowered t.lowered wires s.numbers second meets)).0
+  -- what stands at a place of the list has in its netlist the formula that comes from the other
+  stands_is : (p : Place) → s.listed.number p < length s.cells.cells → chosen (s.listed.number p) ≡ v p → first (s.listed.number p) ≡ v p
+  stands_is p fits is =
+      let same = (keeps s.cells f.net s.numbers (lists_are_loose of_designs d s.lowering s.cells allowed.bounded s.lowered s.listed) s.netlist s.ordered chosen).0
       (formulas_meet of_designs d s.lowering t.lowering s.cells t.cells s.listed t.listed s.lowered t.lowered wires s.numbers second meets) in
-      sym (same (s.listed.number p) (listed_below d s.lowering s.cells s.listed p c has)) ∙ formula_is of_designs d s.lowering t.lowering s.cells t.cells s.listed t.listed s.lowered t.lowered wires s.numbers second meets p c has
+      sym (same (s.listed.number p) fits) ∙ is
+
+  here_is : (p : Place) (c : LooseCell) → IsListed d s.lowering s.cells s.listed p c → first (s.listed.number p) ≡ v p
+  here_is p c has = stands_is p (listed_below d s.lowering s.cells s.listed p c has) (formula_is of_designs d s.lowering t.lowering s.cells t.cells s.listed t.listed s.lowered t.lowered wires s.numbers second meets p c has)
 
   nets_alike : (all : List Bit) → ((b : Bit) → Contains all b → Contains (net_order d) b) → map first (map (λ b. s.listed.number (NetBit b)) all) ≡ map second (map (λ b. t.listed.number (NetBit b)) all)
   nets_alike [] known = refl
-  nets_alike (b ∷ all) known = ap₂ ◌∷◌ (here_is (NetBit b) (_, net_listed d s.lowering s.cells s.listed b (known b (contains_here b all)))) (nets_alike all (λ c has. known c (contains_there b all c has)))
+  nets_alike (b ∷ all) known = ap₂ ◌∷◌ (here_is (NetBit b) _ (net_listed d s.lowering s.cells s.listed b (known b (contains_here b all)))) (nets_alike all (λ c has. known c (contains_there b all c has)))
 
   pins_alike : (b : ℕ) (q : Scope) → Contains (enumerate_from 0 (boxes d)) (b, q) → (all : List (ℕ × Bit)) → ((y : ℕ × Bit) → Contains all y → Contains (enumerate_from 0 (output_bits q)) y)
       → map first (map (λ (x : ℕ × Bit). s.listed.number (BoxPin b x.0)) all) ≡ map second (map (λ (x : ℕ × Bit). t.listed.number (BoxPin b x.0)) all)
   pins_alike b q has [] sub = refl
   pins_alike b q has (y ∷ all) sub =
-      ap₂ ◌∷◌ (here_is (BoxPin b y.0) (_, pin_listed d s.lowering s.cells s.listed b q has y.0 y.1 (sub y (contains_here y all)))) (pins_alike b q has all (λ z at. sub z (contains_there y all z at)))
+      ap₂ ◌∷◌ (here_is (BoxPin b y.0) _ (pin_listed d s.lowering s.cells s.listed b q has y.0 y.1 (sub y (contains_here y all)))) (pins_alike b q has all (λ z at. sub z (contains_there y all z at)))
 
   -- the outputs of the top, and the data of registers
 
@@ -89,29 +89,9 @@ module _ (of_designs : DesignLaws) (keeps : OrderKeepsFormulas) (d : Design) (f 
   abbrev data_other : List (Bit × Place)
   data_other = flat_map (data_at t.lowering) (enumerate_from 0 (parts d))
 
-  part_listed : (k : ℕ) (q : Scope) (c : Construct) → Contains (enumerate_from 0 (parts d)) (k, (q, c)) → (y : Bit × Place) → Contains (data_at s.lowering (k, (q, c))) y → Listed y.1
-  part_listed k q (Register r) has y at =
-      (steps_plain d s.lowering s.cells s.listed s.lowered wires k q (Register r) has 0 r.right (context_width q r.left r.right) (contains_here (0, (r.right, context_width q r.left r.right)) []) y.1
-      (from_drop _ (step_places s.lowering k 0) y.1 (zip_parts (written_bits q r.left) _ y at).1)).0
-  part_listed k q (Assignment left right) has y at = absurd (none_in_nil y at)
-  part_listed k q (GateInstance gate outs ins) has y at = absurd (none_in_nil y at)
-  part_listed k q (SupplyNet high n) has y at = absurd (none_in_nil y at)
-  part_listed k q (InputConnection i pin e) has y at = absurd (none_in_nil y at)
-  part_listed k q (OutputConnection i pin e) has y at = absurd (none_in_nil y at)
-  part_listed k q BoxContents has y at = absurd (none_in_nil y at)
-
-  data_listed : (b : Bit) → Listed (place_in data_one b)
-  data_listed b = by (find (λ (x : Bit × Place). same_bit b x.0) data_one) refl
-    where
-      by : (o : Option (Bit × Place)) → find (λ (x : Bit × Place). same_bit b x.0) data_one ≡ o → Listed (option_map_or (λ x. x.1) o (Constant false))
-      by None e = (_, constant_listed d s.lowering s.cells s.listed false)
-      by (Some y) e =
-          let p = from_flat (data_at s.lowering) (enumerate_from 0 (parts d)) y (from_find (λ (x : Bit × Place). same_bit b x.0) data_one y e).0 in
-          part_listed p.0.0 p.0.1.0 p.0.1.1 p.1 y p.2
-
   data_alike : (rs : List RegisterBit) → map first (map s.listed.number (map (λ r. place_in data_one r.bit) rs)) ≡ map second (map t.listed.number (map (λ r. place_in data_other r.bit) rs))
   data_alike [] = refl
-  data_alike (r ∷ rs) = ap₂ ◌∷◌ (here_is (place_in data_one r.bit) (data_listed r.bit)
+  data_alike (r ∷ rs) = ap₂ ◌∷◌ (stands_is (place_in data_one r.bit) (data_in d s.lowering s.cells s.listed s.lowered wires r.bit) (data_is of_designs d s.lowering t.lowering s.cells t.cells s.listed t.listed s.lowered t.lowered wires s.numbers second meets r.bit)
       ∙ place_same d s.lowering t.lowering t.cells t.listed s.lowered t.lowered wires s.numbers second meets r.bit data_one data_other (data_same d s.lowering t.lowering t.cells t.listed s.lowered t.lowered wires s.numbers second meets)) (data_alike rs)
 
   outs_alike : map (formula_at f.net.cells) f.net.outs ≡ map (formula_at g.net.cells) g.net.outs
@@ -159,7 +139,7 @@ module _ (of_designs : DesignLaws) (keeps : OrderKeepsFormulas) (d : Design) (f 
 
   kept_same : (xs : List Entry) → ((x : Entry) → Contains xs x → Contains (places d s.lowering s.listed.number) x) → map (λ (x : Entry). first (s.listed.number x.0)) xs ≡ map (λ (x : Entry). v x.0) xs
   kept_same [] sub = refl
-  kept_same (x ∷ xs) sub = ap₂ ◌∷◌ (here_is x.0 (x.1, sub x (contains_here x xs))) (kept_same xs (λ y has. sub y (contains_there x xs y has)))
+  kept_same (x ∷ xs) sub = ap₂ ◌∷◌ (here_is x.0 x.1 (sub x (contains_here x xs))) (kept_same xs (λ y has. sub y (contains_there x xs y has)))
 
   cells_alike : IsPermutation (cell_formulas f.net) (cell_formulas g.net)
   cells_alike =

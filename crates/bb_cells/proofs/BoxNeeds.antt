@@ -1,6 +1,6 @@
 -- Which boxes a box needs does not depend on how the cells of a design are listed: a walk from an input pin to an output pin of another
 -- box passes the bit that is a copy of that pin, and walks from bit to bit go along dependence.
-use Rattle.std.proofs.Common.{◌≡◌, ◌⊎◌, ℕ, zero, suc, ◌+◌, ◌<◌, ◌≤◌, [], ◌∷◌, map, length, get_or, Contains, refl, sym, ap, ◌∙◌, subst, inl, inr, arith}
+use Rattle.std.proofs.Common.{◌≡◌, ◌⊎◌, ℕ, zero, suc, ◌+◌, ◌<◌, ◌≤◌, false, [], ◌∷◌, map, length, get_or, Contains, refl, sym, ap, ◌∙◌, subst, inl, inr, arith}
 use Rattle.std.specs.List.{enumerate_from}
 use Rattle.std.proofs.lemmas.List.{get_or_past, length-map}
 use Rattle.bb_net.specs.declared.loose.LooseCell.{LooseCell}
@@ -13,14 +13,14 @@ use Rattle.bb_design.specs.Hierarchy.{Design, Scope, root, boxes, scopes, is_box
 use Rattle.bb_design.specs.Allowed.{IsBounded}
 use Rattle.bb_cells.specs.NamingLaws.{BoxNeedsAreOne}
 use Rattle.bb_design.specs.NetBits.{Bit, net_order, input_bits, output_bits, scope_bits}
-use Rattle.bb_cells.specs.Places.{NetBit, BoxPin, Lowering, IsLowering, given, place_in, pins_of, IsListOf}
+use Rattle.bb_cells.specs.Places.{Place, NetBit, BoxPin, Lowering, IsLowering, given, place_in, pins_of, IsListOf}
 use Rattle.bb_design.specs.Refusals.{AreDrivenOnce}
 use Rattle.bb_cells.proofs.LooseLists.{lists_are_loose}
 use Rattle.bb_lists.proofs.Members.{from_map, contains-map, contains_here, contains_cases, none_in_nil, kept_from, into_flat}
 use Rattle.bb_lists.proofs.Orders.{less_or_not}
 use Rattle.bb_cells.proofs.DependenceWalks.{leads_walk}
 use Rattle.bb_lists.proofs.Numbered.{numbered_at, length-enumerated, mapped_enumerated, from_numbered}
-use Rattle.bb_cells.proofs.GivenPins.{no_pin, found_listed, found_first, first_found}
+use Rattle.bb_cells.proofs.GivenPins.{is_pin, no_pin, found_standing, found_first, first_found}
 use Rattle.bb_cells.proofs.ListedPlaces.{IsListed, listed_cell, listed_below, net_listed, pin_listed, box_is}
 use Rattle.bb_design.specs.Wired.{IsWired}
 use Rattle.bb_cells.proofs.ListNumbers.{one_place_listed}
@@ -29,11 +29,11 @@ use Rattle.bb_cells.proofs.WalkLoops.{claims}
 use Rattle.bb_design.specs.DesignLaws.{DesignLaws}
 
 module _ (of_designs : DesignLaws) (d : Design) (lowering : Lowering) (l : LooseList) (list : IsListOf d lowering l) (lowered : IsLowering d lowering) (wired : IsWired d) where
-  abbrev place : Bit → ℕ
+  abbrev pub place : Bit → ℕ
   place b = list.number (NetBit b)
 
   -- a walk leads to a bit that is a copy of a pin
-  abbrev Ends : Bit → ℕ → ℕ → Type 0
+  abbrev pub Ends : Bit → ℕ → ℕ → Type 0
   Ends x b p = (e : Bit) × (m : ℕ) × Contains (net_order d) e × Reaches m l (place x) (place e) × (place_in (given d lowering) e ≡ BoxPin b p)
 
   -- the first step from the place of a bit
@@ -49,34 +49,39 @@ module _ (of_designs : DesignLaws) (d : Design) (lowering : Lowering) (l : Loose
           by (inl e) = e
           by (inr none) = absurd (none_in_nil k none)
 
-  copy_step : (x : Bit) → Contains (net_order d) x → Contains (operands l.boxes (loose_at l (place x))) (list.number (place_in (given d lowering) x))
+  pub copy_step : (x : Bit) → Contains (net_order d) x → Contains (operands l.boxes (loose_at l (place x))) (list.number (place_in (given d lowering) x))
   copy_step x has =
       let q = list.number (place_in (given d lowering) x) in
       subst (λ c. Contains (operands l.boxes c) q) (sym (listed_cell d lowering l list (NetBit x) (cell.Copy q) (net_listed d lowering l list x has))) (contains_here q [])
 
   module _ (b p : ℕ) (v : LooseCell) (pin : IsListed d lowering l list (BoxPin b p) v) where
-    ends : (fuel n : ℕ) → n < fuel → (x : Bit) → Contains (net_order d) x → Reaches n l (place x) (list.number (BoxPin b p)) → Ends x b p
+    pub ends : (fuel n : ℕ) → n < fuel → (x : Bit) → Contains (net_order d) x → Reaches n l (place x) (list.number (BoxPin b p)) → Ends x b p
     ends zero n lt x has walk = absurd (omega (arith, lt))
     ends (suc fuel) zero lt x has walk = absurd (no_pin (NetBit x) b p refl (one_place_listed d lowering l list (NetBit x) (BoxPin b p) _ v (net_listed d lowering l list x has) pin walk))
     ends (suc fuel) (suc n) lt x has walk =
-        let q = place_in (given d lowering) x in
-        let same = first_step x has walk.0 walk.1 in
-        let listed = found_listed d lowering l list lowered wired x in
-        by (walk_falls of_designs d lowering l list lowered wired n q listed.0 listed.1 (BoxPin b p) v pin (subst (λ k. Reaches n l k (list.number (BoxPin b p))) (sym same) walk.2)) (λ e j less kept back. ends fuel j (omega (arith, less, lt)) e kept back)
+        let at = found_standing d lowering l list lowered wired x in
+        let from : walk.0 ≡ list.number at.0 = sym (first_step x has walk.0 walk.1) ∙ at.3 in
+        by at.0 at.3 at.4 (walk_falls of_designs d lowering l list lowered wired n at.0 at.1 at.2 (BoxPin b p) v pin (subst (λ k. Reaches n l k (list.number (BoxPin b p))) from walk.2)) (λ e j less kept back. ends fuel j (omega (arith, less, lt)) e kept back)
       where
         -- from a bit that the walk passes
         on : (e : Bit) (i : ℕ) → Reaches i l (list.number (place_in (given d lowering) x)) (place e) → Ends e b p → Ends x b p
         on e i there (f, m, kept, further, is) =
             (f, suc (i + m), kept, (list.number (place_in (given d lowering) x), copy_step x has, walk_joined of_designs d lowering l list lowered wired i m (i + m) _ (place e) (place f) refl there further), is)
 
-        by : Passes of_designs d lowering l list lowered wired n (list.number (place_in (given d lowering) x)) (list.number (BoxPin b p)) ⊎ (((n ≡ 0) × (place_in (given d lowering) x ≡ BoxPin b p)) ⊎ Lower (BoxPin b p) (place_in (given d lowering) x))
+        -- where the walk passes no bit, the place gives the pin itself
+        last : (q : Place) → (q ≡ place_in (given d lowering) x) ⊎ (is_pin q ≡ false) → q ≡ BoxPin b p → Ends x b p
+        last q (inl same) is = (x, 0, has, refl, sym same ∙ is)
+        last q (inr off) is = absurd (no_pin q b p off is)
+
+        by : (q : Place) → list.number (place_in (given d lowering) x) ≡ list.number q → (q ≡ place_in (given d lowering) x) ⊎ (is_pin q ≡ false)
+            → Passes of_designs d lowering l list lowered wired n (list.number q) (list.number (BoxPin b p)) ⊎ (((n ≡ 0) × (q ≡ BoxPin b p)) ⊎ Lower (BoxPin b p) q)
             → ((e : Bit) (j : ℕ) → j ≤ n → Contains (net_order d) e → Reaches j l (place e) (list.number (BoxPin b p)) → Ends e b p) → Ends x b p
-        by (inl (e, i, j, sum, kept, there, back)) rest = on e i there (rest e j (omega (arith, sum)) kept back)
-        by (inr (inl h)) rest = (x, 0, has, refl, h.1)
-        by (inr (inr h)) rest = absurd (pin_not_lower b p (place_in (given d lowering) x) h)
+        by q same kind (inl (e, i, j, sum, kept, there, back)) rest = on e i (subst (λ k. Reaches i l k (place e)) (sym same) there) (rest e j (omega (arith, sum)) kept back)
+        by q same kind (inr (inl h)) rest = last q kind h.1
+        by q same kind (inr (inr h)) rest = absurd (pin_not_lower b p q h)
 
   -- the boxes of the list are those of the design
-  box_there : (c : ℕ) (k : ℕ) → Contains (box_at l.boxes c).ins k → c < length (boxes d)
+  pub box_there : (c : ℕ) (k : ℕ) → Contains (box_at l.boxes c).ins k → c < length (boxes d)
   box_there c k has = by (less_or_not c (length (boxes d)))
     where
       long : length l.boxes ≡ length (boxes d)
@@ -88,7 +93,7 @@ module _ (of_designs : DesignLaws) (d : Design) (lowering : Lowering) (l : Loose
           let past : box_at l.boxes c ≡ record { ins = []; outs = [] } = get_or_past l.boxes c (record { ins = []; outs = [] }) (omega (arith, h, long)) in
           absurd (none_in_nil k (subst (λ (q : Pins). Contains q.ins k) past has))
 
-  abbrev numbered : ℕ → Scope → Type 0
+  abbrev pub numbered : ℕ → Scope → Type 0
   numbered c s = Contains (enumerate_from 0 (boxes d)) (c, s)
 
   -- an input pin is a bit of the box
@@ -98,7 +103,7 @@ module _ (of_designs : DesignLaws) (d : Design) (lowering : Lowering) (l : Loose
   pub pin_input : (c : ℕ) (s : Scope) → numbered c s → (x : Bit) → Contains (input_bits s) x → Contains (box_at l.boxes c).ins (place x)
   pin_input c s has x at = subst (λ (q : Pins). Contains q.ins (place x)) (sym (box_is d lowering l list c s has)) (contains-map (λ x. list.number (NetBit x)) (input_bits s) x at)
 
-  input_known : (c : ℕ) (s : Scope) → numbered c s → (x : Bit) → Contains (input_bits s) x → Contains (net_order d) x
+  pub input_known : (c : ℕ) (s : Scope) → numbered c s → (x : Bit) → Contains (input_bits s) x → Contains (net_order d) x
   input_known c s has x at = into_flat scope_bits (scopes d) s x (kept_from is_box (scopes d) s (from_numbered 0 (boxes d) (c, s) has)).0 (of_designs.of_scope s _ x at)
 
   -- a cell of a box stands at an output pin
@@ -147,7 +152,7 @@ module _ (of_designs : DesignLaws) (d : Design) (bounded : IsBounded d) (once : 
       let e = ends of_designs d lowering l list lowered w b p _ listed (suc n) n (omega arith) x.0 known to_pin in
       let tail = (claims of_designs d lowering l list lowered w e.0 e.2 e.1).nets x.0 known e.3 in
       let over = across x.0 e.0 tail in
-      let gives : place_in (given d other) e.0 ≡ BoxPin b p = first_found e.0 b p _ _ (found_first d lowering l list lowered w e.0 b p e.4) in
+      let gives : place_in (given d other) e.0 ≡ BoxPin b p = first_found e.0 b p _ _ (found_first d lowering e.0 b p e.4) in
       let there = pin_listed d other m more b out.0 out.1 p out.2 out.3 in
       let last : Reaches 1 m (more.number (NetBit e.0)) (more.number (BoxPin b p)) = (more.number (place_in (given d other) e.0), copy_step of_designs d other m more also w e.0 e.2, ap more.number gives) in (
         more.number (NetBit x.0),

@@ -1,8 +1,9 @@
--- A netlist that stands for a design has no more cells than the design.
-use Rattle.std.proofs.Common.{◌≡◌, ◌⊎◌, ℕ, suc, ◌+◌, ◌-◌, ◌<◌, ◌≤◌, ◌==◌, Bool, true, false, if◌then◌else◌, List, [], ◌∷◌, ◌++◌, map, filter, flat_map, filter_map, length, Contains, Some, None, refl, sym, ap, ◌∙◌, subst, inl, inr, arith, length-append}
+-- The list of cells of a design has no more places than the design has cells and bits of nets, and a netlist that stands for it no more
+-- cells than the design.
+use Rattle.std.proofs.Common.{◌≡◌, ◌⊎◌, ℕ, suc, ◌+◌, ◌-◌, ◌<◌, ◌≤◌, ◌==◌, Bool, true, false, if◌then◌else◌, List, [], ◌∷◌, ◌++◌, map, filter, flat_map, filter_map, length, Contains, Some, None, option_map, refl, sym, ap, ◌∙◌, subst, inl, inr, arith, length-append}
 use Rattle.std.specs.Prelude.{sum_by}
 use Rattle.std.specs.Set.{is_member}
-use Rattle.std.specs.List.{cons_option, enumerate_from, range_with_len}
+use Rattle.std.specs.List.{enumerate_from, range_with_len}
 use Rattle.std.proofs.lemmas.Bool.Decides.{Decides-eqb}
 use Rattle.std.proofs.lemmas.Cmp.{nat_eq_equiv}
 use Rattle.std.proofs.lemmas.Map.Made.{length-le_from_is_member, is_member-Decides}
@@ -19,10 +20,10 @@ use Rattle.bb_expr.specs.Lowered.{is_operator, operators, term_at, IsLowered}
 use Rattle.bb_expr.specs.Terms.{Term}
 use Rattle.bb_net.specs.declared.loose.LooseCell.{LooseCell}
 use Rattle.bb_net.specs.declared.loose.LooseCell.TheVariants as cell
-use Rattle.bb_net.specs.Loose.{LooseList, loose_at}
+use Rattle.bb_net.specs.Loose.{loose_at}
 use Rattle.bb_net.specs.Orders.{IsKept}
 use Rattle.bb_net.specs.Flats.{FlatNet}
-use Rattle.bb_cells.specs.ListLaws.{NetsAreNoLarger}
+use Rattle.bb_cells.specs.ListLaws.{NetsAreNoLarger, PlacesAreFew}
 use Rattle.bb_design.specs.Allowed.{IsBounded}
 use Rattle.bb_cells.specs.Stands.{StandsFor}
 use Rattle.bb_design.specs.Hierarchy.{Design, Scope, boxes, scopes, is_box}
@@ -31,16 +32,17 @@ use Rattle.bb_design.specs.Contexts.{made_in, width_of, context_width}
 use Rattle.bb_design.specs.Constructs.{Construct, Assignment, GateInstance, Register, SupplyNet, InputConnection, OutputConnection, BoxContents, body_constructs, constructs_at, parts}
 use Rattle.bb_design.specs.Drivers.{terminal_terms}
 use Rattle.bb_design.specs.GateFunctions.{inverts, joins, on_terms, joined_after, gate_gives, gate_cells}
-use Rattle.bb_cells.specs.Places.{Constant, Input, NetBit, Step, Inverted, BoxPin, Numbering, lowered_in, Lowering, IsLowering, step_cell, net_place, step_cells, joined_place, joining_places, inverting_place, gate_places, places_at, box_places, front_places, operator_places, places, given, place_in, IsListOf}
+use Rattle.bb_cells.specs.Places.{Constant, Input, NetBit, Step, Inverted, BoxPin, Numbering, lowered_in, Lowering, IsLowering, step_cell, step_cells, joined_place, joining_places, inverting_place, gate_places, places_at, box_places, front_places, operator_places, places, given, place_in}
 use Rattle.bb_design.specs.Reading.{cells_at}
 use Rattle.bb_design.specs.Registers.{cut_bits}
 use Rattle.bb_design.specs.Sizes.{cell_count_at, cells_in}
 use Rattle.bb_lists.proofs.Numbered.{length-enumerated, from_numbered}
+use Rattle.bb_cells.proofs.ListFronts.{front-length}
 use Rattle.bb_cells.proofs.ListNumbers.{range_distinct}
 use Rattle.bb_cells.proofs.ListedEntries.{Entry}
 use Rattle.bb_cells.proofs.ListedPlaces.{lowered_at, listed_at, listed_cell}
 use Rattle.bb_design.specs.Wired.{IsWired}
-use Rattle.bb_cells.proofs.ListWalks.{input, terminals_are}
+use Rattle.bb_cells.proofs.GateTerms.{input_term, terminals_are}
 use Rattle.bb_lists.proofs.Ranges.{from_range, length-range}
 use Rattle.bb_lists.proofs.Members.{contains-map, contains_here, contains_there, contains_cases, none_in_nil}
 use Rattle.bb_design.specs.DesignLaws.{DesignLaws}
@@ -91,60 +93,55 @@ kept-filter (x ∷ xs) = by (is_kept x.1) (kept-filter xs) ∙ sym (sum_by-cons 
     by true same = omega (arith, same)
     by false same = omega (arith, same)
 
--- a sum over pieces is at most the sum of bounds of the pieces
-flat_below : {A : Type 0} (f : A → List Entry) (g : A → ℕ) (xs : List A) → ((x : A) → Contains xs x → kept (f x) ≤ g x) → kept (flat_map f xs) ≤ sum_by g xs
+-- pieces behind one another are at most as long as the sum of bounds of the pieces
+flat_below : {A : Type 0} (f : A → List Entry) (g : A → ℕ) (xs : List A) → ((x : A) → Contains xs x → length (f x) ≤ g x) → length (flat_map f xs) ≤ sum_by g xs
 flat_below f g [] each = omega arith
-flat_below f g (x ∷ xs) each = omega (arith, sum_by-append weight (f x) (flat_map f xs), sum_by-cons g x xs, each x (contains_here x xs), flat_below f g xs (λ y has. each y (contains_there x xs y has)))
+flat_below f g (x ∷ xs) each = omega (arith, length-append (f x) (flat_map f xs), sum_by-cons g x xs, each x (contains_here x xs), flat_below f g xs (λ y has. each y (contains_there x xs y has)))
 
 sum-enumerated : {A : Type 0} (g : A → ℕ) (a : ℕ) (xs : List A) → sum_by (λ (x : ℕ × A). g x.1) (enumerate_from a xs) ≡ sum_by g xs
 sum-enumerated g a [] = refl
 sum-enumerated g a (x ∷ xs) = sum_by-cons (λ (y : ℕ × _). g y.1) (a, x) (enumerate_from (a + 1) xs) ∙ ap (λ n. g x + n) (sum-enumerated g (a + 1) xs) ∙ sym (sum_by-cons g x xs)
 
-module _ (d : Design) (lowering : Lowering) (number : Numbering) (lowered : IsLowering d lowering) where
-  -- the steps of an expression: its operators are kept
-  pub step_kept : (constant : Bool → ℕ) (step : ℕ → ℕ) (bit : ℕ → ℕ → ℕ) (b : BitStep) → is_kept (step_cell constant step bit b) ≡ is_operator b
-  step_kept constant step bit (steps.Const b) = refl
-  step_kept constant step bit (steps.Net n i) = refl
-  step_kept constant step bit (steps.Not a) = refl
-  step_kept constant step bit (steps.And a b) = refl
-  step_kept constant step bit (steps.Or a b) = refl
-  step_kept constant step bit (steps.Xor a b) = refl
-  step_kept constant step bit (steps.Mux c t e) = refl
+-- the operators among steps, with the numbers of the steps from one on: their entries, and what they are made of
+abbrev pub operator_entries : Numbering → ℕ → ℕ → ℕ → List BitStep → List Entry
+operator_entries number k x a all = filter_map (λ (y : ℕ × BitStep). option_map (λ u. (Step k x y.0, u)) (step_cell (λ i. number (Step k x i)) y.1)) (enumerate_from a all)
 
-  abbrev entries : ℕ → ℕ → Scope → ℕ → List BitStep → List Entry
-  entries k x s a all = map (λ y. (Step k x y.0, step_cell (λ b. number (Constant b)) (λ a. number (Step k x a)) (λ n i. number (net_place s n i)) y.1)) (enumerate_from a all)
+abbrev pub operators_from : (ℕ → Term) → ℕ → List BitStep → List Term
+operators_from term a all = filter_map (λ (y : ℕ × BitStep). if is_operator y.1 then Some (term y.0) else None) (enumerate_from a all)
 
-  abbrev operators_from : (ℕ → Term) → ℕ → List BitStep → List Term
-  operators_from term a all = filter_map (λ (y : ℕ × BitStep). if is_operator y.1 then Some (term y.0) else None) (enumerate_from a all)
-
-  operators_kept : (term : ℕ → Term) (k x : ℕ) (s : Scope) (a : ℕ) (all : List BitStep) → kept (entries k x s a all) ≡ length (operators_from term a all)
-  operators_kept term k x s a [] = refl
-  operators_kept term k x s a (b ∷ all) =
-      let entry : Entry = (Step k x a, step_cell (λ b. number (Constant b)) (λ a. number (Step k x a)) (λ n i. number (net_place s n i)) b) in
-      sum_by-cons weight entry (entries k x s (a + 1) all)
-      ∙ ap (λ o. (if o then 1 else 0) + kept (entries k x s (a + 1) all)) (step_kept (λ b. number (Constant b)) (λ a. number (Step k x a)) (λ n i. number (net_place s n i)) b)
-      ∙ by (is_operator b) (operators_kept term k x s (a + 1) all)
+module _ (lowering : Lowering) (number : Numbering) where
+  -- there are as many of the one as of the other
+  operators_listed : (term : ℕ → Term) (k x a : ℕ) (all : List BitStep) → length (operator_entries number k x a all) ≡ length (operators_from term a all)
+  operators_listed term k x a [] = refl
+  operators_listed term k x a (b ∷ all) = by b (operators_listed term k x (a + 1) all)
     where
-      by : (o : Bool) → kept (entries k x s (a + 1) all) ≡ length (operators_from term (a + 1) all) → (if o then 1 else 0) + kept (entries k x s (a + 1) all) ≡ length (cons_option (if o then Some (term a) else None) (operators_from term (a + 1) all))
-      by true same = omega (arith, same)
-      by false same = omega (arith, same)
+      by : (b : BitStep) → length (operator_entries number k x (a + 1) all) ≡ length (operators_from term (a + 1) all) → length (operator_entries number k x a (b ∷ all)) ≡ length (operators_from term a (b ∷ all))
+      by (steps.Const v) same = same
+      by (steps.Net n i) same = same
+      by (steps.Not p) same = ap suc same
+      by (steps.And p q) same = ap suc same
+      by (steps.Or p q) same = ap suc same
+      by (steps.Xor p q) same = ap suc same
+      by (steps.Mux p q r) same = ap suc same
 
-  -- the cells of expressions that stand side by side
-  made_cells : Scope → List (Expression × ℕ) → List Term
-  made_cells s all = flat_map (λ (y : Expression × ℕ). (made_in s y.0 y.1).cells) all
-
-  expressions_kept : (k : ℕ) (s : Scope) (a : ℕ) (all : List (Expression × ℕ)) → ((x : ℕ) (e : Expression) (w : ℕ) → Contains (enumerate_from a all) (x, (e, w)) → IsLowered (nets_of s.source) (range_of s.source) e w (lowering k x).all (lowering k x).bits)
-      → kept (flat_map (step_cells lowering number k s) (range_with_len a (length all))) ≤ length (flat_map (λ (y : Expression × ℕ). (made_in s y.0 y.1).cells) all)
-  expressions_kept k s a [] each = omega arith
-  expressions_kept k s a (y ∷ all) each =
+  expressions_listed : (k : ℕ) (s : Scope) (a : ℕ) (all : List (Expression × ℕ)) → ((x : ℕ) (e : Expression) (w : ℕ) → Contains (enumerate_from a all) (x, (e, w)) → IsLowered (nets_of s.source) (range_of s.source) e w (lowering k x).all (lowering k x).bits)
+      → length (flat_map (step_cells lowering number k) (range_with_len a (length all))) ≡ length (flat_map (λ (y : Expression × ℕ). (made_in s y.0 y.1).cells) all)
+  expressions_listed k s a [] each = refl
+  expressions_listed k s a (y ∷ all) each =
       let low = each a y.0 y.1 (contains_here (a, y) (enumerate_from (a + 1) all)) in
       let terms = term_at (nets_of s.source) (lowering k a).all in
       let same : length (operators_from terms 0 (lowering k a).all) ≡ length (made_in s y.0 y.1).cells = length_permutation (made_in s y.0 y.1).cells (operators (nets_of s.source) (lowering k a).all) low.cells in
-      let here = operators_kept terms k a s 0 (lowering k a).all ∙ same in
-      let rest = expressions_kept k s (a + 1) all (λ x e w has. each x e w (contains_there (a, y) (enumerate_from (a + 1) all) (x, (e, w)) has)) in
-      omega (arith, sum_by-append weight (step_cells lowering number k s a) (flat_map (step_cells lowering number k s) (range_with_len (a + 1) (length all))), length-append (made_in s y.0 y.1).cells (flat_map (λ (y : Expression × ℕ). (made_in s y.0 y.1).cells) all), here, rest)
+      let here : length (step_cells lowering number k a) ≡ length (made_in s y.0 y.1).cells = operators_listed terms k a 0 (lowering k a).all ∙ same in
+      let rest = expressions_listed k s (a + 1) all (λ x e w has. each x e w (contains_there (a, y) (enumerate_from (a + 1) all) (x, (e, w)) has)) in
+      omega (
+        arith,
+        length-append (step_cells lowering number k a) (flat_map (step_cells lowering number k) (range_with_len (a + 1) (length all))),
+        length-append (made_in s y.0 y.1).cells (flat_map (λ (y : Expression × ℕ). (made_in s y.0 y.1).cells) all),
+        here,
+        rest,
+      )
 
-module _ (of_designs : DesignLaws) (d : Design) (lowering : Lowering) (l : LooseList) (list : IsListOf d lowering l) (lowered : IsLowering d lowering) (wired : IsWired d) where
+module _ (d : Design) (lowering : Lowering) (number : Numbering) (lowered : IsLowering d lowering) (wired : IsWired d) where
   gate-length : (ins : List Term) (gate : Gate) → 1 ≤ length ins → length (gate_cells gate ins) ≡ (length ins - 1) + (if inverts gate then 1 else 0)
   gate-length [] gate one = absurd (omega (arith, one))
   gate-length (a ∷ rest) gate one = length-append (joined_after (joins on_terms gate) a rest) (if inverts gate then gate_gives on_terms gate (a ∷ rest) ∷ [] else []) ∙ by (inverts gate) (after a rest)
@@ -164,49 +161,47 @@ module _ (of_designs : DesignLaws) (d : Design) (lowering : Lowering) (l : Loose
 
   module _ (k : ℕ) (s : Scope) (c : Construct) (has : Contains (enumerate_from 0 (parts d)) (k, (s, c))) where
     abbrev step_entries : List Entry
-    step_entries = flat_map (step_cells lowering list.number k s) (range_with_len 0 (length (lowered_in (s, c))))
+    step_entries = flat_map (step_cells lowering number k) (range_with_len 0 (length (lowered_in (s, c))))
 
-    steps_within : kept step_entries ≤ length (flat_map (λ (y : Expression × ℕ). (made_in s y.0 y.1).cells) (lowered_in (s, c)))
-    steps_within = expressions_kept d lowering list.number lowered k s 0 (lowered_in (s, c)) (λ x e w at. lowered_at d lowering lowered k s c has x e w at)
+    steps_long : length step_entries ≡ length (flat_map (λ (y : Expression × ℕ). (made_in s y.0 y.1).cells) (lowered_in (s, c)))
+    steps_long = expressions_listed lowering number k s 0 (lowered_in (s, c)) (λ x e w at. lowered_at d lowering lowered k s c has x e w at)
 
-    whole : kept (places_at lowering list.number (k, (s, c))) ≡ kept step_entries + kept (gate_places lowering list.number k c)
-    whole = sum_by-append weight step_entries (gate_places lowering list.number k c)
+    whole : length (places_at lowering number (k, (s, c))) ≡ length step_entries + length (gate_places lowering number k c)
+    whole = length-append step_entries (gate_places lowering number k c)
 
-  part_within : (k : ℕ) (s : Scope) (c : Construct) → Contains (enumerate_from 0 (parts d)) (k, (s, c)) → kept (places_at lowering list.number (k, (s, c))) ≤ length (cells_at (s, c))
-  part_within k s (Assignment left right) has = omega (arith, whole k s (Assignment left right) has, steps_within k s (Assignment left right) has, length-append (made_in s right (context_width s left right)).cells [])
+  part_within : (k : ℕ) (s : Scope) (c : Construct) → Contains (enumerate_from 0 (parts d)) (k, (s, c)) → length (places_at lowering number (k, (s, c))) ≤ length (cells_at (s, c))
+  part_within k s (Assignment left right) has = omega (arith, whole k s (Assignment left right) has, steps_long k s (Assignment left right) has, length-append (made_in s right (context_width s left right)).cells [])
   part_within k s (GateInstance gate outs ins) has =
       let ts = terminal_terms s ins in
-      let long : length ts ≡ length ins = ap length (terminals_are d lowering l list lowered wired k s gate outs ins has) ∙ length-map (range_with_len 0 (length ins)) (input d lowering l list lowered wired k s gate outs ins has) ∙ length-range 0 (length ins) in
+      let long : length ts ≡ length ins = ap length (terminals_are d lowering lowered wired k s gate outs ins has) ∙ length-map (range_with_len 0 (length ins)) (input_term d lowering lowered wired k s gate outs ins has) ∙ length-range 0 (length ins) in
       let one = (wired.gates s gate outs ins (from_numbered 0 (parts d) (k, (s, GateInstance gate outs ins)) has)).0 in
-      let joins = joining_places lowering list.number k gate (length ins) in
-      let inverse = inverting_place lowering list.number k gate (length ins) in
+      let joins = joining_places lowering number k gate (length ins) in
+      let inverse = inverting_place lowering number k gate (length ins) in
       omega (
         arith,
         whole k s (GateInstance gate outs ins) has,
-        steps_within k s (GateInstance gate outs ins) has,
+        steps_long k s (GateInstance gate outs ins) has,
         ap length (mapped_cells s ins),
         gate-length ts gate (omega (arith, long, one)),
         long,
         length-append (flat_map (λ e. (made_in s e (width_of s e)).cells) ins) (gate_cells gate ts),
-        sum_by-append weight joins inverse,
-        kept-length joins,
-        kept-length inverse,
+        length-append joins inverse,
         joins_long,
         inverse_long (inverts gate),
       )
     where
-      joins_long : length (joining_places lowering list.number k gate (length ins)) ≡ length ins - 1
+      joins_long : length (joining_places lowering number k gate (length ins)) ≡ length ins - 1
       joins_long = length-map (range_with_len 0 (length ins - 1)) _ ∙ length-range 0 (length ins - 1)
 
       inverter : Entry
-      inverter = (Inverted k, cell.Not (list.number (joined_place lowering k (length ins - 1))))
+      inverter = (Inverted k, cell.Not (number (joined_place lowering k (length ins - 1))))
 
       inverse_long : (b : Bool) → length (if b then inverter ∷ [] else []) ≡ (if b then 1 else 0)
       inverse_long true = refl
       inverse_long false = refl
-  part_within k s (Register r) has = omega (arith, whole k s (Register r) has, steps_within k s (Register r) has, length-append (made_in s r.right (context_width s r.left r.right)).cells [])
+  part_within k s (Register r) has = omega (arith, whole k s (Register r) has, steps_long k s (Register r) has, length-append (made_in s r.right (context_width s r.left r.right)).cells [])
   part_within k s (SupplyNet high n) has = omega arith
-  part_within k s (InputConnection i pin e) has = omega (arith, whole k s (InputConnection i pin e) has, steps_within k s (InputConnection i pin e) has, length-append (made_in s e (width_of s e)).cells [])
+  part_within k s (InputConnection i pin e) has = omega (arith, whole k s (InputConnection i pin e) has, steps_long k s (InputConnection i pin e) has, length-append (made_in s e (width_of s e)).cells [])
   part_within k s (OutputConnection i pin e) has = omega arith
   part_within k s BoxContents has = omega arith
 
@@ -254,41 +249,43 @@ module _ (of_designs : DesignLaws) (d : Design) (lowering : Lowering) (l : Loose
   scopes_count [] = omega arith
   scopes_count (s ∷ ss) = omega (arith, sum_by-append cell_count (in_scope s) (flat_map in_scope ss), sum_by-append cell_count_at (in_scope s) (flat_map in_scope ss), kept_cons s ss, scope_counts s, scopes_count ss)
 
+  box_long : (y : ℕ × Scope) → length (box_places y) ≤ outs y.1
+  box_long (b, s) = omega (arith, length-map {B = Entry} (enumerate_from 0 (output_bits s)) (λ x. (BoxPin b x.0, cell.BoxOut b x.0)), length-enumerated 0 (output_bits s))
+
+  -- the operators of the list are at most those of the design
+  operators_few : (2 + length (cut_bits d)) + length (operator_places d lowering number) ≤ cells_in d
+  operators_few = omega (
+    arith,
+    length-append (flat_map box_places (enumerate_from 0 (boxes d))) (flat_map (places_at lowering number) (enumerate_from 0 (parts d))),
+    flat_below box_places (λ (y : ℕ × Scope). outs y.1) (enumerate_from 0 (boxes d)) (λ y has. box_long y),
+    sum-enumerated outs 0 (boxes d),
+    flat_below (places_at lowering number) (λ (y : ℕ × (Scope × Construct)). cell_count y.1) (enumerate_from 0 (parts d)) (λ y has. part_within y.0 y.1.0 y.1.1 has),
+    sum-enumerated cell_count 0 (parts d),
+    scopes_count (scopes d),
+  )
+
+  pub places_few : length (places d lowering number) ≤ cells_in d + length (net_order d)
+  places_few = omega (arith, length-append (front_places d lowering number) (operator_places d lowering number), front-length d lowering number, operators_few)
+
   abbrev inputs : List Entry
   inputs = map (λ i. (Input i, cell.Input i)) (range_with_len 0 (length (cut_bits d)))
 
   abbrev nets : List Bit → List Entry
-  nets bits = map (λ b. (NetBit b, cell.Copy (list.number (place_in (given d lowering) b)))) bits
+  nets bits = map (λ b. (NetBit b, cell.Copy (number (place_in (given d lowering) b)))) bits
 
   nets_kept : (bits : List Bit) → kept (nets bits) ≡ 0
   nets_kept [] = refl
-  nets_kept (b ∷ bits) = omega (arith, sum_by-cons weight (NetBit b, cell.Copy (list.number (place_in (given d lowering) b))) (nets bits), nets_kept bits)
+  nets_kept (b ∷ bits) = omega (arith, sum_by-cons weight (NetBit b, cell.Copy (number (place_in (given d lowering) b))) (nets bits), nets_kept bits)
 
   abbrev constants : List Entry
   constants = (Constant false, cell.Const false) ∷ (Constant true, cell.Const true) ∷ []
 
-  front_kept : kept (front_places d lowering list.number) ≤ 2 + length (cut_bits d)
+  front_kept : kept (front_places d lowering number) ≤ 2 + length (cut_bits d)
   front_kept = omega (arith, sum_by-append weight (constants ++ inputs) (nets (net_order d)), sum_by-append weight constants inputs, kept-length constants, kept-length inputs, nets_kept (net_order d), length-map {B = Entry} (range_with_len 0 (length (cut_bits d))) (λ i. (Input i, cell.Input i)), length-range 0 (length (cut_bits d)))
 
-  box_within : (y : ℕ × Scope) → kept (box_places y) ≤ outs y.1
-  box_within (b, s) = omega (arith, kept-length (box_places (b, s)), length-map {B = Entry} (enumerate_from 0 (output_bits s)) (λ x. (BoxPin b x.0, cell.BoxOut b x.0)), length-enumerated 0 (output_bits s))
-
   -- the kept cells of the list are at most those of the design
-  pub kept_within : kept (places d lowering list.number) ≤ cells_in d
-  kept_within =
-      let pins = flat_map box_places (enumerate_from 0 (boxes d)) in
-      let others = flat_map (places_at lowering list.number) (enumerate_from 0 (parts d)) in
-      omega (
-        arith,
-        sum_by-append weight (front_places d lowering list.number) (operator_places d lowering list.number),
-        sum_by-append weight pins others,
-        front_kept,
-        flat_below box_places (λ (y : ℕ × Scope). outs y.1) (enumerate_from 0 (boxes d)) (λ y has. box_within y),
-        sum-enumerated outs 0 (boxes d),
-        flat_below (places_at lowering list.number) (λ (y : ℕ × (Scope × Construct)). cell_count y.1) (enumerate_from 0 (parts d)) (λ y has. part_within y.0 y.1.0 y.1.1 has),
-        sum-enumerated cell_count 0 (parts d),
-        scopes_count (scopes d),
-      )
+  pub kept_within : kept (places d lowering number) ≤ cells_in d
+  kept_within = omega (arith, sum_by-append weight (front_places d lowering number) (operator_places d lowering number), front_kept, kept-length (operator_places d lowering number), operators_few)
 
 -- a list in which all numbers below n stand is at least as long
 at_least : (ks : List ℕ) (n : ℕ) → ((k : ℕ) → k < n → Contains ks k) → n ≤ length ks
@@ -342,8 +339,11 @@ module _ (of_designs : DesignLaws) (d : Design) (f : FlatNet) (bounded : IsBound
       subst (Contains (map to kept_entries)) (ap stands.ordered.to p.3 ∙ r.3) (contains-map to kept_entries (p.0, p.1) (filtered all (p.0, p.1) p.2 on))
 
   pub no_larger : length f.net.cells ≤ cells_in d
-  no_larger = omega (arith, at_least (map to kept_entries) (length f.net.cells) reached, length-map kept_entries to, kept-filter all, kept_within of_designs d stands.lowering stands.cells stands.listed stands.lowered (of_designs.wired d bounded))
+  no_larger = omega (arith, at_least (map to kept_entries) (length f.net.cells) reached, length-map kept_entries to, kept-filter all, kept_within d stands.lowering number stands.lowered (of_designs.wired d bounded))
 
 module _ (of_designs : DesignLaws) where
   pub nets_are_no_larger : NetsAreNoLarger
   nets_are_no_larger d f bounded stands = no_larger of_designs d f bounded stands
+
+  pub places_are_few : PlacesAreFew
+  places_are_few d lowering number bounded lowered = places_few d lowering number lowered (of_designs.wired d bounded)

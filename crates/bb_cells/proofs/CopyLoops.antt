@@ -2,6 +2,8 @@
 use Rattle.std.proofs.Common.{◌≡◌, ◌⊎◌, ℕ, zero, suc, ◌+◌, ◌-◌, ◌<◌, ◌≤◌, Bool, true, false, if◌then◌else◌, List, [], ◌∷◌, ◌++◌, map, flat_map, find, fold, zip, length, get_or, Contains, Option, Some, None, refl, sym, ap, ◌∙◌, subst, inl, inr, arith}
 use Rattle.std.specs.List.{enumerate_from, range_with_len}
 use Rattle.std.specs.Option.{option_map_or}
+use Rattle.std.specs.Prelude.{IfSome}
+use Rattle.std.proofs.lemmas.Option.{IfSome_then}
 use Rattle.std.proofs.lemmas.List.Elements.{All-contains, Contains-get_or, Contains-append_cases, Contains-append_left, Contains-append_right}
 use Rattle.bb_ast.specs.declared.module.Gate.{Gate}
 use Rattle.bb_ast.specs.declared.module.Gate.TheVariants as gates
@@ -34,18 +36,18 @@ use Rattle.bb_design.specs.Laws.{BitsAreThere}
 use Rattle.bb_cells.proofs.CopyWalks.{follows_at}
 use Rattle.bb_design.specs.Drivers.{Made, Drive, driven, driven_by, terminal_terms, drives_at, drives}
 use Rattle.bb_design.specs.GateFunctions.{on_terms, joins, joined, joined_after, joining_cells, gate_cells, inverts, gate_gives}
-use Rattle.bb_cells.specs.Places.{Place, Constant, Input, NetBit, Step, Joined, Inverted, BoxPin, lowered_in, Lowering, IsLowering, step_places, given_at, given_by_box, given, place_in, terminal_place, joined_place, gate_place, step_cell, step_cells, net_place, join_cell, joining_places, inverting_place, gate_places, places_at, box_places, front_places, operator_places, pins_of, data_at, data_places, IsListOf}
+use Rattle.bb_cells.specs.Places.{Place, Constant, Input, NetBit, Step, Joined, Inverted, BoxPin, lowered_in, Lowering, IsLowering, step_places, given_at, given_by_box, given, place_in, terminal_place, joined_place, gate_place, step_cell, join_cell, places, pins_of, data_at, data_places, IsListOf}
 use Rattle.bb_design.specs.Registers.{RegisterBit, registers, cut_bits, data_terms}
 use Rattle.bb_lists.proofs.Numbered.{enumerated_from, numbered_at, from_numbered}
 use Rattle.bb_cells.proofs.GivenDrives.{term_of, box_part, part_driven, whole_terms, low_terms, pin_terms, sides_meet}
 use Rattle.bb_lists.proofs.Zips.{zip_parts}
 use Rattle.bb_names.specs.Spots.{Pin}
-use Rattle.bb_lists.proofs.Ranges.{from_range}
-use Rattle.bb_cells.proofs.ListedPlaces.{IsListed, lowered_at, listed_at, listed_cell, constant_listed, input_listed, net_listed, pin_listed, step_listed, joined_listed, inverted_listed}
-use Rattle.bb_cells.proofs.ListedSources.{net_bit_of_step, terminal_there}
+use Rattle.bb_cells.proofs.ListedEntries.{Entry, each_entry}
+use Rattle.bb_cells.proofs.ListedPlaces.{IsListed, Stands, lowered_at, reads_there, listed_at, listed_cell, constant_listed, input_listed, net_listed, pin_listed, step_stands, joined_listed, inverted_listed}
+use Rattle.bb_cells.proofs.ListedSources.{net_bit_of_step, scope_there, terminal_there}
 use Rattle.bb_design.specs.Wired.{IsWired}
 use Rattle.bb_cells.proofs.ListNumbers.{one_place_listed}
-use Rattle.bb_cells.proofs.ListWalks.{input, terminals_are}
+use Rattle.bb_cells.proofs.GateTerms.{input_term, terminals_are}
 use Rattle.bb_cells.specs.CellLaws.{ReadPlacesAreReadBits}
 use Rattle.bb_design.specs.DesignLaws.{DesignLaws}
 
@@ -145,38 +147,28 @@ module _ (of_designs : DesignLaws) (d : Design) (lowering : Lowering) (l : Loose
   Steps n = (k : ℕ) (s : Scope) (c : Construct) → Part k s c → (x : ℕ) → x < length (lowered_in (s, c)) → (j : ℕ) → j < length (lowering k x).all → (m : ℕ) → j < m → Walk n (list.number (Step k x j))
       → Below (bit_itself s.path (term_within (nets_of s.source) (lowering k x).all m j))
 
-  steps_zero : Steps 0
-  steps_zero k s c has x fits j at m less walk = absurd (not_last (Step k x j) _ (step_listed d lowering l list k s c has x fits j at) refl walk)
-
   module _ (n : ℕ) (nets : Nets n) (k : ℕ) (s : Scope) (c : Construct) (has : Part k s c) (x : ℕ) where
-    step_below : (term : ℕ → Term) (j : ℕ) (step : BitStep) → Reads (nets_of s.source) j step → (q : ℕ) → step_cell (λ b. list.number (Constant b)) (λ a. list.number (Step k x a)) (λ m i. list.number (net_place s m i)) step ≡ cell.Copy q → Walk n q
-        → Below (bit_itself s.path (step_term (nets_of s.source) step term))
-    step_below term j (steps.Const b) reads q at walk = absurd (constant_ends n b (subst (Walk n) (sym (copies_one (list.number (Constant b)) q at)) walk))
-    step_below term j (steps.Net m i) reads q at walk =
+    step_below : (term : ℕ → Term) (j : ℕ) (step : BitStep) → Reads (nets_of s.source) j step → Stands d lowering l list k s x j step → Walk n (list.number (Step k x j)) → Below (bit_itself s.path (step_term (nets_of s.source) step term))
+    step_below term j (steps.Const b) reads stands walk = absurd (constant_ends n b (subst (Walk n) stands.0 walk))
+    step_below term j (steps.Net m i) reads stands walk =
         let b : Bit = record { path = s.path; net = name_at (nets_of s.source) m; place = i } in
-        let inside = net_bit_of_step d s m i (of_designs.part_of d s c (from_numbered 0 (parts d) (k, (s, c)) has)).0 reads in
-        (b, contains_here b [], nets b inside (subst (Walk n) (sym (copies_one (place b) q at)) walk))
-    step_below term j (steps.Not a) reads q at walk = cc
-    step_below term j (steps.And a b) reads q at walk = cc
-    step_below term j (steps.Or a b) reads q at walk = cc
-    step_below term j (steps.Xor a b) reads q at walk = cc
-    step_below term j (steps.Mux i t f) reads q at walk = cc
+        (b, contains_here b [], nets b (net_bit_of_step d s m i (scope_there d k s c has) reads) (subst (Walk n) stands.0 walk))
+    step_below term j (steps.Not a) reads stands walk = absurd (no_walk n (Step k x j) _ stands.1 refl (λ q e. cc) walk)
+    step_below term j (steps.And a b) reads stands walk = absurd (no_walk n (Step k x j) _ stands.1 refl (λ q e. cc) walk)
+    step_below term j (steps.Or a b) reads stands walk = absurd (no_walk n (Step k x j) _ stands.1 refl (λ q e. cc) walk)
+    step_below term j (steps.Xor a b) reads stands walk = absurd (no_walk n (Step k x j) _ stands.1 refl (λ q e. cc) walk)
+    step_below term j (steps.Mux i t f) reads stands walk = absurd (no_walk n (Step k x j) _ stands.1 refl (λ q e. cc) walk)
 
-  pub steps_more : (n : ℕ) → Nets n → Steps (suc n)
+  pub steps_at : (n : ℕ) → Nets n → Steps n
   unfolding term_within
-  steps_more n nets k s c has x fits j at zero less walk = absurd (omega (arith, less))
-  steps_more n nets k s c has x fits j at (suc m) less walk =
-      let y = get_or (lowered_in (s, c)) x (Plain 0, 0) in
-      let lower = lowered_at d lowering lowered k s c has x y.0 y.1 (numbered_at (lowered_in (s, c)) x (Plain 0, 0) fits) in
-      let all = (lowering k x).all in
-      let step = get_or all j (steps.Const false) in
-      let reads = All-contains (λ (z : ℕ × BitStep). Reads (nets_of s.source) z.0 z.1) (enumerate_from 0 all) (j, step) lower.earlier (numbered_at all j (steps.Const false) at) in
-      let f = first_step n (Step k x j) _ (step_listed d lowering l list k s c has x fits j at) walk in
-      step_below n nets k s c has x (term_within (nets_of s.source) all m) j step reads f.0 f.1 f.2
+  steps_at n nets k s c has x fits j at zero less walk = absurd (omega (arith, less))
+  steps_at n nets k s c has x fits j at (suc m) less walk =
+      step_below n nets k s c has x (term_within (nets_of s.source) (lowering k x).all m) j (get_or (lowering k x).all j (steps.Const false))
+      (reads_there d lowering lowered k s c has x fits j at) (step_stands d lowering l list k s c has x fits j at) walk
 
   module _ (k : ℕ) (s : Scope) (gate : Gate) (outs ins : List Expression) (has : Part k s (GateInstance gate outs ins)) where
     abbrev pub term_in : ℕ → Term
-    term_in x = input d lowering l list lowered wired k s gate outs ins has x
+    term_in x = input_term d lowering lowered wired k s gate outs ins has x
 
     -- the inputs up to one of them, joined
     abbrev pub prefix : ℕ → Term
@@ -205,9 +197,9 @@ module _ (of_designs : DesignLaws) (d : Design) (lowering : Lowering) (l : Loose
     join_below n gates.Buf p r t u f q at walk = f (subst (Walk n) (sym (copies_one p q at)) walk)
     join_below n gates.Not p r t u f q at walk = f (subst (Walk n) (sym (copies_one p q at)) walk)
 
-    joins_zero : Joins 0
-    joins_zero zero fits walk = input_below 0 steps_zero 0 fits walk
-    joins_zero (suc x) fits walk = absurd (not_last (Joined k (suc x)) _ (joined_listed d lowering l list k s gate outs ins has x (omega (arith, fits))) refl walk)
+    joins_zero : Steps 0 → Joins 0
+    joins_zero now zero fits walk = input_below 0 now 0 fits walk
+    joins_zero now (suc x) fits walk = absurd (not_last (Joined k (suc x)) _ (joined_listed d lowering l list k s gate outs ins has x (omega (arith, fits))) refl walk)
 
     joins_more : (n : ℕ) → Steps (suc n) → Joins n → Joins (suc n)
     joins_more n next before zero fits walk = input_below (suc n) next 0 fits walk
@@ -228,7 +220,7 @@ module _ (of_designs : DesignLaws) (d : Design) (lowering : Lowering) (l : Loose
     whole_is (suc m) same one = let place : suc m - 1 ≡ 0 + m = omega arith in ap prefix place ∙ sym (prefix_is m 0)
 
     gate_below : (n : ℕ) → Joins n → Walk n (list.number (gate_place lowering gate k (length ins))) → Below (bit_itself s.path (gate_gives on_terms gate (terminal_terms s ins)))
-    gate_below n now walk = subst (λ ts. Below (bit_itself s.path (gate_gives on_terms gate ts))) (sym (terminals_are d lowering l list lowered wired k s gate outs ins has)) (by (inverts gate) refl walk)
+    gate_below n now walk = subst (λ ts. Below (bit_itself s.path (gate_gives on_terms gate ts))) (sym (terminals_are d lowering lowered wired k s gate outs ins has)) (by (inverts gate) refl walk)
       where
         one : 1 ≤ length ins
         one = (wired.gates s gate outs ins (from_numbered 0 (parts d) (k, (s, GateInstance gate outs ins)) has)).0
@@ -344,16 +336,18 @@ module _ (of_designs : DesignLaws) (d : Design) (lowering : Lowering) (l : Loose
                 closed b c.0 (subst (λ u. Contains (copies d) (u, c.0)) bit (into_flat (λ (z : Drive). map (λ e. (z.bit, e)) (copied z.source)) (drives d) z.0 (z.0.bit, c.0) z.1 (contains-map {B = Bit × Bit} (λ e. (z.0.bit, e)) (copied z.0.source) c.0 c.1))) c.2
 
   pub claims : (n : ℕ) → Claims n
-  claims zero = record {
-    nets = λ b has walk. at_net b has walk;
-    steps = steps_zero;
-    joins = λ k s gate outs ins has. joins_zero k s gate outs ins has;
-  }
+  claims zero =
+      let now = steps_at 0 at_net in
+      record {
+        nets = at_net;
+        steps = now;
+        joins = λ k s gate outs ins has. joins_zero k s gate outs ins has now;
+      }
   claims (suc n) =
       let c = claims n in
-      let next = steps_more n c.nets in
+      let next = steps_at (suc n) (net_leads n c) in
       record {
-        nets = λ b has walk. net_leads n c b has walk;
+        nets = net_leads n c;
         steps = next;
         joins = λ k s gate outs ins has. joins_more k s gate outs ins has n next (c.joins k s gate outs ins has);
       }
@@ -413,39 +407,42 @@ module _ (of_designs : DesignLaws) (d : Design) (lowering : Lowering) (l : Loose
 
   module _ (n : ℕ) (claims : Claims n) where
     module _ (k : ℕ) (s : Scope) (c : Construct) (has : Part k s c) (x : ℕ) where
-      step_operand : (term : ℕ → Term) (j : ℕ) → ((a : ℕ) → a < j → Walk n (list.number (Step k x a)) → Below (bit_itself s.path (term a))) → (step : BitStep) → Reads (nets_of s.source) j step → (q : ℕ)
-          → Contains (read_by (step_cell (λ b. list.number (Constant b)) (λ a. list.number (Step k x a)) (λ m i. list.number (net_place s m i)) step)) q → Walk n q → Operand s.path (step_term (nets_of s.source) step term) × (is_operator step ≡ true)
-      step_operand term j earlier (steps.Const b) reads q at walk = absurd (none_in_nil q at)
-      step_operand term j earlier (steps.Net m i) reads q at walk = absurd (none_in_nil q at)
-      step_operand term j earlier (steps.Not a) reads q at walk = one_case (list.number (Step k x a)) q at (λ same. ((term a, (0, omega arith, refl), earlier a reads (subst (Walk n) (sym same) walk)), refl))
-      step_operand term j earlier (steps.And a b) reads q at walk = two_cases (list.number (Step k x a)) (list.number (Step k x b)) q at
+      -- what a step reads, where it is an operator, is an operand of what it is made of
+      step_operand : (term : ℕ → Term) (j : ℕ) → ((a : ℕ) → a < j → Walk n (list.number (Step k x a)) → Below (bit_itself s.path (term a))) → (step : BitStep) → Reads (nets_of s.source) j step
+          → IfSome (step_cell (λ a. list.number (Step k x a)) step) (λ u. (q : ℕ) → Contains (read_by u) q → Walk n q → Operand s.path (step_term (nets_of s.source) step term) × (is_operator step ≡ true))
+      step_operand term j earlier (steps.Const b) reads = tt
+      step_operand term j earlier (steps.Net m i) reads = tt
+      step_operand term j earlier (steps.Not a) reads = λ q at walk. one_case (list.number (Step k x a)) q at (λ same. ((term a, (0, omega arith, refl), earlier a reads (subst (Walk n) (sym same) walk)), refl))
+      step_operand term j earlier (steps.And a b) reads = λ q at walk. two_cases (list.number (Step k x a)) (list.number (Step k x b)) q at
           (λ same. ((term a, (0, omega arith, refl), earlier a reads.0 (subst (Walk n) (sym same) walk)), refl)) (λ same. ((term b, (1, omega arith, refl), earlier b reads.1 (subst (Walk n) (sym same) walk)), refl))
-      step_operand term j earlier (steps.Or a b) reads q at walk = two_cases (list.number (Step k x a)) (list.number (Step k x b)) q at
+      step_operand term j earlier (steps.Or a b) reads = λ q at walk. two_cases (list.number (Step k x a)) (list.number (Step k x b)) q at
           (λ same. ((term a, (0, omega arith, refl), earlier a reads.0 (subst (Walk n) (sym same) walk)), refl)) (λ same. ((term b, (1, omega arith, refl), earlier b reads.1 (subst (Walk n) (sym same) walk)), refl))
-      step_operand term j earlier (steps.Xor a b) reads q at walk = two_cases (list.number (Step k x a)) (list.number (Step k x b)) q at
+      step_operand term j earlier (steps.Xor a b) reads = λ q at walk. two_cases (list.number (Step k x a)) (list.number (Step k x b)) q at
           (λ same. ((term a, (0, omega arith, refl), earlier a reads.0 (subst (Walk n) (sym same) walk)), refl)) (λ same. ((term b, (1, omega arith, refl), earlier b reads.1 (subst (Walk n) (sym same) walk)), refl))
-      step_operand term j earlier (steps.Mux i t f) reads q at walk = three_cases (list.number (Step k x i)) (list.number (Step k x t)) (list.number (Step k x f)) q at
+      step_operand term j earlier (steps.Mux i t f) reads = λ q at walk. three_cases (list.number (Step k x i)) (list.number (Step k x t)) (list.number (Step k x f)) q at
           (λ same. ((term i, (0, omega arith, refl), earlier i reads.0 (subst (Walk n) (sym same) walk)), refl)) (λ same. ((term t, (1, omega arith, refl), earlier t reads.1 (subst (Walk n) (sym same) walk)), refl))
           (λ same. ((term f, (2, omega arith, refl), earlier f reads.2 (subst (Walk n) (sym same) walk)), refl))
 
-    step_read : (k : ℕ) (s : Scope) (c : Construct) → Part k s c → (x : ℕ) → x < length (lowered_in (s, c)) → (j : ℕ) → j < length (lowering k x).all → (q : ℕ)
-        → Contains (read_by (step_cell (λ b. list.number (Constant b)) (λ a. list.number (Step k x a)) (λ m i. list.number (net_place s m i)) (get_or (lowering k x).all j (steps.Const false)))) q → Walk n q → Below (read_directly d)
+    step_read : (k : ℕ) (s : Scope) (c : Construct) → Part k s c → (x : ℕ) → x < length (lowered_in (s, c)) → (j : ℕ) → j < length (lowering k x).all
+        → IfSome (step_cell (λ a. list.number (Step k x a)) (get_or (lowering k x).all j (steps.Const false))) (λ u. (q : ℕ) → Contains (read_by u) q → Walk n q → Below (read_directly d))
     unfolding term_within
-    step_read k s c has x fits j at q reads_it walk =
+    step_read k s c has x fits j at =
         let y = get_or (lowered_in (s, c)) x (Plain 0, 0) in
         let entry = numbered_at (lowered_in (s, c)) x (Plain 0, 0) fits in
         let lower = lowered_at d lowering lowered k s c has x y.0 y.1 entry in
         let all = (lowering k x).all in
         let step = get_or all j (steps.Const false) in
         let nets = nets_of s.source in
-        let reads = All-contains (λ (z : ℕ × BitStep). Reads nets z.0 z.1) (enumerate_from 0 all) (j, step) lower.earlier (numbered_at all j (steps.Const false) at) in
-        let o = step_operand k s c has x (term_within nets all j) j (λ a lt w. claims.steps k s c has x fits a (omega (arith, lt, at)) j lt w) step reads q reads_it walk in
         let one : suc j ≡ j + 1 = omega arith in
+        let read : Operand s.path (step_term nets step (term_within nets all j)) × (is_operator step ≡ true) → Below (read_directly d) = λ o.
         let operator : Contains (operators nets all) (term_at nets all j) =
         into_filter (λ (z : ℕ × BitStep). if is_operator z.1 then Some (term_at nets all z.0) else None) (enumerate_from 0 all) (j, step) (term_at nets all j) (numbered_at all j (steps.Const false) at) (ap (λ b. if b then Some (term_at nets all j) else None) o.1) in
         let made = Contains-permutation (operators nets all) (made_in s y.0 y.1).cells (term_at nets all j) (IsPermutation-sym (made_in s y.0 y.1).cells (operators nets all) lower.cells) operator in
         cell_read s c (from_numbered 0 (parts d) (k, (s, c)) has) (term_at nets all j) o.0.0 (lowered_cell s c y.0 y.1 (from_numbered 0 (lowered_in (s, c)) (x, y) entry) (term_at nets all j) made)
-        (subst (λ m. Contains (operand_terms (term_within nets all m j)) o.0.0) one o.0.1) o.0.2
+        (subst (λ m. Contains (operand_terms (term_within nets all m j)) o.0.0) one o.0.1) o.0.2 in
+        IfSome_then (step_cell (λ a. list.number (Step k x a)) step)
+        (step_operand k s c has x (term_within nets all j) j (λ a lt w. claims.steps k s c has x fits a (omega (arith, lt, at)) j lt w) step (reads_there d lowering lowered k s c has x fits j at))
+        (λ u operand q has_q walk. read (operand q has_q walk))
 
     module _ (k : ℕ) (s : Scope) (gate : Gate) (outs ins : List Expression) (has : Part k s (GateInstance gate outs ins)) where
       abbrev tin : ℕ → Term
@@ -488,7 +485,7 @@ module _ (of_designs : DesignLaws) (d : Design) (lowering : Lowering) (l : Loose
 
       gate_cell : (u : Term) → Contains (gate_cells gate (map tin (range_with_len 0 (length ins)))) u → Contains (cells_at (s, GateInstance gate outs ins)) u
       gate_cell u has_u = Contains-append_right (flat_map (λ e. (made_in s e (width_of s e)).cells) ins) (gate_cells gate (terminal_terms s ins)) u
-          (subst (λ ts. Contains (gate_cells gate ts) u) (sym (terminals_are d lowering l list lowered wired k s gate outs ins has)) has_u)
+          (subst (λ ts. Contains (gate_cells gate ts) u) (sym (terminals_are d lowering lowered wired k s gate outs ins has)) has_u)
 
       inside : Term
       inside = joined on_terms gate (map tin (range_with_len 0 (length ins)))
@@ -512,101 +509,27 @@ module _ (of_designs : DesignLaws) (d : Design) (lowering : Lowering) (l : Loose
           (subst (λ (b : Bool). Contains (if b then (if b then term.Not inside else inside) ∷ [] else []) (term.Not inside)) (sym on) (contains_here (term.Not inside) []))))
           (contains_here inside []) (subst (λ t. Below (bit_itself s.path t)) (whole_is k s gate outs ins has (length ins) refl shape) low)
 
-    gate_read : (k : ℕ) (s : Scope) (c : Construct) → Part k s c → (p : Place) (u : LooseCell) → Contains (gate_places lowering list.number k c) (p, u) → (q : ℕ) → Contains (read_by u) q → Walk n q → Below (read_directly d)
-    gate_read k s (GateInstance gate outs ins) has p u at q reads walk = by (Contains-append_cases (joining_places lowering list.number k gate (length ins)) (inverting_place lowering list.number k gate (length ins)) (p, u) at)
-      where
-        inverted : (b : Bool) → inverts gate ≡ b → Contains {X = Place × LooseCell} (if b then (Inverted k, cell.Not (list.number (joined_place lowering k (length ins - 1)))) ∷ [] else []) (p, u) → Below (read_directly d)
-        inverted false off h = absurd (none_in_nil {A = Place × LooseCell} (p, u) h)
-        inverted true on h = here (contains_cases {A = Place × LooseCell} (Inverted k, cell.Not (list.number (joined_place lowering k (length ins - 1)))) [] (p, u) h)
-          where
-            here : (◌≡◌ {A = Place × LooseCell} (Inverted k, cell.Not (list.number (joined_place lowering k (length ins - 1)))) (p, u)) ⊎ Contains {X = Place × LooseCell} [] (p, u) → Below (read_directly d)
-            here (inl same) = inverted_read k s gate outs ins has on q (subst (λ v. Contains (read_by v) q) (sym (ap (λ (z : Place × LooseCell). z.1) same)) reads) walk
-            here (inr none) = absurd (none_in_nil {A = Place × LooseCell} (p, u) none)
-
-        by : Contains (joining_places lowering list.number k gate (length ins)) (p, u) ⊎ Contains (inverting_place lowering list.number k gate (length ins)) (p, u) → Below (read_directly d)
-        by (inr h) = inverted (inverts gate) refl h
-        by (inl h) =
-            let x = from_map {B = Place × LooseCell} (λ x. (Joined k (x + 1), join_cell gate (list.number (joined_place lowering k x)) (list.number (terminal_place lowering k (x + 1))))) (range_with_len 0 (length ins - 1)) (p, u) h in
-            let r = from_range 0 (length ins - 1) x.0 x.1 in
-            let one : x.0 + 1 ≡ suc x.0 = omega arith in
-            joined_read k s gate outs ins has x.0 (omega (arith, r.1)) q (subst (λ z. Contains (read_by (join_cell gate (list.number (joined_place lowering k x.0)) (list.number (terminal_place lowering k z)))) q) one
-            (subst (λ v. Contains (read_by v) q) (sym (ap (λ (z : Place × LooseCell). z.1) x.2)) reads)) walk
-    gate_read k s (Assignment left right) has p u at q reads walk = absurd (none_in_nil (p, u) at)
-    gate_read k s (Register r) has p u at q reads walk = absurd (none_in_nil (p, u) at)
-    gate_read k s (SupplyNet high m) has p u at q reads walk = absurd (none_in_nil (p, u) at)
-    gate_read k s (InputConnection i pin f) has p u at q reads walk = absurd (none_in_nil (p, u) at)
-    gate_read k s (OutputConnection i pin f) has p u at q reads walk = absurd (none_in_nil (p, u) at)
-    gate_read k s BoxContents has p u at q reads walk = absurd (none_in_nil (p, u) at)
-
-    part_reads : (k : ℕ) (s : Scope) (c : Construct) → Part k s c → (p : Place) (u : LooseCell) → Contains (places_at lowering list.number (k, (s, c))) (p, u) → (q : ℕ) → Contains (read_by u) q → Walk n q → Below (read_directly d)
-    part_reads k s c has p u at q reads walk = by (Contains-append_cases (flat_map (step_cells lowering list.number k s) (range_with_len 0 (length (lowered_in (s, c))))) (gate_places lowering list.number k c) (p, u) at)
-      where
-        by : Contains (flat_map (step_cells lowering list.number k s) (range_with_len 0 (length (lowered_in (s, c))))) (p, u) ⊎ Contains (gate_places lowering list.number k c) (p, u) → Below (read_directly d)
-        by (inr h) = gate_read k s c has p u h q reads walk
-        by (inl h) =
-            let x = from_flat (step_cells lowering list.number k s) (range_with_len 0 (length (lowered_in (s, c)))) (p, u) h in
-            let r = from_range 0 (length (lowered_in (s, c))) x.0 x.1 in
-            let y = from_map {B = Place × LooseCell} (λ y. (Step k x.0 y.0, step_cell (λ b. list.number (Constant b)) (λ a. list.number (Step k x.0 a)) (λ m i. list.number (net_place s m i)) y.1)) (enumerate_from 0 (lowering k x.0).all) (p, u) x.2 in
-            let e = enumerated_from 0 (lowering k x.0).all y.0.0 y.0.1 y.1 in
-            let place : y.0.0 ≡ e.0 = omega (arith, e.1) in
-            step_read k s c has x.0 (omega (arith, r.1)) e.0 e.2 q (subst (λ z. Contains (read_by (step_cell (λ b. list.number (Constant b)) (λ a. list.number (Step k x.0 a)) (λ m i. list.number (net_place s m i)) z)) q) (sym (e.3 (steps.Const false)))
-            (subst (λ v. Contains (read_by v) q) (sym (ap (λ (z : Place × LooseCell). z.1) y.2)) reads)) walk
-
     -- what is listed, if it reads something
-    abbrev constants : List (Place × LooseCell)
-    constants = (Constant false, cell.Const false) ∷ (Constant true, cell.Const true) ∷ []
+    abbrev ReadsOn : Entry → Type 0
+    ReadsOn x = (q : ℕ) → Contains (read_by x.1) q → Walk n q → Below (read_directly d)
 
-    abbrev front_inputs : List (Place × LooseCell)
-    front_inputs = map (λ i. (Input i, cell.Input i)) (range_with_len 0 (length (cut_bits d)))
-
-    abbrev front_nets : List (Place × LooseCell)
-    front_nets = map (λ b. (NetBit b, cell.Copy (list.number (place_in (given d lowering) b)))) (net_order d)
-
-    front_reads : (p : Place) (u : LooseCell) → Contains (front_places d lowering list.number) (p, u) → (q : ℕ) → Contains (read_by u) q → ⊥
-    front_reads p u at q reads = by (Contains-append_cases (constants ++ front_inputs) front_nets (p, u) at)
-      where
-        moved : (v : LooseCell) → v ≡ u → Contains (read_by v) q
-        moved v same = subst (λ w. Contains (read_by w) q) (sym same) reads
-
-        constant : (b : Bool) → cell.Const b ≡ u → ⊥
-        constant b same = none_in_nil q (moved (cell.Const b) same)
-
-        first : Contains constants (p, u) ⊎ Contains front_inputs (p, u) → ⊥
-        first (inr h) = let x = from_map {B = Place × LooseCell} (λ i. (Input i, cell.Input i)) (range_with_len 0 (length (cut_bits d))) (p, u) h in none_in_nil q (moved (cell.Input x.0) (ap (λ (z : Place × LooseCell). z.1) x.2))
-        first (inl h) = one (contains_cases {A = Place × LooseCell} (Constant false, cell.Const false) ((Constant true, cell.Const true) ∷ []) (p, u) h)
-          where
-            two : (◌≡◌ {A = Place × LooseCell} (Constant true, cell.Const true) (p, u)) ⊎ Contains {X = Place × LooseCell} [] (p, u) → ⊥
-            two (inl same) = constant true (ap (λ (z : Place × LooseCell). z.1) same)
-            two (inr none) = none_in_nil {A = Place × LooseCell} (p, u) none
-
-            one : (◌≡◌ {A = Place × LooseCell} (Constant false, cell.Const false) (p, u)) ⊎ Contains {X = Place × LooseCell} ((Constant true, cell.Const true) ∷ []) (p, u) → ⊥
-            one (inl same) = constant false (ap (λ (z : Place × LooseCell). z.1) same)
-            one (inr more) = two (contains_cases {A = Place × LooseCell} (Constant true, cell.Const true) [] (p, u) more)
-
-        by : Contains (constants ++ front_inputs) (p, u) ⊎ Contains front_nets (p, u) → ⊥
-        by (inl h) = first (Contains-append_cases constants front_inputs (p, u) h)
-        by (inr h) = let x = from_map {B = Place × LooseCell} (λ b. (NetBit b, cell.Copy (list.number (place_in (given d lowering) b)))) (net_order d) (p, u) h in none_in_nil q (moved (cell.Copy _) (ap (λ (z : Place × LooseCell). z.1) x.2))
-
-    listed_read : (p : Place) (u : LooseCell) → IsListed d lowering l list p u → (q : ℕ) → Contains (read_by u) q → Walk n q → Below (read_directly d)
-    listed_read p u listed q reads walk = by (Contains-append_cases (front_places d lowering list.number) (operator_places d lowering list.number) (p, u) listed)
-      where
-        behind : Contains (flat_map box_places (enumerate_from 0 (boxes d))) (p, u) ⊎ Contains (flat_map (places_at lowering list.number) (enumerate_from 0 (parts d))) (p, u) → Below (read_directly d)
-        behind (inl h) =
-            let b = from_flat box_places (enumerate_from 0 (boxes d)) (p, u) h in
-            let x = from_map {B = Place × LooseCell} (λ (x : ℕ × Bit). (BoxPin b.0.0 x.0, cell.BoxOut b.0.0 x.0)) (enumerate_from 0 (output_bits b.0.1)) (p, u) b.2 in
-            absurd (none_in_nil q (subst (λ v. Contains (read_by v) q) (sym (ap (λ (z : Place × LooseCell). z.1) x.2)) reads))
-        behind (inr h) = let y = from_flat (places_at lowering list.number) (enumerate_from 0 (parts d)) (p, u) h in part_reads y.0.0 y.0.1.0 y.0.1.1 y.1 p u y.2 q reads walk
-
-        by : Contains (front_places d lowering list.number) (p, u) ⊎ Contains (operator_places d lowering list.number) (p, u) → Below (read_directly d)
-        by (inl h) = absurd (front_reads p u h q reads)
-        by (inr h) = behind (Contains-append_cases (flat_map box_places (enumerate_from 0 (boxes d))) (flat_map (places_at lowering list.number) (enumerate_from 0 (parts d))) (p, u) h)
+    listed_read : (x : Entry) → Contains (places d lowering list.number) x → ReadsOn x
+    listed_read = each_entry d lowering l list ReadsOn (record {
+      constants = λ b q at walk. absurd (none_in_nil q at);
+      inputs = λ i fits q at walk. absurd (none_in_nil q at);
+      nets = λ b has q at walk. absurd (none_in_nil q at);
+      steps = step_read;
+      joins = λ k s gate outs ins has x fits q at walk. joined_read k s gate outs ins has x fits q at walk;
+      inverters = λ k s gate outs ins has on q at walk. inverted_read k s gate outs ins has on q at walk;
+      pins = λ b s has p y there q at walk. absurd (none_in_nil q at);
+    })
 
     cells_read : (q : ℕ) → Contains (flat_map read_by l.cells) q → Walk n q → Below (read_directly d)
     cells_read q at walk =
         let u = from_flat read_by l.cells q at in
         let x = listed_at d lowering l list u.1.0 u.1.1 in
         let same : x.1 ≡ u.0 = sym (listed_cell d lowering l list x.0 x.1 x.2) ∙ ap (loose_at l) x.3 ∙ get_or_default l.cells u.1.0 (cell.Const false) u.0 u.1.1 ∙ u.1.2 in
-        listed_read x.0 x.1 x.2 q (subst (λ v. Contains (read_by v) q) (sym same) u.2) walk
+        listed_read (x.0, x.1) x.2 q (subst (λ v. Contains (read_by v) q) (sym same) u.2) walk
 
     module _ (inside : BitsAreThere d) where
       bit_read : (b : Bit) → Contains (read_directly d) b → Walk n (place b) → Below (read_directly d)

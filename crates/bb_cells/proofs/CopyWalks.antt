@@ -13,7 +13,6 @@ use Rattle.bb_expr.specs.declared.step.BitStep.TheVariants as steps
 use Rattle.bb_expr.specs.Lowered.{step_term, term_within, term_at, name_at}
 use Rattle.bb_expr.specs.Terms.{Term}
 use Rattle.bb_expr.specs.Terms as term
-use Rattle.bb_net.specs.declared.loose.LooseCell.{LooseCell}
 use Rattle.bb_net.specs.declared.loose.LooseCell.TheVariants as cell
 use Rattle.bb_net.specs.Loose.{LooseList}
 use Rattle.bb_bits.specs.Closures.{Leads, One, More}
@@ -25,7 +24,7 @@ use Rattle.bb_design.specs.GateFunctions.{on_terms, joins, joined, inverts, gate
 use Rattle.bb_design.specs.Hierarchy.{Design, Scope, path_to, boxes}
 use Rattle.bb_design.specs.Laws.{BitsAreThere}
 use Rattle.bb_design.specs.NetBits.{Bit, same_bit, net_order, bits_named, pin_bits, output_bits, written_bits}
-use Rattle.bb_cells.specs.Places.{Place, Constant, Input, NetBit, Step, Joined, Inverted, BoxPin, lowered_in, Lowering, IsLowering, step_places, terminal_place, joined_place, gate_place, given_at, given_by_box, given, place_in, step_cell, net_place, join_cell, IsListOf}
+use Rattle.bb_cells.specs.Places.{Place, Constant, Input, NetBit, Step, Joined, Inverted, BoxPin, lowered_in, Lowering, IsLowering, step_places, terminal_place, joined_place, gate_place, given_at, given_by_box, given, place_in, join_cell, IsListOf}
 use Rattle.bb_design.specs.Reading.{bit_itself, copied, copies}
 use Rattle.bb_cells.specs.ReadPlaces.{copy_steps, FollowsAt}
 use Rattle.bb_design.specs.Refusals.{AreDrivenOnce}
@@ -35,10 +34,10 @@ use Rattle.bb_lists.proofs.Members.{from_flat, from_map, from_drop, contains-map
 use Rattle.bb_cells.proofs.CopySteps.{copy_to}
 use Rattle.bb_lists.proofs.Numbered.{enumerated_from, from_numbered}
 use Rattle.bb_cells.proofs.GivenDrives.{term_of, cut_driven, box_part, part_driven, whole_terms, low_terms, pin_terms, sides_meet, found}
-use Rattle.bb_cells.proofs.ListedPlaces.{IsListed, lowered_at, listed_cell, listed_below, net_listed, step_listed, joined_listed}
-use Rattle.bb_cells.proofs.ListedSources.{part_there, terminal_there}
+use Rattle.bb_cells.proofs.ListedPlaces.{IsListed, Stands, lowered_at, listed_cell, listed_below, net_listed, step_stands, joined_listed}
+use Rattle.bb_cells.proofs.ListedSources.{terminal_there}
 use Rattle.bb_design.specs.Wired.{IsWired}
-use Rattle.bb_cells.proofs.ListWalks.{input, terminals_are}
+use Rattle.bb_cells.proofs.GateTerms.{input_term, terminals_are}
 use Rattle.bb_lists.proofs.Zips.{zip_parts}
 use Rattle.bb_lists.proofs.Apart.{one_by}
 use Rattle.bb_design.specs.DesignLaws.{DesignLaws}
@@ -67,26 +66,23 @@ module _ (of_designs : DesignLaws) (d : Design) (lowering : Lowering) (l : Loose
     abbrev all : List BitStep
     all = (lowering k n).all
 
-    abbrev cell_of : BitStep → LooseCell
-    cell_of step = step_cell (λ b. list.number (Constant b)) (λ a. list.number (Step k n a)) (λ m i. list.number (net_place s m i)) step
-
-    step_copies : (term : ℕ → Term) (j : ℕ) (b : Bit) (step : BitStep) → IsListed d lowering l list (Step k n j) (cell_of step) → Contains (bit_itself s.path (step_term (nets_of s.source) step term)) b → To (Step k n j) b
-    step_copies term j b (steps.Const t) listed has = absurd (none_in_nil b has)
-    step_copies term j b (steps.Net m i) listed has = by (contains_cases (record { path = s.path; net = name_at (nets_of s.source) m; place = i }) [] b has)
+    step_copies : (term : ℕ → Term) (j : ℕ) (b : Bit) (step : BitStep) → Stands d lowering l list k s n j step → Contains (bit_itself s.path (step_term (nets_of s.source) step term)) b → To (Step k n j) b
+    step_copies term j b (steps.Const t) stands has = absurd (none_in_nil b has)
+    step_copies term j b (steps.Net m i) stands has = by (contains_cases (record { path = s.path; net = name_at (nets_of s.source) m; place = i }) [] b has)
       where
         by : (record { path = s.path; net = name_at (nets_of s.source) m; place = i } ≡ b) ⊎ Contains [] b → To (Step k n j) b
-        by (inl e) = copy_on (Step k n j) (net_place s m i) listed b (inl (ap (λ u. list.number (NetBit u)) e))
+        by (inl e) = inl (stands.0 ∙ ap (λ u. list.number (NetBit u)) e)
         by (inr none) = absurd (none_in_nil b none)
-    step_copies term j b (steps.Not a) listed has = absurd (none_in_nil b has)
-    step_copies term j b (steps.And x y) listed has = absurd (none_in_nil b has)
-    step_copies term j b (steps.Or x y) listed has = absurd (none_in_nil b has)
-    step_copies term j b (steps.Xor x y) listed has = absurd (none_in_nil b has)
-    step_copies term j b (steps.Mux i t e) listed has = absurd (none_in_nil b has)
+    step_copies term j b (steps.Not a) stands has = absurd (none_in_nil b has)
+    step_copies term j b (steps.And x y) stands has = absurd (none_in_nil b has)
+    step_copies term j b (steps.Or x y) stands has = absurd (none_in_nil b has)
+    step_copies term j b (steps.Xor x y) stands has = absurd (none_in_nil b has)
+    step_copies term j b (steps.Mux i t e) stands has = absurd (none_in_nil b has)
 
     pub within_copies : (m j : ℕ) → j < m → j < length all → (b : Bit) → Contains (bit_itself s.path (term_within (nets_of s.source) all m j)) b → To (Step k n j) b
     unfolding term_within
     within_copies zero j below there b has = absurd (omega (arith, below))
-    within_copies (suc m) j below there b low = step_copies (term_within (nets_of s.source) all m) j b (get_or all j (steps.Const false)) (step_listed d lowering l list k s c has n fits j there) low
+    within_copies (suc m) j below there b low = step_copies (term_within (nets_of s.source) all m) j b (get_or all j (steps.Const false)) (step_stands d lowering l list k s c has n fits j there) low
 
     -- from a step that is a bit of a net to that bit
     pub steps_copies : (j : ℕ) → j < length all → (b : Bit) → Contains (bit_itself s.path (term_at (nets_of s.source) all j)) b → To (Step k n j) b
@@ -94,10 +90,10 @@ module _ (of_designs : DesignLaws) (d : Design) (lowering : Lowering) (l : Loose
 
   module _ (k : ℕ) (s : Scope) (gate : Gate) (outs ins : List Expression) (has : Contains (enumerate_from 0 (parts d)) (k, (s, GateInstance gate outs ins))) where
     abbrev shape : (1 ≤ length ins) × All (λ e. width_of s e ≡ 1) ins
-    shape = wired.gates s gate outs ins (part_there d lowering l list lowered wired k s (GateInstance gate outs ins) has)
+    shape = wired.gates s gate outs ins (from_numbered 0 (parts d) (k, (s, GateInstance gate outs ins)) has)
 
     abbrev term_in : ℕ → Term
-    term_in x = input d lowering l list lowered wired k s gate outs ins has x
+    term_in x = input_term d lowering lowered wired k s gate outs ins has x
 
     pub input_copies : (n : ℕ) → n < length ins → (b : Bit) → Contains (bit_itself s.path (term_in n)) b → To (terminal_place lowering k n) b
     input_copies n fits b low =
@@ -128,7 +124,7 @@ module _ (of_designs : DesignLaws) (d : Design) (lowering : Lowering) (l : Loose
         (subst (λ a. Contains (bit_itself s.path (fold (joins on_terms gate) (term_in 0) (map term_in (range_with_len a m)))) b) from low))
 
     pub gate_copies : (b : Bit) → Contains (bit_itself s.path (gate_gives on_terms gate (terminal_terms s ins))) b → To (gate_place lowering gate k (length ins)) b
-    gate_copies b low = by (inverts gate) refl (subst (λ ts. Contains (bit_itself s.path (gate_gives on_terms gate ts)) b) (terminals_are d lowering l list lowered wired k s gate outs ins has) low)
+    gate_copies b low = by (inverts gate) refl (subst (λ ts. Contains (bit_itself s.path (gate_gives on_terms gate ts)) b) (terminals_are d lowering lowered wired k s gate outs ins has) low)
       where
         inside : Term
         inside = joined on_terms gate (map term_in (range_with_len 0 (length ins)))

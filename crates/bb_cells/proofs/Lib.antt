@@ -2,7 +2,9 @@ pub mod AlikeCells
 pub mod AlikeEquations
 pub mod AlikeNets
 pub mod AlikePlaces
+pub mod BoxHeights
 pub mod BoxNeeds
+pub mod BoxOrders
 pub mod CellCounts
 pub mod ClockInputs
 pub mod ContentTables
@@ -13,6 +15,7 @@ pub mod DataPlaces
 pub mod DependenceWalks
 pub mod FirstLoops
 pub mod FlatInvariants
+pub mod GateTerms
 pub mod GivenDrives
 pub mod GivenPins
 pub mod KeptCells
@@ -27,6 +30,8 @@ pub mod ListedPlaces
 pub mod ListedSources
 pub mod LoopPlaces
 pub mod LooseLists
+pub mod NumberOrders
+pub mod OrderedBoxes
 pub mod PlacesRead
 pub mod ReadsHold
 pub mod StandingNames

@@ -10,7 +10,7 @@ use Rattle.bb_net.specs.Loose.{LooseList, loose_at}
 use Rattle.bb_design.specs.Hierarchy.{Design}
 use Rattle.bb_design.specs.NetBits.{net_order}
 use Rattle.bb_design.specs.Registers.{cut_bits}
-use Rattle.bb_cells.specs.Places.{Place, Constant, Input, NetBit, Numbering, Lowering, IsListOf, place_in, given, operator_places, places}
+use Rattle.bb_cells.specs.Places.{Place, Constant, Input, NetBit, Numbering, Lowering, IsListOf, place_in, given, front_places, operator_places, places}
 use Rattle.bb_cells.specs.ListLaws.{ListsBegin}
 use Rattle.bb_lists.proofs.Members.{contains_here, contains_there}
 use Rattle.bb_lists.proofs.Ranges.{length-range}
@@ -32,17 +32,30 @@ input_cells : (ks : List ℕ) → map (λ (x : Place × LooseCell). x.1) (map (�
 input_cells [] = refl
 input_cells (k ∷ ks) = ap (λ l. cell.Input k ∷ l) (input_cells ks)
 
--- what stands in the front has its place in the list
-pub front_fits : (d : Design) (lowering : Lowering) (l : LooseList) → IsListOf d lowering l → (2 + length (cut_bits d)) + length (net_order d) ≤ length l.cells
-front_fits d lowering l list =
+pub front-length : (d : Design) (lowering : Lowering) (number : Numbering) → length (front_places d lowering number) ≡ (2 + length (cut_bits d)) + length (net_order d)
+front-length d lowering number =
     let n = length (cut_bits d) in
     let inputs : List (Place × LooseCell) = map (λ i. (Input i, cell.Input i)) (range_with_len 0 n) in
     let first : List (Place × LooseCell) = (Constant false, cell.Const false) ∷ (Constant true, cell.Const true) ∷ inputs in
-    let nets : List (Place × LooseCell) = map (λ b. (NetBit b, cell.Copy (list.number (place_in (given d lowering) b)))) (net_order d) in
+    let nets : List (Place × LooseCell) = map (λ b. (NetBit b, cell.Copy (number (place_in (given d lowering) b)))) (net_order d) in
     let long : length first ≡ 2 + n = omega (arith, length-map {B = Place × LooseCell} (range_with_len 0 n) (λ i. (Input i, cell.Input i)), length-range 0 n) in
-    let bits : length nets ≡ length (net_order d) = length-map {B = Place × LooseCell} (net_order d) (λ b. (NetBit b, cell.Copy (list.number (place_in (given d lowering) b)))) in
-    let all : length (map (λ x. list.number x.0) (places d lowering list.number)) ≡ length l.cells = sym (length_permutation (map (λ x. list.number x.0) (places d lowering list.number)) (range_with_len 0 (length l.cells)) list.numbers) ∙ length-range 0 (length l.cells) in
-    omega (arith, all, long, bits, length-map (places d lowering list.number) (λ x. list.number x.0), length-append (first ++ nets) (operator_places d lowering list.number), length-append first nets)
+    let bits : length nets ≡ length (net_order d) = length-map {B = Place × LooseCell} (net_order d) (λ b. (NetBit b, cell.Copy (number (place_in (given d lowering) b)))) in
+    omega (arith, long, bits, length-append first nets)
+
+-- each place of the list is that of one thing
+pub places-length : (d : Design) (lowering : Lowering) (l : LooseList) (list : IsListOf d lowering l) → length (places d lowering list.number) ≡ length l.cells
+places-length d lowering l list =
+    let numbers = map (λ (x : Place × LooseCell). list.number x.0) (places d lowering list.number) in
+    sym (length-map (places d lowering list.number) (λ x. list.number x.0)) ∙ sym (length_permutation numbers (range_with_len 0 (length l.cells)) list.numbers) ∙ length-range 0 (length l.cells)
+
+-- what stands in the front has its place in the list
+pub front_fits : (d : Design) (lowering : Lowering) (l : LooseList) → IsListOf d lowering l → (2 + length (cut_bits d)) + length (net_order d) ≤ length l.cells
+front_fits d lowering l list = omega (
+  arith,
+  places-length d lowering l list,
+  front-length d lowering list.number,
+  length-append (front_places d lowering list.number) (operator_places d lowering list.number),
+)
 
 pub lists_begin : ListsBegin
 lists_begin d lowering l list =

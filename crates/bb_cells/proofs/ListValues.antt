@@ -3,7 +3,7 @@
 use Rattle.std.proofs.Common.{◌≡◌, ℕ, zero, suc, ◌+◌, ◌-◌, ◌<◌, ◌≤◌, Bool, true, false, not, ◌&&◌, ◌||◌, if◌then◌else◌, List, [], ◌∷◌, ◌++◌, map, fold, length, get_or, All, Contains, refl, sym, ap, ap₂, ◌∙◌, subst, arith}
 use Rattle.std.specs.List.{enumerate_from, range_with_len}
 use Rattle.std.proofs.lemmas.List.{map-append}
-use Rattle.std.proofs.lemmas.List.Elements.{All-contains, All-head, All-tail}
+use Rattle.std.proofs.lemmas.List.Elements.{All-head, All-tail}
 use Rattle.bb_ast.specs.declared.module.Gate.{Gate}
 use Rattle.bb_ast.specs.declared.module.Gate.TheVariants as gates
 use Rattle.bb_ast.specs.Syntax.{Expression}
@@ -26,14 +26,14 @@ use Rattle.bb_design.specs.Constructs.{Construct, GateInstance, parts}
 use Rattle.bb_design.specs.Drivers.{terminal_terms}
 use Rattle.bb_design.specs.GateFunctions.{on_bits, joins, joined, inverts, gate_gives}
 use Rattle.bb_cells.specs.ListLaws.{vector_bits, given_by_contents, world_at}
-use Rattle.bb_cells.specs.Places.{Place, Constant, Input, NetBit, Step, Joined, Inverted, BoxPin, lowered_in, Lowering, IsLowering, step_places, terminal_place, joined_place, gate_place, given, place_in, step_cell, net_place, join_cell, IsListOf}
+use Rattle.bb_cells.specs.Places.{Place, Constant, Input, NetBit, Step, Joined, Inverted, BoxPin, lowered_in, Lowering, IsLowering, step_places, terminal_place, joined_place, gate_place, given, place_in, join_cell, IsListOf}
 use Rattle.bb_design.specs.Registers.{cut_bits}
 use Rattle.bb_cells.specs.Stands.{box_number}
 use Rattle.bb_design.specs.Texts.{path_text}
 use Rattle.bb_design.specs.Worlds.{World, Vector, bits_in}
-use Rattle.bb_lists.proofs.Numbered.{enumerated_from, numbered_at}
-use Rattle.bb_cells.proofs.ListedPlaces.{IsListed, lowered_at, listed_cell, listed_below, constant_listed, input_listed, net_listed, pin_listed, step_listed, joined_listed, inverted_listed, box_is}
-use Rattle.bb_cells.proofs.ListedSources.{terminal_there, part_there}
+use Rattle.bb_lists.proofs.Numbered.{enumerated_from, from_numbered}
+use Rattle.bb_cells.proofs.ListedPlaces.{IsListed, Stands, lowered_at, reads_there, listed_cell, listed_below, constant_listed, input_listed, net_listed, pin_listed, step_stands, joined_listed, inverted_listed, box_is}
+use Rattle.bb_cells.proofs.ListedSources.{terminal_there}
 use Rattle.bb_design.specs.Wired.{IsWired}
 use Rattle.bb_names.specs.Spots.{Pin}
 use Rattle.bb_lists.proofs.Places.{only_one}
@@ -87,16 +87,20 @@ module _ (d : Design) (lowering : Lowering) (l : LooseList) (list : IsListOf d l
       from (k ∷ ks) = ap (λ r. world path pin.name k ∷ r) (from ks)
 
   module _ (k : ℕ) (s : Scope) (c : Construct) (has : Contains (enumerate_from 0 (parts d)) (k, (s, c))) (n : ℕ) where
-    -- a step has the bit of its operator, where the steps that it reads have theirs
-    step_value : (term : ℕ → Term) (j : ℕ) → ((a : ℕ) → a < j → at (Step k n a) ≡ term_bit (world s.path) (term a)) → (step : BitStep) → Reads (nets_of s.source) j step
-        → gives (step_cell (λ b. list.number (Constant b)) (λ a. list.number (Step k n a)) (λ m i. list.number (net_place s m i)) step) ≡ term_bit (world s.path) (step_term (nets_of s.source) step term)
-    step_value term j earlier (steps.Const b) reads = constant_value b
-    step_value term j earlier (steps.Net m i) reads = refl
-    step_value term j earlier (steps.Not a) reads = ap not (earlier a reads)
-    step_value term j earlier (steps.And a b) reads = ap₂ ◌&&◌ (earlier a reads.0) (earlier b reads.1)
-    step_value term j earlier (steps.Or a b) reads = ap₂ ◌||◌ (earlier a reads.0) (earlier b reads.1)
-    step_value term j earlier (steps.Xor a b) reads = ap₂ (λ p q. if p then not q else q) (earlier a reads.0) (earlier b reads.1)
-    step_value term j earlier (steps.Mux i t e) reads = let first = earlier i reads.0 in let second = earlier t reads.1 in let third = earlier e reads.2 in λ q. if first q then second q else third q
+    -- a step has the bit of what it is made of, where the steps that it reads have theirs
+    step_value : (term : ℕ → Term) (j : ℕ) → ((a : ℕ) → a < j → at (Step k n a) ≡ term_bit (world s.path) (term a)) → (step : BitStep) → Reads (nets_of s.source) j step → Stands d lowering l list k s n j step
+        → at (Step k n j) ≡ term_bit (world s.path) (step_term (nets_of s.source) step term)
+    step_value term j earlier (steps.Const b) reads stands = ap (bit_of bits) stands.0 ∙ constant_value b
+    step_value term j earlier (steps.Net m i) reads stands = ap (bit_of bits) stands.0
+    step_value term j earlier (steps.Not a) reads stands = equation (Step k n j) _ stands.1 ∙ ap not (earlier a reads)
+    step_value term j earlier (steps.And a b) reads stands = equation (Step k n j) _ stands.1 ∙ ap₂ ◌&&◌ (earlier a reads.0) (earlier b reads.1)
+    step_value term j earlier (steps.Or a b) reads stands = equation (Step k n j) _ stands.1 ∙ ap₂ ◌||◌ (earlier a reads.0) (earlier b reads.1)
+    step_value term j earlier (steps.Xor a b) reads stands = equation (Step k n j) _ stands.1 ∙ ap₂ (λ p q. if p then not q else q) (earlier a reads.0) (earlier b reads.1)
+    step_value term j earlier (steps.Mux i t e) reads stands =
+        let first = earlier i reads.0 in
+        let second = earlier t reads.1 in
+        let third = earlier e reads.2 in
+        equation (Step k n j) _ stands.1 ∙ (λ q. if first q then second q else third q)
 
     module _ (e : Expression) (w : ℕ) (there : Contains (enumerate_from 0 (lowered_in (s, c))) (n, (e, w))) where
       abbrev all : List BitStep
@@ -106,11 +110,10 @@ module _ (d : Design) (lowering : Lowering) (l : LooseList) (list : IsListOf d l
       unfolding term_within
       within_value zero j below fits = absurd (omega (arith, below))
       within_value (suc m) j below fits =
-          let low = lowered_at d lowering lowered k s c has n e w there in
           let y = enumerated_from 0 (lowered_in (s, c)) n (e, w) there in
-          let reads = All-contains (λ (z : ℕ × BitStep). Reads (nets_of s.source) z.0 z.1) (enumerate_from 0 all) (j, get_or all j (steps.Const false)) low.earlier (numbered_at all j (steps.Const false) fits) in
-          equation (Step k n j) _ (step_listed d lowering l list k s c has n (omega (arith, y.1, y.2)) j fits)
-          ∙ step_value (term_within (nets_of s.source) all m) j (λ a lt. within_value m a (omega (arith, lt, below)) (omega (arith, lt, fits))) (get_or all j (steps.Const false)) reads
+          let within : n < length (lowered_in (s, c)) = omega (arith, y.1, y.2) in
+          step_value (term_within (nets_of s.source) all m) j (λ a lt. within_value m a (omega (arith, lt, below)) (omega (arith, lt, fits))) (get_or all j (steps.Const false))
+          (reads_there d lowering lowered k s c has n within j fits) (step_stands d lowering l list k s c has n within j fits)
 
       each_value : (js : List ℕ) → All (λ j. j < length all) js → map at (map (Step k n) js) ≡ map (term_bit (world s.path)) (map (term_at (nets_of s.source) all) js)
       each_value [] fits = refl
@@ -122,7 +125,7 @@ module _ (d : Design) (lowering : Lowering) (l : LooseList) (list : IsListOf d l
 
   module _ (k : ℕ) (s : Scope) (gate : Gate) (outs ins : List Expression) (has : Contains (enumerate_from 0 (parts d)) (k, (s, GateInstance gate outs ins))) where
     abbrev shape : (1 ≤ length ins) × All (λ e. width_of s e ≡ 1) ins
-    shape = wired.gates s gate outs ins (part_there d lowering l list lowered wired k s (GateInstance gate outs ins) has)
+    shape = wired.gates s gate outs ins (from_numbered 0 (parts d) (k, (s, GateInstance gate outs ins)) has)
 
     -- the bit of an input
     abbrev input : ℕ → Bool

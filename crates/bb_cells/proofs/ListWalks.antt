@@ -1,10 +1,10 @@
 -- Where a bit depends on another, a walk in the list of cells leads from the one to the other.
-use Rattle.std.proofs.Common.{◌≡◌, ◌⊎◌, ℕ, zero, suc, ◌+◌, ◌-◌, ◌<◌, ◌≤◌, Bool, true, false, if◌then◌else◌, List, [], ◌∷◌, ◌++◌, map, fold, length, get_or, All, Contains, refl, sym, ap, ap₂, ◌∙◌, subst, inl, inr, arith}
+use Rattle.std.proofs.Common.{◌≡◌, ◌⊎◌, ℕ, zero, suc, ◌+◌, ◌-◌, ◌<◌, ◌≤◌, Bool, true, false, if◌then◌else◌, List, [], ◌∷◌, ◌++◌, map, fold, length, get_or, All, Contains, refl, sym, ap, ◌∙◌, subst, inl, inr, arith}
 use Rattle.std.specs.List.{enumerate_from, range_with_len}
 use Rattle.std.proofs.lemmas.List.Elements.{All-contains, Contains-get_or, Contains-append_cases}
 use Rattle.bb_ast.specs.declared.module.Gate.{Gate}
 use Rattle.bb_ast.specs.declared.module.Gate.TheVariants as gates
-use Rattle.bb_ast.specs.Syntax.{Expression, Plain}
+use Rattle.bb_ast.specs.Syntax.{Expression}
 use Rattle.bb_names.specs.Nets.{nets_of}
 use Rattle.bb_expr.specs.declared.step.BitStep.{BitStep}
 use Rattle.bb_expr.specs.declared.step.BitStep.TheVariants as steps
@@ -17,18 +17,18 @@ use Rattle.bb_net.specs.Loose.{LooseList, operands, Reaches}
 use Rattle.bb_net.specs.Netlists.{Pins}
 use Rattle.bb_design.specs.Hierarchy.{Design, Scope, boxes}
 use Rattle.bb_design.specs.NetBits.{Bit, input_bits, output_bits}
-use Rattle.bb_design.specs.Contexts.{width_of, made_in}
+use Rattle.bb_design.specs.Contexts.{width_of}
 use Rattle.bb_design.specs.Constructs.{Construct, GateInstance, parts}
 use Rattle.bb_design.specs.Dependence.{bits_below}
 use Rattle.bb_design.specs.Drivers.{terminal_terms}
 use Rattle.bb_design.specs.GateFunctions.{on_terms, joins, joined, inverts, gate_gives}
-use Rattle.bb_cells.specs.Places.{Place, Constant, NetBit, Step, Joined, Inverted, BoxPin, lowered_in, Lowering, IsLowering, terminal_place, joined_place, gate_place, step_cell, net_place, join_cell, IsListOf}
-use Rattle.bb_lists.proofs.Numbered.{enumerated_from, numbered_at}
+use Rattle.bb_cells.specs.Places.{Place, NetBit, Step, Joined, Inverted, BoxPin, lowered_in, Lowering, IsLowering, terminal_place, joined_place, gate_place, join_cell, IsListOf}
+use Rattle.bb_lists.proofs.Numbered.{enumerated_from, from_numbered}
 use Rattle.bb_lists.proofs.Members.{contains-map, contains_here, contains_cases, none_in_nil}
-use Rattle.bb_cells.proofs.ListedPlaces.{IsListed, lowered_at, listed_cell, pin_listed, step_listed, joined_listed, inverted_listed, box_is}
-use Rattle.bb_cells.proofs.ListedSources.{terminal_there, part_there}
+use Rattle.bb_cells.proofs.ListedPlaces.{IsListed, Stands, lowered_at, reads_there, listed_cell, pin_listed, step_stands, joined_listed, inverted_listed, box_is}
+use Rattle.bb_cells.proofs.GateTerms.{input_term, terminals_are}
+use Rattle.bb_cells.proofs.ListedSources.{terminal_there}
 use Rattle.bb_design.specs.Wired.{IsWired}
-use Rattle.bb_lists.proofs.Places.{only_one}
 
 module _ (d : Design) (lowering : Lowering) (l : LooseList) (list : IsListOf d lowering l) (lowered : IsLowering d lowering) (wired : IsWired d) where
   -- some steps of the list lead from a place to that of a bit
@@ -45,55 +45,50 @@ module _ (d : Design) (lowering : Lowering) (l : LooseList) (list : IsListOf d l
     abbrev all : List BitStep
     all = (lowering k n).all
 
-    abbrev cell_of : BitStep → LooseCell
-    cell_of step = step_cell (λ b. list.number (Constant b)) (λ a. list.number (Step k n a)) (λ m i. list.number (net_place s m i)) step
-
     abbrev Earlier : (ℕ → Term) → ℕ → Bit → Type 0
     Earlier term j b = (a : ℕ) → a < j → Contains (bits_below s.path (term a)) b → WalkTo (Step k n a) b
 
     -- from a step to what its operator is made of
-    step_walk : (term : ℕ → Term) (j : ℕ) (b : Bit) → Earlier term j b → (step : BitStep) → IsListed d lowering l list (Step k n j) (cell_of step) → Reads (nets_of s.source) j step
+    step_walk : (term : ℕ → Term) (j : ℕ) (b : Bit) → Earlier term j b → (step : BitStep) → Stands d lowering l list k s n j step → Reads (nets_of s.source) j step
         → Contains (bits_below s.path (step_term (nets_of s.source) step term)) b → WalkTo (Step k n j) b
-    step_walk term j b earlier (steps.Const t) listed reads low = absurd (none_in_nil b low)
-    step_walk term j b earlier (steps.Net m i) listed reads low = by (contains_cases (record { path = s.path; net = name_at (nets_of s.source) m; place = i }) [] b low)
+    step_walk term j b earlier (steps.Const t) stands reads low = absurd (none_in_nil b low)
+    step_walk term j b earlier (steps.Net m i) stands reads low = by (contains_cases (record { path = s.path; net = name_at (nets_of s.source) m; place = i }) [] b low)
       where
         by : (record { path = s.path; net = name_at (nets_of s.source) m; place = i } ≡ b) ⊎ Contains [] b → WalkTo (Step k n j) b
-        by (inl e) = walk_on (Step k n j) (net_place s m i) (cell_of (steps.Net m i)) listed (contains_here (list.number (net_place s m i)) []) b (arrived (net_place s m i) b (ap NetBit e))
+        by (inl e) = (0, stands.0 ∙ ap (λ u. list.number (NetBit u)) e)
         by (inr none) = absurd (none_in_nil b none)
-    step_walk term j b earlier (steps.Not a) listed reads low = walk_on (Step k n j) (Step k n a) (cell_of (steps.Not a)) listed (contains_here (list.number (Step k n a)) []) b (earlier a reads low)
-    step_walk term j b earlier (steps.And x y) listed reads low = by (Contains-append_cases (bits_below s.path (term x)) (bits_below s.path (term y)) b low)
+    step_walk term j b earlier (steps.Not a) stands reads low = walk_on (Step k n j) (Step k n a) _ stands.1 (contains_here (list.number (Step k n a)) []) b (earlier a reads low)
+    step_walk term j b earlier (steps.And x y) stands reads low = by (Contains-append_cases (bits_below s.path (term x)) (bits_below s.path (term y)) b low)
       where
         by : Contains (bits_below s.path (term x)) b ⊎ Contains (bits_below s.path (term y)) b → WalkTo (Step k n j) b
-        by (inl h) = walk_on (Step k n j) (Step k n x) (cell_of (steps.And x y)) listed (0, omega arith, refl) b (earlier x reads.0 h)
-        by (inr h) = walk_on (Step k n j) (Step k n y) (cell_of (steps.And x y)) listed (1, omega arith, refl) b (earlier y reads.1 h)
-    step_walk term j b earlier (steps.Or x y) listed reads low = by (Contains-append_cases (bits_below s.path (term x)) (bits_below s.path (term y)) b low)
+        by (inl h) = walk_on (Step k n j) (Step k n x) _ stands.1 (0, omega arith, refl) b (earlier x reads.0 h)
+        by (inr h) = walk_on (Step k n j) (Step k n y) _ stands.1 (1, omega arith, refl) b (earlier y reads.1 h)
+    step_walk term j b earlier (steps.Or x y) stands reads low = by (Contains-append_cases (bits_below s.path (term x)) (bits_below s.path (term y)) b low)
       where
         by : Contains (bits_below s.path (term x)) b ⊎ Contains (bits_below s.path (term y)) b → WalkTo (Step k n j) b
-        by (inl h) = walk_on (Step k n j) (Step k n x) (cell_of (steps.Or x y)) listed (0, omega arith, refl) b (earlier x reads.0 h)
-        by (inr h) = walk_on (Step k n j) (Step k n y) (cell_of (steps.Or x y)) listed (1, omega arith, refl) b (earlier y reads.1 h)
-    step_walk term j b earlier (steps.Xor x y) listed reads low = by (Contains-append_cases (bits_below s.path (term x)) (bits_below s.path (term y)) b low)
+        by (inl h) = walk_on (Step k n j) (Step k n x) _ stands.1 (0, omega arith, refl) b (earlier x reads.0 h)
+        by (inr h) = walk_on (Step k n j) (Step k n y) _ stands.1 (1, omega arith, refl) b (earlier y reads.1 h)
+    step_walk term j b earlier (steps.Xor x y) stands reads low = by (Contains-append_cases (bits_below s.path (term x)) (bits_below s.path (term y)) b low)
       where
         by : Contains (bits_below s.path (term x)) b ⊎ Contains (bits_below s.path (term y)) b → WalkTo (Step k n j) b
-        by (inl h) = walk_on (Step k n j) (Step k n x) (cell_of (steps.Xor x y)) listed (0, omega arith, refl) b (earlier x reads.0 h)
-        by (inr h) = walk_on (Step k n j) (Step k n y) (cell_of (steps.Xor x y)) listed (1, omega arith, refl) b (earlier y reads.1 h)
-    step_walk term j b earlier (steps.Mux i t e) listed reads low = by (Contains-append_cases (bits_below s.path (term i) ++ bits_below s.path (term t)) (bits_below s.path (term e)) b low)
+        by (inl h) = walk_on (Step k n j) (Step k n x) _ stands.1 (0, omega arith, refl) b (earlier x reads.0 h)
+        by (inr h) = walk_on (Step k n j) (Step k n y) _ stands.1 (1, omega arith, refl) b (earlier y reads.1 h)
+    step_walk term j b earlier (steps.Mux i t e) stands reads low = by (Contains-append_cases (bits_below s.path (term i) ++ bits_below s.path (term t)) (bits_below s.path (term e)) b low)
       where
         first : Contains (bits_below s.path (term i)) b ⊎ Contains (bits_below s.path (term t)) b → WalkTo (Step k n j) b
-        first (inl h) = walk_on (Step k n j) (Step k n i) (cell_of (steps.Mux i t e)) listed (0, omega arith, refl) b (earlier i reads.0 h)
-        first (inr h) = walk_on (Step k n j) (Step k n t) (cell_of (steps.Mux i t e)) listed (1, omega arith, refl) b (earlier t reads.1 h)
+        first (inl h) = walk_on (Step k n j) (Step k n i) _ stands.1 (0, omega arith, refl) b (earlier i reads.0 h)
+        first (inr h) = walk_on (Step k n j) (Step k n t) _ stands.1 (1, omega arith, refl) b (earlier t reads.1 h)
 
         by : Contains (bits_below s.path (term i) ++ bits_below s.path (term t)) b ⊎ Contains (bits_below s.path (term e)) b → WalkTo (Step k n j) b
         by (inl h) = first (Contains-append_cases (bits_below s.path (term i)) (bits_below s.path (term t)) b h)
-        by (inr h) = walk_on (Step k n j) (Step k n e) (cell_of (steps.Mux i t e)) listed (2, omega arith, refl) b (earlier e reads.2 h)
+        by (inr h) = walk_on (Step k n j) (Step k n e) _ stands.1 (2, omega arith, refl) b (earlier e reads.2 h)
 
     within_walk : (m j : ℕ) → j < m → j < length all → (b : Bit) → Contains (bits_below s.path (term_within (nets_of s.source) all m j)) b → WalkTo (Step k n j) b
     unfolding term_within
     within_walk zero j below there b low = absurd (omega (arith, below))
     within_walk (suc m) j below there b low =
-        let e = get_or (lowered_in (s, c)) n (Plain 0, 0) in
-        let lower = lowered_at d lowering lowered k s c has n e.0 e.1 (numbered_at (lowered_in (s, c)) n (Plain 0, 0) fits) in
-        let reads = All-contains (λ (z : ℕ × BitStep). Reads (nets_of s.source) z.0 z.1) (enumerate_from 0 all) (j, get_or all j (steps.Const false)) lower.earlier (numbered_at all j (steps.Const false) there) in
-        step_walk (term_within (nets_of s.source) all m) j b (λ a lt h. within_walk m a (omega (arith, lt, below)) (omega (arith, lt, there)) b h) (get_or all j (steps.Const false)) (step_listed d lowering l list k s c has n fits j there) reads low
+        step_walk (term_within (nets_of s.source) all m) j b (λ a lt h. within_walk m a (omega (arith, lt, below)) (omega (arith, lt, there)) b h) (get_or all j (steps.Const false))
+        (step_stands d lowering l list k s c has n fits j there) (reads_there d lowering lowered k s c has n fits j there) low
 
     -- from a step to each bit of which it is made
     pub steps_walk : (j : ℕ) → j < length all → (b : Bit) → Contains (bits_below s.path (term_at (nets_of s.source) all j)) b → WalkTo (Step k n j) b
@@ -101,11 +96,10 @@ module _ (d : Design) (lowering : Lowering) (l : LooseList) (list : IsListOf d l
 
   module _ (k : ℕ) (s : Scope) (gate : Gate) (outs ins : List Expression) (has : Contains (enumerate_from 0 (parts d)) (k, (s, GateInstance gate outs ins))) where
     abbrev shape : (1 ≤ length ins) × All (λ e. width_of s e ≡ 1) ins
-    shape = wired.gates s gate outs ins (part_there d lowering l list lowered wired k s (GateInstance gate outs ins) has)
+    shape = wired.gates s gate outs ins (from_numbered 0 (parts d) (k, (s, GateInstance gate outs ins)) has)
 
-    -- what an input is made of
-    abbrev pub input : ℕ → Term
-    input n = term_at (nets_of s.source) (lowering k n).all (get_or (lowering k n).bits 0 0)
+    abbrev input : ℕ → Term
+    input n = input_term d lowering lowered wired k s gate outs ins has n
 
     input_walk : (n : ℕ) → n < length ins → (b : Bit) → Contains (bits_below s.path (input n)) b → WalkTo (terminal_place lowering k n) b
     input_walk n fits b low =
@@ -114,26 +108,6 @@ module _ (d : Design) (lowering : Lowering) (l : LooseList) (list : IsListOf d l
         let there = All-contains (λ j. j < length (lowering k n).all) (lowering k n).bits (get_or (lowering k n).bits 0 0) lower.places (Contains-get_or (lowering k n).bits 0 0 (omega (arith, lower.width))) in
         let y = enumerated_from 0 (lowered_in (s, GateInstance gate outs ins)) n (e.0, 1) e.1 in
         steps_walk k s (GateInstance gate outs ins) has n (omega (arith, y.1, y.2)) (get_or (lowering k n).bits 0 0) there b low
-
-    abbrev IsInput : ℕ → Expression → Type 0
-    IsInput n e = (made_in s e (width_of s e)).bits ≡ input n ∷ []
-
-    one_input : (n : ℕ) → n < length ins → (e : Expression) × (get_or ins n e ≡ e) × IsInput n e
-    one_input n fits =
-        let e = terminal_there s ins n fits shape.1 in
-        let lower = lowered_at d lowering lowered k s (GateInstance gate outs ins) has n e.0 1 e.1 in
-        let width : width_of s e.0 ≡ 1 = subst (λ u. width_of s u ≡ 1) e.2 (shape.1 n e.0 fits) in
-        (e.0, e.2, ap (λ w. (made_in s e.0 w).bits) width ∙ sym lower.terms ∙ ap (λ js. map (term_at (nets_of s.source) (lowering k n).all) js) (only_one (lowering k n).bits 0 lower.width))
-
-    inputs_from : (a : ℕ) (es : List Expression) → ((i : ℕ) → i < length es → (e : Expression) × (get_or es i e ≡ e) × IsInput (a + i) e) → terminal_terms s es ≡ map input (range_with_len a (length es))
-    inputs_from a [] each = refl
-    inputs_from a (e ∷ es) each =
-        let first = each 0 (omega arith) in
-        ap₂ ◌++◌ (ap (λ u. (made_in s u (width_of s u)).bits) first.1 ∙ first.2 ∙ ap (λ n. input n ∷ []) (omega arith))
-        (inputs_from (a + 1) es (λ i fits. let y = each (suc i) (omega (arith, fits)) in (y.0, y.1, y.2 ∙ ap (λ n. input n ∷ []) (omega arith))))
-
-    pub terminals_are : terminal_terms s ins ≡ map input (range_with_len 0 (length ins))
-    terminals_are = inputs_from 0 ins (λ i fits. let y = one_input i fits in (y.0, y.1, y.2 ∙ ap (λ n. input n ∷ []) (omega arith)))
 
     -- from an operator of the gate to what it joins
     two_walk : (x : ℕ) (p q : Place) (t u : Term) (b : Bit) (joins : LooseCell) → operands l.boxes joins ≡ list.number p ∷ list.number q ∷ [] → IsListed d lowering l list (Joined k x) joins
@@ -176,7 +150,7 @@ module _ (d : Design) (lowering : Lowering) (l : LooseList) (list : IsListOf d l
 
     -- from the place of a gate to each bit of which it is made
     pub gate_walk : (b : Bit) → Contains (bits_below s.path (gate_gives on_terms gate (terminal_terms s ins))) b → WalkTo (gate_place lowering gate k (length ins)) b
-    gate_walk b low = by (inverts gate) refl (subst (λ ts. Contains (bits_below s.path (gate_gives on_terms gate ts)) b) terminals_are low)
+    gate_walk b low = by (inverts gate) refl (subst (λ ts. Contains (bits_below s.path (gate_gives on_terms gate ts)) b) (terminals_are d lowering lowered wired k s gate outs ins has) low)
       where
         inside : Term
         inside = joined on_terms gate (map input (range_with_len 0 (length ins)))

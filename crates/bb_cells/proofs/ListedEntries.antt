@@ -1,12 +1,12 @@
--- Case by case: what is listed is a constant, an input, a bit of a net, a step, an operator of a gate, or a pin of a box.
-use Rattle.std.proofs.Common.{◌≡◌, ◌⊎◌, ℕ, suc, ◌+◌, ◌-◌, ◌<◌, Bool, true, false, if◌then◌else◌, List, [], ◌∷◌, ◌++◌, map, flat_map, length, get_or, Contains, refl, subst, inl, inr, arith}
+-- Case by case: what is listed is a constant, an input, a bit of a net, an operator of an expression or of a gate, or a pin of a box.
+use Rattle.std.proofs.Common.{◌≡◌, ◌⊎◌, ℕ, suc, ◌+◌, ◌-◌, ◌<◌, Bool, true, false, if◌then◌else◌, List, [], ◌∷◌, ◌++◌, map, flat_map, length, get_or, Contains, Option, Some, None, option_map, refl, ap, ◌∙◌, subst, inl, inr, arith}
+use Rattle.std.specs.Prelude.{IfSome}
 use Rattle.std.specs.List.{enumerate_from, range_with_len}
-use Rattle.std.proofs.lemmas.List.Elements.{All-contains, Contains-append_cases}
+use Rattle.std.proofs.lemmas.List.Elements.{Contains-append_cases}
 use Rattle.bb_ast.specs.declared.module.Gate.{Gate}
-use Rattle.bb_ast.specs.Syntax.{Expression, Plain}
-use Rattle.bb_names.specs.Nets.{nets_of}
+use Rattle.bb_ast.specs.Syntax.{Expression}
 use Rattle.bb_expr.specs.declared.step.BitStep.{BitStep}
-use Rattle.bb_expr.specs.Lowered.{Reads}
+use Rattle.bb_expr.specs.declared.step.BitStep.TheVariants as steps
 use Rattle.bb_net.specs.declared.loose.LooseCell.{LooseCell}
 use Rattle.bb_net.specs.declared.loose.LooseCell.TheVariants as cell
 use Rattle.bb_net.specs.Loose.{LooseList}
@@ -14,17 +14,17 @@ use Rattle.bb_design.specs.Hierarchy.{Design, Scope, boxes}
 use Rattle.bb_design.specs.NetBits.{Bit, net_order, output_bits}
 use Rattle.bb_design.specs.Constructs.{Construct, Assignment, GateInstance, Register, SupplyNet, InputConnection, OutputConnection, BoxContents, parts}
 use Rattle.bb_design.specs.GateFunctions.{inverts}
-use Rattle.bb_cells.specs.Places.{Place, Constant, Input, NetBit, Step, Joined, Inverted, BoxPin, lowered_in, Lowering, IsLowering, terminal_place, joined_place, step_cell, net_place, step_cells, join_cell, joining_places, inverting_place, gate_places, places_at, box_places, front_places, operator_places, places, given, place_in, IsListOf}
+use Rattle.bb_cells.specs.Places.{Place, Constant, Input, NetBit, Step, Joined, Inverted, BoxPin, lowered_in, Lowering, terminal_place, joined_place, step_cell, step_cells, join_cell, joining_places, inverting_place, gate_places, places_at, box_places, front_places, operator_places, places, given, place_in, IsListOf}
 use Rattle.bb_design.specs.Registers.{cut_bits}
-use Rattle.bb_lists.proofs.Members.{from_flat, from_map, contains_cases, none_in_nil}
-use Rattle.bb_lists.proofs.Numbered.{enumerated_from, numbered_at}
+use Rattle.bb_lists.proofs.Members.{from_flat, from_map, from_filter, contains_cases, none_in_nil}
+use Rattle.bb_lists.proofs.Numbered.{enumerated_from}
+use Rattle.bb_lists.proofs.Places.{some_same}
 use Rattle.bb_lists.proofs.Ranges.{from_range}
-use Rattle.bb_cells.proofs.ListedPlaces.{lowered_at}
 
 abbrev pub Entry : Type 0
 Entry = Place × LooseCell
 
-module _ (d : Design) (lowering : Lowering) (l : LooseList) (list : IsListOf d lowering l) (lowered : IsLowering d lowering) where
+module _ (d : Design) (lowering : Lowering) (l : LooseList) (list : IsListOf d lowering l) where
   abbrev pub Part : ℕ → Scope → Construct → Type 0
   Part k s c = Contains (enumerate_from 0 (parts d)) (k, (s, c))
 
@@ -33,24 +33,30 @@ module _ (d : Design) (lowering : Lowering) (l : LooseList) (list : IsListOf d l
     pub constants : (b : Bool) → P (Constant b, cell.Const b)
     pub inputs : (i : ℕ) → i < length (cut_bits d) → P (Input i, cell.Input i)
     pub nets : (b : Bit) → Contains (net_order d) b → P (NetBit b, cell.Copy (list.number (place_in (given d lowering) b)))
-    pub steps : (k : ℕ) (s : Scope) (c : Construct) → Part k s c → (x : ℕ) → x < length (lowered_in (s, c)) → (j : ℕ) → j < length (lowering k x).all → (step : BitStep) → Reads (nets_of s.source) j step
-        → P (Step k x j, step_cell (λ b. list.number (Constant b)) (λ a. list.number (Step k x a)) (λ n i. list.number (net_place s n i)) step)
+    pub steps : (k : ℕ) (s : Scope) (c : Construct) → Part k s c → (x : ℕ) → x < length (lowered_in (s, c)) → (j : ℕ) → j < length (lowering k x).all
+        → IfSome (step_cell (λ a. list.number (Step k x a)) (get_or (lowering k x).all j (steps.Const false))) (λ u. P (Step k x j, u))
     pub joins : (k : ℕ) (s : Scope) (gate : Gate) (outs ins : List Expression) → Part k s (GateInstance gate outs ins) → (x : ℕ) → x < length ins - 1
         → P (Joined k (suc x), join_cell gate (list.number (joined_place lowering k x)) (list.number (terminal_place lowering k (suc x))))
     pub inverters : (k : ℕ) (s : Scope) (gate : Gate) (outs ins : List Expression) → Part k s (GateInstance gate outs ins) → inverts gate ≡ true → P (Inverted k, cell.Not (list.number (joined_place lowering k (length ins - 1))))
     pub pins : (b : ℕ) (s : Scope) → Contains (enumerate_from 0 (boxes d)) (b, s) → (p : ℕ) (y : Bit) → Contains (enumerate_from 0 (output_bits s)) (p, y) → P (BoxPin b p, cell.BoxOut b p)
 
   module _ (P : Entry → Type 0) (cases : Cases P) where
-    step_case : (k : ℕ) (s : Scope) (c : Construct) → Part k s c → (x : Entry) → Contains (flat_map (step_cells lowering list.number k s) (range_with_len 0 (length (lowered_in (s, c))))) x → P x
+    some_case : (p : Place) (o : Option LooseCell) (x : Entry) → IfSome o (λ u. P (p, u)) → option_map {U = Entry} (λ u. (p, u)) o ≡ Some x → P x
+    some_case p None x holds e = cc e
+    some_case p (Some u) x holds e = subst P (some_same (p, u) x e) holds
+
+    step_case : (k : ℕ) (s : Scope) (c : Construct) → Part k s c → (x : Entry) → Contains (flat_map (step_cells lowering list.number k) (range_with_len 0 (length (lowered_in (s, c))))) x → P x
     step_case k s c has x at =
-        let n = from_flat (step_cells lowering list.number k s) (range_with_len 0 (length (lowered_in (s, c)))) x at in
-        let fits : n.0 < length (lowered_in (s, c)) = (let r = from_range 0 (length (lowered_in (s, c))) n.0 n.1 in omega (arith, r.1)) in
-        let e = get_or (lowered_in (s, c)) n.0 (Plain 0, 0) in
-        let low = lowered_at d lowering lowered k s c has n.0 e.0 e.1 (numbered_at (lowered_in (s, c)) n.0 (Plain 0, 0) fits) in
-        let make : ℕ × BitStep → Entry = λ y. (Step k n.0 y.0, step_cell (λ b. list.number (Constant b)) (λ a. list.number (Step k n.0 a)) (λ m i. list.number (net_place s m i)) y.1) in
-        let y = from_map make (enumerate_from 0 (lowering k n.0).all) x n.2 in
-        let j = enumerated_from 0 (lowering k n.0).all y.0.0 y.0.1 y.1 in
-        subst P y.2 (cases.steps k s c has n.0 fits y.0.0 (omega (arith, j.1, j.2)) y.0.1 (All-contains (λ (z : ℕ × BitStep). Reads (nets_of s.source) z.0 z.1) (enumerate_from 0 (lowering k n.0).all) y.0 low.earlier y.1))
+        let n = from_flat (step_cells lowering list.number k) (range_with_len 0 (length (lowered_in (s, c)))) x at in
+        let r = from_range 0 (length (lowered_in (s, c))) n.0 n.1 in
+        let all = (lowering k n.0).all in
+        let place : ℕ → ℕ = λ a. list.number (Step k n.0 a) in
+        let make : ℕ × BitStep → Option Entry = λ y. option_map (λ u. (Step k n.0 y.0, u)) (step_cell place y.1) in
+        let y = from_filter make (enumerate_from 0 all) x n.2 in
+        let j = enumerated_from 0 all y.0.0 y.0.1 y.1 in
+        let step : get_or all y.0.0 (steps.Const false) ≡ y.0.1 = ap (λ i. get_or all i (steps.Const false)) (omega (arith, j.1)) ∙ j.3 (steps.Const false) in
+        some_case (Step k n.0 y.0.0) (step_cell place y.0.1) x
+        (subst (λ z. IfSome (step_cell place z) (λ u. P (Step k n.0 y.0.0, u))) step (cases.steps k s c has n.0 (omega (arith, r.1)) y.0.0 (omega (arith, j.1, j.2)))) y.2
 
     gate_case : (k : ℕ) (s : Scope) (c : Construct) → Part k s c → (x : Entry) → Contains (gate_places lowering list.number k c) x → P x
     gate_case k s (GateInstance gate outs ins) has x at = by (Contains-append_cases (joining_places lowering list.number k gate (length ins)) (inverting_place lowering list.number k gate (length ins)) x at)
@@ -115,7 +121,7 @@ module _ (d : Design) (lowering : Lowering) (l : LooseList) (list : IsListOf d l
     operator_case x has = by (Contains-append_cases (flat_map box_places (enumerate_from 0 (boxes d))) (flat_map (places_at lowering list.number) (enumerate_from 0 (parts d))) x has)
       where
         part : (k : ℕ) (s : Scope) (c : Construct) → Part k s c
-            → Contains (flat_map (step_cells lowering list.number k s) (range_with_len 0 (length (lowered_in (s, c))))) x ⊎ Contains (gate_places lowering list.number k c) x → P x
+            → Contains (flat_map (step_cells lowering list.number k) (range_with_len 0 (length (lowered_in (s, c))))) x ⊎ Contains (gate_places lowering list.number k c) x → P x
         part k s c there (inl h) = step_case k s c there x h
         part k s c there (inr h) = gate_case k s c there x h
 
@@ -126,7 +132,7 @@ module _ (d : Design) (lowering : Lowering) (l : LooseList) (list : IsListOf d l
             subst P y.2 (cases.pins b.0.0 b.0.1 b.1 y.0.0 y.0.1 y.1)
         by (inr h) =
             let p = from_flat (places_at lowering list.number) (enumerate_from 0 (parts d)) x h in
-            part p.0.0 p.0.1.0 p.0.1.1 p.1 (Contains-append_cases (flat_map (step_cells lowering list.number p.0.0 p.0.1.0) (range_with_len 0 (length (lowered_in p.0.1)))) (gate_places lowering list.number p.0.0 p.0.1.1) x p.2)
+            part p.0.0 p.0.1.0 p.0.1.1 p.1 (Contains-append_cases (flat_map (step_cells lowering list.number p.0.0) (range_with_len 0 (length (lowered_in p.0.1)))) (gate_places lowering list.number p.0.0 p.0.1.1) x p.2)
 
     pub each_entry : (x : Entry) → Contains (places d lowering list.number) x → P x
     each_entry x has = by (Contains-append_cases (front_places d lowering list.number) (operator_places d lowering list.number) x has)

@@ -1,14 +1,17 @@
--- The places of a list of cells: which are listed and with which cell, and that what stands in the list stands at one of them.
-use Rattle.std.proofs.Common.{◌≡◌, ℕ, suc, ◌+◌, ◌-◌, ◌<◌, Bool, true, false, if◌then◌else◌, List, [], ◌∷◌, ◌++◌, map, flat_map, length, get_or, Contains, refl, sym, ap, ◌∙◌, subst, arith}
+-- The places of a list of cells: which are listed and with which cell, and that what stands in the list stands at one of them. A step
+-- of an expression is listed where it is an operator.
+use Rattle.std.proofs.Common.{◌≡◌, ℕ, suc, ◌+◌, ◌-◌, ◌<◌, Bool, true, false, if◌then◌else◌, List, [], ◌∷◌, ◌++◌, map, flat_map, length, get_or, All, Contains, Option, Some, None, option_map, refl, sym, ap, ◌∙◌, subst, arith}
+use Rattle.std.specs.Prelude.{IfSome}
 use Rattle.std.specs.List.{enumerate_from, range_with_len}
 use Rattle.std.proofs.lemmas.List.Elements.{All-contains, Contains-append_left, Contains-append_right}
 use Rattle.std.proofs.lemmas.List.Sorted.{Contains-permutation, IsPermutation-sym}
 use Rattle.bb_ast.specs.declared.module.Gate.{Gate}
-use Rattle.bb_ast.specs.Syntax.{Expression}
+use Rattle.bb_ast.specs.Syntax.{Expression, Plain}
 use Rattle.bb_names.specs.Declarations.{range_of}
 use Rattle.bb_names.specs.Nets.{nets_of}
+use Rattle.bb_expr.specs.declared.step.BitStep.{BitStep}
 use Rattle.bb_expr.specs.declared.step.BitStep.TheVariants as steps
-use Rattle.bb_expr.specs.Lowered.{IsLowered}
+use Rattle.bb_expr.specs.Lowered.{IsLowered, Reads}
 use Rattle.bb_net.specs.declared.loose.LooseCell.{LooseCell}
 use Rattle.bb_net.specs.declared.loose.LooseCell.TheVariants as cell
 use Rattle.bb_net.specs.Loose.{LooseList, loose_at}
@@ -18,8 +21,8 @@ use Rattle.bb_design.specs.NetBits.{Bit, net_order, output_bits}
 use Rattle.bb_design.specs.Constructs.{Construct, GateInstance, parts}
 use Rattle.bb_design.specs.GateFunctions.{inverts}
 use Rattle.bb_design.specs.Registers.{cut_bits}
-use Rattle.bb_cells.specs.Places.{Place, Constant, Input, NetBit, Step, Joined, Inverted, BoxPin, lowered_in, Lowering, IsLowering, IsLoweringOf, terminal_place, joined_place, given, place_in, step_cell, net_place, step_cells, join_cell, joining_places, inverting_place, gate_places, places_at, box_places, front_places, operator_places, places, pins_of, IsListOf}
-use Rattle.bb_lists.proofs.Members.{from_map, contains-map, into_flat, contains_here}
+use Rattle.bb_cells.specs.Places.{Place, Constant, Input, NetBit, Step, Joined, Inverted, BoxPin, lowered_in, Lowering, IsLowering, IsLoweringOf, terminal_place, joined_place, given, place_in, IsStepAt, step_cell, step_cells, AreSteps, join_cell, joining_places, inverting_place, gate_places, places_at, box_places, front_places, operator_places, places, pins_of, IsListOf}
+use Rattle.bb_lists.proofs.Members.{from_map, contains-map, into_flat, into_filter, contains_here}
 use Rattle.bb_lists.proofs.Numbered.{enumerated_from, numbered_at, mapped_enumerated}
 use Rattle.bb_lists.proofs.Ranges.{range_there, from_range}
 
@@ -32,6 +35,15 @@ pub lowered_at : (d : Design) (lowering : Lowering) → IsLowering d lowering �
 lowered_at d lowering lowered k s c has x e w at =
     let all = All-contains (IsLoweringOf lowering) (enumerate_from 0 (parts d)) (k, (s, c)) lowered has in
     All-contains (λ (y : ℕ × (Expression × ℕ)). IsLowered (nets_of s.source) (range_of s.source) y.1.0 y.1.1 (lowering k y.0).all (lowering k y.0).bits) (enumerate_from 0 (lowered_in (s, c))) (x, (e, w)) all at
+
+-- a step of it reads earlier steps alone, or a bit that a net has
+pub reads_there : (d : Design) (lowering : Lowering) → IsLowering d lowering → (k : ℕ) (s : Scope) (c : Construct) → Contains (enumerate_from 0 (parts d)) (k, (s, c)) → (x : ℕ) → x < length (lowered_in (s, c))
+    → (j : ℕ) → j < length (lowering k x).all → Reads (nets_of s.source) j (get_or (lowering k x).all j (steps.Const false))
+reads_there d lowering lowered k s c has x fits j there =
+    let e = get_or (lowered_in (s, c)) x (Plain 0, 0) in
+    let all = (lowering k x).all in
+    let low = lowered_at d lowering lowered k s c has x e.0 e.1 (numbered_at (lowered_in (s, c)) x (Plain 0, 0) fits) in
+    All-contains (λ (z : ℕ × BitStep). Reads (nets_of s.source) z.0 z.1) (enumerate_from 0 all) (j, get_or all j (steps.Const false)) low.earlier (numbered_at all j (steps.Const false) there)
 
 module _ (d : Design) (lowering : Lowering) (l : LooseList) (list : IsListOf d lowering l) where
   -- the place is listed with this cell
@@ -95,18 +107,34 @@ module _ (d : Design) (lowering : Lowering) (l : LooseList) (list : IsListOf d l
   pin_listed b s has p x at = operator_listed (BoxPin b p, cell.BoxOut b p) (Contains-append_left pins others (BoxPin b p, cell.BoxOut b p) (into_flat box_places (enumerate_from 0 (boxes d)) (b, s) (BoxPin b p, cell.BoxOut b p) has
       (contains-map {B = Place × LooseCell} (λ (x : ℕ × Bit). (BoxPin b x.0, cell.BoxOut b x.0)) (enumerate_from 0 (output_bits s)) (p, x) at)))
 
+  -- where a step stands: an operator at a place of its own, and another where its constant or its bit of a net stands
+  abbrev pub Stands : ℕ → Scope → ℕ → ℕ → BitStep → Type 0
+  Stands k s x j step = IsStepAt list.number s step (list.number (Step k x j)) × IfSome (step_cell (λ a. list.number (Step k x a)) step) (IsListed (Step k x j))
+
   module _ (k : ℕ) (s : Scope) (c : Construct) (has : Contains (enumerate_from 0 (parts d)) (k, (s, c))) where
     part_listed : (x : Place × LooseCell) → Contains (places_at lowering list.number (k, (s, c))) x → IsListed x.0 x.1
     part_listed x at = operator_listed x (Contains-append_right pins others x (into_flat (places_at lowering list.number) (enumerate_from 0 (parts d)) (k, (s, c)) x has at))
 
     abbrev all_steps : List (Place × LooseCell)
-    all_steps = flat_map (step_cells lowering list.number k s) (range_with_len 0 (length (lowered_in (s, c))))
+    all_steps = flat_map (step_cells lowering list.number k) (range_with_len 0 (length (lowered_in (s, c))))
 
-    pub step_listed : (x : ℕ) → x < length (lowered_in (s, c)) → (j : ℕ) → j < length (lowering k x).all
-        → IsListed (Step k x j) (step_cell (λ b. list.number (Constant b)) (λ a. list.number (Step k x a)) (λ n i. list.number (net_place s n i)) (get_or (lowering k x).all j (steps.Const false)))
-    step_listed x fits j there = part_listed _ (Contains-append_left all_steps (gate_places lowering list.number k c) _ (into_flat (step_cells lowering list.number k s) (range_with_len 0 (length (lowered_in (s, c)))) x _ (range_there 0 _ x (omega arith) (omega (arith, fits)))
-        (contains-map {B = Place × LooseCell} (λ y. (Step k x y.0, step_cell (λ b. list.number (Constant b)) (λ a. list.number (Step k x a)) (λ n i. list.number (net_place s n i)) y.1)) (enumerate_from 0 (lowering k x).all) (j, get_or (lowering k x).all j (steps.Const false))
-        (numbered_at (lowering k x).all j (steps.Const false) there))))
+    pub step_stands : (x : ℕ) → x < length (lowered_in (s, c)) → (j : ℕ) → j < length (lowering k x).all → Stands k s x j (get_or (lowering k x).all j (steps.Const false))
+    step_stands x fits j there =
+        let all = (lowering k x).all in
+        let among = range_there 0 (length (lowered_in (s, c))) x (omega arith) (omega (arith, fits)) in
+        let construct = All-contains (AreSteps lowering list.number) (enumerate_from 0 (parts d)) (k, (s, c)) list.steps has in
+        let expression = All-contains (λ x. All (λ (y : ℕ × BitStep). IsStepAt list.number s y.1 (list.number (Step k x y.0))) (enumerate_from 0 (lowering k x).all)) (range_with_len 0 (length (lowered_in (s, c)))) x construct among in (
+          All-contains (λ (y : ℕ × BitStep). IsStepAt list.number s y.1 (list.number (Step k x y.0))) (enumerate_from 0 all) (j, get_or all j (steps.Const false)) expression (numbered_at all j (steps.Const false) there),
+          by (step_cell (λ a. list.number (Step k x a)) (get_or all j (steps.Const false))) refl,
+        )
+      where
+        by : (o : Option LooseCell) → step_cell (λ a. list.number (Step k x a)) (get_or (lowering k x).all j (steps.Const false)) ≡ o → IfSome o (IsListed (Step k x j))
+        by None e = tt
+        by (Some u) e =
+            let make : ℕ × BitStep → Option (Place × LooseCell) = λ y. option_map (λ c. (Step k x y.0, c)) (step_cell (λ a. list.number (Step k x a)) y.1) in
+            let operator = into_filter make (enumerate_from 0 (lowering k x).all) (j, get_or (lowering k x).all j (steps.Const false)) (Step k x j, u) (numbered_at (lowering k x).all j (steps.Const false) there) (ap (option_map (λ c. (Step k x j, c))) e) in
+            part_listed (Step k x j, u) (Contains-append_left all_steps (gate_places lowering list.number k c) (Step k x j, u)
+            (into_flat (step_cells lowering list.number k) (range_with_len 0 (length (lowered_in (s, c)))) x (Step k x j, u) (range_there 0 (length (lowered_in (s, c))) x (omega arith) (omega (arith, fits))) operator))
 
     gate_listed : (x : Place × LooseCell) → Contains (gate_places lowering list.number k c) x → IsListed x.0 x.1
     gate_listed x at = part_listed x (Contains-append_right all_steps (gate_places lowering list.number k c) x at)

@@ -1,6 +1,7 @@
 -- A closed walk in the list of cells passes the place of a bit, and the least place on one is the place of the first bit on a loop.
-use Rattle.std.proofs.Common.{◌≡◌, ◌⊎◌, ℕ, zero, suc, ◌+◌, ◌-◌, ◌<◌, List, [], ◌∷◌, length, Contains, refl, sym, ap, get_or, ◌∙◌, subst, inl, inr, arith}
+use Rattle.std.proofs.Common.{◌≡◌, ◌⊎◌, ℕ, zero, suc, ◌+◌, ◌-◌, ◌<◌, false, List, [], ◌∷◌, length, Contains, refl, sym, ap, get_or, ◌∙◌, subst, inl, inr, arith}
 use Rattle.std.specs.List.{enumerate_from}
+use Rattle.std.specs.Prelude.{IfSome}
 use Rattle.std.proofs.lemmas.List.Elements.{All-contains, Contains-get_or}
 use Rattle.bb_ast.specs.declared.module.Gate.{Gate}
 use Rattle.bb_ast.specs.declared.module.Gate.TheVariants as gates
@@ -16,12 +17,12 @@ use Rattle.bb_net.specs.Netlists.{Pins}
 use Rattle.bb_design.specs.Hierarchy.{Design, Scope, boxes, scopes, is_box}
 use Rattle.bb_design.specs.NetBits.{Bit, net_order, input_bits, scope_bits}
 use Rattle.bb_design.specs.Constructs.{Construct, GateInstance, parts}
-use Rattle.bb_cells.specs.Places.{Place, Constant, Input, NetBit, Step, Joined, Inverted, BoxPin, lowered_in, Lowering, IsLowering, terminal_place, joined_place, step_cell, net_place, join_cell, IsListOf}
+use Rattle.bb_cells.specs.Places.{Place, Constant, Input, NetBit, Step, Joined, Inverted, BoxPin, lowered_in, Lowering, IsLowering, terminal_place, joined_place, step_cell, join_cell, IsListOf}
 use Rattle.bb_lists.proofs.Members.{from_map, contains_cases, none_in_nil, kept_from, into_flat}
 use Rattle.bb_cells.proofs.ListedEntries.{Entry, Part, Cases, each_entry}
 use Rattle.bb_lists.proofs.Numbered.{enumerated_from, from_numbered}
-use Rattle.bb_cells.proofs.ListedPlaces.{IsListed, lowered_at, listed_cell, listed_at, listed_below, box_is, constant_listed, net_listed, step_listed, joined_listed}
-use Rattle.bb_cells.proofs.ListedSources.{net_bit_of_step, terminal_there}
+use Rattle.bb_cells.proofs.ListedPlaces.{IsListed, lowered_at, reads_there, listed_cell, listed_at, listed_below, box_is, constant_listed, net_listed, joined_listed}
+use Rattle.bb_cells.proofs.ListedSources.{step_source, terminal_there}
 use Rattle.bb_design.specs.Wired.{IsWired}
 use Rattle.bb_cells.proofs.ListNumbers.{one_place_listed}
 use Rattle.bb_design.specs.DesignLaws.{DesignLaws}
@@ -110,45 +111,45 @@ module _ (of_designs : DesignLaws) (d : Design) (lowering : Lowering) (l : Loose
   to_net : (p : Place) (b : Bit) → Contains (net_order d) b → Down p (list.number (NetBit b))
   to_net p b has = (NetBit b, (_, net_listed d lowering l list b has), refl, inl (b, has, refl))
 
-  module _ (k : ℕ) (s : Scope) (c : Construct) (has : Part d lowering l list lowered k s c) (x : ℕ) (fits : x < length (lowered_in (s, c))) (j : ℕ) (there : j < length (lowering k x).all) where
+  -- a step, or what stands where it does
+  step_down : (p : Place) (k : ℕ) (s : Scope) (c : Construct) → Part d lowering l list k s c → (x : ℕ) → x < length (lowered_in (s, c)) → (j : ℕ) → j < length (lowering k x).all → Lower (Step k x j) p → Down p (list.number (Step k x j))
+  step_down p k s c has x fits j there low = step_source d lowering l list lowered k s c has x fits j there
+      (λ b same. subst (Down p) (sym same) (to_lower p (Constant b) (_, constant_listed d lowering l list b) (lower_on (Constant b) (Step k x j) p (inl (omega arith)) low)))
+      (λ b known same. subst (Down p) (sym same) (to_net p b known))
+      (λ u listed. to_lower p (Step k x j) (u, listed) low)
+
+  module _ (k : ℕ) (s : Scope) (c : Construct) (has : Part d lowering l list k s c) (x : ℕ) (fits : x < length (lowered_in (s, c))) (j : ℕ) (there : j < length (lowering k x).all) where
     -- an earlier step of the expression
     earlier : (a : ℕ) → a < j → Down (Step k x j) (list.number (Step k x a))
-    earlier a lt = to_lower (Step k x j) (Step k x a) (_, step_listed d lowering l list k s c has x fits a (omega (arith, lt, there))) (inr (refl, lt))
+    earlier a lt = step_down (Step k x j) k s c has x fits a (omega (arith, lt, there)) (inr (refl, lt))
 
-    step_falls : (step : BitStep) → Reads (nets_of s.source) j step
-        → Each (Step k x j) (operands l.boxes (step_cell (λ b. list.number (Constant b)) (λ a. list.number (Step k x a)) (λ n i. list.number (net_place s n i)) step))
-    step_falls (steps.Const b) reads = and (Step k x j) _ [] (to_lower (Step k x j) (Constant b) (_, constant_listed d lowering l list b) (inl (omega arith))) (none (Step k x j))
-    step_falls (steps.Net n i) reads = and (Step k x j) _ [] (to_net (Step k x j) _ (net_bit_of_step d s n i (of_designs.part_of d s c (from_numbered 0 (parts d) (k, (s, c)) has)).0 reads)) (none (Step k x j))
-    step_falls (steps.Not a) reads = and (Step k x j) _ [] (earlier a reads) (none (Step k x j))
-    step_falls (steps.And a b) reads = and (Step k x j) _ (list.number (Step k x b) ∷ []) (earlier a reads.0) (and (Step k x j) _ [] (earlier b reads.1) (none (Step k x j)))
-    step_falls (steps.Or a b) reads = and (Step k x j) _ (list.number (Step k x b) ∷ []) (earlier a reads.0) (and (Step k x j) _ [] (earlier b reads.1) (none (Step k x j)))
-    step_falls (steps.Xor a b) reads = and (Step k x j) _ (list.number (Step k x b) ∷ []) (earlier a reads.0) (and (Step k x j) _ [] (earlier b reads.1) (none (Step k x j)))
-    step_falls (steps.Mux i t e) reads = and (Step k x j) _ (list.number (Step k x t) ∷ list.number (Step k x e) ∷ []) (earlier i reads.0)
-        (and (Step k x j) _ (list.number (Step k x e) ∷ []) (earlier t reads.1) (and (Step k x j) _ [] (earlier e reads.2) (none (Step k x j))))
+    step_falls : (step : BitStep) → Reads (nets_of s.source) j step → IfSome (step_cell (λ a. list.number (Step k x a)) step) (λ u. Falls (Step k x j, u))
+    step_falls (steps.Const b) reads = tt
+    step_falls (steps.Net n i) reads = tt
+    step_falls (steps.Not a) reads = inr (and (Step k x j) _ [] (earlier a reads) (none (Step k x j)))
+    step_falls (steps.And a b) reads = inr (and (Step k x j) _ (list.number (Step k x b) ∷ []) (earlier a reads.0) (and (Step k x j) _ [] (earlier b reads.1) (none (Step k x j))))
+    step_falls (steps.Or a b) reads = inr (and (Step k x j) _ (list.number (Step k x b) ∷ []) (earlier a reads.0) (and (Step k x j) _ [] (earlier b reads.1) (none (Step k x j))))
+    step_falls (steps.Xor a b) reads = inr (and (Step k x j) _ (list.number (Step k x b) ∷ []) (earlier a reads.0) (and (Step k x j) _ [] (earlier b reads.1) (none (Step k x j))))
+    step_falls (steps.Mux i t e) reads = inr (and (Step k x j) _ (list.number (Step k x t) ∷ list.number (Step k x e) ∷ []) (earlier i reads.0)
+        (and (Step k x j) _ (list.number (Step k x e) ∷ []) (earlier t reads.1) (and (Step k x j) _ [] (earlier e reads.2) (none (Step k x j)))))
 
-  module _ (k : ℕ) (s : Scope) (gate : Gate) (outs ins : List Expression) (has : Part d lowering l list lowered k s (GateInstance gate outs ins)) where
-    terminal_listed : (x : ℕ) → x < length ins → Listed (terminal_place lowering k x)
-    terminal_listed x fits =
+  module _ (k : ℕ) (s : Scope) (gate : Gate) (outs ins : List Expression) (has : Part d lowering l list k s (GateInstance gate outs ins)) where
+    terminal_down : (p : Place) → 1 < class p → (x : ℕ) → x < length ins → Down p (list.number (terminal_place lowering k x))
+    terminal_down p high x fits =
         let e = terminal_there s ins x fits (wired.gates s gate outs ins (from_numbered 0 (parts d) (k, (s, GateInstance gate outs ins)) has)).1 in
         let low = lowered_at d lowering lowered k s (GateInstance gate outs ins) has x e.0 1 e.1 in
         let n = enumerated_from 0 (lowered_in (s, GateInstance gate outs ins)) x (e.0, 1) e.1 in
         let j = get_or (lowering k x).bits 0 0 in
-        (_, step_listed d lowering l list k s (GateInstance gate outs ins) has x (omega (arith, n.1, n.2)) j (All-contains (λ j. j < length (lowering k x).all) (lowering k x).bits j low.places (Contains-get_or (lowering k x).bits 0 0 (omega (arith, low.width)))))
+        step_down p k s (GateInstance gate outs ins) has x (omega (arith, n.1, n.2)) j (All-contains (λ j. j < length (lowering k x).all) (lowering k x).bits j low.places (Contains-get_or (lowering k x).bits 0 0 (omega (arith, low.width)))) (inl high)
 
-    prefix_listed : (x : ℕ) → x < length ins → Listed (joined_place lowering k x)
-    prefix_listed zero fits = terminal_listed 0 fits
-    prefix_listed (suc x) fits = (_, joined_listed d lowering l list k s gate outs ins has x (omega (arith, fits)))
-
+    -- the inputs up to one of them, joined
     prefix_down : (x : ℕ) → x < length ins → Down (Joined k (suc x)) (list.number (joined_place lowering k x))
-    prefix_down zero fits = to_lower (Joined k 1) (terminal_place lowering k 0) (prefix_listed 0 fits) (inl (omega arith))
-    prefix_down (suc x) fits = to_lower (Joined k (suc (suc x))) (Joined k (suc x)) (prefix_listed (suc x) fits) (inr (refl, omega arith))
-
-    terminal_down : (x y : ℕ) → y < length ins → Down (Joined k x) (list.number (terminal_place lowering k y))
-    terminal_down x y fits = to_lower (Joined k x) (terminal_place lowering k y) (terminal_listed y fits) (inl (omega arith))
+    prefix_down zero fits = terminal_down (Joined k 1) (omega arith) 0 fits
+    prefix_down (suc x) fits = to_lower (Joined k (suc (suc x))) (Joined k (suc x)) (_, joined_listed d lowering l list k s gate outs ins has x (omega (arith, fits))) (inr (refl, omega arith))
 
     inverse_down : (x : ℕ) → x < length ins → Down (Inverted k) (list.number (joined_place lowering k x))
-    inverse_down zero fits = to_lower (Inverted k) (terminal_place lowering k 0) (prefix_listed 0 fits) (inl (omega arith))
-    inverse_down (suc x) fits = to_lower (Inverted k) (Joined k (suc x)) (prefix_listed (suc x) fits) (inl (omega arith))
+    inverse_down zero fits = terminal_down (Inverted k) (omega arith) 0 fits
+    inverse_down (suc x) fits = to_lower (Inverted k) (Joined k (suc x)) (_, joined_listed d lowering l list k s gate outs ins has x (omega (arith, fits))) (inl (omega arith))
 
   join_falls : (p : Place) (a b : ℕ) → Down p a → Down p b → (g : Gate) → Each p (operands l.boxes (join_cell g a b))
   join_falls p a b u v gates.And = and p a (b ∷ []) u (and p b [] v (none p))
@@ -166,13 +167,13 @@ module _ (of_designs : DesignLaws) (d : Design) (lowering : Lowering) (l : Loose
       let scope = (kept_from is_box (scopes d) s (from_numbered 0 (boxes d) (b, s) has)).0 in
       subst (Down (BoxPin b p)) u.2 (to_net (BoxPin b p) u.0 (into_flat scope_bits (scopes d) s u.0 scope (of_designs.of_scope s _ u.0 u.1)))
 
-  fall_cases : Cases d lowering l list lowered Falls
+  fall_cases : Cases d lowering l list Falls
   fall_cases = record {
     constants = λ b. inr (none (Constant b));
     inputs = λ i fits. inr (none (Input i));
     nets = λ b has. inl (b, has, refl);
-    steps = λ k s c has x fits j there step reads. inr (step_falls k s c has x fits j there step reads);
-    joins = λ k s gate outs ins has x fits. inr (join_falls (Joined k (suc x)) _ _ (prefix_down k s gate outs ins has x (omega (arith, fits))) (terminal_down k s gate outs ins has (suc x) (suc x) (omega (arith, fits))) gate);
+    steps = λ k s c has x fits j there. step_falls k s c has x fits j there (get_or (lowering k x).all j (steps.Const false)) (reads_there d lowering lowered k s c has x fits j there);
+    joins = λ k s gate outs ins has x fits. inr (join_falls (Joined k (suc x)) _ _ (prefix_down k s gate outs ins has x (omega (arith, fits))) (terminal_down k s gate outs ins has (Joined k (suc x)) (omega arith) (suc x) (omega (arith, fits))) gate);
     inverters = λ k s gate outs ins has on. let one = (wired.gates s gate outs ins (from_numbered 0 (parts d) (k, (s, GateInstance gate outs ins)) has)).0 in
         inr (and (Inverted k) _ [] (inverse_down k s gate outs ins has (length ins - 1) (omega (arith, one))) (none (Inverted k)));
     pins = λ b s has p y at. inr (pins_fall b s has p);
@@ -186,7 +187,7 @@ module _ (of_designs : DesignLaws) (d : Design) (lowering : Lowering) (l : Loose
   pub walk_falls : (n : ℕ) (p : Place) (u : LooseCell) → IsListed d lowering l list p u → (q : Place) (v : LooseCell) → IsListed d lowering l list q v → Reaches n l (list.number p) (list.number q)
       → Passes n (list.number p) (list.number q) ⊎ (((n ≡ 0) × (p ≡ q)) ⊎ Lower q p)
   walk_falls zero p u at q v end walk = inr (inl (refl, one_place_listed d lowering l list p q u v at end walk))
-  walk_falls (suc n) p u at q v end walk = by (each_entry d lowering l list lowered Falls fall_cases (p, u) at) (λ r w listed rest. walk_falls n r w listed q v end rest)
+  walk_falls (suc n) p u at q v end walk = by (each_entry d lowering l list Falls fall_cases (p, u) at) (λ r w listed rest. walk_falls n r w listed q v end rest)
     where
       goal : Type 0
       goal = Passes (suc n) (list.number p) (list.number q) ⊎ (((suc n ≡ 0) × (p ≡ q)) ⊎ Lower q p)

@@ -6,7 +6,7 @@ use Rattle.std.proofs.lemmas.List.Elements.{All-contains, Contains-append_cases,
 use Rattle.std.proofs.lemmas.List.Sorted.{Contains-permutation}
 use Rattle.bb_ast.specs.declared.module.Gate.{Gate}
 use Rattle.bb_ast.specs.declared.module.Gate.TheVariants as gates
-use Rattle.bb_ast.specs.Syntax.{Expression, Plain, PlainAlways}
+use Rattle.bb_ast.specs.Syntax.{Expression, PlainAlways}
 use Rattle.bb_names.specs.Nets.{nets_of}
 use Rattle.bb_expr.specs.declared.step.BitStep.{BitStep}
 use Rattle.bb_expr.specs.declared.step.BitStep.TheVariants as steps
@@ -24,7 +24,7 @@ use Rattle.bb_design.specs.Drivers.{Free, Drive, driven, drives, driven_bits, te
 use Rattle.bb_design.specs.GateFunctions.{on_terms, joins, joined, joined_after, joining_cells, gate_cells, inverts, gate_gives}
 use Rattle.bb_design.specs.Hierarchy.{Design, Scope, boxes}
 use Rattle.bb_design.specs.NetBits.{Bit, net_order, input_bits, top_outputs, written_bits}
-use Rattle.bb_cells.specs.Places.{Place, Constant, NetBit, Step, Joined, Inverted, lowered_in, Lowering, IsLowering, terminal_place, joined_place, step_cell, net_place, join_cell, pins_of, step_places, data_at, place_in, data_places, IsListOf}
+use Rattle.bb_cells.specs.Places.{Place, NetBit, Step, Joined, Inverted, lowered_in, Lowering, IsLowering, terminal_place, joined_place, join_cell, pins_of, step_places, data_at, place_in, data_places, IsListOf}
 use Rattle.bb_design.specs.Reading.{bit_itself, cells_at, operand_terms, read_at, read_beside, read_directly}
 use Rattle.bb_design.specs.Registers.{RegisterBit, stored_at, registers, data_terms}
 use Rattle.bb_design.specs.Laws.{BitsAreThere}
@@ -35,11 +35,11 @@ use Rattle.bb_lists.proofs.Zips.{zip_parts}
 use Rattle.bb_cells.specs.ReadPlaces.{read_by, FollowsAt, IsReadPlace}
 use Rattle.bb_lists.proofs.Members.{from_filter, from_flat, from_map, from_drop, into_flat, contains-map, contains_here, contains_there, contains_cases, none_in_nil}
 use Rattle.bb_cells.proofs.CopyWalks.{To, copy_on, no_bit, within_copies, steps_copies, input_copies}
-use Rattle.bb_lists.proofs.Numbered.{enumerated_from, numbered_at, numbered_there, from_numbered}
-use Rattle.bb_cells.proofs.ListedPlaces.{IsListed, lowered_at, listed_cell, listed_below, step_listed, joined_listed, inverted_listed}
-use Rattle.bb_cells.proofs.ListedSources.{part_there, terminal_there}
+use Rattle.bb_lists.proofs.Numbered.{enumerated_from, numbered_there, from_numbered}
+use Rattle.bb_cells.proofs.ListedPlaces.{IsListed, Stands, lowered_at, reads_there, listed_cell, listed_below, step_stands, joined_listed, inverted_listed}
+use Rattle.bb_cells.proofs.ListedSources.{terminal_there}
 use Rattle.bb_design.specs.Wired.{IsWired}
-use Rattle.bb_cells.proofs.ListWalks.{input, terminals_are}
+use Rattle.bb_cells.proofs.GateTerms.{input_term, terminals_are}
 use Rattle.bb_design.specs.DesignLaws.{DesignLaws}
 
 module _ {A T : Type 0} where
@@ -87,42 +87,33 @@ module _ (of_designs : DesignLaws) (d : Design) (lowering : Lowering) (l : Loose
     abbrev all : List BitStep
     all = (lowering k x).all
 
-    abbrev cell_of : BitStep → LooseCell
-    cell_of step = step_cell (λ b. list.number (Constant b)) (λ a. list.number (Step k x a)) (λ m i. list.number (net_place s m i)) step
-
-    abbrev Reading : BitStep → Bit → Type 0
-    Reading step b = (q : ℕ) × Contains (read_by (cell_of step)) q × Follows q b
-
+    -- what an operator reads
     step_reads : (term : ℕ → Term) (j : ℕ) (b : Bit) → ((a : ℕ) → a < j → Contains (bit_itself s.path (term a)) b → To of_designs d lowering l list lowered wired (Step k x a) b) → (step : BitStep) → Reads (nets_of s.source) j step
-        → (t : Term) → Contains (operand_terms (step_term (nets_of s.source) step term)) t → Contains (bit_itself s.path t) b → Reading step b
-    step_reads term j b earlier (steps.Const v) reads t at bit = absurd (none_in_nil t at)
-    step_reads term j b earlier (steps.Net m i) reads t at bit = absurd (none_in_nil t at)
-    step_reads term j b earlier (steps.Not a) reads t at bit = only_one (term a) t at (λ same. (list.number (Step k x a), (0, omega arith, refl), earlier a reads (subst (λ u. Contains (bit_itself s.path u) b) (sym same) bit)))
-    step_reads term j b earlier (steps.And y z) reads t at bit = one_of_two (term y) (term z) t at
-        (λ same. (list.number (Step k x y), (0, omega arith, refl), earlier y reads.0 (subst (λ u. Contains (bit_itself s.path u) b) (sym same) bit)))
-        (λ same. (list.number (Step k x z), (1, omega arith, refl), earlier z reads.1 (subst (λ u. Contains (bit_itself s.path u) b) (sym same) bit)))
-    step_reads term j b earlier (steps.Or y z) reads t at bit = one_of_two (term y) (term z) t at
-        (λ same. (list.number (Step k x y), (0, omega arith, refl), earlier y reads.0 (subst (λ u. Contains (bit_itself s.path u) b) (sym same) bit)))
-        (λ same. (list.number (Step k x z), (1, omega arith, refl), earlier z reads.1 (subst (λ u. Contains (bit_itself s.path u) b) (sym same) bit)))
-    step_reads term j b earlier (steps.Xor y z) reads t at bit = one_of_two (term y) (term z) t at
-        (λ same. (list.number (Step k x y), (0, omega arith, refl), earlier y reads.0 (subst (λ u. Contains (bit_itself s.path u) b) (sym same) bit)))
-        (λ same. (list.number (Step k x z), (1, omega arith, refl), earlier z reads.1 (subst (λ u. Contains (bit_itself s.path u) b) (sym same) bit)))
-    step_reads term j b earlier (steps.Mux i y z) reads t at bit = one_of_three (term i) (term y) (term z) t at
-        (λ same. (list.number (Step k x i), (0, omega arith, refl), earlier i reads.0 (subst (λ u. Contains (bit_itself s.path u) b) (sym same) bit)))
-        (λ same. (list.number (Step k x y), (1, omega arith, refl), earlier y reads.1 (subst (λ u. Contains (bit_itself s.path u) b) (sym same) bit)))
-        (λ same. (list.number (Step k x z), (2, omega arith, refl), earlier z reads.2 (subst (λ u. Contains (bit_itself s.path u) b) (sym same) bit)))
+        → Stands d lowering l list k s x j step → (t : Term) → Contains (operand_terms (step_term (nets_of s.source) step term)) t → Contains (bit_itself s.path t) b → IsReadAt b
+    step_reads term j b earlier (steps.Const v) reads stands t at bit = absurd (none_in_nil t at)
+    step_reads term j b earlier (steps.Net m i) reads stands t at bit = absurd (none_in_nil t at)
+    step_reads term j b earlier (steps.Not a) reads stands t at bit = only_one (term a) t at (λ same. from_cell (Step k x j) _ stands.1 (list.number (Step k x a)) (0, omega arith, refl) b (earlier a reads (subst (λ u. Contains (bit_itself s.path u) b) (sym same) bit)))
+    step_reads term j b earlier (steps.And y z) reads stands t at bit = one_of_two (term y) (term z) t at
+        (λ same. from_cell (Step k x j) _ stands.1 (list.number (Step k x y)) (0, omega arith, refl) b (earlier y reads.0 (subst (λ u. Contains (bit_itself s.path u) b) (sym same) bit)))
+        (λ same. from_cell (Step k x j) _ stands.1 (list.number (Step k x z)) (1, omega arith, refl) b (earlier z reads.1 (subst (λ u. Contains (bit_itself s.path u) b) (sym same) bit)))
+    step_reads term j b earlier (steps.Or y z) reads stands t at bit = one_of_two (term y) (term z) t at
+        (λ same. from_cell (Step k x j) _ stands.1 (list.number (Step k x y)) (0, omega arith, refl) b (earlier y reads.0 (subst (λ u. Contains (bit_itself s.path u) b) (sym same) bit)))
+        (λ same. from_cell (Step k x j) _ stands.1 (list.number (Step k x z)) (1, omega arith, refl) b (earlier z reads.1 (subst (λ u. Contains (bit_itself s.path u) b) (sym same) bit)))
+    step_reads term j b earlier (steps.Xor y z) reads stands t at bit = one_of_two (term y) (term z) t at
+        (λ same. from_cell (Step k x j) _ stands.1 (list.number (Step k x y)) (0, omega arith, refl) b (earlier y reads.0 (subst (λ u. Contains (bit_itself s.path u) b) (sym same) bit)))
+        (λ same. from_cell (Step k x j) _ stands.1 (list.number (Step k x z)) (1, omega arith, refl) b (earlier z reads.1 (subst (λ u. Contains (bit_itself s.path u) b) (sym same) bit)))
+    step_reads term j b earlier (steps.Mux i y z) reads stands t at bit = one_of_three (term i) (term y) (term z) t at
+        (λ same. from_cell (Step k x j) _ stands.1 (list.number (Step k x i)) (0, omega arith, refl) b (earlier i reads.0 (subst (λ u. Contains (bit_itself s.path u) b) (sym same) bit)))
+        (λ same. from_cell (Step k x j) _ stands.1 (list.number (Step k x y)) (1, omega arith, refl) b (earlier y reads.1 (subst (λ u. Contains (bit_itself s.path u) b) (sym same) bit)))
+        (λ same. from_cell (Step k x j) _ stands.1 (list.number (Step k x z)) (2, omega arith, refl) b (earlier z reads.2 (subst (λ u. Contains (bit_itself s.path u) b) (sym same) bit)))
 
-    -- what an operator among the steps reads
+    -- what an operator among the steps of an expression reads
     pub step_place : (j : ℕ) → j < length all → (t : Term) → Contains (operand_terms (term_at (nets_of s.source) all j)) t → (b : Bit) → Contains (bit_itself s.path t) b → IsReadAt b
     unfolding term_within
     step_place j there t at b bit =
-        let e = get_or (lowered_in (s, c)) x (Plain 0, 0) in
-        let lower = lowered_at d lowering lowered k s c has x e.0 e.1 (numbered_at (lowered_in (s, c)) x (Plain 0, 0) fits) in
-        let reads = All-contains (λ (z : ℕ × BitStep). Reads (nets_of s.source) z.0 z.1) (enumerate_from 0 all) (j, get_or all j (steps.Const false)) lower.earlier (numbered_at all j (steps.Const false) there) in
         let one : j + 1 ≡ suc j = omega arith in
-        let r = step_reads (term_within (nets_of s.source) all j) j b (λ a lt h. within_copies of_designs d lowering l list lowered wired k s c has x fits j a lt (omega (arith, lt, there)) b h) (get_or all j (steps.Const false)) reads t
-        (subst (λ m. Contains (operand_terms (term_within (nets_of s.source) all m j)) t) one at) bit in
-        from_cell (Step k x j) _ (step_listed d lowering l list k s c has x fits j there) r.0 r.1 b r.2
+        step_reads (term_within (nets_of s.source) all j) j b (λ a lt h. within_copies of_designs d lowering l list lowered wired k s c has x fits j a lt (omega (arith, lt, there)) b h) (get_or all j (steps.Const false))
+        (reads_there d lowering lowered k s c has x fits j there) (step_stands d lowering l list k s c has x fits j there) t (subst (λ m. Contains (operand_terms (term_within (nets_of s.source) all m j)) t) one at) bit
 
   -- what a cell of an expression reads
   pub made_place : (k : ℕ) (s : Scope) (c : Construct) (has : Contains (enumerate_from 0 (parts d)) (k, (s, c))) (x : ℕ) (e : Expression) (w : ℕ) → Contains (enumerate_from 0 (lowered_in (s, c))) (x, (e, w)) → (u : Term) → Contains (made_in s e w).cells u
@@ -139,14 +130,14 @@ module _ (of_designs : DesignLaws) (d : Design) (lowering : Lowering) (l : Loose
 
   module _ (k : ℕ) (s : Scope) (gate : Gate) (outs ins : List Expression) (has : Contains (enumerate_from 0 (parts d)) (k, (s, GateInstance gate outs ins))) where
     abbrev tin : ℕ → Term
-    tin x = input d lowering l list lowered wired k s gate outs ins has x
+    tin x = input_term d lowering lowered wired k s gate outs ins has x
 
     abbrev pre : ℕ → Term
     pre zero = tin 0
     pre (suc x) = joins on_terms gate (pre x) (tin (suc x))
 
     shape : (1 ≤ length ins) × All (λ e. width_of s e ≡ 1) ins
-    shape = wired.gates s gate outs ins (part_there d lowering l list lowered wired k s (GateInstance gate outs ins) has)
+    shape = wired.gates s gate outs ins (from_numbered 0 (parts d) (k, (s, GateInstance gate outs ins)) has)
 
     tin_operand : (x : ℕ) → x < length ins → (t : Term) → Contains (operand_terms (tin x)) t → (b : Bit) → Contains (bit_itself s.path t) b → IsReadAt b
     tin_operand x fits t at b bit =
@@ -254,7 +245,7 @@ module _ (of_designs : DesignLaws) (d : Design) (lowering : Lowering) (l : Loose
         by (inr h) = inverted (inverts gate) refl h
 
     pub gate_place_read : (u : Term) → Contains (gate_cells gate (terminal_terms s ins)) u → (t : Term) → Contains (operand_terms u) t → (b : Bit) → Contains (bit_itself s.path t) b → IsReadAt b
-    gate_place_read u at = gate_operand u (subst (λ ts. Contains (gate_cells gate ts) u) (terminals_are d lowering l list lowered wired k s gate outs ins has) at)
+    gate_place_read u at = gate_operand u (subst (λ ts. Contains (gate_cells gate ts) u) (terminals_are d lowering lowered wired k s gate outs ins has) at)
 
   -- what the cells of a construct read
   pub part_cells : (k : ℕ) (s : Scope) (c : Construct) → Contains (enumerate_from 0 (parts d)) (k, (s, c)) → (u : Term) → Contains (cells_at (s, c)) u → (t : Term) → Contains (operand_terms u) t → (b : Bit) → Contains (bit_itself s.path t) b → IsReadAt b

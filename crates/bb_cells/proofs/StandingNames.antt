@@ -13,7 +13,7 @@ use Rattle.bb_design.specs.Drivers.{Source, Free, Made, Box, Drive, driven, driv
 use Rattle.bb_net.specs.Flats.{FlatNet}
 use Rattle.bb_design.specs.Hierarchy.{Path, Design}
 use Rattle.bb_design.specs.Allowed.{IsAllowed}
-use Rattle.bb_cells.specs.NamingLaws.{StandingNetsAreNamed, StandingNetsAreNamedAlike}
+use Rattle.bb_cells.specs.NamingLaws.{FollowedInputsAreOne, StandingNetsAreNamed, StandingNetsAreNamedAlike}
 use Rattle.bb_design.specs.NetBits.{Bit, top_inputs}
 use Rattle.bb_design.specs.Reading.{bit_itself, copied, copies}
 use Rattle.bb_design.specs.Refusals.{TwoDrivers, AreDrivenOnce}
@@ -197,6 +197,9 @@ module _ (of_designs : DesignLaws) where
     where
       long : length s.numbers ≡ length t.numbers
       long = s.ordered.number_count ∙ list_count d f s ∙ sym (list_count d g t) ∙ sym t.ordered.number_count
+
+  pub followed_inputs_are_one : FollowedInputsAreOne
+  followed_inputs_are_one d once b c e top also first second = follows_one of_designs d once b c e top also first second
 
   pub standing_nets_are_named : StandingNetsAreNamed
   standing_nets_are_named d f allowed stands = are_named of_designs d f allowed.bounded allowed.sound stands

@@ -22,9 +22,9 @@ use Rattle.bb_net.specs.Loose.{LooseList}
 use Rattle.bb_design.specs.Hierarchy.{Design, Scope}
 use Rattle.bb_design.specs.Contexts.{made_in}
 use Rattle.bb_design.specs.Constructs.{Construct, parts}
-use Rattle.bb_cells.specs.Places.{Place, Constant, NetBit, Step, lowered_in, Lowering, IsLowering, step_places, step_cell, net_place, IsListOf}
+use Rattle.bb_cells.specs.Places.{Place, Constant, NetBit, Step, lowered_in, Lowering, IsLowering, step_places, IsListOf}
 use Rattle.bb_lists.proofs.Numbered.{enumerated_from, numbered_at}
-use Rattle.bb_cells.proofs.ListedPlaces.{IsListed, lowered_at, listed_cell, listed_below, constant_listed, step_listed}
+use Rattle.bb_cells.proofs.ListedPlaces.{IsListed, Stands, lowered_at, listed_cell, listed_below, constant_listed, step_stands}
 
 -- the formula of a term, where at gives those of the bits of nets
 abbrev pub term_formula : (List ℕ → ℕ → Formula) → Term → Formula
@@ -96,16 +96,20 @@ module _ (d : Design) (lowering : Lowering) (l : LooseList) (list : IsListOf d l
     abbrev term_of : ℕ → Term
     term_of j = term_at (nets_of s.source) all j
 
-    -- a step has the formula of its operator, where the steps that it reads have theirs
-    one_step : (j : ℕ) → ((a : ℕ) → a < j → formula_of (Step k n a) ≡ term_formula (formulas_in formula_of s) (term_of a)) → (step : BitStep) → Reads (nets_of s.source) j step → (f : Formula)
-        → IsFormulaOf numbers at (step_cell (λ b. list.number (Constant b)) (λ a. list.number (Step k n a)) (λ m i. list.number (net_place s m i)) step) f → f ≡ term_formula (formulas_in formula_of s) (step_term (nets_of s.source) step term_of)
-    one_step j earlier (steps.Const b) reads f is = is ∙ constant_formula b
-    one_step j earlier (steps.Net m i) reads f is = is
-    one_step j earlier (steps.Not a) reads f is = is ∙ ap formula.Not (earlier a reads)
-    one_step j earlier (steps.And a b) reads f is = is ∙ ap₂ formula.And (earlier a reads.0) (earlier b reads.1)
-    one_step j earlier (steps.Or a b) reads f is = is ∙ ap₂ formula.Or (earlier a reads.0) (earlier b reads.1)
-    one_step j earlier (steps.Xor a b) reads f is = is ∙ ap₂ formula.Xor (earlier a reads.0) (earlier b reads.1)
-    one_step j earlier (steps.Mux i t e) reads f is = let first = earlier i reads.0 in let second = earlier t reads.1 in let third = earlier e reads.2 in is ∙ (λ q. formula.Mux (first q) (second q) (third q))
+    -- a step has the formula of what it is made of, where the steps that it reads have theirs
+    one_step : (j : ℕ) → ((a : ℕ) → a < j → formula_of (Step k n a) ≡ term_formula (formulas_in formula_of s) (term_of a)) → (step : BitStep) → Reads (nets_of s.source) j step → Stands d lowering l list k s n j step
+        → formula_of (Step k n j) ≡ term_formula (formulas_in formula_of s) (step_term (nets_of s.source) step term_of)
+    one_step j earlier (steps.Const b) reads stands = ap at stands.0 ∙ constant_formula b
+    one_step j earlier (steps.Net m i) reads stands = ap at stands.0
+    one_step j earlier (steps.Not a) reads stands = equation (Step k n j) _ stands.1 ∙ ap formula.Not (earlier a reads)
+    one_step j earlier (steps.And a b) reads stands = equation (Step k n j) _ stands.1 ∙ ap₂ formula.And (earlier a reads.0) (earlier b reads.1)
+    one_step j earlier (steps.Or a b) reads stands = equation (Step k n j) _ stands.1 ∙ ap₂ formula.Or (earlier a reads.0) (earlier b reads.1)
+    one_step j earlier (steps.Xor a b) reads stands = equation (Step k n j) _ stands.1 ∙ ap₂ formula.Xor (earlier a reads.0) (earlier b reads.1)
+    one_step j earlier (steps.Mux i t e) reads stands =
+        let first = earlier i reads.0 in
+        let second = earlier t reads.1 in
+        let third = earlier e reads.2 in
+        equation (Step k n j) _ stands.1 ∙ (λ q. formula.Mux (first q) (second q) (third q))
 
     module _ (e : Expression) (w : ℕ) (there : Contains (enumerate_from 0 (lowered_in (s, c))) (n, (e, w))) where
       abbrev low : IsLowered (nets_of s.source) (range_of s.source) e w (lowering k n).all (lowering k n).bits
@@ -115,8 +119,8 @@ module _ (d : Design) (lowering : Lowering) (l : LooseList) (list : IsListOf d l
       within zero j below fits = absurd (omega (arith, below))
       within (suc m) j below fits =
           let y = enumerated_from 0 (lowered_in (s, c)) n (e, w) there in
-          one_step j (λ a lt. within m a (omega (arith, lt, below)) (omega (arith, lt, fits))) (get_or all j (steps.Const false)) (reads_at (nets_of s.source) all low.earlier j fits) (formula_of (Step k n j))
-          (equation (Step k n j) _ (step_listed d lowering l list k s c has n (omega (arith, y.1, y.2)) j fits))
+          one_step j (λ a lt. within m a (omega (arith, lt, below)) (omega (arith, lt, fits))) (get_or all j (steps.Const false)) (reads_at (nets_of s.source) all low.earlier j fits)
+          (step_stands d lowering l list k s c has n (omega (arith, y.1, y.2)) j fits)
           ∙ ap (term_formula (formulas_in formula_of s)) (sym (term_next (nets_of s.source) all low.earlier j fits))
 
       pub step_formula : (j : ℕ) → j < length all → formula_of (Step k n j) ≡ term_formula (formulas_in formula_of s) (term_of j)

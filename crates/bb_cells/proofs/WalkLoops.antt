@@ -5,7 +5,7 @@ use Rattle.std.specs.Option.{option_map_or}
 use Rattle.std.proofs.lemmas.List.Elements.{All-contains, Contains-get_or, Contains-append_cases, Contains-append_left, Contains-append_right}
 use Rattle.bb_ast.specs.declared.module.Gate.{Gate}
 use Rattle.bb_ast.specs.declared.module.Gate.TheVariants as gates
-use Rattle.bb_ast.specs.Syntax.{Expression, Plain}
+use Rattle.bb_ast.specs.Syntax.{Expression}
 use Rattle.bb_names.specs.Nets.{nets_of}
 use Rattle.bb_expr.specs.declared.step.BitStep.{BitStep}
 use Rattle.bb_expr.specs.declared.step.BitStep.TheVariants as steps
@@ -26,19 +26,19 @@ use Rattle.bb_design.specs.Constructs.{Construct, Assignment, GateInstance, Regi
 use Rattle.bb_design.specs.Dependence.{bits_below, needed, dependences}
 use Rattle.bb_design.specs.Drivers.{Made, Box, Drive, driven, driven_by, terminal_terms, drives_at, drives}
 use Rattle.bb_design.specs.GateFunctions.{on_terms, joins, joined, inverts, gate_gives}
-use Rattle.bb_cells.specs.Places.{Place, Constant, Input, NetBit, Step, Joined, Inverted, BoxPin, lowered_in, Lowering, IsLowering, step_places, given_at, given_by_box, given, place_in, terminal_place, joined_place, gate_place, step_cell, net_place, join_cell, IsListOf}
+use Rattle.bb_cells.specs.Places.{Place, Constant, Input, NetBit, Step, Joined, Inverted, BoxPin, lowered_in, Lowering, IsLowering, step_places, given_at, given_by_box, given, place_in, terminal_place, joined_place, gate_place, join_cell, IsListOf}
 use Rattle.bb_design.specs.Registers.{cut_bits}
 use Rattle.bb_cells.proofs.DependenceWalks.{loop_walk}
-use Rattle.bb_lists.proofs.Numbered.{enumerated_from, numbered_at, from_numbered}
+use Rattle.bb_lists.proofs.Numbered.{enumerated_from, from_numbered}
 use Rattle.bb_lists.proofs.Members.{from_drop, contains-map, into_flat, from_flat, from_map, contains_here, contains_cases, none_in_nil, kept_from, from_find}
 use Rattle.bb_cells.proofs.GivenDrives.{term_of, box_part, part_driven, whole_terms, low_terms, pin_terms, sides_meet}
 use Rattle.bb_lists.proofs.Zips.{zip_parts}
 use Rattle.bb_names.specs.Spots.{Pin}
-use Rattle.bb_cells.proofs.ListedPlaces.{IsListed, lowered_at, listed_cell, constant_listed, input_listed, net_listed, pin_listed, step_listed, joined_listed, inverted_listed, box_is}
-use Rattle.bb_cells.proofs.ListedSources.{net_bit_of_step, terminal_there}
+use Rattle.bb_cells.proofs.ListedPlaces.{IsListed, Stands, lowered_at, reads_there, listed_cell, constant_listed, input_listed, net_listed, pin_listed, step_stands, joined_listed, inverted_listed, box_is}
+use Rattle.bb_cells.proofs.ListedSources.{net_bit_of_step, scope_there, terminal_there}
 use Rattle.bb_design.specs.Wired.{IsWired}
 use Rattle.bb_cells.proofs.ListNumbers.{one_place_listed}
-use Rattle.bb_cells.proofs.ListWalks.{input, terminals_are}
+use Rattle.bb_cells.proofs.GateTerms.{input_term, terminals_are}
 use Rattle.bb_design.specs.DesignLaws.{DesignLaws}
 
 -- whether a place is that of a bit, and the bit
@@ -138,44 +138,50 @@ module _ (of_designs : DesignLaws) (d : Design) (lowering : Lowering) (l : Loose
   Steps n = (k : ℕ) (s : Scope) (c : Construct) → Part k s c → (x : ℕ) → x < length (lowered_in (s, c)) → (j : ℕ) → j < length (lowering k x).all → (m : ℕ) → j < m → Walk n (list.number (Step k x j))
       → Below (bits_below s.path (term_within (nets_of s.source) (lowering k x).all m j))
 
-  steps_zero : Steps 0
-  steps_zero k s c has x fits j at m less walk = absurd (not_last (Step k x j) _ (step_listed d lowering l list k s c has x fits j at) refl walk)
+  -- a walk from a place that is listed and is no bit's has a first step
+  further : (n : ℕ) (p : Place) (u : LooseCell) → IsListed d lowering l list p u → is_net p ≡ false → Walk n (list.number p) → (m : ℕ) × (n ≡ suc m) × (k : ℕ) × Contains (operands l.boxes u) k × Walk m k
+  further zero p u listed off walk = absurd (not_last p u listed off walk)
+  further (suc n) p u listed off walk = let f = first_step n p u listed walk in (n, refl, f.0, f.1, f.2)
 
   module _ (n : ℕ) (nets : Nets n) (k : ℕ) (s : Scope) (c : Construct) (has : Part k s c) (x : ℕ) where
-    step_below : (term : ℕ → Term) (j : ℕ) → ((a : ℕ) → a < j → Walk n (list.number (Step k x a)) → Below (bits_below s.path (term a))) → (step : BitStep) → Reads (nets_of s.source) j step → (to : ℕ)
-        → Contains (operands l.boxes (step_cell (λ b. list.number (Constant b)) (λ a. list.number (Step k x a)) (λ m i. list.number (net_place s m i)) step)) to → Walk n to → Below (bits_below s.path (step_term (nets_of s.source) step term))
-    step_below term j earlier (steps.Const b) reads to at walk = absurd (one_of n (list.number (Constant b)) (constant_ends n b) to at walk)
-    step_below term j earlier (steps.Net m i) reads to at walk =
+    step_below : (term : ℕ → Term) (j : ℕ) → ((m : ℕ) → n ≡ suc m → (a : ℕ) → a < j → Walk m (list.number (Step k x a)) → Below (bits_below s.path (term a))) → (step : BitStep) → Reads (nets_of s.source) j step → Stands d lowering l list k s x j step
+        → Walk n (list.number (Step k x j)) → Below (bits_below s.path (step_term (nets_of s.source) step term))
+    step_below term j before (steps.Const b) reads stands walk = absurd (constant_ends n b (subst (Walk n) stands.0 walk))
+    step_below term j before (steps.Net m i) reads stands walk =
         let b : Bit = record { path = s.path; net = name_at (nets_of s.source) m; place = i } in
-        let inside = net_bit_of_step d s m i (of_designs.part_of d s c (from_numbered 0 (parts d) (k, (s, c)) has)).0 reads in
-        (b, contains_here b [], one_of n (place b) (nets b inside) to at walk)
-    step_below term j earlier (steps.Not a) reads to at walk = one_of n (list.number (Step k x a)) (earlier a reads) to at walk
-    step_below term j earlier (steps.And a b) reads to at walk = two_of n (list.number (Step k x a)) (list.number (Step k x b))
-        (λ h. below_left (bits_below s.path (term a)) (bits_below s.path (term b)) (earlier a reads.0 h)) (λ h. below_right (bits_below s.path (term a)) (bits_below s.path (term b)) (earlier b reads.1 h)) to at walk
-    step_below term j earlier (steps.Or a b) reads to at walk = two_of n (list.number (Step k x a)) (list.number (Step k x b))
-        (λ h. below_left (bits_below s.path (term a)) (bits_below s.path (term b)) (earlier a reads.0 h)) (λ h. below_right (bits_below s.path (term a)) (bits_below s.path (term b)) (earlier b reads.1 h)) to at walk
-    step_below term j earlier (steps.Xor a b) reads to at walk = two_of n (list.number (Step k x a)) (list.number (Step k x b))
-        (λ h. below_left (bits_below s.path (term a)) (bits_below s.path (term b)) (earlier a reads.0 h)) (λ h. below_right (bits_below s.path (term a)) (bits_below s.path (term b)) (earlier b reads.1 h)) to at walk
-    step_below term j earlier (steps.Mux i t f) reads to at walk = three_of n (list.number (Step k x i)) (list.number (Step k x t)) (list.number (Step k x f))
-        (λ h. below_left (bits_below s.path (term i) ++ bits_below s.path (term t)) (bits_below s.path (term f)) (below_left (bits_below s.path (term i)) (bits_below s.path (term t)) (earlier i reads.0 h)))
-        (λ h. below_left (bits_below s.path (term i) ++ bits_below s.path (term t)) (bits_below s.path (term f)) (below_right (bits_below s.path (term i)) (bits_below s.path (term t)) (earlier t reads.1 h)))
-        (λ h. below_right (bits_below s.path (term i) ++ bits_below s.path (term t)) (bits_below s.path (term f)) (earlier f reads.2 h)) to at walk
+        (b, contains_here b [], nets b (net_bit_of_step d s m i (scope_there d k s c has) reads) (subst (Walk n) stands.0 walk))
+    step_below term j before (steps.Not a) reads stands walk =
+        let f = further n (Step k x j) _ stands.1 refl walk in
+        one_of f.0 (list.number (Step k x a)) (before f.0 f.1 a reads) f.2 f.3 f.4
+    step_below term j before (steps.And a b) reads stands walk =
+        let f = further n (Step k x j) _ stands.1 refl walk in
+        two_of f.0 (list.number (Step k x a)) (list.number (Step k x b))
+        (λ h. below_left (bits_below s.path (term a)) (bits_below s.path (term b)) (before f.0 f.1 a reads.0 h)) (λ h. below_right (bits_below s.path (term a)) (bits_below s.path (term b)) (before f.0 f.1 b reads.1 h)) f.2 f.3 f.4
+    step_below term j before (steps.Or a b) reads stands walk =
+        let f = further n (Step k x j) _ stands.1 refl walk in
+        two_of f.0 (list.number (Step k x a)) (list.number (Step k x b))
+        (λ h. below_left (bits_below s.path (term a)) (bits_below s.path (term b)) (before f.0 f.1 a reads.0 h)) (λ h. below_right (bits_below s.path (term a)) (bits_below s.path (term b)) (before f.0 f.1 b reads.1 h)) f.2 f.3 f.4
+    step_below term j before (steps.Xor a b) reads stands walk =
+        let f = further n (Step k x j) _ stands.1 refl walk in
+        two_of f.0 (list.number (Step k x a)) (list.number (Step k x b))
+        (λ h. below_left (bits_below s.path (term a)) (bits_below s.path (term b)) (before f.0 f.1 a reads.0 h)) (λ h. below_right (bits_below s.path (term a)) (bits_below s.path (term b)) (before f.0 f.1 b reads.1 h)) f.2 f.3 f.4
+    step_below term j before (steps.Mux i t r) reads stands walk =
+        let f = further n (Step k x j) _ stands.1 refl walk in
+        three_of f.0 (list.number (Step k x i)) (list.number (Step k x t)) (list.number (Step k x r))
+        (λ h. below_left (bits_below s.path (term i) ++ bits_below s.path (term t)) (bits_below s.path (term r)) (below_left (bits_below s.path (term i)) (bits_below s.path (term t)) (before f.0 f.1 i reads.0 h)))
+        (λ h. below_left (bits_below s.path (term i) ++ bits_below s.path (term t)) (bits_below s.path (term r)) (below_right (bits_below s.path (term i)) (bits_below s.path (term t)) (before f.0 f.1 t reads.1 h)))
+        (λ h. below_right (bits_below s.path (term i) ++ bits_below s.path (term t)) (bits_below s.path (term r)) (before f.0 f.1 r reads.2 h)) f.2 f.3 f.4
 
-  pub steps_more : (n : ℕ) → Nets n → Steps n → Steps (suc n)
+  pub steps_at : (n : ℕ) → Nets n → ((m : ℕ) → n ≡ suc m → Steps m) → Steps n
   unfolding term_within
-  steps_more n nets steps_n k s c has x fits j at zero less walk = absurd (omega (arith, less))
-  steps_more n nets steps_n k s c has x fits j at (suc m) less walk =
-      let y = get_or (lowered_in (s, c)) x (Plain 0, 0) in
-      let lower = lowered_at d lowering lowered k s c has x y.0 y.1 (numbered_at (lowered_in (s, c)) x (Plain 0, 0) fits) in
-      let all = (lowering k x).all in
-      let step = get_or all j (steps.Const false) in
-      let reads = All-contains (λ (z : ℕ × BitStep). Reads (nets_of s.source) z.0 z.1) (enumerate_from 0 all) (j, step) lower.earlier (numbered_at all j (steps.Const false) at) in
-      let f = first_step n (Step k x j) _ (step_listed d lowering l list k s c has x fits j at) walk in
-      step_below n nets k s c has x (term_within (nets_of s.source) all m) j (λ a lt h. steps_n k s c has x fits a (omega (arith, lt, at)) m (omega (arith, lt, less)) h) step reads f.0 f.1 f.2
+  steps_at n nets before k s c has x fits j at zero less walk = absurd (omega (arith, less))
+  steps_at n nets before k s c has x fits j at (suc t) less walk =
+      step_below n nets k s c has x (term_within (nets_of s.source) (lowering k x).all t) j (λ m same a lt h. before m same k s c has x fits a (omega (arith, lt, at)) t (omega (arith, lt, less)) h) (get_or (lowering k x).all j (steps.Const false))
+      (reads_there d lowering lowered k s c has x fits j at) (step_stands d lowering l list k s c has x fits j at) walk
 
   module _ (k : ℕ) (s : Scope) (gate : Gate) (outs ins : List Expression) (has : Part k s (GateInstance gate outs ins)) where
     abbrev term_in : ℕ → Term
-    term_in x = input d lowering l list lowered wired k s gate outs ins has x
+    term_in x = input_term d lowering lowered wired k s gate outs ins has x
 
     -- the inputs up to one of them, joined
     abbrev prefix : ℕ → Term
@@ -205,9 +211,9 @@ module _ (of_designs : DesignLaws) (d : Design) (lowering : Lowering) (l : Loose
     join_below n gates.Buf p q t u f h = one_of n p f
     join_below n gates.Not p q t u f h = one_of n p f
 
-    joins_zero : Joins 0
-    joins_zero zero fits walk = input_below 0 steps_zero 0 fits walk
-    joins_zero (suc x) fits walk = absurd (not_last (Joined k (suc x)) _ (joined_listed d lowering l list k s gate outs ins has x (omega (arith, fits))) refl walk)
+    joins_zero : Steps 0 → Joins 0
+    joins_zero now zero fits walk = input_below 0 now 0 fits walk
+    joins_zero now (suc x) fits walk = absurd (not_last (Joined k (suc x)) _ (joined_listed d lowering l list k s gate outs ins has x (omega (arith, fits))) refl walk)
 
     joins_more : (n : ℕ) → Steps n → Steps (suc n) → Joins n → Joins (suc n)
     joins_more n now next before zero fits walk = input_below (suc n) next 0 fits walk
@@ -228,7 +234,7 @@ module _ (of_designs : DesignLaws) (d : Design) (lowering : Lowering) (l : Loose
     whole_is (suc m) same one = let place : suc m - 1 ≡ 0 + m = omega arith in ap prefix place ∙ sym (prefix_is m 0)
 
     gate_below : (n : ℕ) → Joins n → ((m : ℕ) → n ≡ suc m → Joins m) → Walk n (list.number (gate_place lowering gate k (length ins))) → Below (bits_below s.path (gate_gives on_terms gate (terminal_terms s ins)))
-    gate_below n now before walk = subst (λ ts. Below (bits_below s.path (gate_gives on_terms gate ts))) (sym (terminals_are d lowering l list lowered wired k s gate outs ins has)) (by (inverts gate) refl n now before walk)
+    gate_below n now before walk = subst (λ ts. Below (bits_below s.path (gate_gives on_terms gate ts))) (sym (terminals_are d lowering lowered wired k s gate outs ins has)) (by (inverts gate) refl n now before walk)
       where
         one : 1 ≤ length ins
         one = (wired.gates s gate outs ins (from_numbered 0 (parts d) (k, (s, GateInstance gate outs ins)) has)).0
@@ -363,25 +369,34 @@ module _ (of_designs : DesignLaws) (d : Design) (lowering : Lowering) (l : Loose
             let c = z.2.1 in
             leads c.0 (subst (λ u. Contains (dependences d) (u, c.0)) bit (into_flat (λ (z : Drive). map (λ e. (z.bit, e)) (needed z.source)) (drives d) z.0 (z.0.bit, c.0) z.1 (contains-map {B = Bit × Bit} (λ e. (z.0.bit, e)) (needed z.0.source) c.0 c.1))) c.2
 
+  -- those of one length, by those of the length before
+  claimed : (n : ℕ) → Nets n → ((m : ℕ) → n ≡ suc m → Steps m) → ((k : ℕ) (s : Scope) (gate : Gate) (outs ins : List Expression) (has : Part k s (GateInstance gate outs ins)) → Steps n → Joins k s gate outs ins has n)
+      → ((k : ℕ) (s : Scope) (gate : Gate) (outs ins : List Expression) (has : Part k s (GateInstance gate outs ins)) (m : ℕ) → n ≡ suc m → Joins k s gate outs ins has m) → BoxPins n → Claims n
+  claimed n nets before joins joined pins =
+      let now = steps_at n nets before in
+      record {
+        nets = nets;
+        steps = now;
+        joins = λ k s gate outs ins has. joins k s gate outs ins has now;
+        gates = λ k s gate outs ins has. gate_below k s gate outs ins has n (joins k s gate outs ins has now) (joined k s gate outs ins has);
+        pins = pins;
+      }
+
   pub claims : (n : ℕ) → Claims n
-  claims zero = record {
-    nets = λ b has walk. inl (net_same b e (one_place_listed d lowering l list (NetBit b) (NetBit e) _ _ (net_listed d lowering l list b has) (net_listed d lowering l list e there) walk));
-    steps = steps_zero;
-    joins = λ k s gate outs ins has. joins_zero k s gate outs ins has;
-    gates = λ k s gate outs ins has. gate_below k s gate outs ins has 0 (joins_zero k s gate outs ins has) (λ m none. absurd (omega (arith, none)));
-    pins = pins_zero;
-  }
+  claims zero = claimed 0
+      (λ b has walk. inl (net_same b e (one_place_listed d lowering l list (NetBit b) (NetBit e) _ _ (net_listed d lowering l list b has) (net_listed d lowering l list e there) walk)))
+      (λ m none. absurd (omega (arith, none)))
+      (λ k s gate outs ins has now. joins_zero k s gate outs ins has now)
+      (λ k s gate outs ins has m none. absurd (omega (arith, none)))
+      pins_zero
   claims (suc n) =
       let c = claims n in
-      let next = steps_more n c.nets c.steps in
-      let joins_next = λ (k : ℕ) (s : Scope) (gate : Gate) (outs ins : List Expression) (has : Part k s (GateInstance gate outs ins)). joins_more k s gate outs ins has n c.steps next (c.joins k s gate outs ins has) in
-      record {
-        nets = λ b has walk. inr (net_leads n c b has walk);
-        steps = next;
-        joins = joins_next;
-        gates = λ k s gate outs ins has. gate_below k s gate outs ins has (suc n) (joins_next k s gate outs ins has) (λ m same. subst (Joins k s gate outs ins has) (omega (arith, same)) (c.joins k s gate outs ins has));
-        pins = pins_more n c.nets;
-      }
+      claimed (suc n)
+      (λ b has walk. inr (net_leads n c b has walk))
+      (λ m same. subst Steps (omega (arith, same)) c.steps)
+      (λ k s gate outs ins has now. joins_more k s gate outs ins has n c.steps now (c.joins k s gate outs ins has))
+      (λ k s gate outs ins has m same. subst (Joins k s gate outs ins has) (omega (arith, same)) (c.joins k s gate outs ins has))
+      (pins_more n c.nets)
 
 module _ (of_designs : DesignLaws) where
   pub list_walks_are_loops : ListWalksAreLoops

@@ -1,4 +1,5 @@
 pub mod AlikeNets
+pub mod BoxOrders
 pub mod CellLaws
 pub mod ContentTables
 pub mod CopyLaws

@@ -6,8 +6,8 @@ use Rattle.bb_net.specs.Loose.{LooseList, IsLoose, IsLooseValue}
 use Rattle.bb_net.specs.Values.{bit_of, value_of}
 use Rattle.bb_net.specs.Flats.{FlatNet, ArePrintable, IsFlat}
 use Rattle.bb_design.specs.Hierarchy.{Design}
-use Rattle.bb_design.specs.NetBits.{top_inputs}
-use Rattle.bb_cells.specs.Places.{NetBit, Numbering, Lowering, IsLowering, IsListOf}
+use Rattle.bb_design.specs.NetBits.{net_order, top_inputs}
+use Rattle.bb_cells.specs.Places.{NetBit, Numbering, Lowering, IsLowering, places, IsListOf}
 use Rattle.bb_design.specs.Registers.{registers}
 use Rattle.bb_design.specs.Sizes.{cells_in}
 use Rattle.bb_cells.specs.Stands.{box_number, StandsFor}
@@ -62,6 +62,11 @@ StandingNetsAgree = (d : Design) (f g : FlatNet) → IsAllowed d → StandsFor d
 -- a netlist that stands for a design has no more cells than the design
 abbrev pub NetsAreNoLarger : Type 0
 NetsAreNoLarger = (d : Design) (f : FlatNet) → IsBounded d → StandsFor d f → length f.net.cells ≤ cells_in d
+
+-- the list of cells of a design has no more places than the design has cells and bits of nets, however it is numbered
+abbrev pub PlacesAreFew : Type 0
+PlacesAreFew = (d : Design) (lowering : Lowering) (number : Numbering) → IsBounded d → IsLowering d lowering
+    → length (places d lowering number) ≤ cells_in d + length (net_order d)
 
 -- one that stands for a sound design is a flat netlist, where its texts are printable
 abbrev pub StandingNetsAreFlat : Type 0

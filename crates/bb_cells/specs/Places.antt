@@ -1,11 +1,12 @@
--- The list of cells of a design. Each place of the list has a name: a constant, an input, a bit of a net, a step of an
--- expression, an operator of a gate, or an output pin of a box. The place of a net's bit is a copy of the place that drives it;
--- a bit without driver is a copy of the constant 0. Expressions stand in the list as the steps into which they are lowered: an
--- operator is a cell, and a step that is a constant or a bit of a net is a copy. So there is a cell for each occurrence of an
--- operator in each scope, and nothing is folded, joined or dropped. Where a place stands in the list is told by its number.
-use Rattle.std.specs.Prelude.{◌≡◌, ℕ, zero, suc, ◌+◌, ◌-◌, ◌<◌, ◌^◌, Bool, true, false, if◌then◌else◌, List, [], ◌∷◌, ◌++◌, map, length, All, IsPermutation, slice_index}
-use Rattle.std.specs.List.{find, flat_map, zip, enumerate_from, range_with_len}
-use Rattle.std.specs.Option.{option_map_or}
+-- The list of cells of a design. Each place of the list has a name: a constant, an input, a bit of a net, an operator of an
+-- expression or of a gate, or an output pin of a box. The place of a net's bit is a copy of the place that drives it; a bit
+-- without driver is a copy of the constant 0. Expressions stand in the list as the steps into which they are lowered: an
+-- operator is a cell, and a step that is a constant or a bit of a net stands where that stands. So there is a cell for each
+-- occurrence of an operator in each scope, and nothing is folded, joined or dropped. Where a place stands in the list is told by
+-- its number.
+use Rattle.std.specs.Prelude.{◌≡◌, ℕ, zero, suc, ◌+◌, ◌-◌, Bool, true, false, if◌then◌else◌, List, [], ◌∷◌, ◌++◌, map, length, All, IsPermutation, Option, Some, None, slice_index}
+use Rattle.std.specs.List.{find, flat_map, filter_map, zip, enumerate_from, range_with_len}
+use Rattle.std.specs.Option.{option_map, option_map_or}
 use Rattle.bb_ast.specs.declared.module.Gate.{Gate}
 use Rattle.bb_ast.specs.declared.module.Gate.TheVariants as gates
 use Rattle.bb_ast.specs.Syntax.{Expression}
@@ -31,7 +32,8 @@ pub data Place : Type 0 where
   -- an input of the flat netlist
   Input : ℕ → Place
   NetBit : Bit → Place
-  -- a step of an expression: the number of the construct, of the expression in it, and of the step
+  -- a step of an expression: the number of the construct, of the expression in it, and of the step; one that is no operator
+  -- stands where its constant or its bit stands
   Step : ℕ → ℕ → ℕ → Place
   -- the operator of a gate by which an input, not the first, is joined to those before it: the numbers of the construct and of
   -- the input
@@ -121,24 +123,34 @@ data_places d lowering = map (λ r. place_in (flat_map (data_at lowering) (enume
 abbrev pub Numbering : Type 0
 Numbering = Place → ℕ
 
--- a step of an expression, where step tells where the other steps stand and bit where a bit of a net stands
-abbrev pub step_cell : (Bool → ℕ) → (ℕ → ℕ) → (ℕ → ℕ → ℕ) → BitStep → LooseCell
-step_cell constant step bit (steps.Const b) = cell.Copy (constant b)
-step_cell constant step bit (steps.Net n i) = cell.Copy (bit n i)
-step_cell constant step bit (steps.Not a) = cell.Not (step a)
-step_cell constant step bit (steps.And a b) = cell.And (step a) (step b)
-step_cell constant step bit (steps.Or a b) = cell.Or (step a) (step b)
-step_cell constant step bit (steps.Xor a b) = cell.Xor (step a) (step b)
-step_cell constant step bit (steps.Mux c t e) = cell.Mux (step c) (step t) (step e)
-
 -- the place of a bit of a net, told by its place among the nets of its scope
 abbrev pub net_place : Scope → ℕ → ℕ → Place
 net_place s n i = NetBit (record { path = s.path; net = name_at (nets_of s.source) n; place = i })
 
--- the steps of an expression with their cells
-abbrev pub step_cells : Lowering → Numbering → ℕ → Scope → ℕ → List (Place × LooseCell)
-step_cells lowering number k s x = map (λ y. (Step k x y.0, step_cell (λ b. number (Constant b)) (λ a. number (Step k x a)) (λ n i. number (net_place s n i)) y.1))
-    (enumerate_from 0 (lowering k x).all)
+-- a step that is a constant or a bit of a net has no cell of its own: it stands where that stands
+abbrev pub IsStepAt : Numbering → Scope → BitStep → ℕ → Type 0
+IsStepAt number s (steps.Const b) place = place ≡ number (Constant b)
+IsStepAt number s (steps.Net n i) place = place ≡ number (net_place s n i)
+IsStepAt number s step place = Unit {0}
+
+-- the cell of a step that is an operator, where step tells where the other steps stand
+abbrev pub step_cell : (ℕ → ℕ) → BitStep → Option LooseCell
+step_cell step (steps.Const b) = None
+step_cell step (steps.Net n i) = None
+step_cell step (steps.Not a) = Some (cell.Not (step a))
+step_cell step (steps.And a b) = Some (cell.And (step a) (step b))
+step_cell step (steps.Or a b) = Some (cell.Or (step a) (step b))
+step_cell step (steps.Xor a b) = Some (cell.Xor (step a) (step b))
+step_cell step (steps.Mux c t e) = Some (cell.Mux (step c) (step t) (step e))
+
+-- the operators of an expression with their cells
+abbrev pub step_cells : Lowering → Numbering → ℕ → ℕ → List (Place × LooseCell)
+step_cells lowering number k x = filter_map (λ y. option_map (λ c. (Step k x y.0, c)) (step_cell (λ a. number (Step k x a)) y.1)) (enumerate_from 0 (lowering k x).all)
+
+-- the other steps of a construct stand where the constants and the bits of nets stand
+abbrev pub AreSteps : Lowering → Numbering → ℕ × (Scope × Construct) → Type 0
+AreSteps lowering number (k, (s, c)) =
+    All (λ x. All (λ y. IsStepAt number s y.1 (number (Step k x y.0))) (enumerate_from 0 (lowering k x).all)) (range_with_len 0 (length (lowered_in (s, c))))
 
 -- the operator that joins the inputs of a gate; buf and not have none to join
 abbrev pub join_cell : Gate → ℕ → ℕ → LooseCell
@@ -164,7 +176,7 @@ gate_places lowering number k c = []
 
 -- the places of a construct, but for the pins of a box
 abbrev pub places_at : Lowering → Numbering → ℕ × (Scope × Construct) → List (Place × LooseCell)
-places_at lowering number (k, (s, c)) = flat_map (step_cells lowering number k s) (range_with_len 0 (length (lowered_in (s, c)))) ++ gate_places lowering number k c
+places_at lowering number (k, (s, c)) = flat_map (step_cells lowering number k) (range_with_len 0 (length (lowered_in (s, c)))) ++ gate_places lowering number k c
 
 abbrev pub box_places : ℕ × Scope → List (Place × LooseCell)
 box_places (b, s) = map (λ x. (BoxPin b x.0, cell.BoxOut b x.0)) (enumerate_from 0 (output_bits s))
@@ -199,5 +211,5 @@ pub record IsListOf (d : Design) (lowering : Lowering) (l : LooseList) : Type 0 
   pub boxes : l.boxes ≡ map (pins_of number) (enumerate_from 0 (boxes d))
   -- the outputs of the top, and then the data of the registers
   pub outs : l.outs ≡ map (λ b. number (NetBit b)) (top_outputs d) ++ map number (data_places d lowering)
-  -- places are counted in 32 bits
-  pub fits : length l.cells < 2 ^ 32
+  -- the steps that are no operators
+  pub steps : All (AreSteps lowering number) (enumerate_from 0 (parts d))

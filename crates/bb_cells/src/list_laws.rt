@@ -2,7 +2,7 @@
 //! has a law as its contract and does nothing.
 
 ghost use Rattle.bb_cells.specs.CellLaws.{CellLaws};
-ghost use Rattle.bb_cells.specs.ListLaws.{ListsBegin, ListsAreLoose, ListsGiveWorlds, StandingNetsGiveOutputs, StandingNetsAgree, NetsAreNoLarger, StandingNetsAreFlat};
+ghost use Rattle.bb_cells.specs.ListLaws.{ListsBegin, ListsAreLoose, ListsGiveWorlds, StandingNetsGiveOutputs, StandingNetsAgree, NetsAreNoLarger, PlacesAreFew, StandingNetsAreFlat};
 
 use bb_design::laws::{constructs_hold_bit_by_bit, laws_of_designs};
 use bb_expr::laws::{made_has_value, values_have_width};
@@ -46,6 +46,13 @@ pub fn standing_nets_agree()
 /// A netlist that stands for a design has no more cells than the design.
 pub fn nets_are_no_larger()
     ensures { NetsAreNoLarger }
+{
+    laws_of_designs();
+}
+
+/// The list of cells of a design has no more places than the design has cells and bits of nets.
+pub fn places_are_few()
+    ensures { PlacesAreFew }
 {
     laws_of_designs();
 }

@@ -26,17 +26,27 @@ use Rattle.bb_lists.proofs.Maps.{map-twice}
 use Rattle.bb_elab.proofs.ReadBits.{zip_there}
 use Rattle.bb_lists.proofs.Turns.{zip_both}
 use Rattle.bb_cells.specs.CellLaws.{CellLaws}
+use Rattle.bb_cells.specs.ListLaws.{ListsAreLoose}
+use Rattle.bb_design.specs.Allowed.{IsBounded}
 
 module _ (of_cells : CellLaws) (d : Design) (list : LooseList) (net : Netlist) (numbers : List ℕ) (are : AreArranged d list net numbers) where
   -- copies end behind it
   pub clock_source : (first : ℕ) → first ≡ 2 + length (cut_bits d) → (k : ℕ) (b : Bit) → slice_get (net_order d) k ≡ Some b → (n source : ℕ) × IsSource n list (first + k) source
   clock_source first is k b at = are.ordered.sources (first + k) (omega (arith, is, (of_cells.net_places d are.lowering list are.listed k b at).1))
 
-  clock_fits : (first : ℕ) → first ≡ 2 + length (cut_bits d) → (x : Stored) (r : RegisterBit) → IsStoredAt d x r → first + x.clock < 2 ^ 32
-  clock_fits first is x r stored = let low = (of_cells.net_places d are.lowering list are.listed x.clock stored.clock.0 stored.clock.2).1 in let few = are.listed.fits in omega (arith, is, low, few)
+  -- and numbers of 32 bits tell it
+  module _ (law : ListsAreLoose) (bounded : IsBounded d) where
+    pub cells_few : length list.cells < 2 ^ 32
+    cells_few = (law d are.lowering list bounded are.lowered are.listed).cells_fit
 
-  pub clocks_fit : (first : ℕ) → first ≡ 2 + length (cut_bits d) → (stored : List Stored) → AreStored d stored → All (λ x. first + x.clock < 2 ^ 32) stored
-  clocks_fit first is stored all = all_from (λ x. first + x.clock < 2 ^ 32) stored (λ x has. let r = zip_there (IsStoredAt d) stored (registers d) x all has in clock_fits first is x r.0 r.2)
+    pub inputs_few : 2 + list.inputs < 2 ^ 32
+    inputs_few = let low = of_cells.nets_fit d are.lowering list are.listed in let few = cells_few in omega (arith, low, few, are.listed.inputs)
+
+    clock_fits : (first : ℕ) → first ≡ 2 + length (cut_bits d) → (x : Stored) (r : RegisterBit) → IsStoredAt d x r → first + x.clock < 2 ^ 32
+    clock_fits first is x r stored = let low = (of_cells.net_places d are.lowering list are.listed x.clock stored.clock.0 stored.clock.2).1 in let few = cells_few in omega (arith, is, low, few)
+
+    pub clocks_fit : (first : ℕ) → first ≡ 2 + length (cut_bits d) → (stored : List Stored) → AreStored d stored → All (λ x. first + x.clock < 2 ^ 32) stored
+    clocks_fit first is stored all = all_from (λ x. first + x.clock < 2 ^ 32) stored (λ x has. let r = zip_there (IsStoredAt d) stored (registers d) x all has in clock_fits first is x r.0 r.2)
 
 -- one more register
 pub registers_more : (d : Design) (stored : List Stored) (i : ℕ) (x : Stored) → slice_get stored i ≡ Some x → AreStored d stored → (texts : List (List ℕ)) (n : List ℕ) → slice_get texts i ≡ Some n → texts ≡ register_texts d

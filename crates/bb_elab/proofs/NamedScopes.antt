@@ -1,6 +1,7 @@
 -- The numbers of the bits of ports of a scope.
-use Rattle.std.proofs.Common.{◌≡◌, ℕ, ◌+◌, ◌<◌, List, [], ◌∷◌, map, length, Some, refl, sym, ap, ap₂, ◌∙◌, subst, arith}
+use Rattle.std.proofs.Common.{◌≡◌, ℕ, ◌+◌, ◌<◌, ◌^◌, All, List, [], ◌∷◌, map, length, Some, refl, sym, ap, ap₂, ◌∙◌, subst, arith}
 use Rattle.std.specs.Prelude.{slice_get}
+use Rattle.std.proofs.lemmas.List.{get_or-map, length-map}
 use Rattle.std.proofs.lemmas.Option.{slice_get_within, same_Some}
 use Rattle.bb_ast.specs.Syntax.{PlainModule}
 use Rattle.bb_net.specs.Pairs.{BoxTexts}
@@ -15,7 +16,9 @@ use Rattle.bb_blast.specs.Placements.{IsScopeAt}
 use Rattle.bb_elab.specs.Stages.{HasGrown}
 use Rattle.bb_cells.specs.Stands.{box_texts}
 use Rattle.bb_design.specs.Texts.{path_text, pin_text}
-use Rattle.bb_lists.proofs.FlatPlaces.{at_flat, flat_longer, flat_fits}
+use Rattle.bb_design.specs.Refusals.{IsSmall}
+use Rattle.bb_lists.proofs.AtPlaces.{at_below}
+use Rattle.bb_lists.proofs.FlatPlaces.{at_flat}
 
 module _ (text : List PlainModule) (d : Design) (g : Grown) (has : HasGrown text d g) (k : ℕ) (s : Scope) (at : IsScopeAt d k s) (p : Placed) (there : slice_get g.placed.items k ≡ Some p) where
   made : (o : Outline) × (slice_get g.outlines.items p.module ≡ Some o) × IsOutline d.text s.source o
@@ -50,9 +53,18 @@ module _ (text : List PlainModule) (d : Design) (g : Grown) (has : HasGrown text
     pub top_outputs_at : AreAt (net_order d) o.outputs.items (top_outputs d)
     top_outputs_at = subst (λ ks. AreAt (net_order d) ks (top_outputs d)) (from_zero p.first (has.grown.scopes.each 0 (root d) p refl there).first o.outputs.items) (outputs_at text d g has 0 (root d) refl p there o kept)
 
--- numbers that are moved to a scope
-pub moved_at : (d : Design) (bits : List Bit) (first : ℕ) (own listed moved : List ℕ) → AreAt (net_order d) (numbers_from first own) bits → listed ≡ own → moved ≡ map (λ i. first + i) listed → AreAt (net_order d) moved bits
-moved_at d bits first own listed moved at same is = subst (λ l. AreAt (net_order d) l bits) (sym (is ∙ ap (map (λ i. first + i)) same)) at
+-- the numbers of bits are small in a design that is small
+few_numbers : (d : Design) → IsSmall d → (bits : List Bit) (first : ℕ) (own : List ℕ) → AreAt (net_order d) (numbers_from first own) bits → All (λ i. first + i < 2 ^ 32) own
+few_numbers d small bits first own at k x lt =
+    let below = at_below (net_order d) (numbers_from first own) bits at k 0 (omega (arith, lt, length-map own (λ i. first + i))) in
+    omega (arith, below, get_or-map (λ i. first + i) own k x 0 lt, small.0)
+
+-- and so are those that are moved to a scope
+pub moved_at : (d : Design) → IsSmall d → (bits : List Bit) (first : ℕ) (own listed moved : List ℕ) → AreAt (net_order d) (numbers_from first own) bits → listed ≡ own → (All (λ i. first + i < 2 ^ 32) listed → moved ≡ map (λ i. first + i) listed)
+    → AreAt (net_order d) moved bits
+moved_at d small bits first own listed moved at same is =
+    let fits = subst (All (λ i. first + i < 2 ^ 32)) (sym same) (few_numbers d small bits first own at) in
+    subst (λ l. AreAt (net_order d) l bits) (sym (is fits ∙ ap (map (λ i. first + i)) same)) at
 
 pub box_is : (d : Design) (s : Scope) (n : BoxTexts) (path : List ℕ) (ins outs : List (List ℕ)) → n ≡ record { path = path; ins = ins; outs = outs }
     → path ≡ path_text s.path → ins ≡ map (pin_text d) (input_bits s) → outs ≡ map (pin_text d) (output_bits s) → n ≡ box_texts d s

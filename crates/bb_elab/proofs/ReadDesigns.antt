@@ -41,14 +41,12 @@ module _ (of_cells : CellLaws) (text : List PlainModule) (l : LooseList) (stored
   pub bits_fit : first + bits ≤ length l.cells
   bits_fit = let ok = x.1 in omega (arith, is, ok.count, ok.listed.2.inputs, of_cells.nets_fit x.0 ok.listed.0 l ok.listed.2)
 
-  pub cells_few : length l.cells < 2 ^ 32
-  cells_few = x.1.listed.2.fits
+  module _ (law : ListsAreLoose) where
+    pub loose : IsLoose l
+    loose = law x.0 x.1.listed.0 l x.1.bounded x.1.listed.1 x.1.listed.2
 
-  pub clocks_few : All (λ (x : Stored). first + x.clock < 2 ^ 32) stored
-  clocks_few = all_from (λ (x : Stored). first + x.clock < 2 ^ 32) stored (λ y has. let there = All-contains (λ (x : Stored). first + x.clock < length l.cells) stored y clocks_there has in let few = cells_few in omega (arith, there, few))
-
-  pub loose : ListsAreLoose → IsLoose l
-  loose law = law x.0 x.1.listed.0 l x.1.bounded x.1.listed.1 x.1.listed.2
+    pub clocks_few : All (λ (x : Stored). first + x.clock < 2 ^ 32) stored
+    clocks_few = all_from (λ (x : Stored). first + x.clock < 2 ^ 32) stored (λ y has. let there = All-contains (λ (x : Stored). first + x.clock < length l.cells) stored y clocks_there has in let few = loose.cells_fit in omega (arith, there, few))
 
 -- what is known of an answer in three ways
 pub three : {A E : Type 0} {P Q R S : A → Type 0} (r : Result A E) → IfOk r P → IfOk r Q → IfOk r R → ((x : A) → P x → Q x → R x → S x) → IfOk r S

@@ -23,8 +23,8 @@ use crate::growing::Grown;
 use crate::naming::{bit_names, top_outline};
 use crate::repeats::first_repeat;
 use bb_bits::{Name, NoMemory};
-use bb_blast::{Stored, behind, count_of};
-use bb_cells::list_laws::laws_of_cells;
+use bb_blast::Stored;
+use bb_cells::list_laws::{laws_of_cells, lists_are_loose};
 use bb_design::ElabFault;
 use bb_names::Checked;
 use bb_net::{Loose, Reg};
@@ -120,8 +120,9 @@ pub(crate) fn named_registers(
         → texts.items ≡ register_texts d → AllZip (IsRegister d) (registers d) regs.items) }
 {
     laws_of_cells();
+    lists_are_loose();
     let top = top_outline(grown);
-    let limit = count_of(&top.inputs)?;
-    let first = behind(2, list.input_count())?;
+    let limit = top.inputs.len() as u32;
+    let first = 2 + list.input_count();
     registers(alloc, list, first, limit, &grown.stored, texts)
 }

@@ -1,6 +1,7 @@
-use Rattle.std.proofs.Common.{◌≡◌, ◌+◌}
+use Rattle.std.proofs.Common.{◌≡◌, map}
 use Rattle.std.specs.List.{range_with_len}
+use Rattle.bb_blast.specs.Counting.{behind}
 use Rattle.bb_blast.proofs.box_cells.row.Given as goal
 
-abbrev pub invariant-loop : goal.invariant-loop
-invariant-loop l = (l.row.items ≡ range_with_len l.base l.counter) × (l.place ≡ l.base + l.counter)
+abbrev pub invariant-loop-k : goal.invariant-loop-k
+invariant-loop-k l = l.row.items ≡ map (behind l.base) (range_with_len 0 l.k)

@@ -23,7 +23,7 @@ pub returns : goal.returns
 returns c = record {
   list = λ d are outlined store bounded once.
       let some : 0 < length c.args.placed.now = omega (arith, are.count) in
-      listed_is_list c.laws_of_designs.ensures c.net_names_differ.ensures d c.args.placed.now c.args.outlines.now c.args.stored.now c.index-placed-0.result c.outline_of-top.result.now c.in_ok-list.list c.in_ok-list.ensures.list c.in_ok-list.ensures.fits
+      listed_is_list c.laws_of_designs.ensures c.net_names_differ.ensures c.places_are_few.ensures d c.args.placed.now c.args.outlines.now c.args.stored.now c.index-placed-0.result c.outline_of-top.result.now c.in_ok-list.list c.in_ok-list.ensures.list
       (slice_get_read c.args.placed.now (length c.args.placed.now) 0 c.index-placed-0.result refl some c.index-placed-0.is)
       c.outline_of-top.ensures.outline are outlined store bounded;
 }

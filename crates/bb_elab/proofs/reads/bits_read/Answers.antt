@@ -7,7 +7,7 @@ pub read_bits-requires : goal.read_bits-requires
 read_bits-requires c =
     let first : 2 + c.input_count.result ≡ 2 + c.args.list.now.inputs = ap (λ n. 2 + n) c.input_count.ensures.count in
     record {
-      fits = clocks_few c.laws_of_cells.ensures (map syntax c.args.checked.now) c.args.list.now c.args.stored.now c.args.bits c.requires.design (2 + c.input_count.result) first;
+      fits = clocks_few c.laws_of_cells.ensures (map syntax c.args.checked.now) c.args.list.now c.args.stored.now c.args.bits c.requires.design (2 + c.input_count.result) first c.lists_are_loose.ensures;
       there = bits_fit c.laws_of_cells.ensures (map syntax c.args.checked.now) c.args.list.now c.args.stored.now c.args.bits c.requires.design (2 + c.input_count.result) first;
     }
 

@@ -1,0 +1,154 @@
+//! What single constructs put behind the cells of those before them, and what they drive by the places of these cells.
+
+ghost use Rattle.std.specs.Prelude.{◌≡◌, All, length, map, OnOk};
+ghost use Rattle.bb_bits.specs.Bits.{low_bits};
+ghost use Rattle.bb_blast.specs.Counting.{behind};
+ghost use Rattle.bb_blast.specs.Listing.{HasNetsBelow, IsInputAmong, sheet_view, beside, bit_places, giving, giving_next, driven_by, with_expression, with_gate};
+
+use crate::box_cells::add_moved;
+use crate::gate_cells::add_gate;
+use crate::sources::{give_all, give_beside};
+use crate::step_cells::{Spot, add_expression};
+use bb_ast::Gate;
+use bb_bits::NoMemory;
+use bb_expr::Lowered;
+use bb_net::LooseCell;
+
+/// The cells so far behind the bits of nets, the place that gives each bit, and the one that gives each register bit its next
+/// state.
+#[derive(Debug, Drop)]
+pub(crate) struct SheetLists {
+    pub cells: Vec<LooseCell>,
+    pub sources: Vec<Option<u32>>,
+    pub next: Vec<Option<u32>>,
+    /// The numbers of the steps of an expression, kept so that their memory is used again.
+    pub numbers: Vec<u32>,
+    /// The places of bits or of the inputs of a gate, kept likewise.
+    pub places: Vec<u32>,
+}
+
+// So many of the last of these.
+fn low_bits(count: usize, places: &[u32]) -> &[u32]
+    ensures low { result.now ≡ low_bits count places.now }
+{
+    &places[places.len().saturating_sub(count)..]
+}
+
+// Puts the cells of an expression behind others, and notes the places of its bits.
+fn put_expression(spot: Spot<'_>, lowered: &Lowered, sheet: &mut SheetLists) -> Result<(), NoMemory>
+    requires nets { HasNetsBelow (length spot.starts.now) lowered.now }
+    ensures places { OnOk result (sheet.new.places.items
+        ≡ bit_places spot.entry.others spot.entry.bits spot.entry.starts.now sheet.old.cells.items lowered.now) }
+    ensures put { OnOk result (sheet_view sheet.new
+        ≡ with_expression spot.entry.others spot.entry.bits spot.entry.starts.now (sheet_view sheet.old) lowered.now) }
+{
+    add_expression(
+        spot,
+        lowered,
+        &mut sheet.numbers,
+        &mut sheet.places,
+        &mut sheet.cells,
+    )
+}
+
+/// An assignment gives bits from a number on the last bits of an expression.
+pub(crate) fn put_assignment(
+    spot: Spot<'_>,
+    first: u32,
+    left: &[u32],
+    right: &Lowered,
+    sheet: &mut SheetLists,
+) -> Result<(), NoMemory>
+    requires nets { HasNetsBelow (length spot.starts.now) right.now }
+    ensures put { OnOk result (sheet_view sheet.new
+        ≡ giving (with_expression spot.entry.others spot.entry.bits spot.entry.starts.now (sheet_view sheet.old) right.now)
+        (beside first left.now (low_bits (length left.now)
+        (bit_places spot.entry.others spot.entry.bits spot.entry.starts.now sheet.old.cells.items right.now)))) }
+{
+    put_expression(spot, right, sheet)?;
+    let places = low_bits(left.len(), &sheet.places);
+    give_beside(&mut sheet.sources, first, left, places);
+    Ok(())
+}
+
+/// Register bits get the last bits of an expression as their next state.
+pub(crate) fn put_register(
+    spot: Spot<'_>,
+    first: u32,
+    left: &[u32],
+    right: &Lowered,
+    sheet: &mut SheetLists,
+) -> Result<(), NoMemory>
+    requires nets { HasNetsBelow (length spot.starts.now) right.now }
+    ensures put { OnOk result (sheet_view sheet.new
+        ≡ giving_next (with_expression spot.entry.others spot.entry.bits spot.entry.starts.now (sheet_view sheet.old) right.now)
+        (beside first left.now (low_bits (length left.now)
+        (bit_places spot.entry.others spot.entry.bits spot.entry.starts.now sheet.old.cells.items right.now)))) }
+{
+    put_expression(spot, right, sheet)?;
+    let places = low_bits(left.len(), &sheet.places);
+    give_beside(&mut sheet.next, first, left, places);
+    Ok(())
+}
+
+/// What is connected to an input port gives the bits of the port.
+pub(crate) fn put_input(
+    spot: Spot<'_>,
+    inner: u32,
+    pin: &[u32],
+    value: &Lowered,
+    sheet: &mut SheetLists,
+) -> Result<(), NoMemory>
+    requires nets { HasNetsBelow (length spot.starts.now) value.now }
+    ensures put { OnOk result (sheet_view sheet.new
+        ≡ giving (with_expression spot.entry.others spot.entry.bits spot.entry.starts.now (sheet_view sheet.old) value.now)
+        (beside inner pin.now
+        (bit_places spot.entry.others spot.entry.bits spot.entry.starts.now sheet.old.cells.items value.now))) }
+{
+    put_expression(spot, value, sheet)?;
+    give_beside(&mut sheet.sources, inner, pin, &sheet.places);
+    Ok(())
+}
+
+/// The bits of an output port, the first of the instance at a place, give what is connected to it.
+pub(crate) fn put_output(
+    inner: u32,
+    first: u32,
+    pin: &[u32],
+    left: &[u32],
+    sheet: &mut SheetLists,
+) -> Result<(), NoMemory>
+    ensures put { OnOk result (sheet_view sheet.new
+        ≡ giving (sheet_view sheet.old) (beside first left.now (map (behind inner) pin.now))) }
+{
+    sheet.places.clear();
+    add_moved(inner, pin, &mut sheet.places)?;
+    give_beside(&mut sheet.sources, first, left, &sheet.places);
+    Ok(())
+}
+
+/// A gate gives all its outputs.
+pub(crate) fn put_gate(
+    spot: Spot<'_>,
+    first: u32,
+    gate: &Gate,
+    outs: &[u32],
+    ins: &[Lowered],
+    sheet: &mut SheetLists,
+) -> Result<(), NoMemory>
+    requires ins { All (IsInputAmong (length spot.starts.now)) ins.now }
+    ensures put { OnOk result (sheet_view sheet.new
+        ≡ driven_by (sheet_view sheet.old) (with_gate spot.entry.others spot.entry.bits spot.entry.starts.now gate.now
+        sheet.old.cells.items ins.now) first outs.now) }
+{
+    let place = add_gate(
+        spot,
+        gate,
+        ins,
+        &mut sheet.numbers,
+        &mut sheet.places,
+        &mut sheet.cells,
+    )?;
+    give_all(&mut sheet.sources, first, outs, place);
+    Ok(())
+}
