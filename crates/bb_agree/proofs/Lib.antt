@@ -1,8 +1,13 @@
 pub mod AlikePairs
 pub mod DesignAgreements
+pub mod DesignCauses
+pub mod DesignDecisions
+pub mod DesignFacts
+pub mod DesignFits
+pub mod DesignPairs
+pub mod FirstAcross
 pub mod FreeOutputs
 pub mod Mistakes
 pub mod NamedVectors
 pub mod OneBit
 pub mod SpelledContents
-pub mod TakenAlike

@@ -1,19 +1,20 @@
 -- When contents of its boxes make a design agree with a specification. Both are taken between their cut points: a register's
 -- present state counts as an input and its next state as an output, and inputs and outputs of the two go by kind and text, so
 -- that they agree in every state, in what they give and in the state that comes next.
-use Rattle.std.specs.Prelude.{◌≡◌, ◌↔◌, Bool, List, Contains}
+use Rattle.std.specs.Prelude.{◌≡◌, ◌↔◌, Bool, List, map, length, Contains}
 use Rattle.std.specs.List.{AllZip}
 use Rattle.bb_bits.specs.Contents.{Contents}
-use Rattle.bb_bits.specs.Tables.{TableBits, rows_of}
+use Rattle.bb_bits.specs.Tables.{TableBits, HasAllBits, rows_of}
 use Rattle.bb_net.specs.Agreement.{TablesAgree}
 use Rattle.bb_net.specs.Conditions.{NoTablesAgree}
 use Rattle.bb_net.specs.Pairs.{NetPair, BoxTexts, IsPair}
 use Rattle.bb_net.specs.Values.{FitBoxes}
 use Rattle.bb_cells.specs.ContentTables.{AreTablesOf}
 use Rattle.bb_net.specs.Flats.{FlatNet, IsFlat}
-use Rattle.bb_design.specs.Hierarchy.{Design}
+use Rattle.bb_design.specs.Hierarchy.{Design, Scope}
 use Rattle.bb_design.specs.Allowed.{IsAllowed}
-use Rattle.bb_cells.specs.Stands.{StandsFor}
+use Rattle.bb_cells.specs.BoxOrders.{IsBoxOrder}
+use Rattle.bb_cells.specs.Stands.{StandsFor, box_texts}
 use Rattle.bb_design.specs.Worlds.{World, Vector, HasVector, IsWorld, FitDesign, outputs_in}
 use Rattle.bb_net.specs.CutPoints.{CutOutput}
 use Rattle.bb_match.specs.Pairing.{IsPairOf}
@@ -56,6 +57,21 @@ NoTablesNoContents = (spec imp : Design) (p : NetPair) → IsAllowed spec → Is
 -- tables spell contents: at the path of each box these have the rows of its table
 abbrev pub AreSpelled : List BoxTexts → List TableBits → Contents → Type 0
 AreSpelled boxes tables contents = AllZip (λ box t. contents box.path ≡ rows_of t) boxes tables
+
+-- a table of a box, by the texts of its pins: it has a bit for each output in each row
+pub record IsTableOf (box : BoxTexts) (t : TableBits) : Type 0 where
+  pub inputs : t.inputs ≡ length box.ins
+  pub outputs : t.outputs ≡ length box.outs
+  pub whole : HasAllBits t
+
+-- tables that fit the boxes of a pair are tables of these
+abbrev pub FittingTablesAreOfBoxes : Type 0
+FittingTablesAreOfBoxes = (p : NetPair) (tables : List TableBits) → IsPair p → FitBoxes tables p.imp.boxes → AllZip IsTableOf p.boxes tables
+
+-- a pair that stands for two sound designs has the boxes of the implementation, in the order of their dependence
+abbrev pub PairsHaveBoxOrders : Type 0
+PairsHaveBoxOrders = (spec imp : Design) (p : NetPair) → IsAllowed imp → IsPairFor spec imp p
+    → (order : List Scope) × IsBoxOrder imp order × (p.boxes ≡ map (box_texts imp) order)
 
 -- tables that fit the boxes of a pair that stands for two sound designs spell contents that fit the implementation
 abbrev pub TablesSpellContents : Type 0

@@ -1,19 +1,20 @@
 //! Laws of what two texts have one of. Each function has a law as its contract and does nothing.
 
 ghost use Rattle.bb_agree.specs.AlikePairs.{PairsForDesignsAreAlike};
-ghost use Rattle.bb_agree.specs.DesignAgreement.{DesignsAgreeWithThemselves, NoTablesNoContents, SpelledContentsAgree, TablesAgreeAsContents, TablesSpellContents};
-ghost use Rattle.bb_agree.specs.DesignRefusals.{StandingNetsAreTakenAlike, DesignRefusalsAreOne, NotPairAndRefusal};
+ghost use Rattle.bb_agree.specs.DesignAgreement.{DesignsAgreeWithThemselves, FittingTablesAreOfBoxes, NoTablesNoContents, PairsHaveBoxOrders, SpelledContentsAgree, TablesAgreeAsContents, TablesSpellContents};
+ghost use Rattle.bb_agree.specs.DesignRefusals.{DesignRefusalsAreOne, FitOrRefused, NetsAreTakenAsDesigns, NotFitAndRefused, PairsStandExactlyForFitting};
 ghost use Rattle.bb_agree.specs.Mistakes.{MistakesRefute, PairsAreNamed, WrongOutputsAreMistakes, WrongVectorsAreMistakes};
 
 use bb_alike::laws::rearranged_stay_alike;
 use bb_cells::list_laws::standing_nets_give_outputs;
 use bb_cells::naming_laws::{
-    standing_nets_are_alike, standing_nets_are_named, standing_nets_are_named_alike,
+    boxes_have_heights, followed_inputs_are_one, standing_nets_are_alike, standing_nets_are_named,
+    standing_nets_are_named_alike, standing_nets_have_box_orders,
 };
 use bb_cells::table_laws::{contents_have_tables, tables_give_outputs, tables_have_contents};
 use bb_match::laws::{
-    first_refusals_are_one, fitting_nets_have_their_outputs, flat_nets_have_cuts_apart,
-    not_fit_and_refused,
+    causes_are_ranked, fitting_have_pair, fitting_nets_have_their_outputs,
+    flat_nets_have_cuts_apart,
 };
 use bb_net::{rearranged_keeps_values, value_goes_by_boxes};
 
@@ -45,6 +46,18 @@ pub fn no_tables_no_contents()
     fitting_nets_have_their_outputs();
 }
 
+/// Tables that fit the boxes of a pair are tables of these.
+pub fn fitting_tables_are_of_boxes()
+    ensures { FittingTablesAreOfBoxes }
+{}
+
+/// A pair that stands for two sound designs has the boxes of the implementation, in the order of their dependence.
+pub fn pairs_have_box_orders()
+    ensures { PairsHaveBoxOrders }
+{
+    standing_nets_have_box_orders();
+}
+
 /// Tables that fit the boxes of such a pair spell contents that fit the design.
 pub fn tables_spell_contents()
     ensures { TablesSpellContents }
@@ -73,30 +86,41 @@ pub fn spelled_contents_agree()
     fitting_nets_have_their_outputs();
 }
 
-/// Netlists that stand for the same designs are refused alike.
-pub fn standing_nets_are_refused_alike()
-    ensures { StandingNetsAreTakenAlike }
+/// Netlists that stand for two sound designs fit, and are refused, as these are.
+pub fn nets_are_taken_as_designs()
+    ensures { NetsAreTakenAsDesigns }
 {
+    standing_nets_have_box_orders();
     standing_nets_are_named();
-    standing_nets_are_named_alike();
+    followed_inputs_are_one();
 }
 
 /// Two designs have one first refusal at most.
 pub fn design_refusals_are_one()
     ensures { DesignRefusalsAreOne }
 {
-    standing_nets_are_named();
-    standing_nets_are_named_alike();
-    first_refusals_are_one();
+    causes_are_ranked();
 }
 
-/// No two designs have a pair and a refusal.
-pub fn not_pair_and_refusal()
-    ensures { NotPairAndRefusal }
+/// No two designs fit and have a refusal.
+pub fn not_fit_and_refused()
+    ensures { NotFitAndRefused }
+{}
+
+/// Two designs, of which the specification is sound, fit or have a first refusal.
+pub fn fit_or_refused()
+    ensures { FitOrRefused }
 {
-    standing_nets_are_named();
-    standing_nets_are_named_alike();
-    not_fit_and_refused();
+    boxes_have_heights();
+    causes_are_ranked();
+}
+
+/// A pair stands for designs that fit alone, and where they do, flat netlists that stand for them have a pair.
+pub fn pairs_stand_exactly_for_fitting()
+    ensures { PairsStandExactlyForFitting }
+{
+    nets_are_taken_as_designs();
+    fitting_have_pair();
 }
 
 /// A design agrees with itself, whatever fits its boxes.

@@ -16,7 +16,7 @@ use Rattle.bb_match.specs.Laws.{FitOrRefused}
 use Rattle.bb_lists.proofs.Orders.{less_or_same}
 use Rattle.bb_lists.proofs.Firsts.{first_there}
 use Rattle.bb_lists.proofs.Members.{contains_here, contains_there, contains_cases, none_in_nil}
-use Rattle.bb_match.proofs.RefusalLaws.{none_is_not_some, cause_at, at_rank}
+use Rattle.bb_match.proofs.RefusalLaws.{none_is_not_some, cause_at, at_rank, below_eleven}
 
 -- equality of texts
 
@@ -170,20 +170,7 @@ refused spec imp cause n before told = record { cause = cause; name = n; is = re
 
 pub fit_from : (spec imp : FlatNet) → NoneBefore spec imp 11 → Fit spec imp
 unfolding NoneBefore
-fit_from spec imp before cause = before cause (below cause)
-  where
-    below : (c : Cause) → rank c < 11
-    below Box = omega arith
-    below SpecInput = omega arith
-    below SpecOutput = omega arith
-    below ImpInput = omega arith
-    below ImpOutput = omega arith
-    below SpecRegister = omega arith
-    below ImpRegister = omega arith
-    below SpecClock = omega arith
-    below ImpClock = omega arith
-    below Clocks = omega arith
-    below Pins = omega arith
+fit_from spec imp before cause = before cause (below_eleven cause)
 
 pub fit_or_refused : FitOrRefused
 fit_or_refused spec imp = step Box (none_at_first spec imp) (λ b0. step SpecInput b0 (λ b1. step SpecOutput b1 (λ b2. step ImpInput b2 (λ b3. step ImpOutput b3 (λ b4. step SpecRegister b4 (λ b5. step ImpRegister b5 (λ b6. step SpecClock b6 (λ b7. step ImpClock b7 (λ b8. step Clocks b8 (λ b9. step Pins b9 (λ b. inl (fit_from spec imp b))))))))))))

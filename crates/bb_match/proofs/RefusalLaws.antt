@@ -8,7 +8,7 @@ use Rattle.bb_net.specs.Flats.{FlatNet}
 use Rattle.bb_match.specs.declared.fault.MatchFault.TheVariants as faults
 use Rattle.bb_net.specs.CutPoints.{register_texts}
 use Rattle.bb_match.specs.Refusals.{IsMissing, IsFirstMissing, AreAmong, HasNoClock, IsFirstWithoutClock, HaveClocks, IsClockedApart, IsClockedAlike, Cause, Box, SpecInput, SpecOutput, ImpInput, ImpOutput, SpecRegister, ImpRegister, SpecClock, ImpClock, Clocks, Pins, rank, fault_of, IsTold, IsAbsent}
-use Rattle.bb_match.specs.Laws.{NotFitAndRefused, FirstRefusalsAreOne}
+use Rattle.bb_match.specs.Laws.{CausesAreRanked, NotFitAndRefused, FirstRefusalsAreOne}
 use Rattle.bb_lists.proofs.Orders.{less_or_same}
 use Rattle.bb_lists.proofs.Firsts.{first_there, first_one}
 
@@ -83,6 +83,37 @@ at_rank SpecClock = refl
 at_rank ImpClock = refl
 at_rank Clocks = refl
 at_rank Pins = refl
+
+-- each rank is that of the cause which stands at it
+rank_at : (n : ℕ) → n < 11 → rank (cause_at n) ≡ n
+unfolding cause_at
+rank_at zero lt = refl
+rank_at (suc zero) lt = refl
+rank_at (suc (suc zero)) lt = refl
+rank_at (suc (suc (suc zero))) lt = refl
+rank_at (suc (suc (suc (suc zero)))) lt = refl
+rank_at (suc (suc (suc (suc (suc zero))))) lt = refl
+rank_at (suc (suc (suc (suc (suc (suc zero)))))) lt = refl
+rank_at (suc (suc (suc (suc (suc (suc (suc zero))))))) lt = refl
+rank_at (suc (suc (suc (suc (suc (suc (suc (suc zero)))))))) lt = refl
+rank_at (suc (suc (suc (suc (suc (suc (suc (suc (suc zero))))))))) lt = refl
+rank_at (suc (suc (suc (suc (suc (suc (suc (suc (suc (suc n)))))))))) lt = omega (arith, lt)
+
+pub below_eleven : (c : Cause) → rank c < 11
+below_eleven Box = omega arith
+below_eleven SpecInput = omega arith
+below_eleven SpecOutput = omega arith
+below_eleven ImpInput = omega arith
+below_eleven ImpOutput = omega arith
+below_eleven SpecRegister = omega arith
+below_eleven ImpRegister = omega arith
+below_eleven SpecClock = omega arith
+below_eleven ImpClock = omega arith
+below_eleven Clocks = omega arith
+below_eleven Pins = omega arith
+
+pub causes_are_ranked : CausesAreRanked
+causes_are_ranked = record { one = λ c e same. sym (at_rank c) ∙ ap cause_at same ∙ at_rank e; below = below_eleven; each = λ n lt. (cause_at n, rank_at n lt) }
 
 pub not_fit_and_refused : NotFitAndRefused
 not_fit_and_refused spec imp fault fit r = told_not_absent spec imp r.cause r.name r.told (fit r.cause)

@@ -1,11 +1,17 @@
 -- Laws of refusals, of pairs and of cut points.
-use Rattle.std.specs.Prelude.{◌≡◌, ◌≢◌, ◌⊎◌, All, AllPairs, Contains}
+use Rattle.std.specs.Prelude.{◌≡◌, ◌≢◌, ◌⊎◌, ℕ, ◌<◌, All, AllPairs, Contains}
 use Rattle.bb_net.specs.CutPoints.{cut_inputs, cut_outputs}
 use Rattle.bb_net.specs.Pairs.{NetPair}
 use Rattle.bb_net.specs.Flats.{FlatNet, IsFlat}
 use Rattle.bb_match.specs.declared.fault.MatchFault.{MatchFault}
-use Rattle.bb_match.specs.Refusals.{Fit, IsFirstRefusal}
+use Rattle.bb_match.specs.Refusals.{Cause, Fit, IsFirstRefusal, rank}
 use Rattle.bb_match.specs.Pairing.{IsPairOf}
+
+-- causes are told by their ranks, and these are the numbers below 11
+pub record CausesAreRanked : Type 0 where
+  pub one : (c e : Cause) → rank c ≡ rank e → c ≡ e
+  pub below : (c : Cause) → rank c < 11
+  pub each : (n : ℕ) → n < 11 → (c : Cause) × (rank c ≡ n)
 
 -- no two netlists fit and are refused
 abbrev pub NotFitAndRefused : Type 0

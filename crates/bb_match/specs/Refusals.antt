@@ -133,10 +133,14 @@ IsAbsent spec imp Pins = input_and_pin_count imp ≤ most_pins
 abbrev pub Fit : FlatNet → FlatNet → Type 0
 Fit spec imp = (cause : Cause) → IsAbsent spec imp cause
 
--- the first refusal: a cause holds, and none before it
-pub record IsFirstRefusal (spec imp : FlatNet) (fault : MatchFault) : Type 0 where
+-- a cause holds, and none before it, where Told says of a cause which names are told, and Absent when it does not hold
+pub record IsFirstCause (Told : Cause → List ℕ → Type 0) (Absent : Cause → Type 0) (fault : MatchFault) : Type 0 where
   pub cause : Cause
   pub name : List ℕ
   pub is : fault ≡ fault_of cause name
-  pub told : IsTold spec imp cause name
-  pub earlier : (other : Cause) → rank other < rank cause → IsAbsent spec imp other
+  pub told : Told cause name
+  pub earlier : (other : Cause) → rank other < rank cause → Absent other
+
+-- the first refusal of two netlists
+abbrev pub IsFirstRefusal : FlatNet → FlatNet → MatchFault → Type 0
+IsFirstRefusal spec imp = IsFirstCause (IsTold spec imp) (IsAbsent spec imp)

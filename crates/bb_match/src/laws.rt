@@ -1,6 +1,11 @@
 //! Laws of refusals, of pairs and of cut points. Each function has a law as its contract and does nothing.
 
-ghost use Rattle.bb_match.specs.Laws.{NotFitAndRefused, FirstRefusalsAreOne, FitOrRefused, PairsAreOne, FittingHavePair, FlatNetsHaveCutsApart, FittingNetsHaveTheirOutputs};
+ghost use Rattle.bb_match.specs.Laws.{CausesAreRanked, NotFitAndRefused, FirstRefusalsAreOne, FitOrRefused, PairsAreOne, FittingHavePair, FlatNetsHaveCutsApart, FittingNetsHaveTheirOutputs};
+
+/// Causes are told by their ranks.
+pub fn causes_are_ranked()
+    ensures { CausesAreRanked }
+{}
 
 /// No two netlists fit and are refused.
 pub fn not_fit_and_refused()

@@ -117,6 +117,7 @@ repairs_agree p o lines kept climb verdict =
       ends.complete,
       record {
         lines = lines;
+        quiet = alone.0;
         whole = ap (λ v. flat_map (line_text p o) lines ++ verdict_line v) verdict ∙ ap (λ t. t ++ verdict_line verdicts.Repairable) ends.text;
       },
     )

@@ -22,7 +22,7 @@ ErrorsExcludeTables = (p : NetPair) (o : Options) (lines : List Line) → IsPair
 -- where the verdict is that the design can be finished, the report ends with tables that agree
 abbrev pub RepairsAgree : Type 0
 RepairsAgree = (p : NetPair) (o : Options) (lines : List Line) → IsPair p → IsClimb p o lines → verdict_of lines ≡ verdicts.Repairable
-    → (tables : List TableBits) × AreCompletion p.spec p.imp tables × EndsWithTables p (report_text p o lines) tables
+    → (tables : List TableBits) × AreCompletion p.spec p.imp tables × EndsWithTables p.boxes (report_text p o lines) tables
 
 -- the lines of a table give back its bits: tables of the same boxes with the same lines are the same
 abbrev pub LinesFixTables : Type 0
@@ -32,7 +32,7 @@ LinesFixTables = (p : NetPair) (tables others : List TableBits) → IsPair p →
 -- so a report ends with the lines of one list of tables
 abbrev pub TextsFixTables : Type 0
 TextsFixTables = (p : NetPair) (text : List ℕ) (tables others : List TableBits) → IsPair p → FitBoxes tables p.imp.boxes → FitBoxes others p.imp.boxes
-    → EndsWithTables p text tables → EndsWithTables p text others → tables ≡ others
+    → EndsWithTables p.boxes text tables → EndsWithTables p.boxes text others → tables ≡ others
 
 -- what checks find can be told by the names of the pair
 abbrev pub ClimbsAreTold : Type 0

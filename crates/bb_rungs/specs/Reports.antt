@@ -4,7 +4,7 @@ use Rattle.std.specs.List.{flat_map, list_any, slice_index_or}
 use Rattle.bb_bits.specs.Tables.{TableBits}
 use Rattle.bb_cnf.specs.Lines.{proof_lines}
 use Rattle.bb_net.specs.declared.pair.OutName.{OutName}
-use Rattle.bb_net.specs.Pairs.{NetPair}
+use Rattle.bb_net.specs.Pairs.{BoxTexts, NetPair}
 use Rattle.bb_rungs.specs.declared.line.Evidence.{Evidence}
 use Rattle.bb_rungs.specs.declared.line.Evidence.TheVariants.{Vector, NoChoices, Refutation}
 use Rattle.bb_rungs.specs.declared.line.Line.{Line}
@@ -93,7 +93,9 @@ verdict_line v = codes "verdict " ++ verdict_name v ++ codes "\n"
 abbrev pub report_text : NetPair → Options → List Line → List ℕ
 report_text p o lines = flat_map (line_text p o) lines ++ verdict_line (verdict_of lines)
 
--- a report with the verdict that the design can be finished: lines of checks, and behind them those of the tables
-pub record EndsWithTables (p : NetPair) (text : List ℕ) (tables : List TableBits) : Type 0 where
+-- a report with the verdict that the design can be finished: lines of checks, none of which says that there is a mistake, and behind
+-- them those of the tables
+pub record EndsWithTables (boxes : List BoxTexts) (text : List ℕ) (tables : List TableBits) : Type 0 where
   pub lines : List Line
-  pub whole : text ≡ flat_map rung_line lines ++ table_lines p.boxes tables ++ verdict_line verdicts.Repairable
+  pub quiet : list_any is_error lines ≡ false
+  pub whole : text ≡ flat_map rung_line lines ++ table_lines boxes tables ++ verdict_line verdicts.Repairable
