@@ -1,5 +1,5 @@
 -- Clauses by their numbers.
-use Rattle.std.proofs.Common.{◌≡◌, ◌<◌, ◌≤◌, ◌-◌, ℕ, true, All, subst, arith, Bool, Some, Option, option_map, List, [], length, slice_get, get_or, refl, sym, ◌∙◌, ap}
+use Rattle.std.proofs.Common.{◌≡◌, ◌<◌, ◌≤◌, ◌-◌, ℕ, true, All, subst, arith, Bool, Some, Option, option_map, List, [], length, slice_get, get_or, sym, ◌∙◌, ap}
 use Rattle.std.proofs.lemmas.Option.{slice_get-get_or, slice_get-map, slice_get_within, get_or_from_slice_get}
 use Rattle.smallvec.specs.SmallVec.{SmallVec}
 use Rattle.bb_cnf.specs.declared.clauses.Lit.{Lit}
@@ -8,16 +8,6 @@ use Rattle.bb_cdcl.specs.Events.{IsSatisfied}
 use Rattle.bb_cdcl.proofs.Literals.{same_literal-is}
 use Rattle.std.proofs.lemmas.List.{length-map}
 use Rattle.std.proofs.lemmas.List.Folds.{Any-from_list_any}
-
-pub clause_stands : (clauses : List (SmallVec Lit)) (k : ℕ) (clause : SmallVec Lit) (lits : List Lit) → k < length clauses → clause ≡ get_or clauses k clause → lits ≡ clause.items
-    → slice_get (lists_of clauses) k ≡ Some lits
-clause_stands clauses k clause lits within is items =
-    slice_get-map (λ (c : SmallVec Lit). c.items) clauses k
-    ∙ ap (λ (o : Option (SmallVec Lit)). option_map (λ (c : SmallVec Lit). c.items) o) (slice_get-get_or clauses k clause within ∙ ap Some (sym is))
-    ∙ ap Some (sym items)
-
-get_or_here : {A : Type 0} (xs : List A) (k : ℕ) (d : A) → k < length xs → get_or xs k d ≡ get_or xs k (get_or xs k d)
-get_or_here xs k d within = sym (get_or_from_slice_get xs k (get_or xs k d) (get_or xs k d) (slice_get-get_or xs k d within))
 
 -- a literal of a clause within range
 pub member_in_range : (clauses : List (SmallVec Lit)) (n k : ℕ) (lits : List Lit) (l : Lit) → slice_get (lists_of clauses) k ≡ Some lits
@@ -35,5 +25,7 @@ pub satisfied_at : (clauses : List (SmallVec Lit)) (values : List (Option Bool))
 satisfied_at clauses values k d lits stands satisfied =
     let within : k < length clauses = subst (λ n. k < n) (length-map clauses (λ (c : SmallVec Lit). c.items)) (slice_get_within (lists_of clauses) k lits stands) in
     let same : lits ≡ (get_or clauses k d).items =
-    let s : Some lits ≡ Some (get_or clauses k d).items = sym stands ∙ clause_stands clauses k (get_or clauses k d) (get_or clauses k d).items within (get_or_here clauses k d within) refl in cc in
+    let s : Some lits ≡ Some (get_or clauses k d).items =
+    sym stands ∙ slice_get-map (λ (c : SmallVec Lit). c.items) clauses k
+    ∙ ap (λ (o : Option (SmallVec Lit)). option_map (λ (c : SmallVec Lit). c.items) o) (slice_get-get_or clauses k d within) in cc in
     subst (IsSatisfied values) same satisfied

@@ -9,11 +9,11 @@ ghost use Rattle.bb_cdcl.specs.Trails.{falsified, AreNew, HaveReasons};
 ghost use Rattle.bb_cdcl.specs.Analysis.{AreFalsified, IsCovered, IsJump, IsResolved};
 
 use crate::NoMemory;
-use crate::clauses::Clauses;
 use crate::guide::Guide;
 use crate::shortening::shorten;
 use crate::trail::{Entry, negation};
 use bb_cnf::{Lit, PartialResolvent, laws};
+use bb_watch::Clauses;
 use std::alloc::Global;
 
 /// The trail is taken back to the decision at the place `back`. Then the learned clause implies the negation of the

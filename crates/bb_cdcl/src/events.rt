@@ -4,9 +4,9 @@ ghost use Rattle.std.specs.Prelude.{◌-◌, ◌<◌, length};
 ghost use Rattle.bb_cnf.specs.Clauses.{lists_of, IsWithin};
 ghost use Rattle.bb_cdcl.specs.Events.{Comes, IfQuiet};
 
-use crate::clauses::{Clauses, clause_at};
 use crate::examination::{Standing, examine};
 use bb_cnf::Lit;
+use bb_watch::{Clauses, clause_at};
 use smallvec::SmallVec;
 
 /// The clause of this number is false; it implies this literal; this literal may be decided; or nothing is left to do.

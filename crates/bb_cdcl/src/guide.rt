@@ -2,8 +2,9 @@
 
 use crate::NoMemory;
 use crate::retention::Retention;
-use crate::scores::{Scores, read, write};
+use crate::scores::Scores;
 use bb_cnf::{Lit, PartialResolvent};
+use bb_watch::{read, write};
 use std::alloc::Global;
 
 /// Scores, the last bit of each variable, and the level of each that has a value with its place on the trail; and for

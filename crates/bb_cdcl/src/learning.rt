@@ -12,12 +12,12 @@ ghost use Rattle.bb_cdcl.specs.States.{all_clauses, IsDerived, IsReady, Leads, L
 
 use crate::NoMemory;
 use crate::analysis::{Jump, analyze};
-use crate::clauses::Clauses;
 use crate::guide::Guide;
 use crate::state::{State, add, drained};
 use crate::trail::Trail;
 use crate::units::resolve_low;
 use bb_cnf::{Lit, PartialResolvent, Step, laws};
+use bb_watch::Clauses;
 use smallvec::SmallVec;
 use std::alloc::Global;
 

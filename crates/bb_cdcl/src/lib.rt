@@ -3,7 +3,6 @@
 #![tactic(auto)]
 
 mod analysis;
-mod clauses;
 mod events;
 mod examination;
 mod guide;
@@ -20,7 +19,6 @@ mod state;
 mod trail;
 mod turn;
 mod units;
-mod watch_lists;
 mod watches;
 
 pub use outcome::Outcome;

@@ -4,10 +4,10 @@
 ghost use Rattle.std.specs.Prelude.{◌<◌, length, IfSome};
 
 use crate::NoMemory;
-use crate::clauses::Clauses;
 use crate::guide::Guide;
 use crate::trail::{Entry, negation};
 use bb_cnf::{Lit, PartialResolvent};
+use bb_watch::Clauses;
 use std::alloc::Global;
 
 /// The variable of the literal at a place, and its reason.

@@ -2,8 +2,7 @@
 //! answer depends on which these are.
 
 use crate::NoMemory;
-use crate::scores::read;
-use crate::watch_lists::Watches;
+use bb_watch::{Watches, read};
 use std::alloc::Global;
 
 // So many learned clauses are watched at first, and for every third of the given ones one more.

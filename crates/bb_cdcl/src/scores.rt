@@ -1,6 +1,7 @@
 //! A heap of variables, the one with the highest score first; of equal ones the first.
 
 use crate::NoMemory;
+use bb_watch::{read, write};
 use std::alloc::Global;
 
 // Scores are halved so often once one passes the bound.
@@ -16,21 +17,6 @@ pub(crate) struct Scores {
     heap: Vec<u32>,
     count: u32,
     spots: Vec<u32>,
-}
-
-/// The number at a place, and 0 where there is none.
-pub(crate) fn read(numbers: &[u32], place: u32) -> u32 {
-    match numbers.get(place as usize) {
-        Some(number) => *number,
-        None => 0,
-    }
-}
-
-/// Sets the number at a place, if there is one.
-pub(crate) fn write(numbers: &mut [u32], place: u32, number: u32) {
-    if (place as usize) < numbers.len() {
-        numbers[place as usize] = number;
-    }
 }
 
 // The numbers from 0 to `last`.

@@ -9,10 +9,10 @@ ghost use Rattle.bb_cdcl.specs.Analysis.{IsCovered, IsResolved};
 
 use crate::NoMemory;
 use crate::analysis::entry_at;
-use crate::clauses::Clauses;
 use crate::guide::Guide;
 use crate::trail::{Entry, negation};
 use bb_cnf::{Lit, PartialResolvent, laws};
+use bb_watch::Clauses;
 use std::alloc::Global;
 
 // Does the resolvent have all literals of the clause but this one and those of level 0?

@@ -12,8 +12,8 @@ use crate::guide::Guide;
 use crate::state::State;
 use crate::trail::Trail;
 use crate::turn::Helpers;
-use crate::watch_lists::Watches;
 use bb_cnf::{Lit, PartialResolvent};
+use bb_watch::Watches;
 use smallvec::SmallVec;
 use std::alloc::Global;
 

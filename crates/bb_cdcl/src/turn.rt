@@ -8,15 +8,14 @@ ghost use Rattle.bb_cdcl.specs.Events.{Comes, IfQuiet, IsConflict, IsFree};
 ghost use Rattle.bb_cdcl.specs.States.{all_clauses, IsDerived, IsReady, Turns};
 
 use crate::NoMemory;
-use crate::clauses::Clauses;
 use crate::events::{Event, unsatisfied};
 use crate::guide::Guide;
 use crate::learning::learn;
 use crate::state::{State, Turn, extend, go_back};
 use crate::trail::{Entry, pop_to};
-use crate::watch_lists::Watches;
 use crate::watches::propagated;
 use bb_cnf::{Lit, laws};
+use bb_watch::{Clauses, Watches};
 use smallvec::SmallVec;
 use std::alloc::Global;
 

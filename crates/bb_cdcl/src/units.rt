@@ -13,12 +13,12 @@ ghost use Rattle.bb_cdcl.specs.States.{IsDerived, Grows, Leads};
 
 use crate::NoMemory;
 use crate::analysis::{Jump, entry_at};
-use crate::clauses::Clauses;
 use crate::guide::Guide;
 use crate::low_literals::{implied_at, low, missing};
 use crate::state::{State, add, drained};
 use crate::trail::negation;
 use bb_cnf::{Lit, PartialResolvent, Step, laws};
+use bb_watch::Clauses;
 use smallvec::SmallVec;
 use std::alloc::Global;
 

@@ -3,12 +3,11 @@
 
 ghost use Rattle.bb_cdcl.specs.Events.{Comes};
 
-use crate::clauses::Clauses;
 use crate::events::{Event, event_of};
 use crate::examination::value;
 use crate::trail::{Entry, negation};
-use crate::watch_lists::{Watches, other_node};
 use bb_cnf::Lit;
+use bb_watch::{Clauses, Watches, other_node};
 
 // Is the other literal that the clause watches true?
 fn is_settled(watches: &Watches, values: &[Option<bool>]) -> bool {

@@ -18,6 +18,8 @@ mod order_tests;
 #[cfg(test)]
 mod pattern_tests;
 #[cfg(test)]
+mod rup_tests;
+#[cfg(test)]
 mod solver_tests;
 #[cfg(test)]
 mod store_tests;

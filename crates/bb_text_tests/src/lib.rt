@@ -1,6 +1,8 @@
-//! Tests of the crates that read texts, from tokens to the values of expressions, through their public calls.
+//! Tests of the crates that read texts, from tokens to the values of expressions and clauses, through their public calls.
 #![tactic(auto)]
 
+#[cfg(test)]
+mod dimacs_tests;
 #[cfg(test)]
 mod expression_telling;
 #[cfg(test)]

@@ -1,7 +1,7 @@
 //! The lists of clauses that watch a literal.
 
 use crate::NoMemory;
-use crate::scores::{read, write};
+use crate::numbers::{read, write};
 use bb_cnf::Lit;
 use std::alloc::Global;
 
@@ -41,26 +41,28 @@ const NONE: Node = Node {
 /// the other. Each is on the list of the literal that it watches: one begins with a head, and goes on by `next`; 0 ends
 /// it.
 #[derive(Drop)]
-pub(crate) struct Watches {
+pub struct Watches {
     heads: Vec<u32>,
     nodes: Vec<Node>,
-    // clauses that were looked at once
-    pub(crate) looked_at: usize,
-    // the place on the trail whose literal comes next, and the node on its list, with the one before
-    pub(crate) place: usize,
-    pub(crate) is_new: bool,
-    pub(crate) node: u32,
-    pub(crate) before: u32,
+    /// So many clauses were looked at once.
+    pub looked_at: usize,
+    /// The place on the trail whose literal comes next.
+    pub place: usize,
+    /// Its list was not begun yet.
+    pub is_new: bool,
+    /// The node on this list that comes next, 0 at its end, and the one before it, 0 where it is the first.
+    pub node: u32,
+    pub before: u32,
 }
 
 /// The clause's other node.
-pub(crate) fn other_node(node: u32) -> u32 {
+pub fn other_node(node: u32) -> u32 {
     node ^ 1
 }
 
 impl Watches {
     /// No clause is watched. There is room for so many.
-    pub(crate) fn new(alloc: Global, vars: u32, clauses: usize) -> Result<Watches, NoMemory> {
+    pub fn new(alloc: Global, vars: u32, clauses: usize) -> Result<Watches, NoMemory> {
         let size = 2 * (vars as usize + 1);
         let mut nodes = Vec::with_capacity(alloc, clauses.saturating_mul(2).saturating_add(2))?;
         nodes.push(NONE)?;
@@ -77,7 +79,7 @@ impl Watches {
     }
 
     /// The first node of the literal's list.
-    pub(crate) fn head(&self, lit: Lit) -> u32 {
+    pub fn head(&self, lit: Lit) -> u32 {
         read(&self.heads, Code::of(lit).0)
     }
 
@@ -96,19 +98,19 @@ impl Watches {
     }
 
     /// Watches two literals of the next clause.
-    pub(crate) fn add(&mut self, first: Lit, second: Lit) -> Result<(), NoMemory> {
+    pub fn add(&mut self, first: Lit, second: Lit) -> Result<(), NoMemory> {
         self.add_node(first)?;
         self.add_node(second)
     }
 
     /// The trail ends at this place now.
-    pub(crate) fn taken_back(&mut self, place: usize) {
+    pub fn taken_back(&mut self, place: usize) {
         self.place = self.place.min(place);
         self.is_new = true;
     }
 
     /// How many nodes there are.
-    pub(crate) fn len(&self) -> usize {
+    pub fn len(&self) -> usize {
         self.nodes.len()
     }
 
@@ -120,12 +122,12 @@ impl Watches {
     }
 
     /// The literal that the node watches.
-    pub(crate) fn watched(&self, node: u32) -> Lit {
+    pub fn watched(&self, node: u32) -> Lit {
         self.at(node).watched.lit()
     }
 
     /// Goes on to the next node of the list.
-    pub(crate) fn go_on(&mut self) {
+    pub fn go_on(&mut self) {
         self.before = self.node;
         self.node = self.at(self.node).next;
     }
@@ -143,7 +145,7 @@ impl Watches {
     }
 
     /// Takes the node from the list of the literal.
-    pub(crate) fn take_out(&mut self, from: Lit) {
+    pub fn take_out(&mut self, from: Lit) {
         let after = self.at(self.node).next;
         if self.before == 0 {
             self.set_head(from, after);
@@ -154,7 +156,7 @@ impl Watches {
     }
 
     /// Takes the node from the list of the one literal to that of the other.
-    pub(crate) fn take_to(&mut self, from: Lit, to: Lit) {
+    pub fn take_to(&mut self, from: Lit, to: Lit) {
         let node = self.node;
         self.take_out(from);
         let head = self.head(to);
@@ -164,7 +166,7 @@ impl Watches {
     }
 
     /// The nodes of this clause leave their lists when they are met there.
-    pub(crate) fn forget(&mut self, number: usize) {
+    pub fn forget(&mut self, number: usize) {
         let node = u32::try_from(number)
             .unwrap_or(u32::MAX)
             .saturating_mul(2)
@@ -174,7 +176,7 @@ impl Watches {
     }
 
     /// Does the clause of the node watch nothing any more?
-    pub(crate) fn is_forgotten(&self) -> bool {
+    pub fn is_forgotten(&self) -> bool {
         self.watched(self.node).var == 0
     }
 }

@@ -1,5 +1,5 @@
-//! The clauses by their numbers: the given ones, and behind them those that were learned. Both lists stay where they
-//! are, so that each given clause is held once.
+//! The clauses by their numbers: the given ones, and behind them those that were added. Both lists stay where they
+//! are, so that each clause is held once.
 
 ghost use Rattle.std.specs.Prelude.{◌≡◌, ◌<◌, ◌++◌, length, slice_get, Some};
 ghost use Rattle.bb_cnf.specs.Clauses.{lists_of};
@@ -8,11 +8,11 @@ use bb_cnf::Lit;
 use smallvec::SmallVec;
 use std::marker::Model;
 
-/// The given clauses and the learned ones.
+/// The given clauses and those that were added.
 #[derive(Drop)]
-pub(crate) struct Clauses<'a> {
+pub struct Clauses<'a> {
     given: &'a [SmallVec<Lit, 4>],
-    learned: &'a [SmallVec<Lit, 4>],
+    added: &'a [SmallVec<Lit, 4>],
 }
 
 impl<'a> Model for Clauses<'a> {
@@ -22,11 +22,11 @@ impl<'a> Model for Clauses<'a> {
 
     ghost Value = { List (List Literal) };
 
-    ghost view = { λ c. lists_of c.given.now ++ lists_of c.learned.now };
+    ghost view = { λ c. lists_of c.given.now ++ lists_of c.added.now };
 }
 
 /// The literals of the clause of this number.
-pub(crate) fn clause_at<'a>(clauses: &'a [SmallVec<Lit, 4>], number: usize) -> &'a [Lit]
+pub fn clause_at<'a>(clauses: &'a [SmallVec<Lit, 4>], number: usize) -> &'a [Lit]
     requires { number < length clauses.now }
     ensures { slice_get (lists_of clauses.now) number ≡ Some result.now }
 {
@@ -34,29 +34,29 @@ pub(crate) fn clause_at<'a>(clauses: &'a [SmallVec<Lit, 4>], number: usize) -> &
 }
 
 impl<'a> Clauses<'a> {
-    /// The learned clauses have the numbers behind those of the given ones.
-    pub(crate) fn new(given: &'a [SmallVec<Lit, 4>], learned: &'a [SmallVec<Lit, 4>]) -> Clauses<'a>
-        ensures { result ≡ lists_of given.entry.now ++ lists_of learned.entry.now }
+    /// The added clauses have the numbers behind those of the given ones.
+    pub fn new(given: &'a [SmallVec<Lit, 4>], added: &'a [SmallVec<Lit, 4>]) -> Clauses<'a>
+        ensures { result ≡ lists_of given.entry.now ++ lists_of added.entry.now }
     {
-        Clauses { given, learned }
+        Clauses { given, added }
     }
 
     /// How many clauses there are.
-    pub(crate) fn len(&self) -> usize
+    pub fn len(&self) -> usize
         ensures { result ≡ length self.now }
     {
-        self.given.len() + self.learned.len()
+        self.given.len() + self.added.len()
     }
 
     /// The literals of the clause of this number.
-    pub(crate) fn at(&self, number: usize) -> &'a [Lit]
+    pub fn at(&self, number: usize) -> &'a [Lit]
         requires { number < length self.now }
         ensures { slice_get self.now number ≡ Some result.now }
     {
         if number < self.given.len() {
             clause_at(self.given, number)
         } else {
-            clause_at(self.learned, number - self.given.len())
+            clause_at(self.added, number - self.given.len())
         }
     }
 }

@@ -1,0 +1,116 @@
+//! One addition: does it follow, and what does it make true for good?
+
+ghost use Rattle.std.specs.Prelude.{◌≡◌, ◌+◌, ◌<◌, ◌≤◌, ◌++◌, [], true, false, length, take, slice_get, Some, All, IfOk, OnOk};
+ghost use Rattle.bb_cnf.specs.Clauses.{lists_of};
+ghost use Rattle.bb_rup.specs.Propagation.{Follows, Stays};
+ghost use Rattle.bb_rup.specs.Trails.{marked_by, IsTrail, IsReached, HasMarks, HaveMarks};
+ghost use Rattle.bb_rup.specs.Steps.{Comes};
+
+use crate::NoMemory;
+use crate::propagation::{propagate, settle};
+use crate::trail::{Trail, make_all_false, pop_to};
+use crate::watching::watch;
+use bb_cnf::Lit;
+use bb_watch::{Clauses, Watches, clause_at};
+use smallvec::SmallVec;
+
+/// The addition does not follow; or it does, and so does each that comes behind it; or it does, and the next one comes.
+#[derive(Clone, Copy, Debug)]
+pub(crate) enum Step {
+    Stays,
+    Ends,
+    Goes,
+}
+
+/// The given clauses, and so many additions behind them.
+pub(crate) fn clauses_before<'a>(
+    given: &'a [SmallVec<Lit, 4>],
+    adds: &'a [SmallVec<Lit, 4>],
+    number: usize,
+) -> Clauses<'a>
+    requires { number ≤ length adds.now }
+    ensures { result ≡ lists_of given.entry.now ++ take number (lists_of adds.entry.now) }
+{
+    Clauses::new(given, &adds[..number])
+}
+
+/// Does the clause follow? The trail has what needs no addition, before and afterwards.
+pub(crate) fn follows(
+    trail: &mut Trail,
+    watches: &mut Watches,
+    clauses: &Clauses<'_>,
+    clause: &[Lit],
+) -> Result<bool, NoMemory>
+    requires trail { IsTrail trail.old }
+    requires reached { IsReached clauses.now [] (marked_by trail.old) }
+    requires room { HaveMarks (length trail.old.marks.items) clauses.now }
+    requires own { All (HasMarks (length trail.old.marks.items)) clause.now }
+    ensures yes { IfOk result (λ yes. yes ≡ true → Follows clauses.now clause.now) }
+    ensures no { IfOk result (λ yes. yes ≡ false → Stays clauses.now clause.now) }
+    ensures trail { OnOk result (IsTrail trail.new) }
+    ensures lits { OnOk result (trail.new.lits.items ≡ trail.old.lits.items) }
+    ensures same { OnOk result (length trail.new.marks.items ≡ length trail.old.marks.items) }
+{
+    let kept = trail.lits.len();
+    make_all_false(trail, clause)?;
+    let yes = settle(trail, watches, clauses)?;
+    pop_to(trail, kept);
+    watches.taken_back(kept);
+    Ok(yes)
+}
+
+// The last of the clauses came behind the others. Is some clause false by what is true for good?
+fn keep(
+    trail: &mut Trail,
+    watches: &mut Watches,
+    clauses: &Clauses<'_>,
+    last: &[Lit],
+) -> Result<bool, NoMemory>
+    requires trail { IsTrail trail.old }
+    requires reached { IsReached clauses.now [] (marked_by trail.old) }
+    ensures yes { IfOk result (λ yes. yes ≡ true → Follows clauses.now []) }
+    ensures trail { OnOk result (IsTrail trail.new) }
+    ensures reached { OnOk result (IsReached clauses.now [] (marked_by trail.new)) }
+    ensures same { OnOk result (length trail.new.marks.items ≡ length trail.old.marks.items) }
+{
+    watch(watches, &trail.marks, last)?;
+    let yes = propagate(trail, watches, clauses)?;
+    Ok(yes)
+}
+
+/// Checks the addition of this number, counted from 0, and keeps it where it follows.
+pub(crate) fn check_addition(
+    trail: &mut Trail,
+    watches: &mut Watches,
+    given: &[SmallVec<Lit, 4>],
+    adds: &[SmallVec<Lit, 4>],
+    number: usize,
+) -> Result<Step, NoMemory>
+    requires number { number < length adds.now }
+    requires trail { IsTrail trail.old }
+    requires reached { IsReached (lists_of given.now ++ take number (lists_of adds.now)) [] (marked_by trail.old) }
+    requires room { HaveMarks (length trail.old.marks.items) (lists_of given.now) }
+    requires room_behind { HaveMarks (length trail.old.marks.items) (lists_of adds.now) }
+    ensures comes { IfOk result (Comes (lists_of given.now) (lists_of adds.now) number (marked_by trail.new)) }
+    ensures trail { OnOk result (IsTrail trail.new) }
+    ensures same { OnOk result (length trail.new.marks.items ≡ length trail.old.marks.items) }
+{
+    let addition = clause_at(adds, number);
+    if !follows(
+        trail,
+        watches,
+        &clauses_before(given, adds, number),
+        addition,
+    )? {
+        return Ok(Step::Stays);
+    }
+    if keep(
+        trail,
+        watches,
+        &clauses_before(given, adds, number + 1),
+        addition,
+    )? {
+        return Ok(Step::Ends);
+    }
+    Ok(Step::Goes)
+}
