@@ -1,6 +1,7 @@
-pub mod TextDesignLaws
 pub mod HeadlineLemmas
 pub mod CallRefusalLaws
 pub mod TextPairLaws
+pub mod RefutationLaws
 pub mod StatusLaw
 pub mod ShownLaw
+pub mod TaskLemmas

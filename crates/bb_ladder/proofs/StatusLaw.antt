@@ -7,7 +7,7 @@ use Rattle.bb_rungs.specs.declared.verdict.Verdict.TheVariants as verdicts
 use Rattle.bb_rungs.specs.Reports.{status_of, verdict_of}
 use Rattle.bb_ladder.specs.declared.asked.Asked.{Asked}
 use Rattle.bb_ladder.specs.TextAnswers.{Judges, Refused, Judged, ErrorsRefute, RepairsFinish, OpenAnswersLeaveOpen, LeftOpenAreAnswered, StatusesAreOne, ReportsAreOne}
-use Rattle.bb_ladder.specs.TextDesigns.{TextDesignsAreOne}
+use Rattle.bb_texts.specs.TextDesigns.{TextDesignsAreOne}
 use Rattle.bb_ladder.specs.TextPairs.{AreFinished, AreRefuted, NotPairAndRefusal, TextPairsAreAlike}
 use Rattle.bb_ladder.proofs.TextPairLaws.{is_pair}
 

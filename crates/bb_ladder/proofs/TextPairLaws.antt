@@ -1,6 +1,6 @@
 -- Two texts have one first refusal at most, and none where a pair stands for them; and what an answer says of the texts.
 use Rattle.std.proofs.Common.{◌≡◌, ◌⊎◌, ℕ, Bool, true, false, if◌then◌else◌, List, refl, sym, ap, subst, ◌∙◌, arith, inl, inr}
-use Rattle.std.specs.List.{list_any}
+use Rattle.std.specs.List.{AllZip, list_any}
 use Rattle.std.specs.Prelude.{Result, Ok, Err, IfOk, IfErr, MatchResult}
 use Rattle.std.proofs.lemmas.List.Elements.{All-weaker}
 use Rattle.std.proofs.lemmas.Result.{IfErr-weaker}
@@ -11,9 +11,9 @@ use Rattle.bb_cells.specs.Stands.{StandsFor}
 use Rattle.bb_match.specs.declared.fault.MatchFault.{MatchFault}
 use Rattle.bb_match.specs.declared.fault.MatchFault.TheVariants as pair
 use Rattle.bb_agree.specs.AlikePairs.{PairsForDesignsAreAlike}
-use Rattle.bb_agree.specs.DesignAgreement.{IsPairFor, NoTablesNoContents, SpelledContentsAgree, TablesSpellContents}
-use Rattle.bb_agree.specs.DesignRefusals.{IsRefusalFor, DesignRefusalsAreOne}
-use Rattle.bb_agree.specs.DesignRefusals as designs
+use Rattle.bb_agree.specs.DesignAgreement.{AreSpelled, FittingTablesAreOfBoxes, IsPairFor, IsTableOf, NoTablesNoContents, PairsHaveBoxOrders, SpelledContentsAgree, TablesSpellContents}
+use Rattle.bb_agree.specs.DesignFit.{IsRefusalFor}
+use Rattle.bb_agree.specs.DesignRefusals.{DesignRefusalsAreOne, NetsAreTakenAsDesigns, NotFitAndRefused, PairsStandExactlyForFitting}
 use Rattle.bb_match.specs.Refusals.{IsFirstRefusal}
 use Rattle.bb_net.specs.Pairs.{NetPair, IsPair}
 use Rattle.bb_parse.specs.Laws.{SourcesAreFormed}
@@ -28,15 +28,15 @@ use Rattle.bb_options.specs.Rungs.{asked_rungs}
 use Rattle.bb_rungs.specs.Rungs.{IsClimb, is_error, is_repair}
 use Rattle.bb_ladder.specs.declared.answer.Answer.{Answer}
 use Rattle.bb_ladder.specs.declared.asked.Asked.{Asked}
-use Rattle.bb_ladder.specs.declared.refusal.Refusal.{Refusal}
-use Rattle.bb_ladder.specs.declared.refusal.Refusal.TheVariants.{Spec, Imp, Pair, NoMemory}
-use Rattle.bb_ladder.specs.declared.side_fault.SideFault.{SideFault}
-use Rattle.bb_ladder.specs.declared.side_fault.SideFault.TheVariants as side
-use Rattle.bb_ladder.specs.RefusalLines.{refusal_line}
+use Rattle.bb_texts.specs.declared.refusal.Refusal.{Refusal}
+use Rattle.bb_texts.specs.declared.refusal.Refusal.TheVariants.{Spec, Imp, Pair, NoMemory}
+use Rattle.bb_texts.specs.declared.side_fault.SideFault.{SideFault}
+use Rattle.bb_texts.specs.declared.side_fault.SideFault.TheVariants as side
+use Rattle.bb_texts.specs.RefusalLines.{refusal_line}
 use Rattle.bb_ladder.specs.TextAnswers.{Judges, Refused, Judged, ErrorsRefute, RepairsFinish, OpenAnswersLeaveOpen, DecidedAreAnswered, LeftOpenAreAnswered, RefusedAreAnsweredOnce}
-use Rattle.bb_ladder.specs.TextDesigns.{IsDesignOf, IsSideFault, TextDesignsAreOne, SideFaultsAreOne, NotDesignAndFault}
+use Rattle.bb_texts.specs.TextDesigns.{IsDesignOf, IsSideFault, TextDesignsAreOne, SideFaultsAreOne, NotDesignAndFault}
 use Rattle.bb_ladder.specs.TextPairs.{AreDesignsOf, IsRefusal, StandsForTexts, DesignsAreAllowed, RefusalsAreOne, NotPairAndRefusal, TextPairsAreAlike}
-use Rattle.bb_ladder.specs.TextRefusals.{of_spec, of_imp, of_pair}
+use Rattle.bb_texts.specs.TextRefusals.{of_spec, of_imp, of_pair}
 
 pub designs_are_allowed : SourcesAreFormed → SoundTextsAreAllowed → DesignsAreAllowed
 designs_are_allowed formed allowed name text d is = allowed d.text name d.top (formed text d.text is.reads) is.faultless (d.top, is.top, is.sound) is.top
@@ -74,12 +74,15 @@ pub with_spec : (asked : Asked) (spec imp : List ℕ) (r : Refusal) (s : Design)
 with_spec asked spec imp r s is (inl none) = inl none
 with_spec asked spec imp r s is (inr each) = inr (each spec s is)
 
-module _ (f g : FlatNet) where
+module _ (allowed : DesignsAreAllowed) (taken : NetsAreTakenAsDesigns) (f g : FlatNet) where
   abbrev pub IsTextRefusal : Refusal → Type 0
   IsTextRefusal r = (asked : Asked) (spec imp : List ℕ) (s i : Design) → AreDesignsOf asked spec imp s i → StandsFor s f → StandsFor i g → IsRefusal asked spec imp r
 
   refused_for : (fault : MatchFault) → IsFirstRefusal f g fault → IsTextRefusal (Pair fault)
-  refused_for fault is asked spec imp s i are x y = (s, i, are, record { spec_net = f; imp_net = g; nets = record { spec_stands = x; imp_stands = y }; refused = is })
+  refused_for fault is asked spec imp s i are x y =
+      let good = allowed asked.spec_top spec s are.spec_design in
+      let also = allowed asked.imp_top imp i are.imp_design in
+      (s, i, are, ((taken s i f g good also (record { spec_stands = x; imp_stands = y })).refused fault).0 is)
 
   pub pair_refused : (fault : MatchFault) → (fault ≡ pair.NoMemory) ⊎ IsFirstRefusal f g fault → (of_pair fault ≡ NoMemory) ⊎ IsTextRefusal (of_pair fault)
   pair_refused fault (inl none) = inl (ap of_pair none)
@@ -99,7 +102,7 @@ module _ (allowed : DesignsAreAllowed) (one_design : TextDesignsAreOne) (no_faul
     pair_one asked spec imp e f (s, i, are, is) (t, j, be, also) =
         let left : t ≡ s = one_design asked.spec_top spec t s be.spec_design are.spec_design in
         let right : j ≡ i = one_design asked.imp_top imp j i be.imp_design are.imp_design in
-        one_refusal s i e f (allowed asked.spec_top spec s are.spec_design) (allowed asked.imp_top imp i are.imp_design) is
+        one_refusal s i e f is
         (subst (λ z. IsRefusalFor z i f) left (subst (λ z. IsRefusalFor t z f) right also))
 
     pub refusals_are_one : RefusalsAreOne
@@ -117,14 +120,14 @@ module _ (allowed : DesignsAreAllowed) (one_design : TextDesignsAreOne) (no_faul
     refusals_are_one asked spec imp (Pair e) NoMemory is also = absurd also
     refusals_are_one asked spec imp NoMemory f is also = absurd is
 
-  module _ (apart : designs.NotPairAndRefusal) where
+  module _ (exactly : PairsStandExactlyForFitting) (apart : NotFitAndRefused) where
     pub no_pair_and_refusal : NotPairAndRefusal
     no_pair_and_refusal asked spec imp p (Spec e) (s, i, are, for) is = no_fault asked.spec_top spec s e are.spec_design is
     no_pair_and_refusal asked spec imp p (Imp e) (s, i, are, for) (t, d, is) = no_fault asked.imp_top imp i e are.imp_design is
     no_pair_and_refusal asked spec imp p (Pair e) (s, i, are, for) (t, j, be, is) =
         let left : t ≡ s = one_design asked.spec_top spec t s be.spec_design are.spec_design in
         let right : j ≡ i = one_design asked.imp_top imp j i be.imp_design are.imp_design in
-        apart s i p e (allowed asked.spec_top spec s are.spec_design) (allowed asked.imp_top imp i are.imp_design) for
+        apart s i e ((exactly s i (allowed asked.spec_top spec s are.spec_design) (allowed asked.imp_top imp i are.imp_design)).fit p for)
         (subst (λ z. IsRefusalFor z i e) left (subst (λ z. IsRefusalFor t z e) right is))
     no_pair_and_refusal asked spec imp p NoMemory stands is = is
 
@@ -201,30 +204,35 @@ status_error lines e = by (list_any is_error lines) (list_any is_repair lines) e
     by false true e = absurd (omega (arith, e))
     by false false e = absurd (omega (arith, e))
 
-pub repairs_finish : DesignsAreAllowed → RepairsAgree → TablesSpellContents → SpelledContentsAgree → RepairsFinish
-repairs_finish allowed repairs spell agree asked spec imp status text (Refused r is s t) zero = absurd (omega (arith, s, zero))
-repairs_finish allowed repairs spell agree asked spec imp status text (Judged p lines (s, i, are, for) climb same t) zero =
+pub repairs_finish : DesignsAreAllowed → RepairsAgree → TablesSpellContents → SpelledContentsAgree → PairsStandExactlyForFitting → PairsHaveBoxOrders → FittingTablesAreOfBoxes → RepairsFinish
+repairs_finish allowed repairs spell agree exactly have_orders of_boxes asked spec imp status text (Refused r is s t) zero = absurd (omega (arith, s, zero))
+repairs_finish allowed repairs spell agree exactly have_orders of_boxes asked spec imp status text (Judged p lines (s, i, are, for) climb same t) zero =
     let (tables, complete, ends) = repairs p asked.options lines for.kept climb (is_repairable (verdict_of lines) (sym same ∙ zero)) in
     let s_allowed = allowed asked.spec_top spec s are.spec_design in
     let i_allowed = allowed asked.imp_top imp i are.imp_design in
+    let boxes = have_orders s i p i_allowed for in
+    let spelled = spell s i p s_allowed i_allowed for tables complete.fit in
     record {
       s = s;
       i = i;
       designs = are;
-      p = p;
-      pair = for;
+      fit = (exactly s i s_allowed i_allowed).fit p for;
+      order = boxes.0;
+      ordered = boxes.1;
       tables = tables;
-      fit = complete.fit;
-      lines = subst (λ z. EndsWithTables p z tables) (sym t) ends;
-      contents = spell s i p s_allowed i_allowed for tables complete.fit;
-      agree = agree s i p s_allowed i_allowed for tables complete.fit complete.agree;
+      shapes = subst (λ l. AllZip IsTableOf l tables) boxes.2 (of_boxes p tables for.kept complete.fit);
+      lines = subst (λ l. EndsWithTables l text tables) boxes.2 (subst (λ z. EndsWithTables p.boxes z tables) (sym t) ends);
+      contents = (spelled.0, spelled.1, subst (λ l. AreSpelled l tables spelled.0) boxes.2 spelled.2);
+      agree = λ contents fits spells. agree s i p s_allowed i_allowed for tables complete.fit complete.agree contents fits (subst (λ l. AreSpelled l tables contents) (sym boxes.2) spells);
     }
 
-pub errors_refute : DesignsAreAllowed → ErrorsExcludeTables → NoTablesNoContents → ErrorsRefute
-errors_refute allowed excludes exactly asked spec imp status text (Refused r is s t) one = absurd (omega (arith, s, one))
-errors_refute allowed excludes exactly asked spec imp status text (Judged p lines (s, i, are, for) climb same t) one =
+pub errors_refute : DesignsAreAllowed → ErrorsExcludeTables → NoTablesNoContents → PairsStandExactlyForFitting → ErrorsRefute
+errors_refute allowed excludes exactly fitting asked spec imp status text (Refused r is s t) one = absurd (omega (arith, s, one))
+errors_refute allowed excludes exactly fitting asked spec imp status text (Judged p lines (s, i, are, for) climb same t) one =
     let none = excludes p asked.options lines for.kept climb (status_error lines (sym same ∙ one)) in
-    (s, i, are, (p, for), (exactly s i p (allowed asked.spec_top spec s are.spec_design) (allowed asked.imp_top imp i are.imp_design) for).0 none)
+    let good = allowed asked.spec_top spec s are.spec_design in
+    let also = allowed asked.imp_top imp i are.imp_design in
+    (s, i, are, (fitting s i good also).fit p for, (exactly s i p good also for).0 none)
 
 pub is_pair : (asked : Asked) (spec imp : List ℕ) (p : NetPair) → StandsForTexts asked spec imp p → IsPair p
 is_pair asked spec imp p (s, i, are, for) = for.kept

@@ -1,12 +1,13 @@
 -- What the program may answer: a status and a text, given the words, what the files hold, and the reads before and after.
 use Rattle.std.specs.Prelude.{◌≡◌, ℕ, ◌<◌, true, false, List, length, take, Option, None, Some, option_map, codes, IfSome}
 use Rattle.bb_outside.specs.Counts.{IsRead, Reads, Rose}
-use Rattle.bb_ladder.specs.declared.answer.TheConstants.{READ_LIMIT}
+use Rattle.bb_texts.specs.declared.limit.TheConstants.{READ_LIMIT}
 use Rattle.bb_ladder.specs.declared.asked.Asked.{Asked as TextsAsked}
+use Rattle.bb_ladder.specs.Refutations.{Checks}
 use Rattle.bb_ladder.specs.ShownMistakes.{AreShown}
 use Rattle.bb_ladder.specs.TextAnswers.{Judges}
 use Rattle.bb_ladder.specs.TextPairs.{AreFinished, AreLeftOpen, AreRefuted}
-use Rattle.bb_words.specs.Asked.{Request, asked}
+use Rattle.bb_words.specs.Asked.{Refutation, Request, asked, rup_asked}
 
 -- what words ask: the names of the files of the specification and of the implementation, and what is asked of their texts
 pub record Question : Type 0 where
@@ -17,7 +18,7 @@ pub record Question : Type 0 where
 abbrev pub question : Request → Question
 question r = record { spec = r.spec; imp = r.imp; asked = record { spec_top = r.top_spec; imp_top = r.top_imp; options = r.options } }
 
--- words that are not of the command's form ask nothing
+-- words that are not of the form of a comparison ask nothing
 abbrev pub question_of : List (List ℕ) → Option Question
 question_of words = option_map question (asked words)
 
@@ -25,28 +26,35 @@ question_of words = option_map question (asked words)
 abbrev pub Gives : Option (List ℕ) → List ℕ → Type 0
 Gives held bytes = IfSome held (λ h. bytes ≡ take READ_LIMIT h)
 
--- what may be answered after the specification was read: the implementation is read, and the two texts are judged
-pub data AfterSpec (held : Option (List ℕ)) (q : Question) (before after : Reads) (spec : List ℕ) (status : ℕ) (text : List ℕ) : Type 0 where
-  ImpUnread : IsRead before after q.imp (Some true) → Rose before.faults after.faults → status ≡ 4 → text ≡ codes "unread impl\n" → AfterSpec held q before after spec status text
-  ImpLong : (imp : List ℕ) → Gives held imp → length imp ≡ READ_LIMIT → IsRead before after q.imp (Some false) → status ≡ 2 → text ≡ codes "refused impl toolong\n" → AfterSpec held q before after spec status text
-  BothRead : (imp : List ℕ) → Gives held imp → length imp < READ_LIMIT → IsRead before after q.imp (Some false) → Judges q.asked spec imp status text → AfterSpec held q before after spec status text
+-- what may be answered after the first file was read: the second is read, and the two texts are judged
+pub data AfterSpec (judged : List ℕ → List ℕ → ℕ → List ℕ → Type 0) (held : Option (List ℕ)) (second : List ℕ) (before after : Reads) (spec : List ℕ) (status : ℕ) (text : List ℕ) : Type 0 where
+  ImpUnread : IsRead before after second (Some true) → Rose before.faults after.faults → status ≡ 4 → text ≡ codes "unread impl\n" → AfterSpec judged held second before after spec status text
+  ImpLong : (imp : List ℕ) → Gives held imp → length imp ≡ READ_LIMIT → IsRead before after second (Some false) → status ≡ 2 → text ≡ codes "refused impl toolong\n" → AfterSpec judged held second before after spec status text
+  BothRead : (imp : List ℕ) → Gives held imp → length imp < READ_LIMIT → IsRead before after second (Some false) → judged spec imp status text → AfterSpec judged held second before after spec status text
 
--- what may be answered to the names of two files: the specification is read first
-pub data OfFiles (holds : List ℕ → Option (List ℕ)) (q : Question) (before after : Reads) (status : ℕ) (text : List ℕ) : Type 0 where
-  SpecUnread : IsRead before after q.spec (Some true) → Rose before.faults after.faults → status ≡ 4 → text ≡ codes "unread spec\n" → OfFiles holds q before after status text
-  SpecLong : (spec : List ℕ) → Gives (holds q.spec) spec → length spec ≡ READ_LIMIT → IsRead before after q.spec (Some false) → status ≡ 2 → text ≡ codes "refused spec toolong\n" → OfFiles holds q before after status text
-  SpecRead : (spec : List ℕ) (between : Reads) → Gives (holds q.spec) spec → length spec < READ_LIMIT → IsRead before between q.spec (Some false) → AfterSpec (holds q.imp) q between after spec status text → OfFiles holds q before after status text
+-- what may be answered to the names of two files, whatever is judged of their texts: the first is read first
+pub data OfFiles (judged : List ℕ → List ℕ → ℕ → List ℕ → Type 0) (holds : List ℕ → Option (List ℕ)) (first second : List ℕ) (before after : Reads) (status : ℕ) (text : List ℕ) : Type 0 where
+  SpecUnread : IsRead before after first (Some true) → Rose before.faults after.faults → status ≡ 4 → text ≡ codes "unread spec\n" → OfFiles judged holds first second before after status text
+  SpecLong : (spec : List ℕ) → Gives (holds first) spec → length spec ≡ READ_LIMIT → IsRead before after first (Some false) → status ≡ 2 → text ≡ codes "refused spec toolong\n" → OfFiles judged holds first second before after status text
+  SpecRead : (spec : List ℕ) (between : Reads) → Gives (holds first) spec → length spec < READ_LIMIT → IsRead before between first (Some false) → AfterSpec judged (holds second) second between after spec status text → OfFiles judged holds first second before after status text
 
 -- what may be answered to words, given what the files hold and the reads before the call and after it
 pub data MayAnswer (words : List (List ℕ)) (holds : List ℕ → Option (List ℕ)) (before after : Reads) (status : ℕ) (text : List ℕ) : Type 0 where
-  Usage : question_of words ≡ None → after ≡ before → status ≡ 2 → text ≡ codes "refused usage\n" → MayAnswer words holds before after status text
-  Asked : (q : Question) → question_of words ≡ Some q → OfFiles holds q before after status text → MayAnswer words holds before after status text
+  Usage : question_of words ≡ None → rup_asked words ≡ None → after ≡ before → status ≡ 2 → text ≡ codes "refused usage\n" → MayAnswer words holds before after status text
+  Asked : (q : Question) → question_of words ≡ Some q → OfFiles (Judges q.asked) holds q.spec q.imp before after status text → MayAnswer words holds before after status text
+  Refuting : (f : Refutation) → rup_asked words ≡ Some f → OfFiles Checks holds f.cnf f.adds before after status text → MayAnswer words holds before after status text
 
 -- the words ask this of two files, and these hold the two texts
 pub record AreTexts (words : List (List ℕ)) (holds : List ℕ → Option (List ℕ)) (q : Question) (spec imp : List ℕ) : Type 0 where
   pub asks : question_of words ≡ Some q
   pub spec_held : holds q.spec ≡ Some spec
   pub imp_held : holds q.imp ≡ Some imp
+
+-- the words ask for a refutation, and its files hold the two texts
+pub record AreRefutationTexts (words : List (List ℕ)) (holds : List ℕ → Option (List ℕ)) (f : Refutation) (first second : List ℕ) : Type 0 where
+  pub asks : rup_asked words ≡ Some f
+  pub first_held : holds f.cnf ≡ Some first
+  pub second_held : holds f.adds ≡ Some second
 
 -- The law of it: an answer speaks of the texts that the files hold as its status says, also where a front of it alone is written.
 abbrev pub AnswersSpeakOfTexts : Type 0

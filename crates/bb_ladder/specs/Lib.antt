@@ -1,11 +1,7 @@
-pub mod Refusals
-pub mod SideFaults
-pub mod TextDesigns
-pub mod SideWords
-pub mod TextRefusals
 pub mod TextPairs
-pub mod RefusalLines
 pub mod TextAnswers
 pub mod ShownMistakes
+pub mod Refutations
 pub mod Answers
+pub mod Tasks
 pub mod CallRefusals

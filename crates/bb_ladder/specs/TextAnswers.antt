@@ -7,8 +7,8 @@ use Rattle.bb_rungs.specs.declared.line.Line.{Line}
 use Rattle.bb_rungs.specs.Reports.{report_text, status_of, verdict_of}
 use Rattle.bb_rungs.specs.Rungs.{IsClimb}
 use Rattle.bb_ladder.specs.declared.asked.Asked.{Asked}
-use Rattle.bb_ladder.specs.declared.refusal.Refusal.{Refusal}
-use Rattle.bb_ladder.specs.RefusalLines.{refusal_line}
+use Rattle.bb_texts.specs.declared.refusal.Refusal.{Refusal}
+use Rattle.bb_texts.specs.RefusalLines.{refusal_line}
 use Rattle.bb_ladder.specs.TextPairs.{IsRefusal, StandsForTexts, AreRefuted, AreFinished, AreLeftOpen, AreDecided}
 
 pub data Judges (asked : Asked) (spec imp : List ℕ) (status : ℕ) (text : List ℕ) : Type 0 where

@@ -1,23 +1,25 @@
 -- Two texts, that of a specification and that of an implementation with boxes, and what is asked of them: their designs, or the first
 -- thing for which they are refused; the pair that stands for them; and whether contents of the boxes agree. What is wrong with the
 -- specification comes before what is wrong with the implementation, and that before what is wrong with the two as a pair.
-use Rattle.std.specs.Prelude.{◌≡◌, ℕ, List, Option}
+use Rattle.std.specs.Prelude.{◌≡◌, ℕ, List, map, Option}
+use Rattle.std.specs.List.{AllZip}
 use Rattle.bb_alike.specs.Alike.{ArePairsAlike}
 use Rattle.bb_bits.specs.Contents.{Contents}
 use Rattle.bb_bits.specs.Tables.{TableBits}
-use Rattle.bb_design.specs.Hierarchy.{Design}
+use Rattle.bb_cells.specs.BoxOrders.{IsBoxOrder}
+use Rattle.bb_cells.specs.Stands.{box_texts}
+use Rattle.bb_design.specs.Hierarchy.{Design, Scope}
 use Rattle.bb_design.specs.Allowed.{IsAllowed}
 use Rattle.bb_design.specs.Worlds.{FitDesign}
-use Rattle.bb_agree.specs.DesignAgreement.{AreSpelled, ContentsAgree, IsPairFor, NoContentsAgree}
-use Rattle.bb_agree.specs.DesignRefusals.{IsRefusalFor}
+use Rattle.bb_agree.specs.DesignAgreement.{AreSpelled, ContentsAgree, IsPairFor, IsTableOf, NoContentsAgree}
+use Rattle.bb_agree.specs.DesignFit.{DesignsFit, IsRefusalFor}
 use Rattle.bb_net.specs.Pairs.{NetPair}
-use Rattle.bb_net.specs.Values.{FitBoxes}
 use Rattle.bb_rungs.specs.LeftOpen.{AllLeaveOpen, SomeDecides}
 use Rattle.bb_rungs.specs.Reports.{EndsWithTables}
 use Rattle.bb_ladder.specs.declared.asked.Asked.{Asked}
-use Rattle.bb_ladder.specs.declared.refusal.Refusal.{Refusal}
-use Rattle.bb_ladder.specs.declared.refusal.Refusal.TheVariants.{Spec, Imp, Pair, NoMemory}
-use Rattle.bb_ladder.specs.TextDesigns.{IsDesignOf, IsSideFault}
+use Rattle.bb_texts.specs.declared.refusal.Refusal.{Refusal}
+use Rattle.bb_texts.specs.declared.refusal.Refusal.TheVariants.{Spec, Imp, Pair, NoMemory}
+use Rattle.bb_texts.specs.TextDesigns.{IsDesignOf, IsSideFault}
 
 -- they are the designs of the two texts
 pub record AreDesignsOf (asked : Asked) (spec imp : List ℕ) (s i : Design) : Type 0 where
@@ -35,28 +37,29 @@ IsRefusal asked spec imp NoMemory = ⊥
 abbrev pub StandsForTexts : Asked → List ℕ → List ℕ → NetPair → Type 0
 StandsForTexts asked spec imp p = (s i : Design) × AreDesignsOf asked spec imp s i × IsPairFor s i p
 
--- they fit, so that a pair stands for them, and no contents of the boxes make the two agree
+-- they fit, and no contents of the boxes make the two agree
 abbrev pub AreRefuted : Asked → List ℕ → List ℕ → Type 0
-AreRefuted asked spec imp = (s i : Design) × AreDesignsOf asked spec imp s i × ((p : NetPair) × IsPairFor s i p) × NoContentsAgree s i
+AreRefuted asked spec imp = (s i : Design) × AreDesignsOf asked spec imp s i × DesignsFit s i × NoContentsAgree s i
 
 -- a pair stands for the two, and for each such pair each check that is asked for leaves the question open
 pub record AreLeftOpen (asked : Asked) (spec imp : List ℕ) : Type 0 where
   pub pair : (p : NetPair) × StandsForTexts asked spec imp p
   pub left : (p : NetPair) → StandsForTexts asked spec imp p → AllLeaveOpen p asked.options
 
--- a pair stands for the two, and the text ends with lines of tables that spell contents of its boxes: there are such contents, and with
--- all of them the two agree
+-- they fit, and the text ends with lines of tables that spell contents of the boxes, in the order of their dependence: there are such
+-- contents, and with all of them the two agree
 pub record AreFinished (asked : Asked) (spec imp text : List ℕ) : Type 0 where
   pub s : Design
   pub i : Design
   pub designs : AreDesignsOf asked spec imp s i
-  pub p : NetPair
-  pub pair : IsPairFor s i p
+  pub fit : DesignsFit s i
+  pub order : List Scope
+  pub ordered : IsBoxOrder i order
   pub tables : List TableBits
-  pub fit : FitBoxes tables p.imp.boxes
-  pub lines : EndsWithTables p text tables
-  pub contents : (contents : Contents) × FitDesign i contents × AreSpelled p.boxes tables contents
-  pub agree : (contents : Contents) → FitDesign i contents → AreSpelled p.boxes tables contents → ContentsAgree s i contents
+  pub shapes : AllZip IsTableOf (map (box_texts i) order) tables
+  pub lines : EndsWithTables (map (box_texts i) order) text tables
+  pub contents : (contents : Contents) × FitDesign i contents × AreSpelled (map (box_texts i) order) tables contents
+  pub agree : (contents : Contents) → FitDesign i contents → AreSpelled (map (box_texts i) order) tables contents → ContentsAgree s i contents
 
 -- a pair stands for the two for which a check that is asked for decides
 abbrev pub AreDecided : Asked → List ℕ → List ℕ → Type 0

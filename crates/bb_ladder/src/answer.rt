@@ -4,14 +4,6 @@ ghost use Rattle.std.specs.Prelude.{◌≡◌, IfOk};
 use bb_bits::NoMemory;
 use std::alloc::Global;
 
-/// How many bytes of a file are read: one more than a text may have.
-pub const READ_LIMIT: u64 = 33_554_433;
-
-/// A text has at most 33,554,432 bytes.
-pub fn read_limit_is()
-    ensures { READ_LIMIT ≡ 33554433 }
-{}
-
 /// A status and the report that is written with it.
 #[derive(Debug, Drop)]
 pub struct Answer {

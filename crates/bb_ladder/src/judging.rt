@@ -5,9 +5,9 @@ ghost use Rattle.bb_rungs.specs.declared.line.Line.{Line};
 ghost use Rattle.bb_rungs.specs.Reports.{report_text, status_of, verdict_of};
 ghost use Rattle.bb_options.specs.Rungs.{AreBounds};
 ghost use Rattle.bb_rungs.specs.Rungs.{IsClimb};
-ghost use Rattle.bb_ladder.specs.declared.answer.TheConstants.{READ_LIMIT};
-ghost use Rattle.bb_ladder.specs.declared.refusal.Refusal.{Refusal};
-ghost use Rattle.bb_ladder.specs.RefusalLines.{refusal_line};
+ghost use Rattle.bb_texts.specs.declared.limit.TheConstants.{READ_LIMIT};
+ghost use Rattle.bb_texts.specs.declared.refusal.Refusal.{Refusal};
+ghost use Rattle.bb_texts.specs.RefusalLines.{refusal_line};
 ghost use Rattle.bb_ladder.specs.ShownMistakes.{AreShown};
 ghost use Rattle.bb_ladder.specs.TextAnswers.{Judges};
 ghost use Rattle.bb_ladder.specs.TextPairs.{AreDecided, AreFinished, AreLeftOpen, AreRefuted, IsRefusal};
@@ -15,12 +15,11 @@ ghost use Rattle.bb_ladder.specs.TextPairs.{AreDecided, AreFinished, AreLeftOpen
 use crate::answer::Answer;
 use crate::asked::Asked;
 use crate::pair_texts::{keeps, pair_of};
-use crate::refusal::Refusal;
-use crate::refusal_words::push_refusal;
 use crate::text_laws::answers_are_meant;
 use bb_bits::NoMemory;
 use bb_net::Pair;
 use bb_rungs::{Options, climb, climbs_are_told, report, verdict_of};
+use bb_texts::{Refusal, push_refusal};
 use std::alloc::Global;
 
 // The answer that refuses two texts.

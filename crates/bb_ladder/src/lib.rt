@@ -5,22 +5,18 @@ mod answer;
 mod asked;
 mod judging;
 mod pair_texts;
-mod refusal;
-mod refusal_words;
+mod refuting;
 mod running;
-mod side;
-mod side_fault;
-mod side_words;
 pub mod text_laws;
 mod words;
 
-pub use answer::{Answer, READ_LIMIT, read_limit_is};
+pub use answer::Answer;
 pub use asked::Asked;
+pub use bb_texts::{
+    READ_LIMIT, Refusal, SideFault, flat_of, push_refusal, push_side_fault, read_limit_is,
+    texts_have_designs,
+};
 pub use judging::judge_pair;
 pub use pair_texts::pair_of;
-pub use refusal::Refusal;
-pub use refusal_words::push_refusal;
+pub use refuting::{judge_refutation, refutations_are_answered};
 pub use running::run;
-pub use side::{flat_of, texts_have_designs};
-pub use side_fault::SideFault;
-pub use side_words::push_side_fault;

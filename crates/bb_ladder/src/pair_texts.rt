@@ -8,19 +8,19 @@ ghost use Rattle.bb_design.specs.Hierarchy.{Design};
 ghost use Rattle.bb_cells.specs.Stands.{StandsFor};
 ghost use Rattle.bb_agree.specs.DesignAgreement.{IsPairFor};
 ghost use Rattle.bb_net.specs.Pairs.{NetPair, IsPair};
-ghost use Rattle.bb_ladder.specs.declared.answer.TheConstants.{READ_LIMIT};
+ghost use Rattle.bb_texts.specs.declared.limit.TheConstants.{READ_LIMIT};
 ghost use Rattle.bb_ladder.specs.declared.asked.Asked.{Asked};
-ghost use Rattle.bb_ladder.specs.declared.refusal.Refusal.{Refusal};
-ghost use Rattle.bb_ladder.specs.TextDesigns.{IsDesignOf};
+ghost use Rattle.bb_texts.specs.declared.refusal.Refusal.{Refusal};
+ghost use Rattle.bb_texts.specs.TextDesigns.{IsDesignOf};
 ghost use Rattle.bb_ladder.specs.TextPairs.{AreDesignsOf, IsRefusal, StandsForTexts};
 
 use crate::asked::Asked;
-use crate::refusal::{Refusal, of_imp, of_pair, of_spec};
-use crate::side::flat_of;
-use crate::text_laws::{no_pair_and_refusal, refusals_are_one};
+use crate::text_laws::{designs_are_allowed, no_pair_and_refusal, refusals_are_one};
+use bb_agree::laws::nets_are_taken_as_designs;
 use bb_bits::Name;
 use bb_match::pair;
 use bb_net::{Flat, Pair};
+use bb_texts::{Refusal, flat_of, of_imp, of_pair, of_spec};
 use std::alloc::Global;
 
 // The bytes of a top's name, if it has one.
@@ -71,6 +71,8 @@ fn beside(alloc: Global, spec: Flat, imp: Flat) -> Result<Pair, Refusal>
     ensures refusal { IfErr result (λ refusal. (refusal ≡ Refusal.NoMemory)
         ⊎ ((asked : Asked) (spec_text imp_text : List ℕ) (s i : Design) → AreDesignsOf asked spec_text imp_text s i → StandsFor s spec → StandsFor i imp → IsRefusal asked spec_text imp_text refusal)) }
 {
+    designs_are_allowed();
+    nets_are_taken_as_designs();
     match pair(alloc, spec, imp) {
         Ok(pair) => {
             keeps(&pair);

@@ -1,22 +1,41 @@
 //! The top call: the words are read, then the two files, and the report is made whole before its first byte is written.
-ghost use Rattle.std.specs.Prelude.{◌≡◌, ◌≤◌, ◌<◌, ◌≢◌, ◌⊎◌, ℕ, List, length, map, take, string_bytes, IfOk};
+ghost use Rattle.std.specs.Prelude.{◌≡◌, ◌≤◌, ◌<◌, ◌≢◌, ◌⊎◌, ℕ, List, None, codes, length, map, take, string_bytes, IfOk};
 ghost use Rattle.std.specs.Io.KnownBytes.{append_known};
 ghost use Rattle.bb_outside.specs.Counts.{Rose};
-ghost use Rattle.bb_options.specs.Rungs.{AreBounds};
-ghost use Rattle.bb_ladder.specs.declared.answer.TheConstants.{READ_LIMIT};
-ghost use Rattle.bb_ladder.specs.Answers.{AfterSpec, AreTexts, MayAnswer, OfFiles, Question as TextQuestion};
+ghost use Rattle.bb_cnf.specs.Clauses.{Formula};
+ghost use Rattle.bb_cnf.specs.declared.clauses.Lit.{Lit};
+ghost use Rattle.bb_words.specs.Asked.{Refutation, rup_asked};
+ghost use Rattle.bb_texts.specs.declared.limit.TheConstants.{READ_LIMIT};
+ghost use Rattle.bb_ladder.specs.Answers.{AfterSpec, AreRefutationTexts, AreTexts, MayAnswer, OfFiles, Question as TextQuestion};
 ghost use Rattle.bb_ladder.specs.CallRefusals.{AreTold, IsCallRefusal};
+ghost use Rattle.bb_ladder.specs.Refutations.{AreRead, FailsAt, IsRefutation, SaysWhether, no_line};
 ghost use Rattle.bb_ladder.specs.ShownMistakes.{AreShown};
+ghost use Rattle.bb_ladder.specs.Tasks.{IsBounded, judged_by};
 ghost use Rattle.bb_ladder.specs.TextPairs.{AreDecided, AreFinished, AreLeftOpen, AreRefuted};
 
-use crate::answer::{Answer, READ_LIMIT, say};
+use crate::answer::{Answer, say};
 use crate::judging::judge_pair;
+use crate::refuting::{judge_refutation, refutations_are_answered};
 use crate::text_laws::{answers_are_meant, calls_are_refused};
-use crate::words::{Question, question_of};
+use crate::words::{Question, Task, question_of};
 use bb_bits::NoMemory;
 use bb_outside::{FileFault, Files, Sink, put_all};
-use bb_words::WordsFault;
+use bb_texts::READ_LIMIT;
+use bb_words::{WordsFault, words_ask_once};
 use std::alloc::Global;
+
+// The answer to two texts.
+fn judge(alloc: Global, first: &[u8], second: &[u8], task: &Task) -> Result<Answer, NoMemory>
+    requires first { length first.now < READ_LIMIT }
+    requires second { length second.now < READ_LIMIT }
+    requires bounds { IsBounded task.now }
+    ensures answer { IfOk result (λ answer. judged_by task.now first.now second.now answer.status answer.report.items) }
+{
+    match task {
+        Task::Comparison(asked) => judge_pair(alloc, first, second, asked),
+        Task::Refutation => judge_refutation(alloc, first, second),
+    }
+}
 
 // Reads the implementation after the specification.
 fn read_imp<F: Files>(
@@ -26,8 +45,8 @@ fn read_imp<F: Files>(
     files: &mut F,
 ) -> Result<Answer, NoMemory>
     requires short { length spec.now < READ_LIMIT }
-    requires bounds { AreBounds question.now.asked.options }
-    ensures answer { IfOk result (λ answer. AfterSpec (F.holds files.old question.now.imp.now) (record { spec = question.now.spec.now; imp = question.now.imp.now; asked = question.now.asked })
+    requires bounds { IsBounded question.now.task }
+    ensures answer { IfOk result (λ answer. AfterSpec (judged_by question.now.task) (F.holds files.old question.now.imp.now) question.now.imp.now
         (F.reads files.old) (F.reads files.new) spec.now answer.status answer.report.items) }
     ensures never_falls { (F.reads files.old).faults ≤ (F.reads files.new).faults }
     ensures kept { (n : List ℕ) → F.holds files.new n ≡ F.holds files.old n }
@@ -36,7 +55,7 @@ fn read_imp<F: Files>(
         Err(FileFault::Failed) => say(alloc, 4, "unread impl\n"),
         Err(FileFault::NoMemory) => Err(NoMemory),
         Ok(text) if text.len() as u64 == READ_LIMIT => say(alloc, 2, "refused impl toolong\n"),
-        Ok(text) => judge_pair(alloc, spec, &text, &question.asked),
+        Ok(text) => judge(alloc, spec, &text, &question.task),
     }
 }
 
@@ -46,8 +65,8 @@ fn read_spec<F: Files>(
     question: &Question<'_>,
     files: &mut F,
 ) -> Result<Answer, NoMemory>
-    requires bounds { AreBounds question.now.asked.options }
-    ensures answer { IfOk result (λ answer. OfFiles (F.holds files.old) (record { spec = question.now.spec.now; imp = question.now.imp.now; asked = question.now.asked })
+    requires bounds { IsBounded question.now.task }
+    ensures answer { IfOk result (λ answer. OfFiles (judged_by question.now.task) (F.holds files.old) question.now.spec.now question.now.imp.now
         (F.reads files.old) (F.reads files.new) answer.status answer.report.items) }
     ensures never_falls { (F.reads files.old).faults ≤ (F.reads files.new).faults }
     ensures kept { (n : List ℕ) → F.holds files.new n ≡ F.holds files.old n }
@@ -74,10 +93,10 @@ fn answer<F: Files>(alloc: Global, words: &[String], files: &mut F) -> Result<An
     }
 }
 
-/// Compares the implementation with the specification and writes a report. It answers a status:
+/// Compares the implementation with the specification, or checks clause additions against a formula, and writes a report. It answers a status:
 ///
-/// - 0: the report is written and ends with tables and `verdict repairable`;
-/// - 1: the report is written and ends with `verdict error`;
+/// - 0: the report is written and ends with tables and `verdict repairable`, or is `rup yes`;
+/// - 1: the report is written and ends with `verdict error`, or is `rup no` and a number;
 /// - 2: the report is the line of a refusal;
 /// - 3: the report is written and ends with `verdict open`;
 /// - 4: a file could not be read, and the report says which;
@@ -123,6 +142,24 @@ pub fn run<F: Files, K: Sink>(alloc: Global, words: &[String], files: &mut F, ou
         → AreLeftOpen q.asked spec imp → (Rose (F.reads files.old).faults (F.reads files.new).faults → ⊥) → (Rose (K.faults out.old) (K.faults out.new) → ⊥)
         → (result ≡ 3) ⊎ (result ≡ 5) }
 
+    // With `--rup` status 0 says that each addition follows, and so no assignment makes all clauses of the first text true.
+    ensures refuted_yes { result ≡ 0 → (f : Refutation) (first second : List ℕ) → AreRefutationTexts (map string_bytes words.now) (F.holds files.old) f first second
+        → (K.written out.new ≡ append_known (K.written out.old) (codes "rup yes\n")) × IsRefutation first second }
+
+    // Status 1 tells the first addition that does not.
+    ensures refuted_no { result ≡ 1 → (f : Refutation) (first second : List ℕ) → AreRefutationTexts (map string_bytes words.now) (F.holds files.old) f first second
+        → (n : ℕ) × (K.written out.new ≡ append_known (K.written out.old) (no_line n)) × FailsAt first second n }
+
+    // Where both texts are read without fault and no failure was counted, one of the two comes, by whether the additions succeed, unless
+    // memory runs out.
+    ensures refuted { (f : Refutation) (first second : List ℕ) (formula : Formula) (adds : List (List Lit)) → AreRefutationTexts (map string_bytes words.now) (F.holds files.old) f first second
+        → length first < READ_LIMIT → length second < READ_LIMIT → AreRead first second formula adds
+        → (Rose (F.reads files.old).faults (F.reads files.new).faults → ⊥) → (Rose (K.faults out.old) (K.faults out.new) → ⊥)
+        → SaysWhether formula adds result ⊎ (result ≡ 5) }
+
+    // A question is left open only of a comparison.
+    ensures open_compares { result ≡ 3 → rup_asked (map string_bytes words.now) ≡ None }
+
     // Status 2 tells the first thing for which the call is refused: its words, the length of a file, or what is wrong with the two texts.
     ensures refused { result ≡ 2 → AreTold (map string_bytes words.now) (F.holds files.old)
         → (line : List ℕ) × (K.written out.new ≡ append_known (K.written out.old) line) × IsCallRefusal (map string_bytes words.now) (F.holds files.old) line }
@@ -139,7 +176,9 @@ pub fn run<F: Files, K: Sink>(alloc: Global, words: &[String], files: &mut F, ou
     ensures reads_never_fall { (F.reads files.old).faults ≤ (F.reads files.new).faults }
     ensures faults_never_fall { K.faults out.old ≤ K.faults out.new }
 {
+    words_ask_once();
     answers_are_meant();
+    refutations_are_answered();
     calls_are_refused();
     let Ok(answer) = answer(alloc, words, files) else {
         return 5;

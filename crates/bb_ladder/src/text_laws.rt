@@ -7,10 +7,11 @@ ghost use Rattle.bb_ladder.specs.ShownMistakes.{ErrorsAreShown};
 ghost use Rattle.bb_ladder.specs.TextAnswers.{ErrorsRefute, RepairsFinish, OpenAnswersLeaveOpen, DecidedAreAnswered, LeftOpenAreAnswered, JudgedRefusalsAreFirst, RefusedAreAnsweredOnce, ReportsAreOne, StatusesAreOne};
 ghost use Rattle.bb_ladder.specs.TextPairs.{DesignsAreAllowed, NotPairAndRefusal, RefusalsAreOne, TextPairsAreAlike};
 
-use crate::side::texts_have_designs;
+use crate::refuting::refutations_are_answered;
 use bb_agree::laws::{
-    design_refusals_are_one, no_tables_no_contents, not_pair_and_refusal, pairs_are_named,
-    pairs_for_designs_are_alike, spelled_contents_agree, tables_spell_contents,
+    design_refusals_are_one, fitting_tables_are_of_boxes, no_tables_no_contents,
+    not_fit_and_refused, pairs_are_named, pairs_for_designs_are_alike, pairs_have_box_orders,
+    pairs_stand_exactly_for_fitting, spelled_contents_agree, tables_spell_contents,
     wrong_outputs_are_mistakes, wrong_vectors_are_mistakes,
 };
 use bb_design::laws::sound_texts_are_allowed;
@@ -20,6 +21,8 @@ use bb_rungs::{
     deciders_decide, errors_exclude_tables, found_vectors_are_mistakes, left_open_is_told,
     repairs_agree,
 };
+use bb_texts::texts_have_designs;
+use bb_words::words_ask_once;
 
 /// The design of a text is one of which the laws of designs speak.
 pub fn designs_are_allowed()
@@ -44,7 +47,8 @@ pub fn no_pair_and_refusal()
 {
     designs_are_allowed();
     texts_have_designs();
-    not_pair_and_refusal();
+    pairs_stand_exactly_for_fitting();
+    not_fit_and_refused();
 }
 
 /// Pairs that stand for two texts are alike.
@@ -83,6 +87,9 @@ pub fn answers_are_meant()
     repairs_agree();
     tables_spell_contents();
     spelled_contents_agree();
+    pairs_stand_exactly_for_fitting();
+    pairs_have_box_orders();
+    fitting_tables_are_of_boxes();
     alike_pairs_are_left_open();
     climbs_leave_open();
     left_open_is_told();
@@ -111,6 +118,7 @@ pub fn reports_are_one()
 pub fn answers_speak_of_texts()
     ensures { AnswersSpeakOfTexts }
 {
+    words_ask_once();
     answers_are_meant();
 }
 
@@ -120,6 +128,8 @@ pub fn calls_are_refused()
     ensures refusals { RefusalsAreTold }
     ensures refused { RefusedCallsAreTold }
 {
+    words_ask_once();
     refusals_are_one();
     answers_are_meant();
+    refutations_are_answered();
 }

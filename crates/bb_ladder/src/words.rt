@@ -1,20 +1,30 @@
 //! What the words of the command line ask for, with names of modules that outlive them.
 
-ghost use Rattle.std.specs.Prelude.{◌≡◌, ◌⊎◌, map, option_copied, string_bytes, IfErr, IfOk, None, Some};
-ghost use Rattle.bb_options.specs.Rungs.{AreBounds};
-ghost use Rattle.bb_ladder.specs.Answers.{question_of};
+ghost use Rattle.std.specs.Prelude.{◌≡◌, ◌⊎◌, map, option_copied, string_bytes, IfErr, IfOk, None};
+ghost use Rattle.bb_words.specs.Asked.{request_of, rup_asked};
+ghost use Rattle.bb_ladder.specs.Answers.{question, question_of};
+ghost use Rattle.bb_ladder.specs.Tasks.{AskTask, IsBounded};
 
 use crate::asked::Asked;
 use bb_bits::{Name, NoMemory};
-use bb_words::{WordsFault, read_words};
+use bb_words::{Asked as WordsAsked, Wanted, WordsFault, read_words};
 use std::alloc::Global;
 
-/// The two files that are to be compared, and what is asked of their texts.
+/// What is done with two texts.
+#[derive(Debug, Drop)]
+pub enum Task {
+    /// They are compared.
+    Comparison(Asked),
+    /// The second refutes the first.
+    Refutation,
+}
+
+/// The names of two files, and what is done with their texts.
 #[derive(Debug, Drop)]
 pub struct Question<'a> {
     pub spec: &'a str,
     pub imp: &'a str,
-    pub asked: Asked,
+    pub task: Task,
 }
 
 // The name of a top, if one is given.
@@ -27,24 +37,48 @@ fn top_name(alloc: Global, top: Option<&str>) -> Result<Option<Name>, NoMemory>
     }
 }
 
+// What is asked of two texts that are compared.
+fn texts_asked(alloc: Global, asked: &WordsAsked<'_>) -> Result<Asked, NoMemory>
+    ensures asked { IfOk result (λ texts. texts ≡ (question (request_of asked.now)).asked) }
+{
+    Ok(Asked {
+        spec_top: top_name(alloc, asked.top_spec)?,
+        imp_top: top_name(alloc, asked.top_imp)?,
+        options: asked.options,
+    })
+}
+
+// The question of a comparison.
+fn comparison<'a>(alloc: Global, asked: &WordsAsked<'a>) -> Result<Question<'a>, NoMemory>
+    ensures spec { IfOk result (λ q. q.spec.now ≡ asked.now.spec.now) }
+    ensures imp { IfOk result (λ q. q.imp.now ≡ asked.now.imp.now) }
+    ensures task { IfOk result (λ q. q.task ≡ Task.Comparison (question (request_of asked.now)).asked) }
+{
+    Ok(Question {
+        spec: asked.spec,
+        imp: asked.imp,
+        task: Task::Comparison(texts_asked(alloc, asked)?),
+    })
+}
+
 /// What the words ask for; the first is the program's own name.
 ///
 /// # Errors
 ///
 /// `Usage` where the words are not of the command's form, and want of memory.
+#[tactic(auto, using(crate::proofs::TaskLemmas::asks_comparison, crate::proofs::TaskLemmas::comparison_bounded, crate::proofs::TaskLemmas::no_question))]
 pub fn question_of<'a>(alloc: Global, words: &'a [String]) -> Result<Question<'a>, WordsFault>
-    ensures question { IfOk result (λ q. question_of (map string_bytes words.entry.now) ≡ Some (record { spec = q.spec.now; imp = q.imp.now; asked = q.asked })) }
-    ensures bounds { IfOk result (λ q. AreBounds q.asked.options) }
-    ensures usage { IfErr result (λ fault. (fault ≡ WordsFault.NoMemory) ⊎ ((fault ≡ WordsFault.Usage) × (question_of (map string_bytes words.entry.now) ≡ None))) }
+    ensures question { IfOk result (λ q. AskTask (map string_bytes words.entry.now) q.spec.now q.imp.now q.task) }
+    ensures bounds { IfOk result (λ q. IsBounded q.task) }
+    ensures usage { IfErr result (λ fault. (fault ≡ WordsFault.NoMemory) ⊎ ((fault ≡ WordsFault.Usage) × (question_of (map string_bytes words.entry.now) ≡ None)
+        × (rup_asked (map string_bytes words.entry.now) ≡ None))) }
 {
-    let asked = read_words(alloc, words)?;
-    Ok(Question {
-        spec: asked.spec,
-        imp: asked.imp,
-        asked: Asked {
-            spec_top: top_name(alloc, asked.top_spec)?,
-            imp_top: top_name(alloc, asked.top_imp)?,
-            options: asked.options,
-        },
-    })
+    match read_words(alloc, words)? {
+        Wanted::Comparison(asked) => Ok(comparison(alloc, &asked)?),
+        Wanted::Refutation { cnf, adds } => Ok(Question {
+            spec: cnf,
+            imp: adds,
+            task: Task::Refutation,
+        }),
+    }
 }

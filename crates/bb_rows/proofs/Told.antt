@@ -37,7 +37,10 @@ asked words known files spec imp q s i e f texts =
 
 -- files in memory tell what they hold
 pub all_told : (words : List (List ℕ)) (files : List (List ℕ × List ℕ)) → AreTold words (λ name. Some (text_under files name))
-all_told words files q asks = (text_under files q.spec, refl, λ low. (text_under files q.imp, refl))
+all_told words files = record {
+  comparison = λ q asks. (text_under files q.spec, refl, λ low. (text_under files q.imp, refl));
+  refutation = λ f asks. (text_under files f.cnf, refl, λ low. (text_under files f.adds, refl));
+}
 
 -- the refusal of what was read is that of the words and the two texts
 pub refused_so : (words known : List (List ℕ)) (files : List (List ℕ × List ℕ)) (spec imp line : List ℕ)

@@ -22,6 +22,8 @@ mod recording;
 #[cfg(test)]
 mod recording_tests;
 #[cfg(test)]
+mod refutation_tests;
+#[cfg(test)]
 mod row_tests;
 #[cfg(test)]
 mod tests;

@@ -2,7 +2,7 @@
 //! blank between two, and behind an arrow what is told of them; lines that begin with two strokes are no rows.
 
 use bb_options::Options;
-use bb_words::{Asked, WordsFault, read_words};
+use bb_words::{Asked, Wanted, WordsFault, read_words};
 use std::alloc::{AllocError, Global};
 use std::process::Abort;
 use std::test::Fail;
@@ -52,7 +52,8 @@ fn tell(out: &mut String, asked: &Asked<'_>) -> Result<(), AllocError> {
 fn told(alloc: Global, words: &[String]) -> Result<String, AllocError> {
     let mut out = String::new(alloc);
     match read_words(alloc, words) {
-        Ok(asked) => tell(&mut out, &asked)?,
+        Ok(Wanted::Comparison(asked)) => tell(&mut out, &asked)?,
+        Ok(Wanted::Refutation { cnf, adds }) => write!(out, "rup {cnf} {adds}")?,
         Err(WordsFault::Usage) => out.push_str("refused")?,
         Err(WordsFault::NoMemory) => out.push_str("no memory")?,
     }
@@ -193,4 +194,42 @@ bbeq - a=b => - a=b none none ternary expand false 32 1 1000000 2000000 65536 fa
 #[test]
 fn words_ask_for_what_they_say(rt: HostRuntime) -> Result<(), Fail> {
     rows(&rt, rt.alloc(), READ)
+}
+
+const REFUTING: &str = "\
+// with both files, in any order
+bbeq a b --rup => rup a b
+bbeq --rup a b => rup a b
+bbeq a --rup b => rup a b
+bbeq --rup -- a b => rup a b
+bbeq --rup -- --rup b => rup --rup b
+// else a word behind two minus signs is a file
+bbeq -- a --rup => a --rup none none ternary expand false 32 1 1000000 2000000 65536 false
+// without one of them
+bbeq --rup => refused
+bbeq a --rup => refused
+bbeq a b c --rup => refused
+bbeq  b --rup => refused
+bbeq -- --rup => refused
+// twice, and with a value
+bbeq a b --rup --rup => refused
+bbeq a b --rup=x => refused
+bbeq a b --rup= => refused
+// beside each other flag and option, also where the value is the one that stands for it
+bbeq a b --rup --all => refused
+bbeq a b --proof --rup => refused
+bbeq a b --rup --top-spec m => refused
+bbeq a b --rup --top-impl=m => refused
+bbeq a b --rup --from ternary => refused
+bbeq a b --rup --to expand => refused
+bbeq a b --patterns 32 --rup => refused
+bbeq a b --rup --seed 1 => refused
+bbeq a b --rup --nodes 1000000 => refused
+bbeq a b --rup --clauses=2000000 => refused
+bbeq a b --rup --cache 65536 => refused
+bbeq a b --rup --nodes x => refused";
+
+#[test]
+fn refutations_are_asked_for_alone(rt: HostRuntime) -> Result<(), Fail> {
+    rows(&rt, rt.alloc(), REFUTING)
 }

@@ -1,5 +1,5 @@
 -- Two plain words ask for two files, with what stands for options that are not given.
-use Rattle.std.proofs.Common.{◌≡◌, ◌==◌, ◌∙◌, ℕ, Bool, true, false, List, [], ◌∷◌, None, Some, ap, ap₂, codes, drop, if◌then◌else◌, is_some, not, refl}
+use Rattle.std.proofs.Common.{◌≡◌, ◌==◌, ◌∙◌, ℕ, Bool, true, false, List, [], ◌∷◌, Option, None, Some, ap, ap₂, codes, drop, if◌then◌else◌, is_some, not, refl}
 use Rattle.clap.proofs.OnLiterals.{clap_on_literals}
 use Rattle.clap.specs.Faults.{check_fault, defaults_fault, entered_fault, settle_fault, turn_fault, walk_fault}
 use Rattle.clap.specs.Simple.{Shape, built, entered, names_of}
@@ -7,7 +7,7 @@ use Rattle.clap.specs.Words.{Text, fault_of}
 use Rattle.clap.specs.Walk.{Names, Walk, finished, idle, is_empty, nothing_held, reading_by, settled, walk, walk_from, walked}
 use Rattle.clap.specs.Kinds.{Kinds, or_else}
 use Rattle.clap.specs.declared.parser.matches.ValueSource.TheVariants.{CommandLine}
-use Rattle.bb_words.specs.Asked.{asked, asked_request}
+use Rattle.bb_words.specs.Asked.{AskNothing, asked, asked_comparison, asked_refutation}
 use Rattle.bb_words.specs.Laws.{FewWordsAskForNothing, PlainWordsAreFiles, files_alone, is_plain}
 use Rattle.bb_words.specs.Commands.{command, found_in, is_taken, positional}
 
@@ -95,12 +95,12 @@ module _ (program : Text) (x y : ℕ) (xs ys : List ℕ) (plain_x : (x == 45) �
   found : found_in words ≡ finished shape.rules (both_held (x ∷ xs) (y ∷ ys)).held
   found = ap (λ w. finished shape.rules w.held) walked_both
 
-  read : asked_request (finished shape.rules (both_held (x ∷ xs) (y ∷ ys)).held) ≡ Some (files_alone (x ∷ xs) (y ∷ ys))
+  read : asked_comparison (finished shape.rules (both_held (x ∷ xs) (y ∷ ys)).held) ≡ Some (files_alone (x ∷ xs) (y ∷ ys))
   unfolding clap_on_literals
   read = refl
 
   are_files : asked words ≡ Some (files_alone (x ∷ xs) (y ∷ ys))
-  are_files = ap₂ (λ t rows. if t then asked_request rows else None) taken found ∙ read
+  are_files = ap₂ (λ t rows. if t then asked_comparison rows else None) taken found ∙ read
 
 no_minus : (b : Bool) → not b ≡ true → b ≡ false
 no_minus false e = refl
@@ -116,24 +116,31 @@ module _ (program : Text) (x : ℕ) (xs : List ℕ) (plain_x : (x == 45) ≡ fal
   one_found : found_in (program ∷ (x ∷ xs) ∷ []) ≡ finished shape.rules (first_held (x ∷ xs)).held
   one_found = ap (λ w. finished shape.rules w.held) (first_walked x xs plain_x)
 
-  one_read : asked_request (finished shape.rules (first_held (x ∷ xs)).held) ≡ None
+  one_read : asked_comparison (finished shape.rules (first_held (x ∷ xs)).held) ≡ None
   unfolding clap_on_literals
   one_read = refl
 
-  either_way : (t : Bool) → (if t then asked_request (finished shape.rules (first_held (x ∷ xs)).held) else None) ≡ None
-  either_way true = one_read
-  either_way false = refl
+  no_second_file : asked_refutation (finished shape.rules (first_held (x ∷ xs)).held) ≡ None
+  unfolding clap_on_literals
+  no_second_file = refl
 
-  one_word : asked (program ∷ (x ∷ xs) ∷ []) ≡ None
-  one_word = ap (λ rows. if is_taken (program ∷ (x ∷ xs) ∷ []) then asked_request rows else None) one_found ∙ either_way _
+  either_way : {X : Type 0} (t : Bool) (o : Option X) → o ≡ None → (if t then o else None) ≡ None
+  either_way true o none = none
+  either_way false o none = refl
 
-no_words : (asked [] ≡ None) × ((program : Text) → asked (program ∷ []) ≡ None)
+  one_word : AskNothing (program ∷ (x ∷ xs) ∷ [])
+  one_word = record {
+    comparison = ap (λ rows. if is_taken (program ∷ (x ∷ xs) ∷ []) then asked_comparison rows else None) one_found ∙ either_way _ _ one_read;
+    refutation = ap (λ rows. if is_taken (program ∷ (x ∷ xs) ∷ []) then asked_refutation rows else None) one_found ∙ either_way _ _ no_second_file;
+  }
+
+no_words : AskNothing [] × ((program : Text) → AskNothing (program ∷ []))
 unfolding clap_on_literals
-no_words = (refl, (λ program. refl))
+no_words = (record { comparison = refl; refutation = refl }, (λ program. record { comparison = refl; refutation = refl }))
 
 pub few_words : FewWordsAskForNothing
 few_words = (no_words.0, no_words.1, one)
   where
-    one : (program spec : List ℕ) → is_plain spec ≡ true → asked (program ∷ spec ∷ []) ≡ None
+    one : (program spec : List ℕ) → is_plain spec ≡ true → AskNothing (program ∷ spec ∷ [])
     one program [] plain = cc
     one program (x ∷ xs) plain = one_word program x xs (no_minus (x == 45) plain)

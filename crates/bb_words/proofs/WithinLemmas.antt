@@ -5,23 +5,24 @@ use Rattle.clap.specs.Words.{Row, first_of}
 use Rattle.bb_options.specs.declared.options.Options.{Options}
 use Rattle.bb_options.specs.declared.rung.Rung.TheVariants.{Ternary, Expand}
 use Rattle.bb_options.specs.Rungs.{AreBounds, rank}
-use Rattle.bb_words.specs.Asked.{Request, asked, asked_options, asked_request, file, given, name, request_of, rung_named, top, value_or}
+use Rattle.bb_words.specs.Asked.{Ask, AskNothing, HasBounds, IsWantedBy, Request, asked_comparison, asked_options, asked_refutation, asked_request, file, given, is_refuting, name, request_of, rung_named, top, value_or}
 use Rattle.bb_words.specs.Commands.{found_in, is_taken}
-use Rattle.bb_words.specs.declared.asked.Asked.{Asked}
+use Rattle.bb_words.specs.declared.asked.Wanted.{Wanted}
+use Rattle.bb_words.specs.declared.asked.Wanted.TheVariants as wanted
 use Rattle.bb_words.specs.declared.asked.WordsFault.{WordsFault}
 use Rattle.bb_words.specs.Laws.{IsWithin, RequestsAreWithin}
 use Rattle.bb_words.specs.Numbers.{number_within}
 
 -- what follows from a value that is there
-given-some : {X Y : Type 0} (o : Option X) (f : X → Option Y) (y : Y) → given o f ≡ Some y → (x : X) × (o ≡ Some x) × (f x ≡ Some y)
+pub given-some : {X Y : Type 0} (o : Option X) (f : X → Option Y) (y : Y) → given o f ≡ Some y → (x : X) × (o ≡ Some x) × (f x ≡ Some y)
 given-some None f y e = cc
 given-some (Some x) f y e = (x, refl, e)
 
-if-some : {X : Type 0} (b : Bool) (x y : X) → (if b then Some x else None) ≡ Some y → (b ≡ true) × (x ≡ y)
+pub if-some : {X : Type 0} (b : Bool) (x y : X) → (if b then Some x else None) ≡ Some y → (b ≡ true) × (x ≡ y)
 if-some true x y e = (refl, cc)
 if-some false x y e = cc
 
-some-same : {X : Type 0} (x y : X) → Some x ≡ Some y → x ≡ y
+pub some-same : {X : Type 0} (x y : X) → Some x ≡ Some y → x ≡ y
 some-same x y e = cc
 
 le-true : (a b : ℕ) → nat_le a b ≡ true → a ≤ b
@@ -40,7 +41,7 @@ name-some : (text given : List ℕ) → name text ≡ Some given → given ≢ [
 name-some [] given e = cc
 name-some (b ∷ bs) given e = λ empty. cc
 
-file-some : (value : Option (List ℕ)) (given : List ℕ) → file value ≡ Some given → given ≢ []
+pub file-some : (value : Option (List ℕ)) (given : List ℕ) → file value ≡ Some given → given ≢ []
 file-some None given e = cc
 file-some (Some text) given e = name-some text given e
 
@@ -74,14 +75,33 @@ request-within found r e =
       bounds = options-within found options.0 options.1;
     })
 
+comparison-some : (found : List Row) (r : Request) → asked_comparison found ≡ Some r → asked_request found ≡ Some r
+comparison-some found r = by (is_refuting found)
+  where
+    by : (b : Bool) → (if b then None else asked_request found) ≡ Some r → asked_request found ≡ Some r
+    by true e = cc
+    by false e = e
+
 pub requests_within : RequestsAreWithin
 requests_within words r e = go (is_taken words) e
   where
-    go : (taken : Bool) → (if taken then asked_request (found_in words) else None) ≡ Some r → IsWithin r
-    go true e = request-within (found_in words) r e
+    go : (taken : Bool) → (if taken then asked_comparison (found_in words) else None) ≡ Some r → IsWithin r
+    go true e = request-within (found_in words) r (comparison-some (found_in words) r e)
     go false e = cc
 
 -- so what the code hands over is within the bounds of the checks
-pub handed_within : (words : List (List ℕ)) (r : Result Asked WordsFault) → IfOk r (λ a. asked words ≡ Some (request_of a)) → IfOk r (λ a. AreBounds a.options)
-handed_within words (Ok a) asks = (requests_within words (request_of a) asks).bounds
+pub handed_within : (words : List (List ℕ)) (r : Result Wanted WordsFault) → IfOk r (Ask words) → IfOk r HasBounds
+handed_within words (Ok (wanted.Comparison a)) asks = (requests_within words (request_of a) asks).bounds
+handed_within words (Ok (wanted.Refutation cnf adds)) asks = tt
 handed_within words (Err fault) asks = tt
+
+-- what is found in the rows of words that are taken is asked for by them
+pub asks_by_rows : (words : List (List ℕ)) (found : List Row) (w : Wanted) → found ≡ found_in words → is_taken words ≡ true → IsWantedBy found w → Ask words w
+asks_by_rows words found (wanted.Comparison a) same taken is = rw (taken, ← same) is
+asks_by_rows words found (wanted.Refutation cnf adds) same taken is = rw (taken, ← same) is
+
+pub nothing_by_rows : (words : List (List ℕ)) (found : List Row) → found ≡ found_in words → is_taken words ≡ true → asked_comparison found ≡ None → asked_refutation found ≡ None → AskNothing words
+nothing_by_rows words found same taken none neither = record { comparison = rw (taken, ← same) none; refutation = rw (taken, ← same) neither }
+
+pub nothing_untaken : (words : List (List ℕ)) → is_taken words ≡ false → AskNothing words
+nothing_untaken words not_taken = record { comparison = rw not_taken refl; refutation = rw not_taken refl }

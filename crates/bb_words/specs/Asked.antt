@@ -1,15 +1,19 @@
 -- What the words of a command line ask for: which files are compared and which module is the top of each, which checks are run, and within
--- which bounds. Words that clap does not take, or whose values are not in the table below, ask for nothing.
-use Rattle.std.specs.Prelude.{ℕ, Bool, false, nat_le, List, [], ◌∷◌, Option, Some, None, if◌then◌else◌, option_and_then, option_map, option_copied, find, codes}
+-- which bounds; or, with `--rup`, in which files a formula and its refutation stand. Words that clap does not take, or whose values are not
+-- in the table below, ask for nothing.
+use Rattle.std.specs.Prelude.{◌≡◌, ◌&&◌, ℕ, Bool, false, not, is_some, nat_le, List, [], ◌∷◌, Option, Some, None, if◌then◌else◌, option_and_then, option_map, option_copied, find, codes}
+use Rattle.std.specs.List.{list_all}
 use Rattle.std.specs.Str.{bytes_eq}
 use Rattle.clap.specs.Words.{Row, first_of}
 use Rattle.bb_options.specs.declared.options.Options.{Options}
 use Rattle.bb_options.specs.declared.rung.Rung.{Rung}
 use Rattle.bb_options.specs.declared.rung.Rung.TheVariants.{Ternary, Expand}
-use Rattle.bb_options.specs.Rungs.{all_rungs, rank, rung_name}
-use Rattle.bb_words.specs.Commands.{found_in, is_taken}
+use Rattle.bb_options.specs.Rungs.{AreBounds, all_rungs, rank, rung_name}
+use Rattle.bb_words.specs.Commands.{found_in, is_taken, options}
 use Rattle.bb_words.specs.Numbers.{number_within}
 use Rattle.bb_words.specs.declared.asked.Asked.{Asked}
+use Rattle.bb_words.specs.declared.asked.Wanted.{Wanted}
+use Rattle.bb_words.specs.declared.asked.Wanted.TheVariants as wanted
 
 pub record Request : Type 0 where
   -- the names of the two files
@@ -19,6 +23,12 @@ pub record Request : Type 0 where
   pub top_spec : Option (List ℕ)
   pub top_imp : Option (List ℕ)
   pub options : Options
+
+-- a formula and clause additions
+pub record Refutation : Type 0 where
+  -- the names of the two files
+  pub cnf : List ℕ
+  pub adds : List ℕ
 
 -- a name is not empty
 abbrev pub name : List ℕ → Option (List ℕ)
@@ -89,8 +99,38 @@ asked_request found =
       options = options;
     }))))))
 
+-- whether the flag for a refutation is given
+abbrev pub is_refuting : List Row → Bool
+is_refuting found = is_true (first_of (codes "rup") found)
+
+-- whether an option is not given, whatever its value would be
+abbrev pub is_absent : List Row → List ℕ → Bool
+is_absent found option = not (is_some (first_of option found))
+
+-- no other flag is given, and no option
+abbrev pub is_alone : List Row → Bool
+is_alone found =
+    not (is_true (first_of (codes "all") found)) && not (is_true (first_of (codes "proof") found))
+    && list_all (is_absent found) options
+
+-- a comparison is asked for without that flag
+abbrev pub asked_comparison : List Row → Option Request
+asked_comparison found = if is_refuting found then None else asked_request found
+
+-- a refutation is asked for with it alone, and with both files
+abbrev pub asked_refutation : List Row → Option Refutation
+asked_refutation found =
+    given (file (first_of (codes "SPEC") found)) (λ cnf.
+    given (file (first_of (codes "IMPL") found)) (λ adds.
+    if is_refuting found && is_alone found then Some (record { cnf = cnf; adds = adds }) else None))
+
+-- the comparison that words ask for
 abbrev pub asked : List (List ℕ) → Option Request
-asked words = if is_taken words then asked_request (found_in words) else None
+asked words = if is_taken words then asked_comparison (found_in words) else None
+
+-- the refutation that words ask for
+abbrev pub rup_asked : List (List ℕ) → Option Refutation
+rup_asked words = if is_taken words then asked_refutation (found_in words) else None
 
 -- the request that the code hands over
 abbrev pub request_of : Asked → Request
@@ -101,3 +141,23 @@ request_of a = record {
   top_imp = option_copied a.top_imp;
   options = a.options;
 }
+
+-- what the code hands over, found in these rows
+abbrev pub IsWantedBy : List Row → Wanted → Type 0
+IsWantedBy found (wanted.Comparison a) = asked_comparison found ≡ Some (request_of a)
+IsWantedBy found (wanted.Refutation cnf adds) = asked_refutation found ≡ Some (record { cnf = cnf.now; adds = adds.now })
+
+-- and asked for by words
+abbrev pub Ask : List (List ℕ) → Wanted → Type 0
+Ask words (wanted.Comparison a) = asked words ≡ Some (request_of a)
+Ask words (wanted.Refutation cnf adds) = rup_asked words ≡ Some (record { cnf = cnf.now; adds = adds.now })
+
+-- words that ask for nothing
+pub record AskNothing (words : List (List ℕ)) : Type 0 where
+  pub comparison : asked words ≡ None
+  pub refutation : rup_asked words ≡ None
+
+-- the bounds of the checks that are asked for
+abbrev pub HasBounds : Wanted → Type 0
+HasBounds (wanted.Comparison a) = AreBounds a.options
+HasBounds (wanted.Refutation cnf adds) = Unit {0}

@@ -2,7 +2,8 @@
 use Rattle.std.specs.Prelude.{◌≡◌, ◌≢◌, ◌==◌, ℕ, Bool, true, false, not, List, [], ◌∷◌, None, Some}
 use Rattle.bb_options.specs.declared.rung.Rung.TheVariants.{Ternary, Expand}
 use Rattle.bb_options.specs.Rungs.{AreBounds}
-use Rattle.bb_words.specs.Asked.{Request, asked}
+use Rattle.bb_words.specs.Asked.{AskNothing, Refutation, Request, asked, is_refuting, rup_asked}
+use Rattle.bb_words.specs.Commands.{found_in}
 
 -- each name that has to be given is not empty, each number is within its bounds, and so is the order of the checks
 pub record IsWithin (r : Request) : Type 0 where
@@ -35,4 +36,13 @@ PlainWordsAreFiles = (program spec imp : List ℕ) → is_plain spec ≡ true �
 
 -- less than two words are no two files
 abbrev pub FewWordsAskForNothing : Type 0
-FewWordsAskForNothing = (asked [] ≡ None) × ((program : List ℕ) → asked (program ∷ []) ≡ None) × ((program spec : List ℕ) → is_plain spec ≡ true → asked (program ∷ spec ∷ []) ≡ None)
+FewWordsAskForNothing = AskNothing [] × ((program : List ℕ) → AskNothing (program ∷ [])) × ((program spec : List ℕ) → is_plain spec ≡ true → AskNothing (program ∷ spec ∷ []))
+
+-- words ask for a comparison or for a refutation, or for nothing
+pub record WordsAskOnce : Type 0 where
+  pub not_both : (words : List (List ℕ)) (r : Request) (f : Refutation) → asked words ≡ Some r → rup_asked words ≡ Some f → ⊥
+  -- and the flag alone says which
+  pub without : (words : List (List ℕ)) → is_refuting (found_in words) ≡ false → rup_asked words ≡ None
+  pub with : (words : List (List ℕ)) → is_refuting (found_in words) ≡ true → asked words ≡ None
+  -- the names of a refutation's files are not empty
+  pub names : (words : List (List ℕ)) (f : Refutation) → rup_asked words ≡ Some f → (f.cnf ≢ []) × (f.adds ≢ [])

@@ -3,7 +3,7 @@
 use bb_options::Options;
 use std::alloc::AllocError;
 
-/// What the words ask for. The names are parts of the words.
+/// The comparison that the words ask for. The names are parts of the words.
 #[derive(Clone, Copy, Debug)]
 pub struct Asked<'a> {
     /// The name of the specification's file: not empty.
@@ -16,6 +16,15 @@ pub struct Asked<'a> {
     pub top_imp: Option<&'a str>,
     /// Which checks are run, and their bounds.
     pub options: Options,
+}
+
+/// What the words ask for.
+#[derive(Clone, Copy, Debug)]
+pub enum Wanted<'a> {
+    /// The comparison of an implementation with its specification.
+    Comparison(Asked<'a>),
+    /// The check of clause additions against a formula: the names of their files, which are parts of the words, and not empty.
+    Refutation { cnf: &'a str, adds: &'a str },
 }
 
 /// Why words ask for nothing.

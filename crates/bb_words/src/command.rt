@@ -48,6 +48,7 @@ fn command<'a>(alloc: Global) -> Result<Command<'a>, AllocError>
         .arg(positional(alloc, "IMPL"))?
         .arg(flag(alloc, "all"))?
         .arg(flag(alloc, "proof"))?
+        .arg(flag(alloc, "rup"))?
         .arg(valued(alloc, "top-spec"))?
         .arg(valued(alloc, "top-impl"))?
         .arg(valued(alloc, "from"))?

@@ -1,11 +1,12 @@
 //! What the words ask for, by the values that the command finds in them.
 
-ghost use Rattle.std.specs.Prelude.{◌≡◌, ◌⊎◌, map, option_map, string_bytes, IfOk, IfErr, None, Some};
+ghost use Rattle.std.specs.Prelude.{◌≡◌, ◌⊎◌, ◌∷◌, [], true, codes, map, option_map, string_bytes, IfOk, IfErr, IfSome, IfNone, None, Some};
+ghost use Rattle.std.specs.List.{list_all};
 ghost use Rattle.clap.specs.Words.{found_of, rows_of};
-ghost use Rattle.bb_options.specs.Rungs.{AreBounds};
-ghost use Rattle.bb_words.specs.Asked.{asked, asked_options, asked_request, request_of};
+ghost use Rattle.bb_words.specs.Commands.{options as option_names};
+ghost use Rattle.bb_words.specs.Asked.{Ask, AskNothing, HasBounds, IsWantedBy, asked_comparison, asked_options, asked_refutation, asked_request, is_absent, is_alone, is_refuting, request_of};
 
-use crate::asked::{Asked, WordsFault};
+use crate::asked::{Asked, Wanted, WordsFault};
 use crate::command::{parse, value};
 use crate::value::{file, is_true, number_or, rung_or, small_or, top};
 use bb_options::{Options, Rung};
@@ -58,6 +59,63 @@ fn request<'a>(matches: &ArgMatches<'a>) -> Option<Asked<'a>>
     })
 }
 
+// No bound of a check is given.
+fn no_bound(matches: &ArgMatches<'_>) -> bool
+    ensures { result ≡ list_all (is_absent (rows_of (found_of matches.now)))
+        (codes "patterns" ∷ codes "seed" ∷ codes "nodes" ∷ codes "clauses" ∷ codes "cache" ∷ []) }
+{
+    value(matches, "patterns").is_none()
+        && value(matches, "seed").is_none()
+        && value(matches, "nodes").is_none()
+        && value(matches, "clauses").is_none()
+        && value(matches, "cache").is_none()
+}
+
+// No option is given.
+fn no_option(matches: &ArgMatches<'_>) -> bool
+    ensures { result ≡ list_all (is_absent (rows_of (found_of matches.now))) option_names }
+{
+    value(matches, "top-spec").is_none()
+        && value(matches, "top-impl").is_none()
+        && value(matches, "from").is_none()
+        && value(matches, "to").is_none()
+        && no_bound(matches)
+}
+
+// No other flag and no option is given.
+fn is_alone(matches: &ArgMatches<'_>) -> bool
+    ensures alone { result ≡ is_alone (rows_of (found_of matches.now)) }
+{
+    !is_true(value(matches, "all")) && !is_true(value(matches, "proof")) && no_option(matches)
+}
+
+// The refutation that is asked for.
+fn refutation<'a>(matches: &ArgMatches<'a>) -> Option<Wanted<'a>>
+    requires refuting { is_refuting (rows_of (found_of matches.now)) ≡ true }
+    ensures some { IfSome result (IsWantedBy (rows_of (found_of matches.now))) }
+    ensures none { IfNone result (asked_refutation (rows_of (found_of matches.now)) ≡ None) }
+{
+    let cnf = file(value(matches, "SPEC"))?;
+    let adds = file(value(matches, "IMPL"))?;
+    if !is_alone(matches) {
+        return None;
+    }
+    Some(Wanted::Refutation { cnf, adds })
+}
+
+// What is asked for.
+fn wanted<'a>(matches: &ArgMatches<'a>) -> Option<Wanted<'a>>
+    ensures some { IfSome result (IsWantedBy (rows_of (found_of matches.now))) }
+    ensures no_comparison { IfNone result (asked_comparison (rows_of (found_of matches.now)) ≡ None) }
+    ensures no_refutation { IfNone result (asked_refutation (rows_of (found_of matches.now)) ≡ None) }
+{
+    if is_true(value(matches, "rup")) {
+        refutation(matches)
+    } else {
+        Some(Wanted::Comparison(request(matches)?))
+    }
+}
+
 /// What the words of a command line ask for. The first word is the program's own name, and is not looked at. The others are
 /// two files, the specification's before the implementation's, and in any order among them these, each at most once:
 ///
@@ -75,15 +133,17 @@ fn request<'a>(matches: &ArgMatches<'a>) -> Option<Asked<'a>>
 /// A value stands behind its option as the next word or behind `=`; one that begins with a minus sign, and is more than that,
 /// has to stand behind `=`. No name is empty. A number has at most 20 digits. Behind `--` every word is a file.
 ///
+/// With `--rup` the two files are a formula and clause additions, and no other flag and no option may be given.
+///
 /// # Errors
 /// `Usage` where the words are not of this form, and `NoMemory` where there is no memory to read them.
-pub fn read_words<'a>(alloc: Global, words: &'a [String]) -> Result<Asked<'a>, WordsFault>
-    ensures ok { IfOk result (λ a. asked (map string_bytes words.entry.now) ≡ Some (request_of a)) }
-    ensures bounds { IfOk result (λ a. AreBounds a.options) }
-    ensures usage { IfErr result (λ fault. (fault ≡ WordsFault.NoMemory) ⊎ ((fault ≡ WordsFault.Usage) × (asked (map string_bytes words.entry.now) ≡ None))) }
+pub fn read_words<'a>(alloc: Global, words: &'a [String]) -> Result<Wanted<'a>, WordsFault>
+    ensures ok { IfOk result (Ask (map string_bytes words.entry.now)) }
+    ensures bounds { IfOk result HasBounds }
+    ensures usage { IfErr result (λ fault. (fault ≡ WordsFault.NoMemory) ⊎ ((fault ≡ WordsFault.Usage) × AskNothing (map string_bytes words.entry.now))) }
 {
     match parse(alloc, words) {
-        Ok(matches) => request(&matches).ok_or(WordsFault::Usage),
+        Ok(matches) => wanted(&matches).ok_or(WordsFault::Usage),
         Err(error) if error.kind() == ErrorKind::OutOfMemory => Err(WordsFault::NoMemory),
         Err(_) => Err(WordsFault::Usage),
     }

@@ -1,8 +1,8 @@
 use Rattle.std.proofs.Common.{◌≡◌, ◌⊎◌}
 use Rattle.std.proofs.lemmas.Result.{IfOk-weaker}
 use Rattle.bb_ladder.specs.declared.answer.Answer.{Answer}
-use Rattle.bb_ladder.specs.declared.refusal.Refusal.{Refusal}
-use Rattle.bb_ladder.specs.RefusalLines.{refusal_line}
+use Rattle.bb_texts.specs.declared.refusal.Refusal.{Refusal}
+use Rattle.bb_texts.specs.RefusalLines.{refusal_line}
 use Rattle.bb_ladder.specs.ShownMistakes.{AreShown}
 use Rattle.bb_ladder.specs.TextAnswers.{Judges}
 use Rattle.bb_ladder.specs.TextPairs.{AreDecided, AreFinished, AreLeftOpen, AreRefuted, IsRefusal}

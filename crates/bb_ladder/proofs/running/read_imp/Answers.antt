@@ -1,6 +1,6 @@
 use Rattle.std.proofs.Common.{◌≡◌, ◌<◌, length, arith}
 use Rattle.std.proofs.lemmas.Result.{IfOk-weaker}
-use Rattle.bb_ladder.specs.declared.answer.TheConstants.{READ_LIMIT}
+use Rattle.bb_texts.specs.declared.limit.TheConstants.{READ_LIMIT}
 use Rattle.bb_ladder.specs.Answers.{ImpLong, BothRead}
 use Rattle.bb_ladder.proofs.running.read_imp.Goals as goal
 
@@ -12,4 +12,4 @@ returns-in-Ok-clause-answer g c =
 pub returns-in-Ok-2-clause-answer : goal.returns-in-Ok-2-clause-answer
 returns-in-Ok-2-clause-answer g c =
     let short : length c.in-Ok.text.items < READ_LIMIT = omega (arith, c.in-Ok.text.ok, c.in-Ok.ensures.within) in
-    IfOk-weaker _ _ _ (λ a e. BothRead c.in-Ok.text.items c.in-Ok.ensures.bytes short c.in-Ok.ensures.reads (rw c.deref.ensures.value at e)) c.judge_pair.ensures.answer
+    IfOk-weaker _ _ _ (λ a e. BothRead c.in-Ok.text.items c.in-Ok.ensures.bytes short c.in-Ok.ensures.reads (rw c.deref.ensures.value at e)) c.judge.ensures.answer

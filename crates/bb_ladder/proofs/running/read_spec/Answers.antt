@@ -1,6 +1,6 @@
 use Rattle.std.proofs.Common.{◌≡◌, ◌<◌, length, arith}
 use Rattle.std.proofs.lemmas.Result.{IfOk-weaker}
-use Rattle.bb_ladder.specs.declared.answer.TheConstants.{READ_LIMIT}
+use Rattle.bb_texts.specs.declared.limit.TheConstants.{READ_LIMIT}
 use Rattle.bb_ladder.specs.Answers.{SpecLong, SpecRead}
 use Rattle.bb_ladder.proofs.running.read_spec.Goals as goal
 

@@ -3,10 +3,10 @@ use Rattle.bb_ladder.proofs.text_laws.answers_speak_of_texts.Goals as goal
 
 pub returns : goal.returns
 returns c = λ words holds before after status text q spec imp answer texts. (
-  (λ zero. repair_sound c.answers_are_meant.ensures.repairs words holds before after status text q spec imp answer zero texts),
+  (λ zero. repair_sound c.words_ask_once.ensures c.answers_are_meant.ensures.repairs words holds before after status text q spec imp answer zero texts),
   (λ one. (
-    error_sound c.answers_are_meant.ensures.errors words holds before after status text q spec imp answer one texts,
-    shown_sound c.answers_are_meant.ensures.shown words holds before after status text q spec imp answer one texts,
+    error_sound c.words_ask_once.ensures c.answers_are_meant.ensures.errors words holds before after status text q spec imp answer one texts,
+    shown_sound c.words_ask_once.ensures c.answers_are_meant.ensures.shown words holds before after status text q spec imp answer one texts,
   )),
-  (λ three. open_sound c.answers_are_meant.ensures.opens words holds before after status text q spec imp answer three texts),
+  (λ three. open_sound c.words_ask_once.ensures c.answers_are_meant.ensures.opens words holds before after status text q spec imp answer three texts),
 )

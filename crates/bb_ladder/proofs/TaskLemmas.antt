@@ -1,0 +1,25 @@
+-- What the code hands on is what the words ask for.
+use Rattle.std.proofs.Common.{◌≡◌, ℕ, List, Option, Some, None, ap, option_map}
+use Rattle.bb_outside.specs.Counts.{Reads}
+use Rattle.bb_options.specs.Rungs.{AreBounds}
+use Rattle.bb_words.specs.Asked.{AskNothing, asked, request_of}
+use Rattle.bb_words.specs.declared.asked.Asked.{Asked as WordsAsked}
+use Rattle.bb_ladder.specs.Answers.{OfFiles, MayAnswer, Asked, Refuting, question, question_of}
+use Rattle.bb_ladder.specs.Tasks.{AskTask, IsBounded, judged_by}
+use Rattle.bb_ladder.specs.declared.words.Task.{Task}
+use Rattle.bb_ladder.specs.declared.words.Task.TheVariants.{Comparison, Refutation}
+
+pub may_answer : (words : List (List ℕ)) (holds : List ℕ → Option (List ℕ)) (before after : Reads) (first second : List ℕ) (task : Task) (status : ℕ) (text : List ℕ)
+    → AskTask words first second task → OfFiles (judged_by task) holds first second before after status text → MayAnswer words holds before after status text
+may_answer words holds before after first second (Comparison asked) status text asks files = Asked (record { spec = first; imp = second; asked = asked }) asks files
+may_answer words holds before after first second Refutation status text asks files = Refuting (record { cnf = first; adds = second }) asks files
+
+pub asks_comparison : (words : List (List ℕ)) (a : WordsAsked) (first second : List ℕ) (task : Task) → asked words ≡ Some (request_of a) → first ≡ a.spec.now → second ≡ a.imp.now
+    → task ≡ Comparison (question (request_of a)).asked → AskTask words first second task
+asks_comparison words a first second task asks x y z = rw (x, y, z) (ap (option_map question) asks)
+
+pub comparison_bounded : (a : WordsAsked) (task : Task) → task ≡ Comparison (question (request_of a)).asked → AreBounds a.options → IsBounded task
+comparison_bounded a task same bounds = rw same bounds
+
+pub no_question : (words : List (List ℕ)) → AskNothing words → question_of words ≡ None
+no_question words nothing = ap (option_map question) nothing.comparison

@@ -1,0 +1,131 @@
+//! The answer to a formula and clause additions: both texts are read, and each addition is checked.
+
+ghost use Rattle.std.specs.Prelude.{◌≡◌, ◌<◌, ◌++◌, ℕ, List, Ok, codes, length, IfOk, OnOk};
+ghost use Rattle.bb_cnf.specs.Clauses.{IsWithin, lists_of};
+ghost use Rattle.bb_rup.specs.Dimacs.{dimacs_of};
+ghost use Rattle.bb_rup.specs.declared.fault.RupFault.{RupFault};
+ghost use Rattle.bb_texts.specs.declared.limit.TheConstants.{READ_LIMIT};
+ghost use Rattle.bb_texts.specs.Refusals.{refusal};
+ghost use Rattle.bb_ladder.specs.Refutations.{CheckLaws, Checks, FailsAt, IsCheckRefusal, IsRefutation, Tells, no_line, rup_words};
+
+use crate::answer::{Answer, say};
+use bb_bits::NoMemory;
+use bb_cnf::{Cnf, Lit};
+use bb_rup::{RupAnswer, RupFault, additions, dimacs, rup};
+use bb_texts::push_at_line;
+use itoa::Buffer;
+use smallvec::SmallVec;
+use std::alloc::Global;
+
+// Appends the words for a fault; for want of memory there are none.
+fn push_fault(text: &mut Vec<u8>, fault: &RupFault) -> Result<(), NoMemory>
+    ensures words { OnOk result (text.new.items ≡ text.old.items ++ rup_words fault.now) }
+    ensures memory { OnOk result (fault.now ≡ RupFault.NoMemory → ⊥) }
+{
+    match fault {
+        RupFault::Header { line } => push_at_line(text, "header", *line),
+        RupFault::Token { line } => push_at_line(text, "token", *line),
+        RupFault::Literal { line } => push_at_line(text, "literal", *line),
+        RupFault::Unclosed => text.extend_from_slice(b"unclosed"),
+        RupFault::Count => text.extend_from_slice(b"count"),
+        RupFault::NoMemory => Err(NoMemory),
+    }
+}
+
+// Appends the line that refuses one of the texts.
+fn push_line(text: &mut Vec<u8>, which: &str, fault: &RupFault) -> Result<(), NoMemory>
+    ensures line { OnOk result (text.new.items ≡ text.old.items ++ refusal which.now (rup_words fault.now)) }
+    ensures memory { OnOk result (fault.now ≡ RupFault.NoMemory → ⊥) }
+{
+    text.extend_from_slice(b"refused ")?;
+    text.extend_from_slice(which.as_bytes())?;
+    text.extend_from_slice(b" ")?;
+    push_fault(text, fault)?;
+    text.extend_from_slice(b"\n")?;
+    Ok(())
+}
+
+// The answer that refuses one of the texts.
+fn refuse(alloc: Global, which: &str, fault: &RupFault) -> Result<Answer, NoMemory>
+    ensures status { IfOk result (λ answer. answer.status ≡ 2) }
+    ensures report { IfOk result (λ answer. answer.report.items ≡ refusal which.now (rup_words fault.now)) }
+    ensures memory { IfOk result (λ answer. fault.now ≡ RupFault.NoMemory → ⊥) }
+{
+    let mut report = Vec::new(alloc);
+    push_line(&mut report, which, fault)?;
+    Ok(Answer { status: 2, report })
+}
+
+// The answer for the first addition that does not follow.
+fn say_no(alloc: Global, number: u32) -> Result<Answer, NoMemory>
+    ensures { IfOk result (λ answer. (answer.status ≡ 1) × (answer.report.items ≡ no_line number)) }
+{
+    let mut report = Vec::new(alloc);
+    report.extend_from_slice(b"rup no ")?;
+    let mut buffer = Buffer::new();
+    report.extend_from_slice(buffer.format(number).as_bytes())?;
+    report.extend_from_slice(b"\n")?;
+    Ok(Answer { status: 1, report })
+}
+
+// The answer to clauses and additions.
+fn check(alloc: Global, cnf: &Cnf, adds: &[SmallVec<Lit, 4>]) -> Result<Answer, NoMemory>
+    requires within { IsWithin cnf.now.vars (lists_of adds.now) }
+    requires few { length adds.now < 4294967295 }
+    ensures answer { IfOk result (λ answer. Tells cnf.now.clauses (lists_of adds.now) answer.status answer.report.items) }
+{
+    match rup(alloc, cnf, adds)? {
+        RupAnswer::Yes => say(alloc, 0, "rup yes\n"),
+        RupAnswer::No(number) => say_no(alloc, number),
+    }
+}
+
+// The answer to a formula and the text of additions.
+fn judge_additions(alloc: Global, cnf: &Cnf, second: &[u8]) -> Result<Answer, NoMemory>
+    requires second { length second.now < READ_LIMIT }
+    ensures answer { IfOk result (λ answer. (first : List ℕ) → dimacs_of first ≡ Ok cnf.now → Checks first second.now answer.status answer.report.items) }
+{
+    match additions(alloc, second, cnf.vars) {
+        Ok(adds) => check(alloc, cnf, &adds),
+        Err(fault) => refuse(alloc, "rup", &fault),
+    }
+}
+
+// The answer to two texts.
+fn answer(alloc: Global, first: &[u8], second: &[u8]) -> Result<Answer, NoMemory>
+    requires first { length first.now < READ_LIMIT }
+    requires second { length second.now < READ_LIMIT }
+    ensures answer { IfOk result (λ answer. Checks first.now second.now answer.status answer.report.items) }
+{
+    match dimacs(alloc, first) {
+        Ok(cnf) => judge_additions(alloc, &cnf, second),
+        Err(fault) => refuse(alloc, "cnf", &fault),
+    }
+}
+
+/// What is answered to the text of a formula and that of clause additions, whoever read them.
+///
+/// Status 0 says that each addition follows and so no assignment makes all clauses true, status 1 which addition is the first that does
+/// not, counted from 1 without deletions, and status 2 what is wrong with the first text, or else with the second.
+///
+/// # Errors
+///
+/// Want of memory alone.
+pub fn judge_refutation(alloc: Global, first: &[u8], second: &[u8]) -> Result<Answer, NoMemory>
+    requires first { length first.now < READ_LIMIT }
+    requires second { length second.now < READ_LIMIT }
+    ensures answer { IfOk result (λ answer. Checks first.now second.now answer.status answer.report.items) }
+    ensures yes { IfOk result (λ answer. answer.status ≡ 0 → (answer.report.items ≡ codes "rup yes\n") × IsRefutation first.now second.now) }
+    ensures no { IfOk result (λ answer. answer.status ≡ 1 → (n : ℕ) × (answer.report.items ≡ no_line n) × FailsAt first.now second.now n) }
+    ensures refused { IfOk result (λ answer. answer.status ≡ 2 → IsCheckRefusal first.now second.now answer.report.items) }
+{
+    refutations_are_answered();
+    answer(alloc, first, second)
+}
+
+/// The answer to a formula and clause additions is one, status and bytes, and there is one.
+pub fn refutations_are_answered()
+    ensures { CheckLaws }
+{
+    bb_rup::laws::additions();
+}
