@@ -148,9 +148,17 @@ def accepts(report, folder):
     return done if done.status else run([script("lrat"), names + ".cnf", names + ".lrat"])
 
 
+def refutes(folder):
+    """What the program itself says of the proof."""
+    names = os.path.join(folder, "proof")
+    return bbeq("--rup", names + ".cnf", names + ".drat")
+
+
 def drat_part(tally, folder):
     done = accepts(write(folder, "report", SMALL_PROOF), folder)
     tally.note("drat: three clauses", done.status == 0, done.why())
+    done = refutes(folder)
+    tally.note("--rup: three clauses", (done.status, done.out) == (0, "rup yes\n"), done.why())
     names = os.path.join(folder, "proof")
     lines = read(names + ".cnf").splitlines(True)
     # Each of the three clauses is needed, so none may be another.
@@ -161,6 +169,8 @@ def drat_part(tally, folder):
     report = bbeq(example("lanes", "spec.v"), example("lanes", "impl.v"), "--proof").out
     done = accepts(write(folder, "report", report), folder)
     tally.note(f"drat: the lanes; {done.out.strip()}", done.status == 0, done.why())
+    done = refutes(folder)
+    tally.note("--rup: the lanes", (done.status, done.out) == (0, "rup yes\n"), done.why())
     for wrong, what in ((SMALL_PROOF.replace("1/1 2/2", "2/2 1/1"), "a step that does not resolve"),
                         (SMALL_PROOF.replace(" 2/2", ""), "a last clause that is not empty"),
                         (SMALL_PROOF.replace("step 3 0", "step 3 7"), "a clause that does not stand before")):
