@@ -1,4 +1,4 @@
-"""The tries of `fill`, `wave`, `order`, `drat` and `lrat`."""
+"""The tries of `fill`, `wave`, `order`, `drat`, `lrat` and `refuse`."""
 import os
 import re
 
@@ -176,3 +176,27 @@ def drat_part(tally, folder):
                         (SMALL_PROOF.replace("step 3 0", "step 3 7"), "a clause that does not stand before")):
         done = accepts(write(folder, "report", wrong), folder)
         tally.note(f"drat refuses {what}", is_told(done, "drat"), done.why())
+
+
+# refuse
+
+CACHE = "lru::cache::LruCache::put"
+FOUR = "p cnf 2 4\n1 2 0\n-1 2 0\n1 -2 0\n-1 -2 0\n"
+
+
+def refuse_part(tally, folder):
+    rup = ["--rup", write(folder, "f.cnf", FOUR), write(folder, "f.drat", "2 0\nd 1 2 0\n0\n")]
+    pairs = {name: [example(name, "spec.v"), example(name, "impl.v")] for name in ("carry", "lanes")}
+    for name, words in (("a refutation", rup), ("the carry", pairs["carry"]), ("the lanes", [*pairs["lanes"], "--proof"]),
+                        ("a refusal", [pairs["carry"][0], rup[1]])):
+        for options in (["--all"], ["--all", "--onwards"]):
+            done = run([script("refuse"), BBEQ, *options, "--", *words])
+            counts = re.match(r"(\d+) allocations, (\d+) refused: (\d+) answers 5, (\d+) the run's own, 0 others\n", done.out)
+            right = done.status == 0 and counts and int(counts.group(1)) == int(counts.group(2)) > 0
+            tally.note(f"refuse {' '.join(options)}, {name}; {done.out.splitlines()[0] if done.out else ''}", right, done.why())
+            # An entry of the diagrams' cache may be dropped, and nothing else is done without.
+            named = re.findall(r"^own answer without the memory that (\S+) wanted", done.out, re.MULTILINE)
+            tally.note(f"refuse {' '.join(options)}, {name}: what goes on without memory", set(named) <= {CACHE}, done.why())
+    for words, what in (([os.path.join(folder, "none"), "--", "a"], "a program that is not there"), ([BBEQ, "a"], "words without --")):
+        done = run([script("refuse"), *words])
+        tally.note(f"refuse refuses {what}", is_told(done, "refuse"), done.why())
