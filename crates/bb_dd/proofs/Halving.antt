@@ -1,5 +1,5 @@
 -- an operation on three diagrams, by halves
-use Rattle.std.proofs.Common.{◌≡◌, ◌<◌, ◌≤◌, ℕ, zero, suc, ◌+◌, ◌-◌, Bool, true, false, List, length, min, refl, sym, ap, ap₂, ◌∙◌, subst, inl, inr, arith}
+use Rattle.std.proofs.Common.{◌≡◌, ◌<◌, ◌≤◌, ℕ, suc, ◌+◌, ◌-◌, Bool, true, false, List, length, min, refl, sym, ap, ap₂, ◌∙◌, subst, inl, inr, arith}
 use Rattle.std.proofs.lemmas.Bool.{cases_lt}
 use Rattle.bb_bits.specs.Truth.{Truth, Halves, IsTruthTable, lifted, combined, truth_at}
 use Rattle.bb_uniq.specs.Nodes.{NodeStore, IsRef, IsBelow, IsStore, view_of}

@@ -1,4 +1,3 @@
-pub mod Faults
 pub mod Keys
 pub mod Operations
 pub mod Results

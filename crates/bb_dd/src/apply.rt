@@ -25,7 +25,6 @@ pub fn make_node(store: &mut Store, var: u32, lo: Ref, hi: Ref) -> Result<Ref, D
     ensures adds { IfOk result (λ r. Adds store.old store.new (branch store.old var lo.0 hi.0) r.0) }
     ensures full { IsErrOf result DdFault.Full → IsNew store.old var lo.0 hi.0 × (length store.old.nodes ≡ store.old.limit) }
     ensures too_many { IsErrOf result DdFault.Full → IsTooMany store.old (branch store.old var lo.0 hi.0) }
-    ensures no_memory { IsErrOf result DdFault.NoMemory → IsNew store.old var lo.0 hi.0 × (length store.old.nodes < store.old.limit) }
     ensures err { OnErr result (store.new ≡ store.old) }
     ensures kept { Keeps store.old store.new }
     ensures store { IsStore store.new }
@@ -64,7 +63,6 @@ pub fn apply(store: &mut Store, cache: &mut LruCache<Key, Ref>, call: Call) -> R
     requires h { IsRef store.old call.h.0 }
     ensures ok { IfOk result (λ r. Adds store.old store.new (result_table store.old (value_of call.operation) call.f.0 call.g.0 call.h.0) r.0) }
     ensures full { IsErrOf result DdFault.Full → IsTooMany store.old (result_table store.old (value_of call.operation) call.f.0 call.g.0 call.h.0) }
-    ensures no_memory { IsErrOf result DdFault.NoMemory → length store.new.nodes < store.new.limit }
     ensures leaves { Leaves store.old store.new cache.old cache.new }
 {
     truth::tables();
@@ -121,7 +119,6 @@ pub fn operate(
     requires h { IsRef store.old h.0 }
     ensures ok { IfOk result (λ r. Adds store.old store.new (result_table store.old (value_of operation) f.0 g.0 h.0) r.0) }
     ensures full { IsErrOf result DdFault.Full → IsTooMany store.old (result_table store.old (value_of operation) f.0 g.0 h.0) }
-    ensures no_memory { IsErrOf result DdFault.NoMemory → length store.new.nodes < store.new.limit }
     ensures leaves { Leaves store.old store.new cache.old cache.new }
 {
     apply(store, cache, Call { operation, f, g, h })

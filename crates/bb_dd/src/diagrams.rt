@@ -97,9 +97,7 @@ impl Diagrams {
     ///
     /// # Errors
     ///
-    /// `Full` where the node is new and the store holds as many as it may, `NoMemory` where it is new, has room and finds no
-    /// memory.
-    /// Store and cache are then as before.
+    /// `Full` where the node is new and the store holds as many as it may. Store and cache are then as before.
     pub fn make(&mut self, var: u32, lo: Ref, hi: Ref) -> Result<Ref, DdFault>
         requires var { var < self.old.store.vars }
         requires lo { IsBelow self.old.store var lo.0 }
@@ -108,7 +106,6 @@ impl Diagrams {
         ensures adds { IfOk result (λ r. Adds self.old.store self.new.store (branch self.old.store var lo.0 hi.0) r.0) }
         ensures full { IsErrOf result DdFault.Full → IsNew self.old.store var lo.0 hi.0 × (length self.old.store.nodes ≡ self.old.store.limit) }
         ensures too_many { IsErrOf result DdFault.Full → IsTooMany self.old.store (branch self.old.store var lo.0 hi.0) }
-        ensures no_memory { IsErrOf result DdFault.NoMemory → IsNew self.old.store var lo.0 hi.0 × (length self.old.store.nodes < self.old.store.limit) }
         ensures err { OnErr result (self.new.store ≡ self.old.store) }
         ensures entries { self.new.entries ≡ self.old.entries }
         ensures capacity { self.new.capacity ≡ self.old.capacity }
@@ -122,7 +119,6 @@ impl Diagrams {
         ensures ok { IfOk result (λ r. Adds self.old.store self.new.store (variable self.old.store.vars v) r.0) }
         ensures full { IsErrOf result DdFault.Full → IsTooMany self.old.store (variable self.old.store.vars v) }
         ensures kept { Keeps self.old.store self.new.store }
-        ensures no_memory { IsErrOf result DdFault.NoMemory → length self.new.store.nodes < self.new.store.limit }
         ensures entries { self.new.entries ≡ self.old.entries }
         ensures capacity { self.new.capacity ≡ self.old.capacity }
     {
@@ -139,7 +135,6 @@ impl Diagrams {
         ensures ok { IfOk result (λ r. Adds self.old.store self.new.store (complement (truth_of self.old.store f.0)) r.0) }
         ensures full { IsErrOf result DdFault.Full → IsTooMany self.old.store (complement (truth_of self.old.store f.0)) }
         ensures kept { Keeps self.old.store self.new.store }
-        ensures no_memory { IsErrOf result DdFault.NoMemory → length self.new.store.nodes < self.new.store.limit }
         ensures entries { KeepsEntries self.old.entries self.new.entries }
         ensures capacity { self.new.capacity ≡ self.old.capacity }
     {
@@ -153,7 +148,6 @@ impl Diagrams {
         ensures ok { IfOk result (λ r. Adds self.old.store self.new.store (joined ◌&&◌ (truth_of self.old.store f.0) (truth_of self.old.store g.0)) r.0) }
         ensures full { IsErrOf result DdFault.Full → IsTooMany self.old.store (joined ◌&&◌ (truth_of self.old.store f.0) (truth_of self.old.store g.0)) }
         ensures kept { Keeps self.old.store self.new.store }
-        ensures no_memory { IsErrOf result DdFault.NoMemory → length self.new.store.nodes < self.new.store.limit }
         ensures entries { KeepsEntries self.old.entries self.new.entries }
         ensures capacity { self.new.capacity ≡ self.old.capacity }
     {
@@ -167,7 +161,6 @@ impl Diagrams {
         ensures ok { IfOk result (λ r. Adds self.old.store self.new.store (joined ◌||◌ (truth_of self.old.store f.0) (truth_of self.old.store g.0)) r.0) }
         ensures full { IsErrOf result DdFault.Full → IsTooMany self.old.store (joined ◌||◌ (truth_of self.old.store f.0) (truth_of self.old.store g.0)) }
         ensures kept { Keeps self.old.store self.new.store }
-        ensures no_memory { IsErrOf result DdFault.NoMemory → length self.new.store.nodes < self.new.store.limit }
         ensures entries { KeepsEntries self.old.entries self.new.entries }
         ensures capacity { self.new.capacity ≡ self.old.capacity }
     {
@@ -181,7 +174,6 @@ impl Diagrams {
         ensures ok { IfOk result (λ r. Adds self.old.store self.new.store (joined xor (truth_of self.old.store f.0) (truth_of self.old.store g.0)) r.0) }
         ensures full { IsErrOf result DdFault.Full → IsTooMany self.old.store (joined xor (truth_of self.old.store f.0) (truth_of self.old.store g.0)) }
         ensures kept { Keeps self.old.store self.new.store }
-        ensures no_memory { IsErrOf result DdFault.NoMemory → length self.new.store.nodes < self.new.store.limit }
         ensures entries { KeepsEntries self.old.entries self.new.entries }
         ensures capacity { self.new.capacity ≡ self.old.capacity }
     {
@@ -196,7 +188,6 @@ impl Diagrams {
         ensures ok { IfOk result (λ r. Adds self.old.store self.new.store (chosen (truth_of self.old.store c.0) (truth_of self.old.store f.0) (truth_of self.old.store g.0)) r.0) }
         ensures full { IsErrOf result DdFault.Full → IsTooMany self.old.store (chosen (truth_of self.old.store c.0) (truth_of self.old.store f.0) (truth_of self.old.store g.0)) }
         ensures kept { Keeps self.old.store self.new.store }
-        ensures no_memory { IsErrOf result DdFault.NoMemory → length self.new.store.nodes < self.new.store.limit }
         ensures entries { KeepsEntries self.old.entries self.new.entries }
         ensures capacity { self.new.capacity ≡ self.old.capacity }
     {

@@ -7,19 +7,15 @@ use bb_uniq::StoreFault;
 pub enum DdFault {
     /// With its result the store would hold more beads than its limit.
     Full,
-    NoMemory,
 }
 
 impl From<StoreFault> for DdFault {
     ghost use Rattle.std.specs.Prelude.{◌≡◌};
-    ghost use Rattle.bb_dd.specs.Faults.{fault_of};
+    ghost use Rattle.bb_dd.specs.declared.fault.DdFault.TheVariants.{Full};
 
-    ghost from_gives = { λ fault result. result ≡ fault_of fault };
+    ghost from_gives = { λ _ e. e ≡ Full };
 
-    fn from(fault: StoreFault) -> DdFault {
-        match fault {
-            StoreFault::Full => DdFault::Full,
-            StoreFault::NoMemory => DdFault::NoMemory,
-        }
+    fn from(_: StoreFault) -> DdFault {
+        DdFault::Full
     }
 }

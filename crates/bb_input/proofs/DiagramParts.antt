@@ -9,31 +9,31 @@ use Rattle.bb_uniq.specs.Meaning.{truth_of}
 use Rattle.bb_sym.specs.Laws.{MakingLaws}
 use Rattle.bb_sym.specs.Made.{Makes, AreTooMany, StandsFor}
 use Rattle.bb_sym.specs.Plain.{table, tables, plain_functions_at, block_functions}
-use Rattle.bb_input.specs.InputFunctions.{variable_count, boxes_first, leads, refutes, refuted, lost, wrong_functions, missed_functions, quantified_functions, boxes_quantified, boxes_functions, input_functions}
+use Rattle.bb_input.specs.InputFunctions.{pins_and_inputs, boxes_first, leads, refutes, refuted, lost, wrong_functions, missed_functions, quantified_functions, boxes_quantified, boxes_functions, input_functions}
 use Rattle.bb_input.proofs.RefutingParts.{front_refused}
 
 pub few_pins : (p : NetPair) → IsPair p → pin_count p.imp.boxes ≤ 2048
 few_pins p pair = omega (arith, pair.small.pins)
 
-pub few_variables : (p : NetPair) → IsPair p → variable_count p.imp ≤ 2048
+pub few_variables : (p : NetPair) → IsPair p → pins_and_inputs p.imp ≤ 2048
 few_variables p pair = omega (arith, pair.small.pins)
 
 module _ (making : MakingLaws) (spec imp : Netlist) (a : NodeStore) where
   abbrev pub plain_part : List Truth
-  plain_part = plain_functions_at (variable_count imp) (boxes_first imp) spec imp
+  plain_part = plain_functions_at (pins_and_inputs imp) (boxes_first imp) spec imp
 
   abbrev pub refuting_part : List Truth
-  refuting_part = wrong_functions spec imp ++ (missed_functions imp ++ tables (variable_count imp) (leads imp ∷ refutes spec imp ∷ []))
+  refuting_part = wrong_functions spec imp ++ (missed_functions imp ++ tables (pins_and_inputs imp) (leads imp ∷ refutes spec imp ∷ []))
 
   abbrev inputs_part : List Truth
-  inputs_part = block_functions ◌||◌ (pin_count imp.boxes) imp.inputs (table (variable_count imp) (refutes spec imp))
+  inputs_part = block_functions ◌||◌ (pin_count imp.boxes) imp.inputs (table (pins_and_inputs imp) (refutes spec imp))
 
   abbrev boxes_part : List Truth
   boxes_part = boxes_functions 0 imp.boxes (refuted spec imp)
 
   parts_are : plain_part ++ (refuting_part ++ (inputs_part ++ boxes_part)) ≡ input_functions spec imp
   parts_are =
-      let last = tables (variable_count imp) (leads imp ∷ refutes spec imp ∷ []) in
+      let last = tables (pins_and_inputs imp) (leads imp ∷ refutes spec imp ∷ []) in
       ap (λ ts. plain_part ++ ts)
       (append_assoc (wrong_functions spec imp) (missed_functions imp ++ last) (quantified_functions spec imp)
       ∙ ap (λ ts. wrong_functions spec imp ++ ts) (append_assoc (missed_functions imp) last (quantified_functions spec imp)))
@@ -48,9 +48,9 @@ module _ (making : MakingLaws) (spec imp : Netlist) (a : NodeStore) where
     pub refused_refuting : AreTooMany b refuting_part → AreTooMany a (input_functions spec imp)
     refused_refuting many = later (front_refused making b refuting_part (inputs_part ++ boxes_part) many)
 
-    module _ (c : NodeStore) (both : Makes b c refuting_part) (x : Ref) (stand : StandsFor c (table (variable_count imp) (refutes spec imp)) x) (pins inputs : ℕ) (ep : pins ≡ pin_count imp.boxes) (ei : inputs ≡ imp.inputs) where
+    module _ (c : NodeStore) (both : Makes b c refuting_part) (x : Ref) (stand : StandsFor c (table (pins_and_inputs imp) (refutes spec imp)) x) (pins inputs : ℕ) (ep : pins ≡ pin_count imp.boxes) (ei : inputs ≡ imp.inputs) where
       inputs_are : block_functions ◌||◌ pins inputs (truth_of c x.0) ≡ inputs_part
-      inputs_are = ap (block_functions ◌||◌ pins inputs) stand.table ∙ ap₂ (λ k m. block_functions ◌||◌ k m (table (variable_count imp) (refutes spec imp))) ep ei
+      inputs_are = ap (block_functions ◌||◌ pins inputs) stand.table ∙ ap₂ (λ k m. block_functions ◌||◌ k m (table (pins_and_inputs imp) (refutes spec imp))) ep ei
 
       pub refused_inputs : AreTooMany c (block_functions ◌||◌ pins inputs (truth_of c x.0)) → AreTooMany a (input_functions spec imp)
       refused_inputs many = later (making.refused_then b c refuting_part (inputs_part ++ boxes_part) both (front_refused making c inputs_part boxes_part (subst (AreTooMany c) inputs_are many)))
@@ -60,7 +60,7 @@ module _ (making : MakingLaws) (spec imp : Netlist) (a : NodeStore) where
         inputs_made = subst (Makes c d) inputs_are made
 
         pub refuted_stands : StandsFor d (refuted spec imp) y
-        refuted_stands = record { ref = left.ref; table = left.table ∙ (ap (quantified_block ◌||◌ pins inputs) stand.table ∙ ap₂ (λ k m. quantified_block ◌||◌ k m (table (variable_count imp) (refutes spec imp))) ep ei) }
+        refuted_stands = record { ref = left.ref; table = left.table ∙ (ap (quantified_block ◌||◌ pins inputs) stand.table ∙ ap₂ (λ k m. quantified_block ◌||◌ k m (table (pins_and_inputs imp) (refutes spec imp))) ep ei) }
 
         boxes_are : boxes_functions 0 boxes (truth_of d y.0) ≡ boxes_part
         boxes_are = ap₂ (λ (k : List Pins) t. boxes_functions 0 k t) eb refuted_stands.table

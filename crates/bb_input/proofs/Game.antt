@@ -7,7 +7,7 @@ use Rattle.bb_net.specs.Conditions.{Suit, Wins, SomeChoicesSuit, NoChoicesSuit}
 use Rattle.bb_net.specs.Netlists.{Netlist, Pins}
 use Rattle.bb_net.specs.Pairs.{pin_count}
 use Rattle.bb_sym.specs.Laws.{FunctionLaws}
-use Rattle.bb_input.specs.InputFunctions.{variable_count, pin_bits, refutes, refuted, lost, outs_quantified, box_quantified, boxes_quantified}
+use Rattle.bb_input.specs.InputFunctions.{pins_and_inputs, pin_bits, refutes, refuted, lost, outs_quantified, box_quantified, boxes_quantified}
 use Rattle.bb_input.proofs.OrderLemmas.{pins_of}
 use Rattle.bb_input.proofs.Points.{bits_push}
 use Rattle.bb_input.proofs.Suits.{suits_of_false, false_of_suits}
@@ -25,7 +25,7 @@ count_push done box = let e = sum_by-append pins_of done (box ∷ []) in let f =
 
 module _ (quantifiers : QuantifierLaws) (tables : TableLaws) (functions : FunctionLaws) (spec imp : Netlist) where
   abbrev n : ℕ
-  n = variable_count imp
+  n = pins_and_inputs imp
 
   block_size : (v k : ℕ) (op : Bool → Bool → Bool) (t : Truth) → IsTruthTable n t → IsTruthTable n (quantified_block op v k t)
   block_size v zero op t h = h

@@ -12,3 +12,4 @@ pub mod Readings
 pub mod RefutingParts
 pub mod RowSteps
 pub mod Suits
+pub mod SomeAnswers

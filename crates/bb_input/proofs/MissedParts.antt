@@ -12,7 +12,7 @@ use Rattle.bb_uniq.specs.Nodes.{NodeStore}
 use Rattle.bb_sym.specs.Laws.{FunctionLaws, MakingLaws}
 use Rattle.bb_sym.specs.Made.{AreRefs, StandForAll, StandsFor, HaveCells, ref_at}
 use Rattle.bb_sym.specs.Plain.{Function, cell_bit, table}
-use Rattle.bb_input.specs.InputFunctions.{variable_count, boxes_first, given_ins, in_places}
+use Rattle.bb_input.specs.InputFunctions.{pins_and_inputs, boxes_first, given_ins, in_places}
 use Rattle.bb_input.specs.Order.{in_variables}
 use Rattle.bb_input.proofs.Readings.{ins_read, variables_within, variables_count}
 
@@ -21,7 +21,7 @@ places_within : (boxes : List Pins) (n : ℕ) → ((b : ℕ) → All (λ pin. pi
 places_within [] n there = λ k d l. absurd (omega (arith, l))
 places_within (box ∷ boxes) n there = All-append (λ place. place < n) box.ins (in_places boxes) (there 0) (places_within boxes n (λ b. there (suc b)))
 
-module _ (functions : FunctionLaws) (making : MakingLaws) (s : NodeStore) (p : NetPair) (pair : IsPair p) (v : variable_count p.imp ≡ s.vars) (vars of_spec of_imp : List Ref) (count : length vars ≡ s.vars)
+module _ (functions : FunctionLaws) (making : MakingLaws) (s : NodeStore) (p : NetPair) (pair : IsPair p) (v : pins_and_inputs p.imp ≡ s.vars) (vars of_spec of_imp : List Ref) (count : length vars ≡ s.vars)
     (stand : StandForAll s (variable s.vars) vars) (have : HaveCells s (boxes_first p.imp) p.spec p.imp of_spec of_imp) where
   abbrev pub bits : ℕ → Function
   bits q = λ w. bit_of (given_ins p.imp w) q
@@ -30,7 +30,7 @@ module _ (functions : FunctionLaws) (making : MakingLaws) (s : NodeStore) (p : N
   cells q = cell_bit (boxes_first p.imp) p.imp (slice_index (in_places p.imp.boxes) q)
 
   pub variables_there : All (λ place. place < length vars) (in_variables 0 p.imp.boxes)
-  variables_there = λ j d l. let h = variables_within p.imp.boxes 0 (variable_count p.imp) (omega arith) j d l in omega (arith, h, v, count)
+  variables_there = λ j d l. let h = variables_within p.imp.boxes 0 (pins_and_inputs p.imp) (omega arith) j d l in omega (arith, h, v, count)
 
   pub places_there : All (λ place. place < length of_imp) (in_places p.imp.boxes)
   places_there = places_within p.imp.boxes (length of_imp) (λ b j d l. let h = pair.imp.pins_there b j d l in omega (arith, h, have.imp_whole))
@@ -39,7 +39,7 @@ module _ (functions : FunctionLaws) (making : MakingLaws) (s : NodeStore) (p : N
   variable_is : (q : ℕ) → q < length (in_variables 0 p.imp.boxes) → variable s.vars (slice_index (in_variables 0 p.imp.boxes) q) ≡ table s.vars (bits q)
   variable_is q l =
       let at = slice_index (in_variables 0 p.imp.boxes) q in
-      let within = variables_within p.imp.boxes 0 (variable_count p.imp) (omega arith) q 0 l in
+      let within = variables_within p.imp.boxes 0 (pins_and_inputs p.imp) (omega arith) q 0 l in
       functions.variable_table s.vars at (omega (arith, within, v))
       ∙ functions.same s.vars (λ w. bit_of w at) (bits q) (λ w e. sym (ap (λ (k : List Bool). bit_of k q) (ins_read p.imp.boxes 0 w (omega (arith, e, v))) ∙ get_or-map (bit_of w) (in_variables 0 p.imp.boxes) q 0 false l))
 

@@ -16,7 +16,7 @@ use Rattle.bb_net.specs.Values.{bit_of, flat, flat_with, free_bit, tabled_bit, t
 use Rattle.bb_quant.specs.LeastPoints.{BeginsAs}
 use Rattle.bb_sym.specs.Laws.{FunctionLaws, PointLaws}
 use Rattle.bb_input.specs.Answers.{AreLeastOutputs, AreLeastTables}
-use Rattle.bb_input.specs.InputFunctions.{variable_count, pin_bits, refuted}
+use Rattle.bb_input.specs.InputFunctions.{pins_and_inputs, pin_bits, refuted}
 use Rattle.bb_input.specs.Rows.{IsLeastRow, HasLeastRows}
 use Rattle.bb_input.proofs.OrderLemmas.{pins_of}
 use Rattle.bb_input.proofs.Points.{bits_push}
@@ -54,7 +54,7 @@ module _ (quantifiers : QuantifierLaws) (functions : FunctionLaws) (points : Poi
   answer choices = subst (λ (boxes : List Pins). Wins (Suit spec imp) boxes []) one choices
 
   -- for all bits at the input pins there is a point
-  pub some_point : SomeChoicesSuit spec imp → (n : ℕ) → n ≡ variable_count imp → (ins : List Bool) → length ins ≡ k → (q : List Bool) × (length q ≡ n) × (take k q ≡ ins) × (truth_at t q ≡ false)
+  pub some_point : SomeChoicesSuit spec imp → (n : ℕ) → n ≡ pins_and_inputs imp → (ins : List Bool) → length ins ≡ k → (q : List Bool) × (length q ≡ n) × (take k q ≡ ins) × (truth_at t q ≡ false)
   some_point choices n v ins f =
       let found = answer choices ins f in
       let w = replicate imp.inputs false in
@@ -67,7 +67,7 @@ module _ (quantifiers : QuantifierLaws) (functions : FunctionLaws) (points : Poi
       )
 
   -- the least row is the least outputs
-  pub row_least : (n : ℕ) → n ≡ variable_count imp → (ins outs : List Bool) → length ins ≡ k → IsLeastRow n t m ins outs → AreLeastOutputs spec imp ins outs
+  pub row_least : (n : ℕ) → n ≡ pins_and_inputs imp → (ins outs : List Bool) → length ins ≡ k → IsLeastRow n t m ins outs → AreLeastOutputs spec imp ins outs
   row_least n v ins outs f row =
       let p = row.point in
       let w = drop m (drop k p) in
@@ -200,7 +200,7 @@ only_box [] real box e few there is = absurd (omega (arith, there))
 only_box (first ∷ []) real box e few there is = sym e ∙ ap (λ (pins : Pins). pins ∷ []) (sym is)
 only_box (first ∷ second ∷ boxes) real box e few there is = absurd (let l = ap length e in omega (arith, l, few))
 
-module _ (quantifiers : QuantifierLaws) (functions : FunctionLaws) (points : PointLaws) (spec imp : Netlist) (box : Pins) (one : imp.boxes ≡ box ∷ []) (choices : SomeChoicesSuit spec imp) (n : ℕ) (v : n ≡ variable_count imp) where
+module _ (quantifiers : QuantifierLaws) (functions : FunctionLaws) (points : PointLaws) (spec imp : Netlist) (box : Pins) (one : imp.boxes ≡ box ∷ []) (choices : SomeChoicesSuit spec imp) (n : ℕ) (v : n ≡ pins_and_inputs imp) where
   pub rows_least : ((bits : List Bool) → number_of bits < 2 ^ length bits) → (table : TableBits) → table.inputs ≡ length box.ins → table.outputs ≡ length box.outs → (0 < length box.outs → HasLeastRows n (refuted spec imp) table (2 ^ length box.ins)) →
       (ins : List Bool) → length ins ≡ length box.ins → AreLeastOutputs spec imp ins (row_of table (number_of ins))
   rows_least below table ti to rows ins l =

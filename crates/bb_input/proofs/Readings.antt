@@ -11,7 +11,7 @@ use Rattle.bb_net.specs.Netlists.{Netlist, Pins, box_at}
 use Rattle.bb_net.specs.Pairs.{pin_count}
 use Rattle.bb_net.specs.Values.{bit_of, output_pins}
 use Rattle.bb_sym.specs.Plain.{AreVariables, IsReadSo}
-use Rattle.bb_input.specs.InputFunctions.{variable_count, pin_bits, boxes_first, in_places}
+use Rattle.bb_input.specs.InputFunctions.{pins_and_inputs, pin_bits, boxes_first, in_places}
 use Rattle.bb_input.specs.Order.{in_variables}
 use Rattle.bb_input.proofs.OrderLemmas.{pins_of, fits_more}
 
@@ -48,7 +48,7 @@ box_there [] b pin l = absurd (omega (arith, l))
 box_there (box ∷ boxes) zero pin l = omega arith
 box_there (box ∷ boxes) (suc b) pin l = let rest = box_there boxes b pin l in omega (arith, rest)
 
-module _ (imp : Netlist) (n : ℕ) (few : n ≤ 2048) (v : n ≡ variable_count imp) (starts : List ℕ) (count : length starts ≡ length imp.boxes)
+module _ (imp : Netlist) (n : ℕ) (few : n ≤ 2048) (v : n ≡ pins_and_inputs imp) (starts : List ℕ) (count : length starts ≡ length imp.boxes)
     (start : (b : ℕ) → b < length imp.boxes → slice_index_or starts b 0 ≡ pin_count (take b imp.boxes) + length (box_at imp.boxes b).ins) where
   pub order_variables : AreVariables n (pin_count imp.boxes) starts imp
   order_variables = record {

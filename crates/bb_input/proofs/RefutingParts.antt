@@ -8,7 +8,7 @@ use Rattle.bb_uniq.specs.Meaning.{truth_of, Adds, IsTooMany}
 use Rattle.bb_sym.specs.Laws.{FunctionLaws, MakingLaws}
 use Rattle.bb_sym.specs.Made.{Makes, AreTooMany, StandsFor}
 use Rattle.bb_sym.specs.Plain.{table, tables, outputs, one_of, first_of}
-use Rattle.bb_input.specs.InputFunctions.{variable_count, is_wrong, has_wrong, is_missed, in_places, leads, refutes, wrong_functions, missed_functions}
+use Rattle.bb_input.specs.InputFunctions.{pins_and_inputs, is_wrong_output, has_wrong, is_missed, in_places, leads, refutes, wrong_functions, missed_functions}
 
 -- the first tables are among all
 pub front_refused : MakingLaws → (s : NodeStore) (ts us : List Truth) → AreTooMany s ts → AreTooMany s (ts ++ us)
@@ -16,11 +16,11 @@ front_refused making s ts us = making.refused_more s ts (ts ++ us) (λ b h. (mak
 
 -- where outputs are wrong, over so many variables
 abbrev pub wrong_over : ℕ → Netlist → Netlist → List Truth
-wrong_over k spec imp = tables k (map (is_wrong spec imp) (outputs imp)) ++ tables k (map (first_of (is_wrong spec imp)) (outputs imp))
+wrong_over k spec imp = tables k (map (is_wrong_output spec imp) (outputs imp)) ++ tables k (map (first_of (is_wrong_output spec imp)) (outputs imp))
 
-module _ (functions : FunctionLaws) (making : MakingLaws) (spec imp : Netlist) (a : NodeStore) (v : variable_count imp ≡ a.vars) where
+module _ (functions : FunctionLaws) (making : MakingLaws) (spec imp : Netlist) (a : NodeStore) (v : pins_and_inputs imp ≡ a.vars) where
   abbrev n : ℕ
-  n = variable_count imp
+  n = pins_and_inputs imp
 
   abbrev last_part : List Truth
   last_part = table n (leads imp) ∷ table n (refutes spec imp) ∷ []

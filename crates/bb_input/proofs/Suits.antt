@@ -13,7 +13,7 @@ use Rattle.bb_net.specs.Pairs.{pin_count}
 use Rattle.bb_net.specs.Values.{bit_of, flat}
 use Rattle.bb_sym.specs.Laws.{FunctionLaws}
 use Rattle.bb_sym.specs.Plain.{table, one_of}
-use Rattle.bb_input.specs.InputFunctions.{variable_count, pin_bits, given_ins, in_places, is_missed, is_wrong, has_wrong, refutes, refuted}
+use Rattle.bb_input.specs.InputFunctions.{pins_and_inputs, pin_bits, given_ins, in_places, is_missed, is_wrong_output, has_wrong, refutes, refuted}
 use Rattle.bb_input.proofs.Points.{bits_front, ins_joined, ins_split, ins_count}
 
 xor_same : (a b : Bool) → xor a b ≡ false → a ≡ b
@@ -55,7 +55,7 @@ module _ (functions : FunctionLaws) (spec imp : Netlist) (pre x : List Bool) (e 
   value_is : flat imp (drop (pin_count imp.boxes) p) (all_outs (pin_bits imp.boxes p)) ≡ bits
   value_is = ap₂ (λ (v : List Bool) (cs : List PinBits). flat imp v (all_outs cs)) inputs_is pins_is
 
-  wrong_is : (j : ℕ) → is_wrong spec imp j p ≡ xor (wanted_bit spec x j) (out_bit imp bits j)
+  wrong_is : (j : ℕ) → is_wrong_output spec imp j p ≡ xor (wanted_bit spec x j) (out_bit imp bits j)
   wrong_is j = ap₂ xor (ap (λ (v : List Bool). bit_of (flat spec v []) (slice_index spec.outs j)) inputs_is) (ap (λ (v : List Bool). bit_of v (slice_index imp.outs j)) value_is)
 
   missed_is : (q : ℕ) → is_missed imp q p ≡ xor (bit_of (given_ins imp pre) q) (bit_of bits (slice_index (in_places imp.boxes) q))
@@ -84,10 +84,10 @@ module _ (functions : FunctionLaws) (spec imp : Netlist) (pre x : List Bool) (e 
       xor_same (bit_of (given_ins imp pre) q) (bit_of bits (slice_index (in_places imp.boxes) q)) (sym (missed_is q) ∙ each q here) ∙ sym (place_bit q here)))
 
   all_right : has_wrong spec imp p ≡ false → AllRight spec imp x bits
-  all_right none j l = sym (xor_same (wanted_bit spec x j) (out_bit imp bits j) (sym (wrong_is j) ∙ (functions.one_false (is_wrong spec imp) (length imp.outs) p).0 none j l))
+  all_right none j l = sym (xor_same (wanted_bit spec x j) (out_bit imp bits j) (sym (wrong_is j) ∙ (functions.one_false (is_wrong_output spec imp) (length imp.outs) p).0 none j l))
 
   right_none : AllRight spec imp x bits → has_wrong spec imp p ≡ false
-  right_none right = (functions.one_false (is_wrong spec imp) (length imp.outs) p).1 (λ j l. wrong_is j ∙ same_xor (wanted_bit spec x j) (out_bit imp bits j) (sym (right j l)))
+  right_none right = (functions.one_false (is_wrong_output spec imp) (length imp.outs) p).1 (λ j l. wrong_is j ∙ same_xor (wanted_bit spec x j) (out_bit imp bits j) (sym (right j l)))
 
   pub suits_at : refutes spec imp p ≡ false → all_ins imp.boxes bits ≡ map (λ (c : PinBits). c.ins) (pin_bits imp.boxes pre) → AllRight spec imp x bits
   suits_at none led = all_right (refuted_not (has_wrong spec imp p) (one_of (is_missed imp) (length (in_places imp.boxes)) p) none (led_missed led))
@@ -96,12 +96,12 @@ module _ (functions : FunctionLaws) (spec imp : Netlist) (pre x : List Bool) (e 
   at_suits right = not_refuted (has_wrong spec imp p) (one_of (is_missed imp) (length (in_places imp.boxes)) p) (λ none. right_none (right (missed_led none)))
 
 module _ (quantifiers : QuantifierLaws) (functions : FunctionLaws) (spec imp : Netlist) (pre w : List Bool) (e : length pre ≡ pin_count imp.boxes) (l : length w ≡ imp.inputs) where
-  sized : IsTruthTable (pin_count imp.boxes + (imp.inputs + 0)) (table (variable_count imp) (refutes spec imp))
-  sized = subst (λ n. IsTruthTable n (table (variable_count imp) (refutes spec imp))) (omega arith) (functions.size (variable_count imp) (refutes spec imp))
+  sized : IsTruthTable (pin_count imp.boxes + (imp.inputs + 0)) (table (pins_and_inputs imp) (refutes spec imp))
+  sized = subst (λ n. IsTruthTable n (table (pins_and_inputs imp) (refutes spec imp))) (omega arith) (functions.size (pins_and_inputs imp) (refutes spec imp))
 
-  point_is : (x : List Bool) → length x ≡ imp.inputs → truth_at (table (variable_count imp) (refutes spec imp)) (pre ++ (x ++ [])) ≡ refutes spec imp (pre ++ x)
+  point_is : (x : List Bool) → length x ≡ imp.inputs → truth_at (table (pins_and_inputs imp) (refutes spec imp)) (pre ++ (x ++ [])) ≡ refutes spec imp (pre ++ x)
   point_is x long =
-      functions.at_point (variable_count imp) (refutes spec imp) (pre ++ (x ++ [])) (omega (arith, length-append pre (x ++ []), length-append x [], e, long))
+      functions.at_point (pins_and_inputs imp) (refutes spec imp) (pre ++ (x ++ [])) (omega (arith, length-append pre (x ++ []), length-append x [], e, long))
       ∙ ap (λ (v : List Bool). refutes spec imp (pre ++ v)) (append-nil x)
 
   whole : truth_at (refuted spec imp) (pre ++ w) ≡ truth_at (refuted spec imp) (pre ++ (w ++ []))
@@ -109,9 +109,9 @@ module _ (quantifiers : QuantifierLaws) (functions : FunctionLaws) (spec imp : N
 
   pub suits_of_false : truth_at (refuted spec imp) (pre ++ w) ≡ false → Suit spec imp (pin_bits imp.boxes pre)
   suits_of_false none x vector led =
-      let each = (quantifiers.some_false (pin_count imp.boxes) imp.inputs (table (variable_count imp) (refutes spec imp)) pre w [] e l sized).0 (sym whole ∙ none) x vector in
+      let each = (quantifiers.some_false (pin_count imp.boxes) imp.inputs (table (pins_and_inputs imp) (refutes spec imp)) pre w [] e l sized).0 (sym whole ∙ none) x vector in
       suits_at functions spec imp pre x e (sym (point_is x vector) ∙ each) led
 
   pub false_of_suits : Suit spec imp (pin_bits imp.boxes pre) → truth_at (refuted spec imp) (pre ++ w) ≡ false
   false_of_suits suit =
-      whole ∙ (quantifiers.some_false (pin_count imp.boxes) imp.inputs (table (variable_count imp) (refutes spec imp)) pre w [] e l sized).1 (λ x vector. point_is x vector ∙ at_suits functions spec imp pre x e (suit x vector))
+      whole ∙ (quantifiers.some_false (pin_count imp.boxes) imp.inputs (table (pins_and_inputs imp) (refutes spec imp)) pre w [] e l sized).1 (λ x vector. point_is x vector ∙ at_suits functions spec imp pre x e (suit x vector))

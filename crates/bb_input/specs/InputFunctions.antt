@@ -1,6 +1,6 @@
 -- The Boolean functions that the check by choices makes, as truth tables; it holds exactly their beads (Knuth, The Art of Computer
 -- Programming, volume 4A, 7.1.4). The variables are the pins of the boxes, box after box, each box's input pins and then its output
--- pins, and behind them the inputs. Each variable is one of the functions.
+-- pins, and behind them the inputs. Each variable is one of the functions. Of what a report says they count for `nodes` alone.
 use Rattle.std.specs.Prelude.{ℕ, ◌+◌, Bool, not, ◌&&◌, ◌||◌, List, [], ◌∷◌, ◌++◌, length, map, take, drop, slice_index}
 use Rattle.std.specs.List.{flat_map, range_with_len}
 use Rattle.bb_bits.specs.Truth.{Truth, quantified_block}
@@ -11,8 +11,8 @@ use Rattle.bb_net.specs.Values.{bit_of}
 use Rattle.bb_sym.specs.Plain.{Function, Reading, table, tables, outputs, differ, one_of, first_of, cell_bit, is_wrong_at, plain_functions_at, block_functions}
 
 -- how many variables there are
-abbrev pub variable_count : Netlist → ℕ
-variable_count imp = pin_count imp.boxes + imp.inputs
+abbrev pub pins_and_inputs : Netlist → ℕ
+pins_and_inputs imp = pin_count imp.boxes + imp.inputs
 
 -- the bits that a point gives to the pins of boxes
 abbrev pub pin_bits : List Pins → List Bool → List PinBits
@@ -39,12 +39,13 @@ in_pins imp = range_with_len 0 (length (in_places imp.boxes))
 abbrev pub is_missed : Netlist → ℕ → Function
 is_missed imp q = differ (λ p. bit_of (given_ins imp p) q) (cell_bit (boxes_first imp) imp (slice_index (in_places imp.boxes) q))
 
--- some output is wrong
-abbrev pub is_wrong : Netlist → Netlist → ℕ → Function
-is_wrong spec imp j = is_wrong_at (boxes_first imp) spec imp j
+-- output j is wrong
+abbrev pub is_wrong_output : Netlist → Netlist → ℕ → Function
+is_wrong_output spec imp j = is_wrong_at (boxes_first imp) spec imp j
 
+-- some output is wrong
 abbrev pub has_wrong : Netlist → Netlist → Function
-has_wrong spec imp = one_of (is_wrong spec imp) (length imp.outs)
+has_wrong spec imp = one_of (is_wrong_output spec imp) (length imp.outs)
 
 -- the inputs lead to the bits at all input pins
 abbrev pub leads : Netlist → Function
@@ -56,7 +57,7 @@ refutes spec imp = λ p. has_wrong spec imp p && leads imp p
 
 -- the bits at the pins do not suit: some inputs lead to them, and some output is wrong
 abbrev pub refuted : Netlist → Netlist → Truth
-refuted spec imp = quantified_block ◌||◌ (pin_count imp.boxes) imp.inputs (table (variable_count imp) (refutes spec imp))
+refuted spec imp = quantified_block ◌||◌ (pin_count imp.boxes) imp.inputs (table (pins_and_inputs imp) (refutes spec imp))
 
 -- a table with the output pins of a box quantified by "for all" and then its input pins by "exists", the first variable given
 abbrev pub outs_quantified : ℕ → Pins → Truth → Truth
@@ -87,20 +88,20 @@ lost spec imp = boxes_quantified 0 imp.boxes (refuted spec imp)
 
 -- where outputs are wrong, and where input pins have other bits than their cells: each function, and their folds by or
 abbrev pub wrong_functions : Netlist → Netlist → List Truth
-wrong_functions spec imp = tables (variable_count imp) (map (is_wrong spec imp) (outputs imp)) ++ tables (variable_count imp) (map (first_of (is_wrong spec imp)) (outputs imp))
+wrong_functions spec imp = tables (pins_and_inputs imp) (map (is_wrong_output spec imp) (outputs imp)) ++ tables (pins_and_inputs imp) (map (first_of (is_wrong_output spec imp)) (outputs imp))
 
 abbrev pub missed_functions : Netlist → List Truth
-missed_functions imp = tables (variable_count imp) (map (is_missed imp) (in_pins imp)) ++ tables (variable_count imp) (map (first_of (is_missed imp)) (in_pins imp))
+missed_functions imp = tables (pins_and_inputs imp) (map (is_missed imp) (in_pins imp)) ++ tables (pins_and_inputs imp) (map (first_of (is_missed imp)) (in_pins imp))
 
 -- the inputs quantified by "exists", and then the boxes
 abbrev pub quantified_functions : Netlist → Netlist → List Truth
 quantified_functions spec imp =
-    block_functions ◌||◌ (pin_count imp.boxes) imp.inputs (table (variable_count imp) (refutes spec imp)) ++ boxes_functions 0 imp.boxes (refuted spec imp)
+    block_functions ◌||◌ (pin_count imp.boxes) imp.inputs (table (pins_and_inputs imp) (refutes spec imp)) ++ boxes_functions 0 imp.boxes (refuted spec imp)
 
 abbrev pub input_functions : Netlist → Netlist → List Truth
 input_functions spec imp =
-    plain_functions_at (variable_count imp) (boxes_first imp) spec imp ++ (
+    plain_functions_at (pins_and_inputs imp) (boxes_first imp) spec imp ++ (
     wrong_functions spec imp ++ (
     missed_functions imp ++ (
-    tables (variable_count imp) (leads imp ∷ refutes spec imp ∷ []) ++
+    tables (pins_and_inputs imp) (leads imp ∷ refutes spec imp ∷ []) ++
     quantified_functions spec imp)))

@@ -16,3 +16,7 @@ IsSameAnswer (Repair tables) b = (others : Vec TableBits Global) × (b ≡ Repai
 -- two answers for one pair are the same
 abbrev pub OneAnswer : Type 0
 OneAnswer = (spec imp : Netlist) → IsNetlist imp → (a b : InputAnswer) → IsAnswer spec imp a → IsAnswer spec imp b → IsSameAnswer a b
+
+-- and each pair has an answer
+abbrev pub AnswersExist : Type 0
+AnswersExist = (spec imp : Netlist) → IsNetlist imp → (a : InputAnswer) × IsAnswer spec imp a

@@ -8,7 +8,7 @@ ghost use Rattle.bb_net.specs.Netlists.{Netlist};
 ghost use Rattle.bb_net.specs.Pairs.{pin_count};
 ghost use Rattle.bb_sym.specs.Made.{Makes, AreTooMany, StandsFor};
 ghost use Rattle.bb_input.specs.Answers.{IsAnswer, IsFinishable, AreLeastTables};
-ghost use Rattle.bb_input.specs.InputFunctions.{variable_count, refuted, lost, input_functions};
+ghost use Rattle.bb_input.specs.InputFunctions.{pins_and_inputs, refuted, lost, input_functions};
 
 use crate::InputAnswer;
 use crate::choosing::quantify_boxes;
@@ -75,8 +75,8 @@ fn input_diagrams(
     let starts = first_outputs(alloc, imp_net.boxes())?;
     let made = ordered_cells(alloc, d, pair, pins + inputs, pins, &starts)?;
     let both = refuting(alloc, d, pair, &made)?;
-    let refuted = quantify_block(d, false, both, pins, inputs)?;
-    let lost = quantify_boxes(d, refuted, imp_net.boxes(), &starts)?;
+    let refuted = quantify_block(alloc, d, false, both, pins, inputs)?;
+    let lost = quantify_boxes(alloc, d, refuted, imp_net.boxes(), &starts)?;
     Ok(Refutations { refuted, lost })
 }
 
@@ -88,7 +88,7 @@ fn told(
     found: &Refutations,
     point: &mut [bool],
 ) -> Result<InputAnswer, NoMemory>
-    requires vars { d.now.store.vars ≡ variable_count pair.now.imp }
+    requires vars { d.now.store.vars ≡ pins_and_inputs pair.now.imp }
     requires refuted { StandsFor d.now.store (refuted pair.now.spec pair.now.imp) found.now.refuted }
     requires lost { StandsFor d.now.store (lost pair.now.spec pair.now.imp) found.now.lost }
     requires point { point.old ≡ replicate d.now.store.vars false }
@@ -119,7 +119,7 @@ fn least_tables(
     f: Ref,
     point: &mut [bool],
 ) -> Result<Vec<Table>, NoMemory>
-    requires vars { d.now.store.vars ≡ variable_count pair.now.imp }
+    requires vars { d.now.store.vars ≡ pins_and_inputs pair.now.imp }
     requires refuted { StandsFor d.now.store (refuted pair.now.spec pair.now.imp) f }
     requires point { point.old ≡ replicate d.now.store.vars false }
     requires finishable { IsFinishable pair.now.imp }

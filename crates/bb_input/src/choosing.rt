@@ -12,9 +12,11 @@ use bb_dd::{Diagrams, Ref};
 use bb_net::BoxPins;
 use bb_sym::plain::quantify_block;
 use bb_sym::{RungFault, laws};
+use std::alloc::Global;
 
 /// The boxes quantified, the last one first. Each has its output pins from its entry of `starts` on, and its input pins before.
 pub(crate) fn quantify_boxes(
+    alloc: Global,
     d: &mut Diagrams,
     f: Ref,
     boxes: &[BoxPins],
@@ -34,13 +36,19 @@ pub(crate) fn quantify_boxes(
     let mut left = boxes.len();
     while left > 0 {
         left -= 1;
-        r = quantify_box(d, r, starts[left], &boxes[left])?;
+        r = quantify_box(alloc, d, r, starts[left], &boxes[left])?;
     }
     Ok(r)
 }
 
 /// A box quantified: its output pins from `start` on, and then its input pins before them.
-fn quantify_box(d: &mut Diagrams, f: Ref, start: u32, pins: &BoxPins) -> Result<Ref, RungFault>
+fn quantify_box(
+    alloc: Global,
+    d: &mut Diagrams,
+    f: Ref,
+    start: u32,
+    pins: &BoxPins,
+) -> Result<Ref, RungFault>
     requires f { IsRef d.old.store f.0 }
     requires before { length pins.now.ins ≤ start }
     requires vars { start + length pins.now.outs ≤ d.old.store.vars }
@@ -52,7 +60,7 @@ fn quantify_box(d: &mut Diagrams, f: Ref, start: u32, pins: &BoxPins) -> Result<
     laws::making();
     let ins = pins.ins().len() as u32;
     let outs = pins.outs().len() as u32;
-    let r = quantify_block(d, true, f, start, outs)?;
-    let r = quantify_block(d, false, r, start - ins, ins)?;
+    let r = quantify_block(alloc, d, true, f, start, outs)?;
+    let r = quantify_block(alloc, d, false, r, start - ins, ins)?;
     Ok(r)
 }

@@ -1,9 +1,12 @@
-//! Laws of the answers. The definitions stand in the specifications; the function here has a law as its contract and does nothing.
+//! Laws of the answers. The definitions stand in the specifications; each function here has a law as its contract and does nothing.
 
-ghost use Rattle.bb_input.specs.Laws.{OneAnswer};
+ghost use Rattle.bb_input.specs.Laws.{OneAnswer, AnswersExist};
 
-use bb_bits::{number_spelled, number_spelled_once, rows_are_tables};
-use bb_net::conditions_weaken;
+use bb_bits::{
+    number_is_below, number_spelled, number_spelled_once, rows_are_chosen, rows_are_tables, truth,
+};
+use bb_net::{conditions_hold_or_not, conditions_weaken, value_goes_by_boxes, vectors_hold_or_not};
+use bb_sym::laws;
 
 /// A pair has one answer: an error excludes tables, and each row of a table is the only least one.
 pub fn answers_are_one()
@@ -13,4 +16,21 @@ pub fn answers_are_one()
     number_spelled_once();
     rows_are_tables();
     conditions_weaken();
+}
+
+/// And each pair has an answer.
+pub fn answers_exist()
+    ensures { AnswersExist }
+{
+    truth::quantifiers();
+    laws::functions();
+    laws::points();
+    number_is_below();
+    number_spelled();
+    number_spelled_once();
+    rows_are_tables();
+    rows_are_chosen();
+    value_goes_by_boxes();
+    vectors_hold_or_not();
+    conditions_hold_or_not();
 }

@@ -13,7 +13,7 @@ mod rows;
 
 use bb_bits::Table;
 pub use checking::input;
-pub use laws::answers_are_one;
+pub use laws::{answers_are_one, answers_exist};
 
 /// What the check by choices answers.
 #[derive(Debug, Drop)]

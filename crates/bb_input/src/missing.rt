@@ -4,7 +4,7 @@ ghost use Rattle.std.specs.Prelude.{◌≡◌, length, IfOk, OnOk, IsErrOf};
 ghost use Rattle.bb_bits.specs.Truth.{variable};
 ghost use Rattle.bb_sym.specs.Plain.{table, one_of};
 ghost use Rattle.bb_sym.specs.Made.{Makes, AreTooMany, StandsFor, StandForAll, HaveCells};
-ghost use Rattle.bb_input.specs.InputFunctions.{variable_count, boxes_first, in_places, is_missed, missed_functions};
+ghost use Rattle.bb_input.specs.InputFunctions.{pins_and_inputs, boxes_first, in_places, is_missed, missed_functions};
 
 use crate::order::{input_places, input_variables};
 use bb_dd::{Diagrams, Ref};
@@ -20,11 +20,11 @@ pub(crate) fn some_missed(
     pair: &Pair,
     made: &PlainCells,
 ) -> Result<Ref, RungFault>
-    requires vars { variable_count pair.now.imp ≡ d.old.store.vars }
+    requires vars { pins_and_inputs pair.now.imp ≡ d.old.store.vars }
     requires variables { StandForAll d.old.store (variable d.old.store.vars) made.now.variables.items }
     requires count { length made.now.variables.items ≡ d.old.store.vars }
     requires cells { HaveCells d.old.store (boxes_first pair.now.imp) pair.now.spec pair.now.imp made.now.spec.items made.now.imp.items }
-    ensures result { IfOk result (StandsFor d.new.store (table (variable_count pair.now.imp) (one_of (is_missed pair.now.imp) (length (in_places pair.now.imp.boxes))))) }
+    ensures result { IfOk result (StandsFor d.new.store (table (pins_and_inputs pair.now.imp) (one_of (is_missed pair.now.imp) (length (in_places pair.now.imp.boxes))))) }
     ensures makes { OnOk result (Makes d.old.store d.new.store (missed_functions pair.now.imp)) }
     ensures nodes { IsErrOf result RungFault.Nodes → AreTooMany d.old.store (missed_functions pair.now.imp) }
 {

@@ -6,7 +6,7 @@ ghost use Rattle.bb_net.specs.Netlists.{box_at};
 ghost use Rattle.bb_net.specs.Pairs.{pin_count};
 ghost use Rattle.bb_sym.specs.Plain.{table, tables, plain_functions_at};
 ghost use Rattle.bb_sym.specs.Made.{Makes, AreTooMany, StandsFor, StandForAll, AreCells, HaveCells};
-ghost use Rattle.bb_input.specs.InputFunctions.{variable_count, boxes_first, leads, refutes, wrong_functions, missed_functions};
+ghost use Rattle.bb_input.specs.InputFunctions.{pins_and_inputs, boxes_first, leads, refutes, wrong_functions, missed_functions};
 
 use crate::missing::some_missed;
 use bb_dd::{Diagrams, Ref};
@@ -24,7 +24,7 @@ pub(crate) fn ordered_cells(
     pins: u32,
     starts: &[u32],
 ) -> Result<PlainCells, RungFault>
-    requires vars { vars ≡ variable_count pair.now.imp }
+    requires vars { vars ≡ pins_and_inputs pair.now.imp }
     requires store { vars ≡ d.old.store.vars }
     requires few { vars ≤ 2048 }
     requires pins { pins ≡ pin_count pair.now.imp.boxes }
@@ -33,8 +33,8 @@ pub(crate) fn ordered_cells(
     ensures variables { IfOk result (λ made. (length made.variables.items ≡ d.new.store.vars) × StandForAll d.new.store (variable d.new.store.vars) made.variables.items) }
     ensures refs { IfOk result (λ made. AreCells d.new.store pair.now.spec pair.now.imp made.spec.items made.imp.items) }
     ensures cells { IfOk result (λ made. HaveCells d.new.store (boxes_first pair.now.imp) pair.now.spec pair.now.imp made.spec.items made.imp.items) }
-    ensures makes { OnOk result (Makes d.old.store d.new.store (plain_functions_at (variable_count pair.now.imp) (boxes_first pair.now.imp) pair.now.spec pair.now.imp)) }
-    ensures nodes { IsErrOf result RungFault.Nodes → AreTooMany d.old.store (plain_functions_at (variable_count pair.now.imp) (boxes_first pair.now.imp) pair.now.spec pair.now.imp) }
+    ensures makes { OnOk result (Makes d.old.store d.new.store (plain_functions_at (pins_and_inputs pair.now.imp) (boxes_first pair.now.imp) pair.now.spec pair.now.imp)) }
+    ensures nodes { IsErrOf result RungFault.Nodes → AreTooMany d.old.store (plain_functions_at (pins_and_inputs pair.now.imp) (boxes_first pair.now.imp) pair.now.spec pair.now.imp) }
 {
     let made = plain_cells(alloc, d, pair, vars, pins, starts)?;
     Ok(made)
@@ -48,14 +48,14 @@ pub(crate) fn refuting(
     pair: &Pair,
     made: &PlainCells,
 ) -> Result<Ref, RungFault>
-    requires vars { variable_count pair.now.imp ≡ d.old.store.vars }
+    requires vars { pins_and_inputs pair.now.imp ≡ d.old.store.vars }
     requires variables { StandForAll d.old.store (variable d.old.store.vars) made.now.variables.items }
     requires count { length made.now.variables.items ≡ d.old.store.vars }
     requires refs { AreCells d.old.store pair.now.spec pair.now.imp made.now.spec.items made.now.imp.items }
     requires cells { HaveCells d.old.store (boxes_first pair.now.imp) pair.now.spec pair.now.imp made.now.spec.items made.now.imp.items }
-    ensures result { IfOk result (StandsFor d.new.store (table (variable_count pair.now.imp) (refutes pair.now.spec pair.now.imp))) }
-    ensures makes { OnOk result (Makes d.old.store d.new.store (wrong_functions pair.now.spec pair.now.imp ++ (missed_functions pair.now.imp ++ tables (variable_count pair.now.imp) (leads pair.now.imp ∷ refutes pair.now.spec pair.now.imp ∷ [])))) }
-    ensures nodes { IsErrOf result RungFault.Nodes → AreTooMany d.old.store (wrong_functions pair.now.spec pair.now.imp ++ (missed_functions pair.now.imp ++ tables (variable_count pair.now.imp) (leads pair.now.imp ∷ refutes pair.now.spec pair.now.imp ∷ []))) }
+    ensures result { IfOk result (StandsFor d.new.store (table (pins_and_inputs pair.now.imp) (refutes pair.now.spec pair.now.imp))) }
+    ensures makes { OnOk result (Makes d.old.store d.new.store (wrong_functions pair.now.spec pair.now.imp ++ (missed_functions pair.now.imp ++ tables (pins_and_inputs pair.now.imp) (leads pair.now.imp ∷ refutes pair.now.spec pair.now.imp ∷ [])))) }
+    ensures nodes { IsErrOf result RungFault.Nodes → AreTooMany d.old.store (wrong_functions pair.now.spec pair.now.imp ++ (missed_functions pair.now.imp ++ tables (pins_and_inputs pair.now.imp) (leads pair.now.imp ∷ refutes pair.now.spec pair.now.imp ∷ []))) }
 {
     laws::functions();
     laws::making();

@@ -2,20 +2,20 @@
 
 ghost use Rattle.std.specs.Prelude.{◌≡◌};
 
-use crate::diagram_calls::{diagram, holds, recall, start};
+use crate::diagram_calls::{CallFault, diagram, holds, recall, start};
 use crate::words::{bits, digits, halves, number, word};
-use bb_dd::{DdFault, Diagrams};
+use bb_dd::Diagrams;
 use bb_uniq::{Ref, View};
 use std::alloc::{AllocError, Global};
 use std::process::Abort;
 use std::test::Fail;
 
 // A diagram by its number, or why there is none.
-fn made(alloc: Global, made: Result<Ref, DdFault>) -> Result<String, AllocError> {
+fn made(alloc: Global, made: Result<Ref, CallFault>) -> Result<String, AllocError> {
     match made {
         Ok(f) => format!(in alloc; "{}", f.0),
-        Err(DdFault::Full) => String::from_str(alloc, "full"),
-        Err(DdFault::NoMemory) => String::from_str(alloc, "no memory"),
+        Err(CallFault::Full) => String::from_str(alloc, "full"),
+        Err(CallFault::Missing) => String::from_str(alloc, "missing"),
     }
 }
 

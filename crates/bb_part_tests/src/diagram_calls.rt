@@ -1,5 +1,4 @@
-//! Calls of diagrams that try whether their operands are there, so that a test owes no proof of it. An operand that is not there is told as
-//! want of memory.
+//! Calls of diagrams that try whether their operands are there, so that a test owes no proof of it.
 
 ghost use Rattle.std.specs.Prelude.{◌≡◌, ◌<◌, true, IfOk};
 ghost use Rattle.bb_uniq.specs.Nodes.{IsRef};
@@ -9,6 +8,20 @@ use bb_dd::{DdFault, Diagrams};
 use bb_uniq::Ref;
 use std::alloc::Global;
 use std::test::Fail;
+
+/// Why a call in words gives no diagram.
+#[derive(Clone, Copy, Debug)]
+pub(crate) enum CallFault {
+    Full,
+    /// An operand is not there, or a result finds no room in the cache.
+    Missing,
+}
+
+impl From<DdFault> for CallFault {
+    fn from(_: DdFault) -> CallFault {
+        CallFault::Full
+    }
+}
 
 /// Diagrams of so many variables, with room for so many nodes and results.
 pub(crate) fn start(alloc: Global, vars: u32, nodes: u32, cache: u32) -> Result<Diagrams, Fail>
@@ -34,70 +47,71 @@ pub(crate) fn operation(
     f: Ref,
     g: Ref,
     h: Ref,
-) -> Result<Ref, DdFault>
+) -> Result<Ref, CallFault>
     ensures vars { d.new.store.vars ≡ d.old.store.vars }
 {
     if !holds(d, f) || !holds(d, g) || !holds(d, h) {
-        return Err(DdFault::NoMemory);
+        return Err(CallFault::Missing);
     }
-    match name {
-        "not" => d.not(f),
-        "and" => d.and(f, g),
-        "or" => d.or(f, g),
-        "xor" => d.xor(f, g),
-        _ => d.ite(f, g, h),
-    }
+    let made = match name {
+        "not" => d.not(f)?,
+        "and" => d.and(f, g)?,
+        "or" => d.or(f, g)?,
+        "xor" => d.xor(f, g)?,
+        _ => d.ite(f, g, h)?,
+    };
+    Ok(made)
 }
 
 /// A variable as a diagram, where there are so many.
-pub(crate) fn variable(d: &mut Diagrams, vars: u32, v: u32) -> Result<Ref, DdFault>
+pub(crate) fn variable(d: &mut Diagrams, vars: u32, v: u32) -> Result<Ref, CallFault>
     requires vars { vars ≡ d.old.store.vars }
     ensures vars { d.new.store.vars ≡ d.old.store.vars }
 {
     if v >= vars {
-        return Err(DdFault::NoMemory);
+        return Err(CallFault::Missing);
     }
-    d.var(v)
+    Ok(d.var(v)?)
 }
 
 // A diagram with a variable quantified away.
-fn quantified(d: &mut Diagrams, vars: u32, all: bool, f: Ref, v: u32) -> Result<Ref, DdFault>
+fn quantified(d: &mut Diagrams, vars: u32, all: bool, f: Ref, v: u32) -> Result<Ref, CallFault>
     requires vars { vars ≡ d.old.store.vars }
     ensures vars { d.new.store.vars ≡ d.old.store.vars }
 {
     if v >= vars || !holds(d, f) {
-        return Err(DdFault::NoMemory);
+        return Err(CallFault::Missing);
     }
     if all {
-        bb_quant::forall(d, f, v)
+        Ok(bb_quant::forall(d, f, v)?)
     } else {
-        bb_quant::exists(d, f, v)
+        Ok(bb_quant::exists(d, f, v)?)
     }
 }
 
 // A node over two leaves.
-fn node(d: &mut Diagrams, vars: u32, v: u32, lo: Ref, hi: Ref) -> Result<Ref, DdFault>
+fn node(d: &mut Diagrams, vars: u32, v: u32, lo: Ref, hi: Ref) -> Result<Ref, CallFault>
     requires vars { vars ≡ d.old.store.vars }
     ensures vars { d.new.store.vars ≡ d.old.store.vars }
 {
     if v >= vars || lo.0 >= 2 || hi.0 >= 2 {
-        return Err(DdFault::NoMemory);
+        return Err(CallFault::Missing);
     }
-    d.make(v, lo, hi)
+    Ok(d.make(v, lo, hi)?)
 }
 
 // The leaf 1 as the result of "exists" in itself, where there is a variable alone.
-fn keep_one(d: &mut Diagrams, vars: u32) -> Result<Ref, DdFault>
+fn keep_one(d: &mut Diagrams, vars: u32) -> Result<Ref, CallFault>
     requires vars { vars ≡ d.old.store.vars }
     ensures vars { d.new.store.vars ≡ d.old.store.vars }
 {
     if vars != 1 {
-        return Err(DdFault::NoMemory);
+        return Err(CallFault::Missing);
     }
     bb_uniq::laws::stores();
     match d.keep(false, Ref(1), 0, Ref(1)) {
         Ok(()) => Ok(Ref(1)),
-        Err(_) => Err(DdFault::NoMemory),
+        Err(_) => Err(CallFault::Missing),
     }
 }
 
@@ -113,7 +127,7 @@ pub(crate) fn recall(d: &mut Diagrams, vars: u32, all: bool, f: Ref, v: u32) -> 
 }
 
 /// The diagram that a call in words gives, as `and 2 3` for the conjunction of the diagrams 2 and 3.
-pub(crate) fn diagram(d: &mut Diagrams, vars: u32, call: &str) -> Result<Ref, DdFault>
+pub(crate) fn diagram(d: &mut Diagrams, vars: u32, call: &str) -> Result<Ref, CallFault>
     requires vars { vars ≡ d.old.store.vars }
     ensures vars { d.new.store.vars ≡ d.old.store.vars }
 {

@@ -15,15 +15,13 @@ use bb_uniq::laws;
 ///
 /// # Errors
 ///
-/// `Full` exactly where the beads held and those of the result are more than the limit, `NoMemory` where there is room and no
-/// memory is found. All earlier diagrams stay as they are.
+/// `Full` exactly where the beads held and those of the result are more than the limit. All earlier diagrams stay as they are.
 pub fn forall(d: &mut Diagrams, f: Ref, v: u32) -> Result<Ref, DdFault>
     requires f { IsRef d.old.store f.0 }
     requires v { v < d.old.store.vars }
     ensures ok { IfOk result (λ r. Adds d.old.store d.new.store (quantified ◌&&◌ v (truth_of d.old.store f.0)) r.0) }
     ensures full { IsErrOf result DdFault.Full → IsTooMany d.old.store (quantified ◌&&◌ v (truth_of d.old.store f.0)) }
     ensures kept { Keeps d.old.store d.new.store }
-    ensures no_memory { IsErrOf result DdFault.NoMemory → length d.new.store.nodes < d.new.store.limit }
     ensures capacity { d.new.capacity ≡ d.old.capacity }
 {
     quantify(d, true, f, v)
@@ -40,7 +38,6 @@ pub fn exists(d: &mut Diagrams, f: Ref, v: u32) -> Result<Ref, DdFault>
     ensures ok { IfOk result (λ r. Adds d.old.store d.new.store (quantified ◌||◌ v (truth_of d.old.store f.0)) r.0) }
     ensures full { IsErrOf result DdFault.Full → IsTooMany d.old.store (quantified ◌||◌ v (truth_of d.old.store f.0)) }
     ensures kept { Keeps d.old.store d.new.store }
-    ensures no_memory { IsErrOf result DdFault.NoMemory → length d.new.store.nodes < d.new.store.limit }
     ensures capacity { d.new.capacity ≡ d.old.capacity }
 {
     quantify(d, false, f, v)
@@ -53,7 +50,6 @@ fn join(d: &mut Diagrams, all: bool, f: Ref, g: Ref) -> Result<Ref, DdFault>
     ensures ok { IfOk result (λ r. Adds d.old.store d.new.store (joined (quantifier all) (truth_of d.old.store f.0) (truth_of d.old.store g.0)) r.0) }
     ensures full { IsErrOf result DdFault.Full → IsTooMany d.old.store (joined (quantifier all) (truth_of d.old.store f.0) (truth_of d.old.store g.0)) }
     ensures kept { Keeps d.old.store d.new.store }
-    ensures no_memory { IsErrOf result DdFault.NoMemory → length d.new.store.nodes < d.new.store.limit }
     ensures capacity { d.new.capacity ≡ d.old.capacity }
 {
     if all { d.and(f, g) } else { d.or(f, g) }
@@ -67,7 +63,6 @@ fn quantify(d: &mut Diagrams, all: bool, f: Ref, v: u32) -> Result<Ref, DdFault>
     ensures ok { IfOk result (λ r. Adds d.old.store d.new.store (quantified (quantifier all) v (truth_of d.old.store f.0)) r.0) }
     ensures full { IsErrOf result DdFault.Full → IsTooMany d.old.store (quantified (quantifier all) v (truth_of d.old.store f.0)) }
     ensures kept { Keeps d.old.store d.new.store }
-    ensures no_memory { IsErrOf result DdFault.NoMemory → length d.new.store.nodes < d.new.store.limit }
     ensures capacity { d.new.capacity ≡ d.old.capacity }
 {
     truth::tables();
@@ -110,7 +105,6 @@ fn quantify_node(
     ensures ok { IfOk result (λ r. Adds d.old.store d.new.store (quantified (quantifier all) v (truth_of d.old.store f.0)) r.0) }
     ensures full { IsErrOf result DdFault.Full → IsTooMany d.old.store (quantified (quantifier all) v (truth_of d.old.store f.0)) }
     ensures kept { Keeps d.old.store d.new.store }
-    ensures no_memory { IsErrOf result DdFault.NoMemory → length d.new.store.nodes < d.new.store.limit }
     ensures capacity { d.new.capacity ≡ d.old.capacity }
 {
     truth::tables();

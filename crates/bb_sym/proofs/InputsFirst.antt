@@ -3,11 +3,11 @@ use Rattle.std.proofs.Common.{◌≡◌, ◌<◌, ◌≤◌, ℕ, ◌+◌, List,
 use Rattle.std.specs.Prelude.{slice_index_or}
 use Rattle.bb_net.specs.Netlists.{Netlist}
 use Rattle.bb_net.specs.Values.{bit_of, output_pins}
-use Rattle.bb_sym.specs.Functions.{inputs_first, variable_count}
+use Rattle.bb_sym.specs.Functions.{inputs_first, inputs_and_pins}
 use Rattle.bb_sym.specs.Plain.{AreVariables, IsReadSo}
 use Rattle.bb_sym.proofs.CellTables.{pin_within}
 
-module _ (imp : Netlist) (n : ℕ) (starts : List ℕ) (few : n ≤ 2048) (v : n ≡ variable_count imp) (count : length starts ≡ length imp.boxes) (start : (b : ℕ) → b < length imp.boxes → slice_index_or starts b 0 ≡ imp.inputs + output_pins (take b imp.boxes)) where
+module _ (imp : Netlist) (n : ℕ) (starts : List ℕ) (few : n ≤ 2048) (v : n ≡ inputs_and_pins imp) (count : length starts ≡ length imp.boxes) (start : (b : ℕ) → b < length imp.boxes → slice_index_or starts b 0 ≡ imp.inputs + output_pins (take b imp.boxes)) where
   pub order_variables : AreVariables n 0 starts imp
   order_variables = record {
     few = few;

@@ -3,31 +3,17 @@ use Rattle.std.proofs.Common.{◌≡◌, ◌<◌, ℕ, ◌+◌, List, ◌++◌, 
 use Rattle.std.specs.List.{range_with_len}
 use Rattle.bb_bits.specs.Truth.{Truth}
 use Rattle.bb_net.specs.declared.cell.Cell.{Cell}
-use Rattle.bb_net.specs.declared.cell.Cell.TheVariants.{Const, Input, Not, And, Or, Xor, Mux, BoxOut}
 use Rattle.bb_net.specs.Netlists.{Netlist, Pins, IsNetlist, ReadsBefore, cell_at}
-use Rattle.bb_net.specs.Ternary.{tern, tern_of, gate3}
 use Rattle.bb_uniq.specs.declared.store.Ref.{Ref}
 use Rattle.bb_uniq.specs.Nodes.{NodeStore}
 use Rattle.bb_uniq.specs.Meaning.{truth_of}
-use Rattle.bb_sym.specs.Functions.{is_one, is_zero, known_one, known_zero, high, low, known_tables, cell_tables}
+use Rattle.bb_sym.specs.Functions.{high, low, known_tables, cell_tables}
 use Rattle.bb_sym.specs.Plain.{places}
-use Rattle.bb_sym.specs.Made.{Makes, AreTooMany, StandsFor, StandForAll, one_table, zero_table, ref_at}
-use Rattle.bb_sym.proofs.FunctionTables.{table_same}
+use Rattle.bb_sym.specs.Made.{Makes, AreTooMany, StandsFor, StandForAll, known_one_table, known_zero_table, ref_at}
 use Rattle.bb_sym.proofs.MadeLemmas.{StandForAll-push}
 use Rattle.bb_sym.proofs.OutputLoop.{flat_makes, flat_refused}
 use Rattle.bb_sym.proofs.PairLemmas.{stands_same}
-use Rattle.bb_sym.proofs.KnownTables.{TernExists, one-table, zero-table, known-bits, one_table-same, zero_table-same, cell_tables-same}
-
--- what a box reads does not matter
-pub reads_without : (inputs place : ℕ) (boxes : List Pins) (cell : Cell) → ReadsBefore inputs boxes place cell → ReadsBefore inputs [] place cell
-reads_without inputs place boxes (Const b) reads = tt
-reads_without inputs place boxes (Input i) reads = reads
-reads_without inputs place boxes (Not a) reads = reads
-reads_without inputs place boxes (And a b) reads = reads
-reads_without inputs place boxes (Or a b) reads = reads
-reads_without inputs place boxes (Xor a b) reads = reads
-reads_without inputs place boxes (Mux c t e) reads = reads
-reads_without inputs place boxes (BoxOut b p) reads = λ k d l. absurd (omega (arith, l))
+use Rattle.bb_sym.proofs.KnownTables.{TernExists, reads_without, one_is, zero_is, one_table-same, zero_table-same, cell_tables-same}
 
 -- the table of a Ref at a place
 abbrev pub at_place : NodeStore → List Ref → ℕ → Truth
@@ -63,19 +49,17 @@ module _ (first now : NodeStore) (net : Netlist) (ones zeros : List Ref) (i : �
   pub next_reads : ReadsBefore now.vars [] i cell
   next_reads = subst (λ n. ReadsBefore n [] i cell) (sym vars_is) (reads_without net.inputs i net.boxes cell reads)
 
-  next_one : TernExists → one_table now.vars (at_place now ones) (at_place now zeros) cell ≡ high net i
+  next_one : TernExists → known_one_table now.vars (at_place now ones) (at_place now zeros) cell ≡ high net i
   next_one exists =
-      ap (λ n. one_table n (at_place now ones) (at_place now zeros) cell) vars_is
+      ap (λ n. known_one_table n (at_place now ones) (at_place now zeros) cell) vars_is
       ∙ (one_table-same net.inputs net.inputs i net.boxes (at_place now ones) (at_place now zeros) (high net) (low net) same_one same_zero cell reads
-      ∙ (one-table net.inputs (λ k x. tern_of (tern net x) k) i cell (reads_without net.inputs i net.boxes cell reads)
-      ∙ table_same net.inputs (λ x. is_one (gate3 x (λ k. tern_of (tern net x) k) cell)) (known_one net i) (λ x l. ap is_one (sym (known-bits exists net m.kept i m.there x)))))
+      ∙ one_is exists net m.kept i m.there)
 
-  next_zero : TernExists → zero_table now.vars (at_place now ones) (at_place now zeros) cell ≡ low net i
+  next_zero : TernExists → known_zero_table now.vars (at_place now ones) (at_place now zeros) cell ≡ low net i
   next_zero exists =
-      ap (λ n. zero_table n (at_place now ones) (at_place now zeros) cell) vars_is
+      ap (λ n. known_zero_table n (at_place now ones) (at_place now zeros) cell) vars_is
       ∙ (zero_table-same net.inputs net.inputs i net.boxes (at_place now ones) (at_place now zeros) (high net) (low net) same_one same_zero cell reads
-      ∙ (zero-table net.inputs (λ k x. tern_of (tern net x) k) i cell (reads_without net.inputs i net.boxes cell reads)
-      ∙ table_same net.inputs (λ x. is_zero (gate3 x (λ k. tern_of (tern net x) k) cell)) (known_zero net i) (λ x l. ap is_zero (sym (known-bits exists net m.kept i m.there x)))))
+      ∙ zero_is exists net m.kept i m.there)
 
   next_tables : cell_tables now.vars (at_place now ones) (at_place now zeros) cell ≡ known_tables net i
   next_tables =
@@ -89,10 +73,10 @@ module _ (first now : NodeStore) (net : Netlist) (ones zeros : List Ref) (i : �
     pub known_made : Makes first new (flat_map (known_tables net) (range_with_len 0 (i + 1)))
     known_made = flat_makes first now new (known_tables net) i m.makes (subst (Makes now new) next_tables made)
 
-    pub ones_next : TernExists → (r : Ref) → StandsFor new (one_table now.vars (at_place now ones) (at_place now zeros) cell) r → StandForAll new (high net) (ones ++ r ∷ [])
+    pub ones_next : TernExists → (r : Ref) → StandsFor new (known_one_table now.vars (at_place now ones) (at_place now zeros) cell) r → StandForAll new (high net) (ones ++ r ∷ [])
     ones_next exists r h = StandForAll-push now new (high net) ones r i m.ones_count made.kept m.ones_stand (stands_same new _ (high net i) r (next_one exists) h)
 
-    pub zeros_next : TernExists → (r : Ref) → StandsFor new (zero_table now.vars (at_place now ones) (at_place now zeros) cell) r → StandForAll new (low net) (zeros ++ r ∷ [])
+    pub zeros_next : TernExists → (r : Ref) → StandsFor new (known_zero_table now.vars (at_place now ones) (at_place now zeros) cell) r → StandForAll new (low net) (zeros ++ r ∷ [])
     zeros_next exists r h = StandForAll-push now new (low net) zeros r i m.zeros_count made.kept m.zeros_stand (stands_same new _ (low net i) r (next_zero exists) h)
 
 -- the parts as the loop reads them

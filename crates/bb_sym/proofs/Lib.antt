@@ -3,6 +3,7 @@ pub mod AlwaysWrong
 pub mod BlockLemmas
 pub mod Budget
 pub mod CellTables
+pub mod DependenceLemmas
 pub mod DifferenceLoop
 pub mod FoldLoop
 pub mod FunctionTables
@@ -25,3 +26,4 @@ pub mod SomeWrong
 pub mod SumLemmas
 pub mod WrongOutputs
 pub mod WrongTables
+pub mod SomeFindings

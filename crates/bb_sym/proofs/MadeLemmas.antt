@@ -11,7 +11,7 @@ use Rattle.bb_bits.specs.TruthSets.{HasMoreThan}
 use Rattle.bb_uniq.specs.declared.store.Ref.{Ref}
 use Rattle.bb_uniq.specs.Laws.{StoreLaws, GrowthLaws}
 use Rattle.bb_uniq.specs.Nodes.{NodeStore, IsStore, IsRef}
-use Rattle.bb_uniq.specs.Meaning.{IsHeld, IsHeldWith, Keeps, Adds, IsTooMany}
+use Rattle.bb_uniq.specs.Meaning.{IsHeldWith, Keeps, Adds, IsTooMany}
 use Rattle.bb_sym.specs.Made.{IsHeldWithAny, Makes, AreTooMany, StandsFor, StandForAll, AreRefs, ref_at}
 
 -- every bead of the first list is one of the second

@@ -6,7 +6,7 @@ use Rattle.bb_net.specs.Values.{output_pins}
 use Rattle.bb_uniq.specs.declared.store.Ref.{Ref}
 use Rattle.bb_uniq.specs.Nodes.{NodeStore}
 use Rattle.bb_uniq.specs.Meaning.{truth_of}
-use Rattle.bb_sym.specs.Functions.{plain_functions, is_wrong, some_wrong, first_some_wrong, all_always_wrong, variable_count, for_all_pins, output_functions}
+use Rattle.bb_sym.specs.Functions.{plain_functions, is_wrong, some_wrong, first_some_wrong, all_always_wrong, inputs_and_pins, for_all_pins, output_functions}
 use Rattle.bb_sym.specs.Plain.{block_functions, table, tables, outputs}
 use Rattle.bb_sym.specs.Made.{Makes, AreTooMany, StandsFor}
 use Rattle.bb_sym.proofs.MadeLemmas.{Makes-then, too_many_within, too_many_then, within_append_left}
@@ -17,7 +17,7 @@ wrong_tables n spec imp = tables n (map (is_wrong spec imp) (outputs imp)) ++ ta
 
 module _ (spec imp : Netlist) (inputs pins : ℕ) (i : inputs ≡ imp.inputs) (k : pins ≡ output_pins imp.boxes) (a : NodeStore) (v : inputs + pins ≡ a.vars) where
   abbrev n : ℕ
-  n = variable_count imp
+  n = inputs_and_pins imp
 
   abbrev any_table : Truth
   any_table = table n (some_wrong spec imp (length imp.outs))

@@ -9,7 +9,7 @@ use Rattle.bb_net.specs.Values.{flat, output_pins}
 use Rattle.bb_net.specs.Agreement.{wanted_bit, out_bit}
 use Rattle.bb_net.specs.Conditions.{HasAlwaysWrong, AllSometimesRight}
 use Rattle.bb_quant.specs.LeastPoints.{IsLeastPoint}
-use Rattle.bb_sym.specs.Functions.{is_wrong, some_wrong, all_always_wrong, variable_count}
+use Rattle.bb_sym.specs.Functions.{is_wrong, some_wrong, all_always_wrong, inputs_and_pins}
 use Rattle.bb_sym.specs.Finds.{IsLeastVector}
 use Rattle.bb_sym.specs.Made.{IsNowhereTrue}
 use Rattle.bb_sym.proofs.LeastVectors.{least_inputs, one_of_none, bit_cases, never_both}
@@ -32,7 +32,7 @@ pub none_of : (p : ℕ → Bool) (n j : ℕ) → j < n → list_any p (range_wit
 none_of p n j l e = bit_cases (p j) (λ h. never_both (list_any p (range_with_len 0 n)) (any_of p n j l h) e)
 
 module _ (laws : QuantifierLaws) (spec imp : Netlist) where
-  pub least_some : (old p : List Bool) → length old ≡ variable_count imp → IsLeastPoint (all_always_wrong spec imp) true 0 old p → IsLeastVector imp (HasAlwaysWrong spec imp) (take imp.inputs p)
+  pub least_some : (old p : List Bool) → length old ≡ inputs_and_pins imp → IsLeastPoint (all_always_wrong spec imp) true 0 old p → IsLeastVector imp (HasAlwaysWrong spec imp) (take imp.inputs p)
   least_some old p long =
       least_inputs laws imp.inputs (output_pins imp.boxes) (some_wrong spec imp (length imp.outs)) imp refl (HasAlwaysWrong spec imp)
       (λ x e all z l.
@@ -43,7 +43,7 @@ module _ (laws : QuantifierLaws) (spec imp : Netlist) where
       any_of (λ j. is_wrong spec imp j (x ++ (z ++ []))) (length imp.outs) w.0 w.1 (wrong_bit spec imp w.0 x z e ∙ differ_xor (wanted_bit spec x w.0) (out_bit imp (flat imp x z) w.0) w.2))
       old p long
 
-  pub all_right : IsNowhereTrue (variable_count imp) (all_always_wrong spec imp) → AllSometimesRight spec imp
+  pub all_right : IsNowhereTrue (inputs_and_pins imp) (all_always_wrong spec imp) → AllSometimesRight spec imp
   all_right none x e =
       let found = one_of_none laws imp.inputs (output_pins imp.boxes) (some_wrong spec imp (length imp.outs)) none x e in (
         found.0,

@@ -10,7 +10,7 @@ use Rattle.bb_uniq.specs.declared.store.Ref.{Ref}
 use Rattle.bb_uniq.specs.Nodes.{NodeStore}
 use Rattle.bb_uniq.specs.Meaning.{truth_of}
 use Rattle.bb_quant.specs.LeastPoints.{IsLeastPoint}
-use Rattle.bb_sym.specs.Functions.{is_wrong, always_wrong, variable_count}
+use Rattle.bb_sym.specs.Functions.{is_wrong, always_wrong, inputs_and_pins}
 use Rattle.bb_sym.specs.Finds.{IsLeastVector, IsFirstFound, IsSometimesRight}
 use Rattle.bb_sym.specs.Made.{IsNowhereTrue, StandForAll, ref_at}
 use Rattle.bb_sym.proofs.LeastVectors.{least_inputs, one_of_none}
@@ -54,23 +54,23 @@ xor_same false true e = e
 
 module _ (laws : QuantifierLaws) (spec imp : Netlist) where
   -- of one output
-  pub least_wrong : (j : ℕ) (old p : List Bool) → length old ≡ variable_count imp → IsLeastPoint (always_wrong spec imp j) true 0 old p → IsLeastVector imp (λ x. IsAlwaysWrong spec imp x j) (take imp.inputs p)
+  pub least_wrong : (j : ℕ) (old p : List Bool) → length old ≡ inputs_and_pins imp → IsLeastPoint (always_wrong spec imp j) true 0 old p → IsLeastVector imp (λ x. IsAlwaysWrong spec imp x j) (take imp.inputs p)
   least_wrong j old p long =
       least_inputs laws imp.inputs (output_pins imp.boxes) (is_wrong spec imp j) imp refl (λ x. IsAlwaysWrong spec imp x j)
       (λ x e all z l. xor_differ (wanted_bit spec x j) (out_bit imp (flat imp x z) j) (sym (wrong_bit spec imp j x z e) ∙ all z l))
       (λ x e wrong z l. wrong_bit spec imp j x z e ∙ differ_xor (wanted_bit spec x j) (out_bit imp (flat imp x z) j) (wrong z l))
       old p long
 
-  pub sometimes_right : (j : ℕ) → IsNowhereTrue (variable_count imp) (always_wrong spec imp j) → (x : List Bool) → IsVector imp x → IsSometimesRight spec imp x j
+  pub sometimes_right : (j : ℕ) → IsNowhereTrue (inputs_and_pins imp) (always_wrong spec imp j) → (x : List Bool) → IsVector imp x → IsSometimesRight spec imp x j
   sometimes_right j none x e =
       let found = one_of_none laws imp.inputs (output_pins imp.boxes) (is_wrong spec imp j) none x e in
       (found.0, found.1, xor_same (wanted_bit spec x j) (out_bit imp (flat imp x found.0) j) (sym (wrong_bit spec imp j x found.0 e) ∙ found.2))
 
-  table_at : (s : NodeStore) (refs : List Ref) (j : ℕ) → s.vars ≡ variable_count imp → StandForAll s (always_wrong spec imp) refs → j < length refs → IsNowhereTrue s.vars (truth_of s (ref_at refs j).0) → IsNowhereTrue (variable_count imp) (always_wrong spec imp j)
+  table_at : (s : NodeStore) (refs : List Ref) (j : ℕ) → s.vars ≡ inputs_and_pins imp → StandForAll s (always_wrong spec imp) refs → j < length refs → IsNowhereTrue s.vars (truth_of s (ref_at refs j).0) → IsNowhereTrue (inputs_and_pins imp) (always_wrong spec imp j)
   table_at s refs j e stand l none = subst₂ IsNowhereTrue e (stand j l).table none
 
   -- the first output of which there is a vector
-  pub first_wrong : (s : NodeStore) (refs : List Ref) (old p found : List Bool) (j : ℕ) → s.vars ≡ variable_count imp → length refs ≡ length imp.outs → StandForAll s (always_wrong spec imp) refs → length old ≡ s.vars → j < length refs →
+  pub first_wrong : (s : NodeStore) (refs : List Ref) (old p found : List Bool) (j : ℕ) → s.vars ≡ inputs_and_pins imp → length refs ≡ length imp.outs → StandForAll s (always_wrong spec imp) refs → length old ≡ s.vars → j < length refs →
       IsLeastPoint (truth_of s (ref_at refs j).0) true 0 old p → ((i : ℕ) → i < j → IsNowhereTrue s.vars (truth_of s (ref_at refs i).0)) → found ≡ take imp.inputs p → IsFirstFound imp (IsAlwaysWrong spec imp) (IsSometimesRight spec imp) found j
   first_wrong s refs old p found j e count stand long l least none is = record {
     there = omega (arith, l, count);
@@ -78,7 +78,7 @@ module _ (laws : QuantifierLaws) (spec imp : Netlist) where
     earlier = λ i before y vector. sometimes_right i (table_at s refs i e stand (omega (arith, before, l)) (none i before)) y vector;
   }
 
-  pub none_wrong : (s : NodeStore) (refs : List Ref) → s.vars ≡ variable_count imp → length refs ≡ length imp.outs → StandForAll s (always_wrong spec imp) refs → ((i : ℕ) → i < length refs → IsNowhereTrue s.vars (truth_of s (ref_at refs i).0)) → EachSometimesRight spec imp
+  pub none_wrong : (s : NodeStore) (refs : List Ref) → s.vars ≡ inputs_and_pins imp → length refs ≡ length imp.outs → StandForAll s (always_wrong spec imp) refs → ((i : ℕ) → i < length refs → IsNowhereTrue s.vars (truth_of s (ref_at refs i).0)) → EachSometimesRight spec imp
   none_wrong s refs e count stand none x vector j there =
       let l : j < length refs = omega (arith, there, count) in
       sometimes_right j (table_at s refs j e stand l (none j l)) x vector

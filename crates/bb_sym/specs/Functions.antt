@@ -1,6 +1,7 @@
 -- The Boolean functions that a check by diagrams makes, as truth tables; a check holds exactly their beads (Knuth, The Art of
 -- Computer Programming, volume 4A, 7.1.4). Each variable is one of them. Where functions are folded by an operation, the first is
--- joined with the second, that with the third, and so on, and each result is one of the list.
+-- joined with the second, that with the third, and so on, and each result is one of the list. Of what a report says they count for
+-- `nodes` alone.
 use Rattle.std.specs.Prelude.{ℕ, ◌+◌, Bool, false, not, ◌&&◌, ◌||◌, List, ◌∷◌, [], ◌++◌, length, map, take, drop, slice_index, Option, Some, None}
 use Rattle.std.specs.List.{flat_map}
 use Rattle.bb_bits.specs.Truth.{Truth, constant, variable, complement, joined, quantified_block}
@@ -93,8 +94,8 @@ symbolic_functions spec imp =
 
 -- Where boxes may give any bits, the variables are the inputs and then the output pins of the boxes, box after box.
 
-abbrev pub variable_count : Netlist → ℕ
-variable_count imp = imp.inputs + output_pins imp.boxes
+abbrev pub inputs_and_pins : Netlist → ℕ
+inputs_and_pins imp = imp.inputs + output_pins imp.boxes
 
 -- the inputs are the first bits of a point
 abbrev pub inputs_first : Netlist → Reading
@@ -106,7 +107,7 @@ is_wrong spec imp j = is_wrong_at (inputs_first imp) spec imp j
 
 -- the variables and the bits of all cells
 abbrev pub plain_functions : Netlist → Netlist → List Truth
-plain_functions spec imp = plain_functions_at (variable_count imp) (inputs_first imp) spec imp
+plain_functions spec imp = plain_functions_at (inputs_and_pins imp) (inputs_first imp) spec imp
 
 -- a function with the output pins of all boxes quantified by "for all"
 abbrev pub for_all_pins : Netlist → Truth → List Truth
@@ -114,11 +115,11 @@ for_all_pins imp t = block_functions ◌&&◌ imp.inputs (output_pins imp.boxes)
 
 -- where an output is wrong, and that for all values of the pins
 abbrev pub wrong_for_all_pins : Netlist → Netlist → ℕ → List Truth
-wrong_for_all_pins spec imp j = let t = table (variable_count imp) (is_wrong spec imp j) in t ∷ for_all_pins imp t
+wrong_for_all_pins spec imp j = let t = table (inputs_and_pins imp) (is_wrong spec imp j) in t ∷ for_all_pins imp t
 
 -- the last of them
 abbrev pub always_wrong : Netlist → Netlist → ℕ → Truth
-always_wrong spec imp j = quantified_block ◌&&◌ imp.inputs (output_pins imp.boxes) (table (variable_count imp) (is_wrong spec imp j))
+always_wrong spec imp j = quantified_block ◌&&◌ imp.inputs (output_pins imp.boxes) (table (inputs_and_pins imp) (is_wrong spec imp j))
 
 abbrev pub local_functions : Netlist → Netlist → List Truth
 local_functions spec imp = plain_functions spec imp ++ flat_map (wrong_for_all_pins spec imp) (outputs imp)
@@ -133,11 +134,11 @@ first_some_wrong spec imp j = first_of (is_wrong spec imp) j
 
 -- some output is wrong for all values of the pins
 abbrev pub all_always_wrong : Netlist → Netlist → Truth
-all_always_wrong spec imp = quantified_block ◌&&◌ imp.inputs (output_pins imp.boxes) (table (variable_count imp) (some_wrong spec imp (length imp.outs)))
+all_always_wrong spec imp = quantified_block ◌&&◌ imp.inputs (output_pins imp.boxes) (table (inputs_and_pins imp) (some_wrong spec imp (length imp.outs)))
 
 abbrev pub output_functions : Netlist → Netlist → List Truth
 output_functions spec imp =
     plain_functions spec imp ++ (
-    tables (variable_count imp) (map (is_wrong spec imp) (outputs imp)) ++ (
-    tables (variable_count imp) (map (first_some_wrong spec imp) (outputs imp))
-    ++ for_all_pins imp (table (variable_count imp) (some_wrong spec imp (length imp.outs)))))
+    tables (inputs_and_pins imp) (map (is_wrong spec imp) (outputs imp)) ++ (
+    tables (inputs_and_pins imp) (map (first_some_wrong spec imp) (outputs imp))
+    ++ for_all_pins imp (table (inputs_and_pins imp) (some_wrong spec imp (length imp.outs)))))

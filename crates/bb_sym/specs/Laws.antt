@@ -1,14 +1,15 @@
 -- What a reader expects of the tables of functions, of what a sequence of calls leaves in a store, and of points as numbers.
-use Rattle.std.specs.Prelude.{◌≡◌, ◌<◌, ◌≤◌, ◌↔◌, ◌⊎◌, ℕ, ◌+◌, ◌*◌, ◌^◌, Bool, true, false, List, [], ◌∷◌, ◌++◌, length, map, replicate, All, slice_index}
+use Rattle.std.specs.Prelude.{◌≡◌, ◌<◌, ◌≤◌, ◌↔◌, ◌⊎◌, ℕ, ◌+◌, ◌*◌, ◌^◌, Bool, true, false, List, [], ◌∷◌, ◌++◌, length, map, replicate, All, Contains, slice_index}
 use Rattle.bb_bits.specs.Numbers.{number_of}
 use Rattle.bb_bits.specs.Truth.{Truth, IsTruthTable, truth_at, constant, variable, combined, IsBeadOfAny}
 use Rattle.bb_bits.specs.TruthSets.{HasMoreThan}
-use Rattle.bb_net.specs.Netlists.{Netlist}
+use Rattle.bb_net.specs.Netlists.{Netlist, IsNetlist}
 use Rattle.bb_net.specs.Values.{bit_of}
 use Rattle.bb_uniq.specs.declared.store.Ref.{Ref}
 use Rattle.bb_uniq.specs.Nodes.{NodeStore, IsStore}
 use Rattle.bb_uniq.specs.Meaning.{Keeps, Adds, IsTooMany}
 use Rattle.bb_sym.specs.Made.{Makes, AreTooMany, AreRefs, StandsFor, StandForAll, HaveCells, ref_at}
+use Rattle.bb_sym.specs.Functions.{high, low, known_tables}
 use Rattle.bb_sym.specs.Plain.{Function, Reading, table, one_of}
 
 -- functions and their tables
@@ -23,6 +24,11 @@ pub record FunctionLaws : Type 0 where
   -- one of the first functions is 1 exactly where there is such a one
   pub one_true : (f : ℕ → Function) (count : ℕ) (p : List Bool) → (one_of f count p ≡ true) ↔ ((j : ℕ) × (j < count) × (f j p ≡ true))
   pub one_false : (f : ℕ → Function) (count : ℕ) (p : List Bool) → (one_of f count p ≡ false) ↔ ((j : ℕ) → j < count → f j p ≡ false)
+
+-- what is made for each cell where boxes are unknown has both its tables: where its value is known to be 1, and where to be 0
+pub record KnownTableLaws : Type 0 where
+  pub high_listed : (imp : Netlist) → IsNetlist imp → (place : ℕ) → place < length imp.cells → Contains (known_tables imp place) (high imp place)
+  pub low_listed : (imp : Netlist) → IsNetlist imp → (place : ℕ) → place < length imp.cells → Contains (known_tables imp place) (low imp place)
 
 -- a sequence of calls, by the tables that they made
 pub record MakingLaws : Type 0 where

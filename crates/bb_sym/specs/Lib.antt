@@ -1,4 +1,4 @@
-pub mod Faults
+pub mod Dependence
 pub mod Finds
 pub mod Functions
 pub mod Laws

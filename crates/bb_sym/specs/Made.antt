@@ -74,26 +74,26 @@ pub record HaveCells (s : NodeStore) (r : Reading) (spec imp : Netlist) (of_spec
   pub imp_cells : StandForAll s (λ place. table s.vars (cell_bit r imp place)) of_imp
 
 -- the table of a cell that is 1 where it is known to be 1, by those of its operands
-abbrev pub one_table : ℕ → (ℕ → Truth) → (ℕ → Truth) → Cell → Truth
-one_table n high low (Const b) = constant n b
-one_table n high low (Input i) = variable n i
-one_table n high low (BoxOut b p) = constant n false
-one_table n high low (Not a) = low a
-one_table n high low (And a b) = both (high a) (high b)
-one_table n high low (Or a b) = either (high a) (high b)
-one_table n high low (Xor a b) = sum_table (high a) (low b) (low a) (high b)
-one_table n high low (Mux c t e) = choice_table (high c) (low c) (high t) (high e)
+abbrev pub known_one_table : ℕ → (ℕ → Truth) → (ℕ → Truth) → Cell → Truth
+known_one_table n high low (Const b) = constant n b
+known_one_table n high low (Input i) = variable n i
+known_one_table n high low (BoxOut b p) = constant n false
+known_one_table n high low (Not a) = low a
+known_one_table n high low (And a b) = both (high a) (high b)
+known_one_table n high low (Or a b) = either (high a) (high b)
+known_one_table n high low (Xor a b) = sum_table (high a) (low b) (low a) (high b)
+known_one_table n high low (Mux c t e) = choice_table (high c) (low c) (high t) (high e)
 
 -- the table that is 1 where it is known to be 0
-abbrev pub zero_table : ℕ → (ℕ → Truth) → (ℕ → Truth) → Cell → Truth
-zero_table n high low (Const b) = constant n (not b)
-zero_table n high low (Input i) = complement (variable n i)
-zero_table n high low (BoxOut b p) = constant n false
-zero_table n high low (Not a) = high a
-zero_table n high low (And a b) = either (low a) (low b)
-zero_table n high low (Or a b) = both (low a) (low b)
-zero_table n high low (Xor a b) = sum_table (high a) (high b) (low a) (low b)
-zero_table n high low (Mux c t e) = choice_table (high c) (low c) (low t) (low e)
+abbrev pub known_zero_table : ℕ → (ℕ → Truth) → (ℕ → Truth) → Cell → Truth
+known_zero_table n high low (Const b) = constant n (not b)
+known_zero_table n high low (Input i) = complement (variable n i)
+known_zero_table n high low (BoxOut b p) = constant n false
+known_zero_table n high low (Not a) = high a
+known_zero_table n high low (And a b) = either (low a) (low b)
+known_zero_table n high low (Or a b) = both (low a) (low b)
+known_zero_table n high low (Xor a b) = sum_table (high a) (high b) (low a) (low b)
+known_zero_table n high low (Mux c t e) = choice_table (high c) (low c) (low t) (low e)
 
 -- Refs for the cells of both nets over the inputs, by their places: the bits of the specification, and where those of the
 -- implementation are known to be 1 and to be 0

@@ -77,6 +77,6 @@ fn output_diagram(
 {
     let made = ordered_cells(alloc, d, pair, inputs + pins)?;
     let any = some_wrong(alloc, d, pair, &made)?;
-    let r = quantify_block(d, true, any, inputs, pins)?;
+    let r = quantify_block(alloc, d, true, any, inputs, pins)?;
     Ok(r)
 }

@@ -1,24 +1,31 @@
 //! A block of variables quantified: what is left depends on the others alone.
 
-ghost use Rattle.std.specs.Prelude.{◌≡◌, ◌+◌, ◌<◌, ◌≤◌, IfOk, OnOk, IsErrOf};
+ghost use Rattle.std.specs.Prelude.{◌≡◌, ◌+◌, ◌<◌, ◌≤◌, false, IfOk, OnOk, IsErrOf};
 ghost use Rattle.bb_bits.specs.Truth.{quantified, quantified_block};
 ghost use Rattle.bb_dd.specs.Results.{quantifier};
 ghost use Rattle.bb_uniq.specs.Nodes.{IsRef};
 ghost use Rattle.bb_uniq.specs.Meaning.{truth_of, Adds, Keeps, IsTooMany};
+ghost use Rattle.bb_sym.specs.Dependence.{IsIndependent};
 ghost use Rattle.bb_sym.specs.Plain.{block_functions};
 ghost use Rattle.bb_sym.specs.Made.{Makes, AreTooMany, StandsFor};
 
 use crate::RungFault;
+use crate::variables::variables_of;
+use bb_bits::truth;
 use bb_dd::{DdFault, Diagrams, Ref};
 use bb_quant::{exists, forall};
+use bb_uniq::laws;
+use std::alloc::Global;
 
 /// The diagram that is 1 where `f` is 1 for all values of `count` variables from `first` on, or, where `all` is false, for some
-/// values. The last one is quantified first, and each function on the way is made.
+/// values. The last one is quantified first, and each function on the way is made. A variable on which `f` does not depend is
+/// passed over, since it leaves each function as it is.
 ///
 /// # Errors
 ///
-/// `Nodes` exactly where the beads held and those of these functions are more than the limit.
+/// `Nodes` exactly where the beads held and those of these functions are more than the limit; `NoMemory`.
 pub fn quantify_block(
+    alloc: Global,
     d: &mut Diagrams,
     all: bool,
     f: Ref,
@@ -33,23 +40,38 @@ pub fn quantify_block(
     ensures makes { OnOk result (Makes d.old.store d.new.store (block_functions (quantifier all) first count (truth_of d.old.store f.0))) }
     ensures nodes { IsErrOf result RungFault.Nodes → AreTooMany d.old.store (block_functions (quantifier all) first count (truth_of d.old.store f.0)) }
 {
+    truth::tables();
+    truth::quantifiers();
+    laws::stores();
+    laws::growth();
+    let marked = variables_of(alloc, d, f, first + count)?;
     let mut r = f;
     let mut left = count;
     while left > 0 {
         left -= 1;
-        r = quantify_one(d, all, r, first + left)?;
+        let v = first + left;
+        r = quantify_one(d, all, r, v, marked[v as usize])?;
     }
     Ok(r)
 }
 
-/// One variable quantified.
-fn quantify_one(d: &mut Diagrams, all: bool, f: Ref, v: u32) -> Result<Ref, DdFault>
+/// One variable quantified, on which the diagram may depend.
+fn quantify_one(d: &mut Diagrams, all: bool, f: Ref, v: u32, depends: bool) -> Result<Ref, DdFault>
     requires f { IsRef d.old.store f.0 }
     requires v { v < d.old.store.vars }
+    requires free { depends ≡ false → IsIndependent d.old.store.vars (truth_of d.old.store f.0) v }
     ensures kept { Keeps d.old.store d.new.store }
     ensures ok { IfOk result (λ r. Adds d.old.store d.new.store (quantified (quantifier all) v (truth_of d.old.store f.0)) r.0) }
     ensures full { IsErrOf result DdFault.Full → IsTooMany d.old.store (quantified (quantifier all) v (truth_of d.old.store f.0)) }
 {
+    if !depends {
+        truth::tables();
+        truth::quantifiers();
+        laws::stores();
+        laws::growth();
+        d.is_canonical();
+        return Ok(f);
+    }
     if all {
         forall(d, f, v)
     } else {

@@ -100,7 +100,7 @@ fn always_wrong_outputs(
     let count = pair.imp().outs().len();
     let mut refs = Vec::with_capacity(alloc, count)?;
     for j in 0..count {
-        let r = always_wrong_output(d, pair, made, j, inputs, pins)?;
+        let r = always_wrong_output(alloc, d, pair, made, j, inputs, pins)?;
         refs.push(r)?;
     }
     Ok(refs)
@@ -108,6 +108,7 @@ fn always_wrong_outputs(
 
 /// The diagram that is 1 where an output is wrong whatever the boxes give.
 fn always_wrong_output(
+    alloc: Global,
     d: &mut Diagrams,
     pair: &Pair,
     made: &PlainCells,
@@ -126,6 +127,6 @@ fn always_wrong_output(
     ensures nodes { IsErrOf result RungFault.Nodes → AreTooMany d.old.store (wrong_for_all_pins pair.now.spec pair.now.imp j) }
 {
     let f = wrong_output(d, pair, made, j)?;
-    let r = quantify_block(d, true, f, inputs, pins)?;
+    let r = quantify_block(alloc, d, true, f, inputs, pins)?;
     Ok(r)
 }

@@ -16,15 +16,12 @@ pub enum RungFault {
 
 impl From<DdFault> for RungFault {
     ghost use Rattle.std.specs.Prelude.{◌≡◌};
-    ghost use Rattle.bb_sym.specs.Faults.{fault_of};
+    ghost use Rattle.bb_sym.specs.declared.fault.RungFault.TheVariants as fault;
 
-    ghost from_gives = { λ fault result. result ≡ fault_of fault };
+    ghost from_gives = { λ _ e. e ≡ fault.Nodes };
 
-    fn from(fault: DdFault) -> RungFault {
-        match fault {
-            DdFault::Full => RungFault::Nodes,
-            DdFault::NoMemory => RungFault::NoMemory,
-        }
+    fn from(_: DdFault) -> RungFault {
+        RungFault::Nodes
     }
 }
 

@@ -2,7 +2,7 @@
 
 ghost use Rattle.std.specs.Prelude.{◌≡◌, ◌+◌, ◌<◌, ◌≤◌, ℕ, length, take, IfOk, OnOk, IsErrOf, slice_index_or};
 ghost use Rattle.bb_net.specs.Values.{output_pins};
-ghost use Rattle.bb_sym.specs.Functions.{inputs_first, plain_functions, variable_count};
+ghost use Rattle.bb_sym.specs.Functions.{inputs_first, plain_functions, inputs_and_pins};
 ghost use Rattle.bb_sym.specs.Made.{Makes, AreTooMany, AreCells, HaveCells};
 
 use crate::RungFault;
@@ -19,7 +19,7 @@ pub(crate) fn ordered_cells(
     pair: &Pair,
     vars: u32,
 ) -> Result<PlainCells, RungFault>
-    requires vars { vars ≡ variable_count pair.now.imp }
+    requires vars { vars ≡ inputs_and_pins pair.now.imp }
     requires store { vars ≡ d.old.store.vars }
     ensures refs { IfOk result (λ made. AreCells d.new.store pair.now.spec pair.now.imp made.spec.items made.imp.items) }
     ensures cells { IfOk result (λ made. HaveCells d.new.store (inputs_first pair.now.imp) pair.now.spec pair.now.imp made.spec.items made.imp.items) }

@@ -8,7 +8,7 @@ ghost use Rattle.bb_uniq.specs.Nodes.{IsRef};
 ghost use Rattle.bb_uniq.specs.Meaning.{truth_of};
 ghost use Rattle.bb_sym.specs.Functions.{cell_tables, high, low, known_tables};
 ghost use Rattle.bb_sym.specs.Plain.{places};
-ghost use Rattle.bb_sym.specs.Made.{Makes, AreTooMany, StandsFor, StandForAll, one_table, zero_table, ref_at};
+ghost use Rattle.bb_sym.specs.Made.{Makes, AreTooMany, StandsFor, StandForAll, known_one_table, known_zero_table, ref_at};
 
 use crate::RungFault;
 use crate::cells::leaf;
@@ -55,8 +55,8 @@ fn known_cell(d: &mut Diagrams, cell: Cell, ones: &[Ref], zeros: &[Ref]) -> Resu
     requires count { length zeros.now ≡ length ones.now }
     requires ones { (place : ℕ) → place < length ones.now → IsRef d.old.store (ref_at ones.now place).0 }
     requires zeros { (place : ℕ) → place < length zeros.now → IsRef d.old.store (ref_at zeros.now place).0 }
-    ensures one { IfOk result (λ r. StandsFor d.new.store (one_table d.old.store.vars (λ place. truth_of d.old.store (ref_at ones.now place).0) (λ place. truth_of d.old.store (ref_at zeros.now place).0) cell) r.one) }
-    ensures zero { IfOk result (λ r. StandsFor d.new.store (zero_table d.old.store.vars (λ place. truth_of d.old.store (ref_at ones.now place).0) (λ place. truth_of d.old.store (ref_at zeros.now place).0) cell) r.zero) }
+    ensures one { IfOk result (λ r. StandsFor d.new.store (known_one_table d.old.store.vars (λ place. truth_of d.old.store (ref_at ones.now place).0) (λ place. truth_of d.old.store (ref_at zeros.now place).0) cell) r.one) }
+    ensures zero { IfOk result (λ r. StandsFor d.new.store (known_zero_table d.old.store.vars (λ place. truth_of d.old.store (ref_at ones.now place).0) (λ place. truth_of d.old.store (ref_at zeros.now place).0) cell) r.zero) }
     ensures makes { OnOk result (Makes d.old.store d.new.store (cell_tables d.old.store.vars (λ place. truth_of d.old.store (ref_at ones.now place).0) (λ place. truth_of d.old.store (ref_at zeros.now place).0) cell)) }
     ensures nodes { IsErrOf result RungFault.Nodes → AreTooMany d.old.store (cell_tables d.old.store.vars (λ place. truth_of d.old.store (ref_at ones.now place).0) (λ place. truth_of d.old.store (ref_at zeros.now place).0) cell) }
 {

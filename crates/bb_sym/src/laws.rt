@@ -1,8 +1,11 @@
 //! Laws of functions, and of what calls leave in a store. Each function has laws as its contract and does nothing.
 
-ghost use Rattle.bb_sym.specs.Laws.{FunctionLaws, MakingLaws, PointLaws};
+ghost use Rattle.bb_net.specs.Netlists.{Netlist, IsNetlist};
+ghost use Rattle.bb_sym.specs.Finds.{FindingsExist};
+ghost use Rattle.bb_sym.specs.Laws.{FunctionLaws, KnownTableLaws, MakingLaws, PointLaws};
 
-use bb_bits::truth;
+use bb_bits::{number_is_below, truth};
+use bb_net::{tern_exists, vectors_hold_or_not};
 use bb_uniq::laws;
 
 /// Functions of points and their tables.
@@ -10,6 +13,13 @@ use bb_uniq::laws;
 pub fn functions()
     ensures { FunctionLaws }
 {}
+
+/// The tables of a cell where boxes are unknown are among those that are made for it.
+pub fn known_tables()
+    ensures { KnownTableLaws }
+{
+    tern_exists();
+}
 
 /// What a sequence of calls makes: the beads of the tables of all its results, and no others.
 pub fn making()
@@ -24,3 +34,11 @@ pub fn making()
 pub fn points()
     ensures { PointLaws }
 {}
+
+/// Of each kind a mistake is found, the least vector of the first output, or there is none anywhere.
+pub fn findings_exist()
+    ensures { (spec imp : Netlist) → IsNetlist imp → FindingsExist spec imp }
+{
+    number_is_below();
+    vectors_hold_or_not();
+}

@@ -18,6 +18,7 @@ pub mod plain;
 mod searching;
 mod sums;
 mod unknown;
+mod variables;
 
 pub use all_outputs::output;
 pub use each_output::local;

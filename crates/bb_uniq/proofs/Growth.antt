@@ -1,7 +1,8 @@
 -- a store with more nodes: the Refs from before keep their nodes and tables
-use Rattle.std.proofs.Common.{◌≡◌, ◌≢◌, ◌≤◌, ◌<◌, ◌⊎◌, ℕ, zero, suc, ◌+◌, List, [], ◌∷◌, ◌++◌, length, Option, Some, None, refl, sym, ap, ap₂, ◌∙◌, subst, inl, inr, arith, length-append}
+use Rattle.std.proofs.Common.{◌≡◌, ◌≢◌, ◌≤◌, ◌<◌, ◌⊎◌, ℕ, zero, suc, ◌+◌, List, [], ◌∷◌, ◌++◌, length, Option, Some, None, refl, sym, ap, ap₂, ◌∙◌, subst, inl, inr, arith, length-append, get_or, ◌-◌}
 use Rattle.std.specs.Prelude.{MatchOption, slice_get}
 use Rattle.std.proofs.lemmas.Bool.{cases_lt}
+use Rattle.std.proofs.lemmas.Option.{slice_get_read}
 use Rattle.bb_bits.specs.Truth.{Halves}
 use Rattle.bb_uniq.specs.declared.store.Node.{Node}
 use Rattle.bb_uniq.specs.Nodes.{NodeStore, node_at, IsRef, IsBelow, IsStore, IsNew, with_node, view_by}
@@ -31,6 +32,14 @@ pub node_at-last : (nodes : List Node) (x : Node) → node_at (nodes ++ x ∷ []
 node_at-last nodes x =
     let e : length nodes + 2 ≡ suc (suc (length nodes)) = omega arith in
     ap (node_at (nodes ++ x ∷ [])) e ∙ slice_get-last nodes x
+
+-- what is read at the place of a Ref that is no leaf
+pub node_read : (nodes : List Node) (r : ℕ) (node : Node) → 2 ≤ r → r < length nodes + 2 → node ≡ get_or nodes (r - 2) node → node_at nodes r ≡ Some node
+node_read nodes zero node least within e = absurd (omega (arith, least))
+node_read nodes (suc zero) node least within e = absurd (omega (arith, least))
+node_read nodes (suc (suc k)) node least within e =
+    let same : suc (suc k) - 2 ≡ k = omega arith in
+    slice_get_read nodes (length nodes) k node refl (omega (arith, within)) (subst (λ i. node ≡ get_or nodes i node) same e)
 
 -- a node of the store with one more node is one from before, or the new one
 pub node_at_push : (nodes : List Node) (x : Node) (r : ℕ) (node : Node) → node_at (nodes ++ x ∷ []) r ≡ Some node → (node_at nodes r ≡ Some node) ⊎ ((r ≡ length nodes + 2) × (x ≡ node))

@@ -3,7 +3,7 @@ pub mod Growth
 pub mod Held
 pub mod LawLemmas
 pub mod Making
-pub mod PlaceLemmas
+pub mod ProbeLemmas
 pub mod Steps
 pub mod Tables
 pub mod Tops

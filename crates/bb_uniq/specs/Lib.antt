@@ -3,3 +3,4 @@ pub mod Laws
 pub mod Meaning
 pub mod Nodes
 pub mod Places
+pub mod Probes

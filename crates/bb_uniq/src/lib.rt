@@ -2,6 +2,7 @@
 #![tactic(auto)]
 
 pub mod laws;
+mod places;
 mod store;
 
 pub use store::{Node, Ref, Store, StoreFault, View};

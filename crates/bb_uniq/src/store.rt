@@ -1,13 +1,13 @@
-ghost use Rattle.std.specs.Prelude.{◌≡◌, ◌≢◌, ◌<◌, ◌≤◌, ◌⊎◌, ℕ, IfOk, OnErr, IsErrOf, length, [], ◌∷◌, ◌++◌, true, slice_get};
+ghost use Rattle.std.specs.Prelude.{◌≡◌, ◌<◌, ◌≤◌, ℕ, IfOk, OnErr, IsErrOf, length, [], vec_capacity};
 ghost use Rattle.bb_bits.specs.TruthSets.{HasSize};
 ghost use Rattle.bb_uniq.specs.Nodes.{NodeStore, IsRef, IsBelow, view_of, IsStore, IsNew, Gives};
 ghost use Rattle.bb_uniq.specs.Meaning.{IsHeld, Adds, IsTooMany, branch, truth_of, ViewMeans};
 ghost use Rattle.bb_uniq.specs.Places.{Stands, IsAbsent};
+ghost use Rattle.bb_uniq.specs.Probes.{ArePlaces, HasRoom};
 
+use crate::places::{find, free_places, make_room, put};
 use bb_bits::{NoMemory, truth};
-use indexmap::IndexSet;
-use std::alloc::{AllocFailed, Global};
-use std::hash::{Hash, Hasher};
+use std::alloc::Global;
 use std::marker::Model;
 
 /// A diagram of a store: `Ref(0)` is false, `Ref(1)` is true, and the inner nodes follow.
@@ -26,18 +26,6 @@ pub enum View {
 pub enum StoreFault {
     /// The node is new, and the store holds as many nodes as it may.
     Full,
-    NoMemory,
-}
-
-impl From<AllocFailed<Node>> for StoreFault {
-    ghost use Rattle.std.specs.Prelude.{◌≡◌};
-    ghost use Rattle.bb_uniq.specs.declared.store.StoreFault.TheVariants.{NoMemory};
-
-    ghost from_gives = { λ _ e. e ≡ NoMemory };
-
-    fn from(_: AllocFailed<Node>) -> StoreFault {
-        StoreFault::NoMemory
-    }
 }
 
 /// A node: its variable and the numbers of its children.
@@ -48,46 +36,36 @@ pub struct Node {
     pub hi: u32,
 }
 
-// One write in place of three, since each look-up hashes a node.
-impl Hash for Node {
-    ghost use Rattle.std.specs.Prelude.{◌+◌, ◌*◌};
-    ghost use Rattle.std.specs.Hash as fed;
-    ghost use Rattle.std.proofs.Common.{rules};
-    ghost use Rattle.std.specs.Cmp.Rules.{hashing};
-
-    ghost hash_input = { λ n. fed.u128 (n.var * 18446744073709551616 + n.lo * 4294967296 + n.hi) };
-
-    ghost respects_eq = { Prim.search (hashing, rules) };
-
-    fn hash<H: Hasher>(&self, state: &mut H) {
-        let fields = self.var as u128 * 18446744073709551616
-            + self.lo as u128 * 4294967296
-            + self.hi as u128;
-        fields.hash(state);
-    }
-}
-
-/// Nodes that compare as equal are one node.
-fn same_nodes()
-    ensures same { (a b : Node) → ⟦<Node as PartialEq>⟧.eq a b ≡ true → a ≡ b }
-    ensures equal { (a : Node) → ⟦<Node as PartialEq>⟧.eq a a ≡ true }
-{}
-
 /// The index of a node. Where it is new and there is room for it, it is put last.
-fn place_of(nodes: &mut IndexSet<Node>, limit: usize, node: Node) -> Result<usize, StoreFault>
-    ensures ok { IfOk result (λ k. Stands nodes.old.keys nodes.new.keys limit node k) }
-    ensures full { IsErrOf result StoreFault.Full → (limit ≤ length nodes.old.keys) × IsAbsent nodes.old.keys node }
-    ensures no_memory { IsErrOf result StoreFault.NoMemory → (length nodes.old.keys < limit) × IsAbsent nodes.old.keys node }
-    ensures err { OnErr result (nodes.new.keys ≡ nodes.old.keys) }
+fn place_of(
+    nodes: &mut Vec<Node>,
+    places: &mut Vec<u32>,
+    limit: usize,
+    node: Node,
+) -> Result<usize, StoreFault>
+    requires limit { limit ≤ 50000000 }
+    requires held { length nodes.old.items ≤ limit }
+    requires node_room { limit ≤ vec_capacity nodes.old }
+    requires places { ArePlaces places.old.items nodes.old.items }
+    requires room { HasRoom limit (vec_capacity places.old) (length places.old.items) }
+    ensures ok { IfOk result (λ k. Stands nodes.old.items nodes.new.items limit node k) }
+    ensures full { IsErrOf result StoreFault.Full → (limit ≤ length nodes.old.items) × IsAbsent nodes.old.items node }
+    ensures err { OnErr result (nodes.new.items ≡ nodes.old.items) }
+    ensures node_room { limit ≤ vec_capacity nodes.new }
+    ensures places { ArePlaces places.new.items nodes.new.items }
+    ensures room { HasRoom limit (vec_capacity places.new) (length places.new.items) }
 {
-    same_nodes();
-    if nodes.len() < limit {
-        return Ok(nodes.insert_full(node)?.0);
+    if let Some(number) = find(places, nodes, node) {
+        return Ok(number);
     }
-    match nodes.get_index_of(&node) {
-        Some(place) => Ok(place),
-        None => Err(StoreFault::Full),
+    let number = nodes.len();
+    if limit <= number {
+        return Err(StoreFault::Full);
     }
+    make_room(places, nodes, limit);
+    put(places.as_mut_slice(), nodes, node);
+    nodes.push_reserved(node);
+    Ok(number)
 }
 
 /// Nodes of reduced ordered decision diagrams, each held once.
@@ -95,30 +73,44 @@ fn place_of(nodes: &mut IndexSet<Node>, limit: usize, node: Node) -> Result<usiz
 pub struct Store {
     vars: u32,
     limit: u32,
-    nodes: IndexSet<Node>,
+    nodes: Vec<Node>,
+    places: Vec<u32>,
 }
 
 impl Model for Store {
-    ghost use Rattle.std.specs.Prelude.{◌≤◌};
+    ghost use Rattle.std.specs.Prelude.{◌≤◌, length, vec_capacity};
     ghost use Rattle.bb_uniq.specs.Nodes.{NodeStore, IsStore};
+    ghost use Rattle.bb_uniq.specs.Probes.{ArePlaces, HasRoom};
 
     ghost Value = { NodeStore };
 
-    ghost view = { λ s. record { vars = s.vars; limit = s.limit; nodes = s.nodes.keys } };
+    ghost view = { λ s. record { vars = s.vars; limit = s.limit; nodes = s.nodes.items } };
 
-    ghost invariant = { λ s. IsStore (record { vars = s.vars; limit = s.limit; nodes = s.nodes.keys }) × (s.vars ≤ 2048) × (s.limit ≤ 50000000) };
+    ghost invariant = { λ s. IsStore (record { vars = s.vars; limit = s.limit; nodes = s.nodes.items }) × (s.vars ≤ 2048) × (s.limit ≤ 50000000)
+        × (s.limit ≤ vec_capacity s.nodes) × ArePlaces s.places.items s.nodes.items × HasRoom s.limit (vec_capacity s.places) (length s.places.items) };
 }
 
 impl Store {
-    /// A store of no inner node, over so many variables, for at most `limit` inner nodes.
+    /// A store of no inner node, over so many variables, for at most `limit` inner nodes. It takes the room of all of them, so
+    /// that no later call wants memory.
+    ///
+    /// # Errors
+    ///
+    /// `NoMemory` where there is no such room.
     pub fn start(alloc: Global, vars: u32, limit: u32) -> Result<Store, NoMemory>
         requires vars { vars ≤ 2048 }
         requires limit { limit ≤ 50000000 }
         ensures ok { IfOk result (λ s. s ≡ record { vars = vars; limit = limit; nodes = [] }) }
         ensures store { IfOk result IsStore }
     {
-        let nodes = IndexSet::new(alloc);
-        Ok(Store { vars, limit, nodes })
+        let nodes = Vec::with_capacity(alloc, limit as usize)?;
+        let places = free_places(alloc, limit as usize)?;
+        Ok(Store {
+            vars,
+            limit,
+            nodes,
+            places,
+        })
     }
 
     /// How many variables there are.
@@ -173,9 +165,7 @@ impl Store {
     ///
     /// # Errors
     ///
-    /// `Full` where the node is new and the store holds as many as it may, `NoMemory` where it is new, has room and finds no
-    /// memory.
-    /// The store is then as before.
+    /// `Full` where the node is new and the store holds as many as it may. The store is then as before.
     pub fn make(&mut self, var: u32, lo: Ref, hi: Ref) -> Result<Ref, StoreFault>
         requires var { var < self.old.vars }
         requires lo { IsBelow self.old var lo.0 }
@@ -190,7 +180,6 @@ impl Store {
 
         ensures full { IsErrOf result StoreFault.Full → IsNew self.old var lo.0 hi.0 × (length self.old.nodes ≡ self.old.limit) }
         ensures too_many { IsErrOf result StoreFault.Full → IsTooMany self.old (branch self.old var lo.0 hi.0) }
-        ensures no_memory { IsErrOf result StoreFault.NoMemory → IsNew self.old var lo.0 hi.0 × (length self.old.nodes < self.old.limit) }
         ensures err { OnErr result (self.new ≡ self.old) }
     {
         truth::tables();
@@ -205,7 +194,7 @@ impl Store {
             lo: lo.0,
             hi: hi.0,
         };
-        let place = place_of(&mut self.nodes, limit, node)?;
+        let place = place_of(&mut self.nodes, &mut self.places, limit, node)?;
         Ok(Ref(place as u32 + 2))
     }
 }

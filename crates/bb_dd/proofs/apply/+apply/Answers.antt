@@ -1,6 +1,5 @@
-use Rattle.std.proofs.Common.{rules, ◌≡◌, ◌<◌, ◌≤◌, ◌-◌, ℕ, min, refl, sym, ap, ◌∙◌, subst, inl, inr, arith}
+use Rattle.std.proofs.Common.{rules, ◌<◌, ◌-◌, ℕ, min, refl, sym, ap, ◌∙◌, subst, inl, inr, arith}
 use Rattle.std.specs.Prelude.{IsErrOf, Contains}
-use Rattle.std.proofs.lemmas.Result.{err_from_is_err_and}
 use Rattle.lru.specs.LruCache.{LruCache}
 use Rattle.bb_uniq.specs.declared.store.Ref.{Ref}
 use Rattle.bb_uniq.specs.Nodes.{NodeStore, IsRef, IsBelow}
@@ -15,7 +14,7 @@ use Rattle.bb_dd.proofs.Given.{Given}
 use Rattle.bb_dd.proofs.Halving.{adds_terminal, Halved, halved, falls, refused_first, refused_second, both, result_kept}
 use Rattle.bb_dd.proofs.Recalled.{IsRight-found, AreRight-kept, AreRight-put}
 use Rattle.bb_dd.proofs.Entries.{keeps_self, keeps_then, quantified_put}
-use Rattle.bb_dd.proofs.Faults.{full_result}
+use Rattle.bb_dd.proofs.Faults.{refused_full}
 use Rattle.bb_dd.proofs.apply.+apply.Goals as goal
 use Rattle.bb_dd.proofs.apply.+apply.Goals.{After-first_cofactors-at, In_ok-lo, In_ok-hi, In_ok-r}
 
@@ -139,9 +138,8 @@ pub returns-in_err-r-clause-full : goal.returns-in_err-r-clause-full
 returns-in_err-r-clause-full t c =
     let s = c.args.store.now in
     let last = c.apply-2.new.store in
-    let p = err_from_is_err_and c.from_residual-in_err-r.result c.from_residual-in_err-r.ensures.1 in
     λ full.
-    let told : IsTooMany last (branch last c.first_cofactors-at.result.var c.in_ok-lo.lo.0 c.in_ok-hi.hi.0) = c.in_err-r.ensures.too_many (full_result c.from_residual-in_err-r.result p.0 c.in_err-r.field-0.0 p.1 p.2 full) in
+    let told : IsTooMany last (branch last c.first_cofactors-at.result.var c.in_ok-lo.lo.0 c.in_ok-hi.hi.0) = c.in_err-r.ensures.too_many (refused_full c.in_err-r.field-0.0) in
     c.steps.ensures.node_refused s last c.first_cofactors-at.result.var (result_table c.args.store.now (value_of c.args.call.operation) c.args.call.f.0 c.args.call.g.0 c.args.call.h.0) c.in_ok-lo.lo.0 c.in_ok-hi.hi.0 (joined t ((goal.at.returns-in_err-r-clause-full t c).In_ok-hi) (halves t ((goal.at.returns-in_err-r-clause-full t c).After-first_cofactors-at))) told
 
 pub returns-in_err-r-clause-leaves : goal.returns-in_err-r-clause-leaves

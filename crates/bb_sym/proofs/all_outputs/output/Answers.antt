@@ -9,7 +9,7 @@ use Rattle.bb_quant.specs.LeastPoints.{IsLeastPoint}
 use Rattle.bb_sym.specs.Finds.{IsLeastVector}
 use Rattle.bb_dd.specs.State.{DiagramState}
 use Rattle.bb_sym.specs.declared.fault.RungFault.TheVariants.{Nodes}
-use Rattle.bb_sym.specs.Functions.{output_functions, all_always_wrong, variable_count}
+use Rattle.bb_sym.specs.Functions.{output_functions, all_always_wrong, inputs_and_pins}
 use Rattle.bb_sym.specs.Made.{AreTooMany, IsNowhereTrue}
 use Rattle.bb_sym.proofs.PlainCells.{few_variables}
 use Rattle.bb_sym.proofs.Budget.{all_refused, all_fit}
@@ -50,7 +50,7 @@ returns-then-not-least-clause-none c =
     let now = c.output_diagram.new.d.store in
     let pins : c.count_pins-pins.result ≡ output_pins imp.boxes = c.count_pins-pins.ensures ∙ ap output_pins (c.boxes.ensures.boxes ∙ ap (λ (net : Netlist). net.boxes) c.imp-2.ensures.imp) in
     let inputs : c.inputs-inputs.result ≡ imp.inputs = c.inputs-inputs.ensures.inputs ∙ ap (λ (net : Netlist). net.inputs) c.imp.ensures.imp in
-    let vars : now.vars ≡ variable_count imp = c.in_ok-wrong.ensures.makes.kept.vars ∙ (ap (λ (d : DiagramState). d.store.vars) c.in_ok-d.ensures.ok ∙ ap₂ ◌+◌ inputs pins) in
+    let vars : now.vars ≡ inputs_and_pins imp = c.in_ok-wrong.ensures.makes.kept.vars ∙ (ap (λ (d : DiagramState). d.store.vars) c.in_ok-d.ensures.ok ∙ ap₂ ◌+◌ inputs pins) in
     let table : truth_of now c.in_ok-wrong.wrong.0 ≡ all_always_wrong c.args.pair.now.spec imp = c.in_ok-wrong.ensures.result.table in
     let long : length c.deref_mut.result.now ≡ now.vars = search rules in
     let none : IsNowhereTrue now.vars (truth_of now c.in_ok-wrong.wrong.0) = λ q l h. c.least.ensures.none c.if-not-least.true q (l ∙ sym long, refl) h in
@@ -68,7 +68,7 @@ returns-clause-found c =
     let now = c.output_diagram.new.d.store in
     let pins : c.count_pins-pins.result ≡ output_pins imp.boxes = c.count_pins-pins.ensures ∙ ap output_pins (c.boxes.ensures.boxes ∙ ap (λ (net : Netlist). net.boxes) c.imp-2.ensures.imp) in
     let inputs : c.inputs-inputs.result ≡ imp.inputs = c.inputs-inputs.ensures.inputs ∙ ap (λ (net : Netlist). net.inputs) c.imp.ensures.imp in
-    let vars : now.vars ≡ variable_count imp = c.in_ok-wrong.ensures.makes.kept.vars ∙ (ap (λ (d : DiagramState). d.store.vars) c.in_ok-d.ensures.ok ∙ ap₂ ◌+◌ inputs pins) in
+    let vars : now.vars ≡ inputs_and_pins imp = c.in_ok-wrong.ensures.makes.kept.vars ∙ (ap (λ (d : DiagramState). d.store.vars) c.in_ok-d.ensures.ok ∙ ap₂ ◌+◌ inputs pins) in
     let table : truth_of now c.in_ok-wrong.wrong.0 ≡ all_always_wrong c.args.pair.now.spec imp = c.in_ok-wrong.ensures.result.table in
     let long : length c.deref_mut.result.now ≡ now.vars = search rules in
     let written = c.least.new.point in

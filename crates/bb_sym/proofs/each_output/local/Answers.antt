@@ -5,7 +5,7 @@ use Rattle.bb_net.specs.Netlists.{Netlist}
 use Rattle.bb_net.specs.Values.{output_pins}
 use Rattle.bb_dd.specs.State.{DiagramState}
 use Rattle.bb_sym.specs.declared.fault.RungFault.TheVariants.{Nodes}
-use Rattle.bb_sym.specs.Functions.{local_functions, always_wrong, variable_count}
+use Rattle.bb_sym.specs.Functions.{local_functions, always_wrong, inputs_and_pins}
 use Rattle.bb_sym.specs.Made.{AreTooMany, StandForAll}
 use Rattle.bb_sym.proofs.PlainCells.{few_variables}
 use Rattle.bb_sym.proofs.Budget.{all_refused, all_fit}
@@ -46,7 +46,7 @@ returns-in-Some-clause-found c =
     let now = c.local_diagrams.new.d.store in
     let pins : c.count_pins-pins.result ≡ output_pins imp.boxes = c.count_pins-pins.ensures ∙ ap output_pins (c.boxes.ensures.boxes ∙ ap (λ (net : Netlist). net.boxes) c.imp-2.ensures.imp) in
     let inputs : c.inputs-inputs.result ≡ imp.inputs = c.inputs-inputs.ensures.inputs ∙ ap (λ (net : Netlist). net.inputs) c.imp.ensures.imp in
-    let vars : now.vars ≡ variable_count imp = c.in_ok-wrong.ensures.makes.kept.vars ∙ (ap (λ (d : DiagramState). d.store.vars) c.in_ok-d.ensures.ok ∙ ap₂ ◌+◌ inputs pins) in
+    let vars : now.vars ≡ inputs_and_pins imp = c.in_ok-wrong.ensures.makes.kept.vars ∙ (ap (λ (d : DiagramState). d.store.vars) c.in_ok-d.ensures.ok ∙ ap₂ ◌+◌ inputs pins) in
     let whole : c.deref.result.now ≡ c.in_ok-wrong.wrong.items = c.deref.ensures.value in
     let long : length c.deref_mut.result.now ≡ now.vars = search rules in
     let written = c.first_true.new.point in
@@ -73,7 +73,7 @@ returns-clause-none c =
     let now = c.local_diagrams.new.d.store in
     let pins : c.count_pins-pins.result ≡ output_pins imp.boxes = c.count_pins-pins.ensures ∙ ap output_pins (c.boxes.ensures.boxes ∙ ap (λ (net : Netlist). net.boxes) c.imp-2.ensures.imp) in
     let inputs : c.inputs-inputs.result ≡ imp.inputs = c.inputs-inputs.ensures.inputs ∙ ap (λ (net : Netlist). net.inputs) c.imp.ensures.imp in
-    let vars : now.vars ≡ variable_count imp = c.in_ok-wrong.ensures.makes.kept.vars ∙ (ap (λ (d : DiagramState). d.store.vars) c.in_ok-d.ensures.ok ∙ ap₂ ◌+◌ inputs pins) in
+    let vars : now.vars ≡ inputs_and_pins imp = c.in_ok-wrong.ensures.makes.kept.vars ∙ (ap (λ (d : DiagramState). d.store.vars) c.in_ok-d.ensures.ok ∙ ap₂ ◌+◌ inputs pins) in
     let whole : c.deref.result.now ≡ c.in_ok-wrong.wrong.items = c.deref.ensures.value in
     let count = ap length whole ∙ c.in_ok-wrong.ensures.refs.0 in
     let stand = subst (StandForAll now (always_wrong c.args.pair.now.spec imp)) (sym whole) c.in_ok-wrong.ensures.refs.1 in

@@ -3,7 +3,7 @@ use Rattle.bb_net.specs.Netlists.{Netlist, Pins}
 use Rattle.bb_net.specs.Pairs.{NetPair, IsPair}
 use Rattle.bb_net.specs.Values.{output_pins}
 use Rattle.bb_sym.specs.declared.fault.RungFault.TheVariants.{Nodes}
-use Rattle.bb_sym.specs.Functions.{inputs_first, variable_count}
+use Rattle.bb_sym.specs.Functions.{inputs_first, inputs_and_pins}
 use Rattle.bb_sym.specs.Plain.{plain_functions_at}
 use Rattle.bb_sym.specs.Made.{Makes, AreTooMany}
 use Rattle.bb_sym.proofs.PlainCells.{few_variables}
@@ -20,7 +20,7 @@ first_variables-requires c =
 starts_are : (inputs real : ℕ) (boxes kept : List Pins) (starts ss : List ℕ) → inputs ≡ real → boxes ≡ kept → ss ≡ starts → ((b : ℕ) → b < length boxes → slice_index_or starts b 0 ≡ inputs + output_pins (take b boxes)) → (b : ℕ) → b < length kept → slice_index_or ss b 0 ≡ real + output_pins (take b kept)
 starts_are inputs real boxes kept starts ss e f g start b l = ap (λ (xs : List ℕ). slice_index_or xs b 0) g ∙ (start b (subst (λ (k : List Pins). b < length k) (sym f) l) ∙ ap₂ (λ i (k : List Pins). i + output_pins (take b k)) e f)
 
-few_in : (p : NetPair) → IsPair p → (n : ℕ) → n ≡ variable_count p.imp → n ≤ 2048
+few_in : (p : NetPair) → IsPair p → (n : ℕ) → n ≡ inputs_and_pins p.imp → n ≤ 2048
 few_in p pair n e = let few = few_variables p pair in omega (arith, few, e)
 
 boxes_of : (boxes : List Pins) (net imp : Netlist) → boxes ≡ net.boxes → net ≡ imp → boxes ≡ imp.boxes

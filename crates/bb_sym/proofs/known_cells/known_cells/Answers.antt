@@ -5,7 +5,7 @@ use Rattle.bb_net.specs.Netlists.{cell_at}
 use Rattle.bb_uniq.specs.declared.store.Ref.{Ref}
 use Rattle.bb_sym.specs.declared.fault.RungFault.TheVariants.{Nodes}
 use Rattle.bb_sym.specs.Functions.{high, low, known_tables, cell_tables}
-use Rattle.bb_sym.specs.Made.{Makes, AreTooMany, StandsFor, StandForAll, one_table, zero_table}
+use Rattle.bb_sym.specs.Made.{Makes, AreTooMany, StandsFor, StandForAll, known_one_table, known_zero_table}
 use Rattle.bb_sym.proofs.KnownLoop.{at_place, known_parts, known_refused, known_made, ones_next, zeros_next}
 use Rattle.bb_sym.proofs.known_cells.known_cells.Goals as goal
 
@@ -33,8 +33,8 @@ loop-cell-preserved c =
     let zs = c.deref-in-loop-cell.result.now in
     let known = c.in_ok-known.known in
     let made = subst (λ (cells : List Cell). Makes old new (cell_tables old.vars (at_place old os) (at_place old zs) (cell_at cells i))) c.cells-cells.ensures.cells c.in_ok-known.ensures.makes in
-    let one = subst (λ (cells : List Cell). StandsFor new (one_table old.vars (at_place old os) (at_place old zs) (cell_at cells i)) known.one) c.cells-cells.ensures.cells c.in_ok-known.ensures.one in
-    let zero = subst (λ (cells : List Cell). StandsFor new (zero_table old.vars (at_place old os) (at_place old zs) (cell_at cells i)) known.zero) c.cells-cells.ensures.cells c.in_ok-known.ensures.zero in
+    let one = subst (λ (cells : List Cell). StandsFor new (known_one_table old.vars (at_place old os) (at_place old zs) (cell_at cells i)) known.one) c.cells-cells.ensures.cells c.in_ok-known.ensures.one in
+    let zero = subst (λ (cells : List Cell). StandsFor new (known_zero_table old.vars (at_place old os) (at_place old zs) (cell_at cells i)) known.zero) c.cells-cells.ensures.cells c.in_ok-known.ensures.zero in
     let ones_pushed : os ++ known.one ∷ [] ≡ c.push.new.self.items = ap (λ (refs : List Ref). refs ++ known.one ∷ []) c.deref.ensures.value ∙ sym c.in_ok-push.ensures.items in
     let zeros_pushed : zs ++ known.zero ∷ [] ≡ c.push-in-loop-cell.new.self.items = ap (λ (refs : List Ref). refs ++ known.zero ∷ []) c.deref-in-loop-cell.ensures.value ∙ sym c.in_ok-push-2.ensures.items in (
       (let count : length c.push.new.self.items ≡ i + 1 = search rules in count),

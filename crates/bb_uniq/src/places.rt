@@ -1,0 +1,181 @@
+//! The places of the nodes of a store: open addressing with linear probing (Knuth, The Art of Computer Programming, volume
+//! 3, section 6.4). Of the hash nothing is used but that a node has one.
+
+ghost use Rattle.std.specs.Prelude.{◌≡◌, ◌≢◌, ◌<◌, ◌≤◌, ◌+◌, ◌*◌, ◌/◌, ◌%◌, ◌^◌, ℕ, ◌∷◌, ◌++◌, [], true, length, replicate, slice_get, Some, IfSome, IfNone, IfOk, max, vec_capacity};
+ghost use Rattle.std.specs.Int.{IsPowerOfTwo};
+ghost use Rattle.bb_uniq.specs.declared.store.Node.{Node as Triple};
+ghost use Rattle.bb_uniq.specs.Places.{IsAbsent};
+ghost use Rattle.bb_uniq.specs.Probes.{hash_of, place_after, mark_of, ArePlaces, HasRoom};
+
+use crate::store::Node;
+use bb_bits::NoMemory;
+use std::alloc::Global;
+
+/// So many numbers a mark can have. The bits above are of the hash, so that most marks of other nodes are told from the
+/// wanted one without a look at the node.
+const NUMBERS: u32 = 67_108_864;
+
+/// So many places are in use at first, or all where there are fewer: room that is not used is not touched.
+const FIRST_PLACES: usize = 1024;
+
+/// Nodes that compare as equal are one node.
+fn same_nodes()
+    ensures same { (a b : Triple) → ⟦<Node as PartialEq>⟧.eq a b ≡ true → a ≡ b }
+    ensures equal { (a : Triple) → ⟦<Node as PartialEq>⟧.eq a a ≡ true }
+{}
+
+/// The hash of a node.
+fn hash(node: Node) -> u64
+    ensures { result ≡ hash_of node }
+{
+    let var = u64::from(node.var).wrapping_mul(11_400_714_819_323_198_485);
+    let lo = u64::from(node.lo).wrapping_mul(13_787_848_793_156_543_929);
+    let hi = u64::from(node.hi).wrapping_mul(10_723_151_780_598_845_931);
+    var.wrapping_add(lo).wrapping_add(hi)
+}
+
+/// Where the probe of a node with this hash is after so many steps.
+fn place(hash: u64, steps: usize, count: usize) -> usize
+    requires count { IsPowerOfTwo count }
+    requires steps { steps < 2 ^ 63 }
+    ensures place { result ≡ (hash / 2 ^ 32 + steps) % count }
+    ensures within { result < count }
+{
+    ((hash >> 32) as usize + steps) & (count - 1)
+}
+
+/// The bits of the hash that stand in a mark.
+fn tag(hash: u64) -> u32
+    ensures tag { result ≡ hash / 2 ^ 58 }
+    ensures within { result < 64 }
+{
+    (hash >> 58) as u32
+}
+
+/// The number of the node where it has this mark.
+fn number_at(mark: u32, nodes: &[Node], node: Node, hash: u64) -> Option<usize>
+    requires hash { hash ≡ hash_of node }
+    requires limit { length nodes.now ≤ 50000000 }
+    requires mark { (k : ℕ) × (other : Triple) × (slice_get nodes.now k ≡ Some other) × (mark ≡ mark_of other k) }
+    ensures some { IfSome result (λ k. slice_get nodes.now k ≡ Some node) }
+    ensures none { IfNone result ((k : ℕ) → slice_get nodes.now k ≡ Some node → mark ≢ mark_of node k) }
+{
+    same_nodes();
+    if mark / NUMBERS != tag(hash) {
+        return None;
+    }
+    let number = (mark % NUMBERS) as usize - 1;
+    if nodes[number] == node {
+        return Some(number);
+    }
+    None
+}
+
+/// The number of the node, if it is there.
+pub fn find(places: &[u32], nodes: &[Node], node: Node) -> Option<usize>
+    requires limit { length nodes.now ≤ 50000000 }
+    requires places { ArePlaces places.now nodes.now }
+    ensures some { IfSome result (λ k. slice_get nodes.now k ≡ Some node) }
+    ensures none { IfNone result (IsAbsent nodes.now node) }
+{
+    let hash = hash(node);
+    for steps in 0..places.len() {
+        let mark = places[place(hash, steps, places.len())];
+        if mark == 0 {
+            return None;
+        }
+        if let Some(number) = number_at(mark, nodes, node, hash) {
+            return Some(number);
+        }
+    }
+    None
+}
+
+/// Puts a node behind the others: its mark takes the first free place of its probe.
+pub fn put(places: &mut [u32], nodes: &[Node], node: Node)
+    requires limit { length nodes.now < 50000000 }
+    requires places { ArePlaces places.old nodes.now }
+    requires room { 2 * (length nodes.now + 1) ≤ length places.old }
+    ensures places { ArePlaces places.new (nodes.now ++ node ∷ []) }
+    ensures count { length places.new ≡ length places.old }
+{
+    let hash = hash(node);
+    for steps in 0..places.len() {
+        let place = place(hash, steps, places.len());
+        if places[place] == 0 {
+            places[place] = tag(hash) * NUMBERS + nodes.len() as u32 + 1;
+            return;
+        }
+    }
+    unreachable!()
+}
+
+/// Puts all nodes into free places.
+fn put_all(places: &mut [u32], nodes: &[Node])
+    requires limit { length nodes.now ≤ 50000000 }
+    requires power { IsPowerOfTwo (length places.old) }
+    requires free { places.old ≡ replicate (length places.old) 0 }
+    requires room { 2 * length nodes.now ≤ length places.old }
+    ensures places { ArePlaces places.new nodes.now }
+    ensures count { length places.new ≡ length places.old }
+{
+    for k in 0..nodes.len() {
+        put(places, &nodes[..k], nodes[k]);
+    }
+}
+
+/// Doubles the places within their room.
+fn double(places: &mut Vec<u32>, nodes: &[Node])
+    requires limit { length nodes.now ≤ 50000000 }
+    requires places { ArePlaces places.old.items nodes.now }
+    requires room { 2 * length places.old.items ≤ vec_capacity places.old }
+    ensures places { ArePlaces places.new.items nodes.now }
+    ensures count { length places.new.items ≡ 2 * length places.old.items }
+    ensures room { vec_capacity places.old ≤ vec_capacity places.new }
+{
+    let count = 2 * places.len();
+    places.clear();
+    match places.resize(count, 0) {
+        Ok(()) => put_all(places.as_mut_slice(), nodes),
+        Err(_) => unreachable!(),
+    }
+}
+
+/// Sees that half of the places are free behind one more node.
+pub fn make_room(places: &mut Vec<u32>, nodes: &[Node], limit: usize)
+    requires limit { limit ≤ 50000000 }
+    requires new { length nodes.now < limit }
+    requires places { ArePlaces places.old.items nodes.now }
+    requires room { HasRoom limit (vec_capacity places.old) (length places.old.items) }
+    ensures places { ArePlaces places.new.items nodes.now }
+    ensures room { HasRoom limit (vec_capacity places.new) (length places.new.items) }
+    ensures half { 2 * (length nodes.now + 1) ≤ length places.new.items }
+{
+    if places.len() < 2 * (nodes.len() + 1) {
+        double(places, nodes);
+    }
+}
+
+/// How many places there are for so many nodes at the most: the least power of two that is at least twice as many, and at
+/// least 2.
+fn places_for(limit: usize) -> usize
+    requires { limit ≤ 50000000 }
+    ensures power { IsPowerOfTwo result }
+    ensures enough { 2 * limit ≤ result }
+    ensures two { 2 ≤ result }
+    ensures least { result / 2 < max 2 (2 * limit) }
+{
+    (2 * limit).max(2).next_power_of_two()
+}
+
+/// Free places, with room for those of so many nodes.
+pub fn free_places(alloc: Global, limit: usize) -> Result<Vec<u32>, NoMemory>
+    requires { limit ≤ 50000000 }
+    ensures places { IfOk result (λ v. ArePlaces v.items []) }
+    ensures room { IfOk result (λ v. HasRoom limit (vec_capacity v) (length v.items)) }
+{
+    let whole = places_for(limit);
+    let mut places = Vec::with_capacity(alloc, whole)?;
+    places.resize(whole.min(FIRST_PLACES), 0)?;
+    Ok(places)
+}
