@@ -4,7 +4,7 @@ use Rattle.std.specs.List.{list_any}
 use Rattle.std.proofs.lemmas.List.Folds.{Any-from_list_any, list_any_at}
 use Rattle.bb_cnf.specs.declared.clauses.Lit.{Lit}
 use Rattle.bb_cnf.specs.Clauses.{Literals, literals_of, same_literal}
-use Rattle.bb_cnf.specs.Truth.{bit_of, IsTrueClause, Satisfies}
+use Rattle.bb_cnf.specs.Truth.{literal_bit, IsTrueClause, Satisfies}
 use Rattle.bb_rup.specs.Propagation.{complement, false_after, IsFalseClause, IsUnitClause, IsOpen, Follows, Stays}
 use Rattle.bb_rup.specs.Laws.{PropagationLaws}
 use Rattle.bb_rup.proofs.Literals.{either, clash, or_true, or_both_false, same_literal-is, same_literal-itself, in_cons}
@@ -47,48 +47,48 @@ flip false true h = refl
 flip false false h = clash false h refl
 
 -- the complement of a true literal is false
-complement_false : (v : ℕ → Bool) (l : Lit) → bit_of v l ≡ true → bit_of v (complement l) ≡ false
+complement_false : (v : ℕ → Bool) (l : Lit) → literal_bit v l ≡ true → literal_bit v (complement l) ≡ false
 complement_false v l h = flip l.neg (v l.var) h
 
 member : (xs : List Lit) (l : Lit) → Contains xs l → literals_of xs l ≡ true
 member xs l has = list_any_at (λ m. same_literal m l) xs has.0 l has.1 (ap (λ m. same_literal m l) has.2 ∙ same_literal-itself l)
 
 -- a clause that is not true has no true literal
-none_true : (v : ℕ → Bool) (c : List Lit) → list_any (bit_of v) c ≡ false → (m : Lit) → literals_of c m ≡ true → bit_of v m ≡ false
+none_true : (v : ℕ → Bool) (c : List Lit) → list_any (literal_bit v) c ≡ false → (m : Lit) → literals_of c m ≡ true → literal_bit v m ≡ false
 none_true v [] off m own = clash false own refl
-none_true v (x ∷ xs) off m own = by (or_both_false (bit_of v x) (list_any (bit_of v) xs) off) (none_true v xs) (in_cons x xs m own)
+none_true v (x ∷ xs) off m own = by (or_both_false (literal_bit v x) (list_any (literal_bit v) xs) off) (none_true v xs) (in_cons x xs m own)
   where
-    by : (bit_of v x ≡ false) × (list_any (bit_of v) xs ≡ false) → (list_any (bit_of v) xs ≡ false → (k : Lit) → literals_of xs k ≡ true → bit_of v k ≡ false)
-        → (x ≡ m) ⊎ (literals_of xs m ≡ true) → bit_of v m ≡ false
-    by parts rest (inl is) = subst (λ k. bit_of v k ≡ false) is parts.0
+    by : (literal_bit v x ≡ false) × (list_any (literal_bit v) xs ≡ false) → (list_any (literal_bit v) xs ≡ false → (k : Lit) → literals_of xs k ≡ true → literal_bit v k ≡ false)
+        → (x ≡ m) ⊎ (literals_of xs m ≡ true) → literal_bit v m ≡ false
+    by parts rest (inl is) = subst (λ k. literal_bit v k ≡ false) is parts.0
     by parts rest (inr there) = rest parts.1 m there
 
 -- where the literals of C are not true, neither is any that is false by propagation
 module _ (v : ℕ → Bool) (clauses : List (List Lit)) (c : List Lit) (solves : Satisfies v clauses) where
-  true_step : (front : List Lit) (l : Lit) → ((m : Lit) → false_after c front m ≡ true → bit_of v m ≡ false) → IsFound clauses c front l → bit_of v (complement l) ≡ false
+  true_step : (front : List Lit) (l : Lit) → ((m : Lit) → false_after c front m ≡ true → literal_bit v m ≡ false) → IsFound clauses c front l → literal_bit v (complement l) ≡ false
   true_step front l known found = by (or_true (same_literal l t.1) (false_after c front t.1) (found.4.others t.1 (member found.1 t.1 (t.0, t.2, t.3))))
     where
       t : IsTrueClause v found.1
       t = pick (λ clause. IsUnitClause (false_after c front) clause l) (IsTrueClause v) clauses found solves
 
-      by : (same_literal l t.1 ≡ true) ⊎ (false_after c front t.1 ≡ true) → bit_of v (complement l) ≡ false
-      by (inl same) = complement_false v l (ap (bit_of v) (same_literal-is l t.1 same) ∙ t.4)
-      by (inr off) = clash (bit_of v t.1) t.4 (known t.1 off)
+      by : (same_literal l t.1 ≡ true) ⊎ (false_after c front t.1 ≡ true) → literal_bit v (complement l) ≡ false
+      by (inl same) = complement_false v l (ap (literal_bit v) (same_literal-is l t.1 same) ∙ t.4)
+      by (inr off) = clash (literal_bit v t.1) t.4 (known t.1 off)
 
-  untrue : (f : Follows clauses c) → list_any (bit_of v) c ≡ false → ⊥
-  untrue f off = clash (bit_of v t.1) t.4 (all t.1 (f.ends.4 t.1 (member f.ends.1 t.1 (t.0, t.2, t.3))))
+  untrue : (f : Follows clauses c) → list_any (literal_bit v) c ≡ false → ⊥
+  untrue f off = clash (literal_bit v t.1) t.4 (all t.1 (f.ends.4 t.1 (member f.ends.1 t.1 (t.0, t.2, t.3))))
     where
       t : IsTrueClause v f.ends.1
       t = pick (IsFalseClause (false_after c f.list)) (IsTrueClause v) clauses f.ends solves
 
-      all : (m : Lit) → false_after c f.list m ≡ true → bit_of v m ≡ false
-      all = each_false (λ m. bit_of v m ≡ false) clauses c f.list f.propagation true_step (none_true v c off)
+      all : (m : Lit) → false_after c f.list m ≡ true → literal_bit v m ≡ false
+      all = each_false (λ m. literal_bit v m ≡ false) clauses c f.list f.propagation true_step (none_true v c off)
 
   pub is_true : Follows clauses c → IsTrueClause v c
-  is_true f = by (either (list_any (bit_of v) c))
+  is_true f = by (either (list_any (literal_bit v) c))
     where
-      by : (list_any (bit_of v) c ≡ true) ⊎ (list_any (bit_of v) c ≡ false) → IsTrueClause v c
-      by (inl on) = Any-from_list_any (bit_of v) c on
+      by : (list_any (literal_bit v) c ≡ true) ⊎ (list_any (literal_bit v) c ≡ false) → IsTrueClause v c
+      by (inl on) = Any-from_list_any (literal_bit v) c on
       by (inr off) = absurd (untrue f off)
 
 pub propagation_laws : PropagationLaws

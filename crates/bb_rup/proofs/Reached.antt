@@ -6,7 +6,7 @@ use Rattle.bb_lists.proofs.Places.{some_same}
 use Rattle.bb_cnf.specs.declared.clauses.Lit.{Lit}
 use Rattle.bb_cnf.specs.Clauses.{Literals, literals_of, same_literal}
 use Rattle.bb_rup.specs.Propagation.{complement, false_after, IsFalseClause, IsUnitClause, IsOpen, IsPropagation, Follows}
-use Rattle.bb_rup.specs.Trails.{place_of, marked_by, unmarked, IsTrail, Makes, IsReached, HasMarks, HaveMarks, Propagates}
+use Rattle.bb_rup.specs.Trails.{mark_place, marked_by, unmarked, IsTrail, Makes, IsReached, HasMarks, HaveMarks, Propagates}
 use Rattle.bb_rup.specs.Standings.{IsImplied}
 use Rattle.bb_rup.specs.declared.trail.Trail.{Trail}
 use Rattle.bb_rup.proofs.Splits.{any_weaker}
@@ -108,9 +108,9 @@ propagates_then clauses a b c one two = record {
 }
 
 module _ (clauses : List (List Lit)) (old new : Trail) (l : Lit) (implied : IsImplied clauses old.marks.items l) (makes : Makes old new (same_literal (complement l)))
-    (marks : new.marks.items ≡ set old.marks.items (place_of (complement l)) true) where
+    (marks : new.marks.items ≡ set old.marks.items (mark_place (complement l)) true) where
   pub implies_less : unmarked new.marks.items < unmarked old.marks.items
-  implies_less = subst (λ k. unmarked k < unmarked old.marks.items) (sym marks) (unmarked-set old.marks.items (place_of (complement l)) implied.in_range implied.new)
+  implies_less = subst (λ k. unmarked k < unmarked old.marks.items) (sym marks) (unmarked-set old.marks.items (mark_place (complement l)) implied.in_range implied.new)
 
   pub propagates_one : Propagates clauses old new
   propagates_one = record {
@@ -128,7 +128,7 @@ any_at P clauses k clause stands p = (k, clause, slice_get_within clauses k clau
 
 -- its literals and their complements have places
 pub complement_in_range : (n : ℕ) (clauses : List (List Lit)) (k : ℕ) (clause : List Lit) (l : Lit) → HaveMarks n clauses → slice_get clauses k ≡ Some clause
-    → literals_of clause l ≡ true → place_of (complement l) < n
+    → literals_of clause l ≡ true → mark_place (complement l) < n
 complement_in_range n clauses k clause l all stands own =
     let here : All (HasMarks n) clause = subst (All (HasMarks n)) (get_or_from_slice_get clauses k clause clause stands) (all k clause (slice_get_within clauses k clause stands)) in
     other_place n l (place_of_member n clause l here own)

@@ -3,7 +3,7 @@ use Rattle.std.proofs.Common.{◌≡◌, ◌<◌, Bool, true, false, not, ◌&&�
 use Rattle.std.proofs.lemmas.List.{length-set}
 use Rattle.bb_cnf.specs.declared.clauses.Lit.{Lit}
 use Rattle.bb_cnf.specs.Clauses.{Literals, literals_of, same_literal}
-use Rattle.bb_rup.specs.Trails.{place_of, marked, marked_by, AreOnce, IsTrail, Makes}
+use Rattle.bb_rup.specs.Trails.{mark_place, marked, marked_by, AreOnce, IsTrail, Makes}
 use Rattle.bb_rup.specs.declared.trail.Trail.{Trail}
 use Rattle.bb_rup.proofs.Literals.{clash, either, or_false, or_true_right, same_literal-is, literals_of-push}
 use Rattle.bb_rup.proofs.Splits.{split_push}
@@ -20,8 +20,8 @@ pub once_front : (rest : List Lit) (last : Lit) → AreOnce (rest ++ last ∷ []
 once_front rest last once front l back e = once front l (back ++ last ∷ []) (ap (λ k. k ++ last ∷ []) e ∙ append_assoc front (l ∷ back) (last ∷ []))
 
 -- one more literal is false
-module _ (old new : Trail) (l : Lit) (is : IsTrail old) (within : place_of l < length old.marks.items) (free : marked_by old l ≡ false)
-    (lits : new.lits.items ≡ old.lits.items ++ l ∷ []) (marks : new.marks.items ≡ set old.marks.items (place_of l) true) where
+module _ (old new : Trail) (l : Lit) (is : IsTrail old) (within : mark_place l < length old.marks.items) (free : marked_by old l ≡ false)
+    (lits : new.lits.items ≡ old.lits.items ++ l ∷ []) (marks : new.marks.items ≡ set old.marks.items (mark_place l) true) where
   marked_push : (m : Lit) → marked_by new m ≡ (marked_by old m || same_literal l m)
   marked_push m = ap (λ k. marked k m) marks ∙ marked-set old.marks.items l within m
 
@@ -36,7 +36,7 @@ module _ (old new : Trail) (l : Lit) (is : IsTrail old) (within : place_of l < l
     trail = trail_push;
     more = l ∷ [];
     grows = lits;
-    room = ap length marks ∙ length-set old.marks.items (place_of l) true;
+    room = ap length marks ∙ length-set old.marks.items (mark_place l) true;
     marks = marked_push;
   }
 

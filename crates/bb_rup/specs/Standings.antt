@@ -4,7 +4,7 @@ use Rattle.std.specs.Prelude.{ℕ, ◌≡◌, ◌<◌, Bool, false, Option, Some
 use Rattle.bb_cnf.specs.declared.clauses.Lit.{Lit}
 use Rattle.bb_cnf.specs.Clauses.{Literals}
 use Rattle.bb_rup.specs.Propagation.{complement, IsFalseClause, IsUnitClause, HasTwo, IsOpen}
-use Rattle.bb_rup.specs.Trails.{place_of, marked}
+use Rattle.bb_rup.specs.Trails.{mark_place, marked}
 use Rattle.bb_rup.specs.declared.examination.Standing.{Standing}
 use Rattle.bb_rup.specs.declared.examination.Standing.TheVariants as standings
 use Rattle.bb_rup.specs.declared.scan.Event.{Event}
@@ -24,7 +24,7 @@ Stands falses clause standings.Two = HasTwo falses clause
 pub record IsImplied (clauses : List (List Lit)) (marks : List Bool) (l : Lit) : Type 0 where
   pub found : Any (λ clause. IsUnitClause (marked marks) clause l) clauses
   pub new : marked marks (complement l) ≡ false
-  pub in_range : place_of (complement l) < length marks
+  pub in_range : mark_place (complement l) < length marks
 
 abbrev pub Comes : List (List Lit) → List Bool → Event → Type 0
 Comes clauses marks events.Conflict = Any (IsFalseClause (marked marks)) clauses

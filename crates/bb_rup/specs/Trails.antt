@@ -7,12 +7,12 @@ use Rattle.bb_rup.specs.Propagation.{false_after, IsPropagation}
 use Rattle.bb_rup.specs.declared.trail.Trail.{Trail}
 
 -- a literal's place among the marks: twice its variable, and one more where it is negated
-abbrev pub place_of : Lit → ℕ
-place_of l = 2 * l.var + (if l.neg then 1 else 0)
+abbrev pub mark_place : Lit → ℕ
+mark_place l = 2 * l.var + (if l.neg then 1 else 0)
 
 -- the marked literals
 abbrev pub marked : List Bool → Literals
-marked marks l = slice_index_or marks (place_of l) false
+marked marks l = slice_index_or marks (mark_place l) false
 
 abbrev pub marked_by : Trail → Literals
 marked_by t = marked t.marks.items

@@ -8,10 +8,10 @@ ghost use Rattle.bb_rup.specs.Steps.{Comes};
 
 use crate::NoMemory;
 use crate::propagation::{propagate, settle};
+use crate::search::Search;
 use crate::trail::{Trail, make_all_false, pop_to};
-use crate::watching::watch;
 use bb_cnf::Lit;
-use bb_watch::{Clauses, Watches, clause_at};
+use bb_watch::{Clauses, clause_at};
 use smallvec::SmallVec;
 
 /// The addition does not follow; or it does, and so does each that comes behind it; or it does, and the next one comes.
@@ -37,7 +37,7 @@ pub(crate) fn clauses_before<'a>(
 /// Does the clause follow? The trail has what needs no addition, before and afterwards.
 pub(crate) fn follows(
     trail: &mut Trail,
-    watches: &mut Watches,
+    search: &mut Search,
     clauses: &Clauses<'_>,
     clause: &[Lit],
 ) -> Result<bool, NoMemory>
@@ -53,16 +53,16 @@ pub(crate) fn follows(
 {
     let kept = trail.lits.len();
     make_all_false(trail, clause)?;
-    let yes = settle(trail, watches, clauses)?;
+    let yes = settle(trail, search, clauses)?;
     pop_to(trail, kept);
-    watches.taken_back(kept);
+    search.go_on(kept, &trail.marks, clauses)?;
     Ok(yes)
 }
 
 // The last of the clauses came behind the others. Is some clause false by what is true for good?
 fn keep(
     trail: &mut Trail,
-    watches: &mut Watches,
+    search: &mut Search,
     clauses: &Clauses<'_>,
     last: &[Lit],
 ) -> Result<bool, NoMemory>
@@ -73,15 +73,15 @@ fn keep(
     ensures reached { OnOk result (IsReached clauses.now [] (marked_by trail.new)) }
     ensures same { OnOk result (length trail.new.marks.items ≡ length trail.old.marks.items) }
 {
-    watch(watches, &trail.marks, last)?;
-    let yes = propagate(trail, watches, clauses)?;
+    search.add(&trail.marks, last)?;
+    let yes = propagate(trail, search, clauses)?;
     Ok(yes)
 }
 
 /// Checks the addition of this number, counted from 0, and keeps it where it follows.
 pub(crate) fn check_addition(
     trail: &mut Trail,
-    watches: &mut Watches,
+    search: &mut Search,
     given: &[SmallVec<Lit, 4>],
     adds: &[SmallVec<Lit, 4>],
     number: usize,
@@ -98,7 +98,7 @@ pub(crate) fn check_addition(
     let addition = clause_at(adds, number);
     if !follows(
         trail,
-        watches,
+        search,
         &clauses_before(given, adds, number),
         addition,
     )? {
@@ -106,7 +106,7 @@ pub(crate) fn check_addition(
     }
     if keep(
         trail,
-        watches,
+        search,
         &clauses_before(given, adds, number + 1),
         addition,
     )? {

@@ -12,6 +12,7 @@ mod propagation;
 mod reading;
 mod refutation;
 mod scan;
+mod search;
 pub mod text_laws;
 mod trail;
 mod watching;

@@ -5,7 +5,7 @@ ghost use Rattle.std.specs.Prelude.{◌≡◌, ◌<◌, ◌||◌, ◌&&◌, not,
 ghost use Rattle.bb_cnf.specs.Clauses.{same_literal};
 ghost use Rattle.bb_cnf.specs.declared.clauses.Lit.{Lit as Literal};
 ghost use Rattle.bb_rup.specs.Propagation.{complement};
-ghost use Rattle.bb_rup.specs.Trails.{place_of, marked};
+ghost use Rattle.bb_rup.specs.Trails.{mark_place, marked};
 
 use bb_cnf::Lit;
 
@@ -28,7 +28,7 @@ pub(crate) fn is_same(a: Lit, b: Lit) -> bool
 
 /// The literal's place among the marks.
 pub(crate) fn place(lit: Lit) -> usize
-    ensures { result ≡ place_of lit }
+    ensures { result ≡ mark_place lit }
 {
     let sign = if lit.neg { 1 } else { 0 };
     2 * lit.var as usize + sign

@@ -9,10 +9,11 @@ ghost use Rattle.bb_rup.specs.Standings.{IsImplied};
 use crate::NoMemory;
 use crate::marks::negation;
 use crate::scan::{Event, scan};
+use crate::search::Search;
 use crate::trail::{Trail, make_false};
 use crate::watching::watched;
 use bb_cnf::Lit;
-use bb_watch::{Clauses, Watches};
+use bb_watch::Clauses;
 
 // The literal is true, and so its complement is false.
 fn imply(trail: &mut Trail, clauses: &Clauses<'_>, lit: Lit) -> Result<(), NoMemory>
@@ -28,7 +29,7 @@ fn imply(trail: &mut Trail, clauses: &Clauses<'_>, lit: Lit) -> Result<(), NoMem
 /// Goes on by the watches. Is some clause false by then?
 pub(crate) fn propagate(
     trail: &mut Trail,
-    watches: &mut Watches,
+    search: &mut Search,
     clauses: &Clauses<'_>,
 ) -> Result<bool, NoMemory>
     requires { IsTrail trail.old }
@@ -36,7 +37,7 @@ pub(crate) fn propagate(
     ensures conflict { IfOk result (λ yes. yes ≡ true → Any (IsFalseClause (marked_by trail.new)) clauses.now) }
 {
     loop {
-        match watched(watches, clauses, &trail.lits, &trail.marks) {
+        match watched(search, clauses, &trail.lits, &trail.marks)? {
             Event::Conflict => return Ok(true),
             Event::Implied(lit) => imply(trail, clauses, lit)?,
             Event::Quiet => return Ok(false),
@@ -47,7 +48,7 @@ pub(crate) fn propagate(
 /// Goes on to the end. Is some clause false by then?
 pub(crate) fn settle(
     trail: &mut Trail,
-    watches: &mut Watches,
+    search: &mut Search,
     clauses: &Clauses<'_>,
 ) -> Result<bool, NoMemory>
     requires trail { IsTrail trail.old }
@@ -57,7 +58,7 @@ pub(crate) fn settle(
     ensures quiet { IfOk result (λ yes. yes ≡ false → All (IsOpen (marked_by trail.new)) clauses.now) }
 {
     loop {
-        if propagate(trail, watches, clauses)? {
+        if propagate(trail, search, clauses)? {
             return Ok(true);
         }
         match scan(clauses, &trail.marks) {

@@ -6,15 +6,15 @@ ghost use Rattle.bb_cnf.specs.Truth.{HaveNoModel};
 ghost use Rattle.bb_rup.specs.declared.refutation.RupAnswer.TheVariants as answers;
 ghost use Rattle.bb_rup.specs.Propagation.{Follows};
 ghost use Rattle.bb_rup.specs.Additions.{Succeed, IsFirstWithout, IsAnswer};
-ghost use Rattle.bb_rup.specs.Trails.{marked_by, IsTrail, IsReached, HaveMarks};
+ghost use Rattle.bb_rup.specs.Inside.Trails.{marked_by, IsTrail, IsReached, HaveMarks};
 
 use crate::NoMemory;
 use crate::addition::{Step, check_addition, clauses_before, follows};
 use crate::propagation::propagate;
+use crate::search::Search;
 use crate::trail::{Trail, none_false};
 use crate::watching::watch_all;
 use bb_cnf::{Cnf, Lit};
-use bb_watch::Watches;
 use smallvec::SmallVec;
 use std::alloc::Global;
 
@@ -29,7 +29,7 @@ pub enum RupAnswer {
 // Watches the given clauses. Is some clause false by what they make true?
 fn begin(
     trail: &mut Trail,
-    watches: &mut Watches,
+    search: &mut Search,
     given: &[SmallVec<Lit, 4>],
     adds: &[SmallVec<Lit, 4>],
 ) -> Result<bool, NoMemory>
@@ -40,15 +40,15 @@ fn begin(
     ensures reached { OnOk result (IsReached (lists_of given.now) [] (marked_by trail.new)) }
     ensures same { OnOk result (length trail.new.marks.items ≡ length trail.old.marks.items) }
 {
-    watch_all(watches, &trail.marks, given)?;
-    let yes = propagate(trail, watches, &clauses_before(given, adds, 0))?;
+    watch_all(search, &trail.marks, given)?;
+    let yes = propagate(trail, search, &clauses_before(given, adds, 0))?;
     Ok(yes)
 }
 
 // Checks one addition after another.
 fn run(
     trail: &mut Trail,
-    watches: &mut Watches,
+    search: &mut Search,
     given: &[SmallVec<Lit, 4>],
     adds: &[SmallVec<Lit, 4>],
 ) -> Result<RupAnswer, NoMemory>
@@ -59,22 +59,17 @@ fn run(
     requires room_behind { HaveMarks (length trail.old.marks.items) (lists_of adds.now) }
     ensures { IfOk result (IsAnswer (lists_of given.now) (lists_of adds.now)) }
 {
-    if begin(trail, watches, given, adds)? {
+    if begin(trail, search, given, adds)? {
         return Ok(RupAnswer::Yes);
     }
     for number in 0..adds.len() {
-        match check_addition(trail, watches, given, adds, number)? {
+        match check_addition(trail, search, given, adds, number)? {
             Step::Stays => return Ok(RupAnswer::No(number as u32 + 1)),
             Step::Ends => return Ok(RupAnswer::Yes),
             Step::Goes => {}
         }
     }
-    if follows(
-        trail,
-        watches,
-        &clauses_before(given, adds, adds.len()),
-        &[],
-    )? {
+    if follows(trail, search, &clauses_before(given, adds, adds.len()), &[])? {
         Ok(RupAnswer::Yes)
     } else {
         Ok(RupAnswer::No(adds.len() as u32 + 1))
@@ -94,7 +89,7 @@ pub fn rup(alloc: Global, cnf: &Cnf, adds: &[SmallVec<Lit, 4>]) -> Result<RupAns
 {
     let mut trail = none_false(alloc, cnf.vars)?;
     let count = cnf.clauses.len().saturating_add(adds.len());
-    let mut watches = Watches::new(alloc, cnf.vars, count)?;
-    let answer = run(&mut trail, &mut watches, &cnf.clauses, adds)?;
+    let mut search = Search::new(alloc, cnf.vars, cnf.clauses.len(), count)?;
+    let answer = run(&mut trail, &mut search, &cnf.clauses, adds)?;
     Ok(answer)
 }

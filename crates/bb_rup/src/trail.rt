@@ -3,7 +3,7 @@
 
 ghost use Rattle.std.specs.Prelude.{◌≡◌, ◌-◌, ◌+◌, ◌*◌, ◌<◌, ◌≤◌, ◌++◌, ◌∷◌, [], true, false, length, take, set, All, IfOk, OnOk};
 ghost use Rattle.bb_cnf.specs.Clauses.{literals_of, same_literal};
-ghost use Rattle.bb_rup.specs.Trails.{place_of, marked_by, IsTrail, Makes, HasMarks};
+ghost use Rattle.bb_rup.specs.Trails.{mark_place, marked_by, IsTrail, Makes, HasMarks};
 
 use crate::NoMemory;
 use crate::marks::{is_false, place, unmark};
@@ -33,11 +33,11 @@ pub(crate) fn none_false(alloc: Global, vars: u32) -> Result<Trail, NoMemory>
 /// One more literal is false.
 pub(crate) fn make_false(trail: &mut Trail, lit: Lit) -> Result<(), NoMemory>
     requires trail { IsTrail trail.old }
-    requires in_range { place_of lit < length trail.old.marks.items }
+    requires in_range { mark_place lit < length trail.old.marks.items }
     requires new { marked_by trail.old lit ≡ false }
     ensures trail { OnOk result (IsTrail trail.new) }
     ensures lits { OnOk result (trail.new.lits.items ≡ trail.old.lits.items ++ lit ∷ []) }
-    ensures marks { OnOk result (trail.new.marks.items ≡ set trail.old.marks.items (place_of lit) true) }
+    ensures marks { OnOk result (trail.new.marks.items ≡ set trail.old.marks.items (mark_place lit) true) }
 {
     trail.lits.push(lit)?;
     trail.marks[place(lit)] = true;
@@ -47,7 +47,7 @@ pub(crate) fn make_false(trail: &mut Trail, lit: Lit) -> Result<(), NoMemory>
 // One more literal is false, where it is not yet.
 fn make_false_too(trail: &mut Trail, lit: Lit) -> Result<(), NoMemory>
     requires trail { IsTrail trail.old }
-    requires in_range { place_of lit < length trail.old.marks.items }
+    requires in_range { mark_place lit < length trail.old.marks.items }
     ensures { OnOk result (Makes trail.old trail.new (same_literal lit)) }
 {
     if !is_false(&trail.marks, lit) {

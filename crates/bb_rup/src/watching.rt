@@ -1,11 +1,13 @@
 //! Two watched literals in each clause: a clause is looked at again when one of them becomes false. No answer depends
 //! on it that all such clauses are found.
 
+ghost use Rattle.std.specs.Prelude.{IfOk};
 ghost use Rattle.bb_rup.specs.Standings.{Comes};
 
 use crate::NoMemory;
 use crate::marks::{is_false, negation};
 use crate::scan::{Event, event_of};
+use crate::search::{Search, Side};
 use bb_cnf::Lit;
 use bb_watch::{Clauses, Watches, other_node};
 use smallvec::SmallVec;
@@ -34,12 +36,12 @@ pub(crate) fn watch(watches: &mut Watches, marks: &[bool], clause: &[Lit]) -> Re
 
 /// Watches two literals of each clause.
 pub(crate) fn watch_all(
-    watches: &mut Watches,
+    search: &mut Search,
     marks: &[bool],
     clauses: &[SmallVec<Lit, 4>],
 ) -> Result<(), NoMemory> {
     for clause in clauses {
-        watch(watches, marks, clause.as_slice())?;
+        search.add(marks, clause.as_slice())?;
     }
     Ok(())
 }
@@ -51,10 +53,15 @@ fn is_settled(watches: &Watches, marks: &[bool]) -> bool {
 }
 
 // Looks at the clause of the node, of which one literal became false.
-fn look(watches: &mut Watches, clauses: &Clauses<'_>, marks: &[bool], lit: Lit) -> Event
+fn look(
+    watches: &mut Watches,
+    number: usize,
+    clauses: &Clauses<'_>,
+    marks: &[bool],
+    lit: Lit,
+) -> Event
     ensures { Comes clauses.now marks.now result }
 {
-    let number = (watches.node.saturating_sub(2) / 2) as usize;
     if number >= clauses.len() || is_settled(watches, marks) {
         watches.go_on();
         return Event::Quiet;
@@ -72,31 +79,65 @@ fn look(watches: &mut Watches, clauses: &Clauses<'_>, marks: &[bool], lit: Lit) 
     }
 }
 
-// Looks at the clauses that watch a literal that became false.
-fn visit(watches: &mut Watches, clauses: &Clauses<'_>, marks: &[bool], lit: Lit) -> Event
-    ensures { Comes clauses.now marks.now result }
+// Looks at the clause that comes next on a side, and notes where something comes of it.
+fn look_next(
+    search: &mut Search,
+    side: Side,
+    clauses: &Clauses<'_>,
+    marks: &[bool],
+    lit: Lit,
+) -> Result<Event, NoMemory>
+    ensures { IfOk result (Comes clauses.now marks.now) }
 {
+    let number = search.number(side);
+    if search.is_left_out(side, number) {
+        search.leave_out(number, lit);
+        return Ok(Event::Quiet);
+    }
+    let event = look(search.watches_mut(side), number, clauses, marks, lit);
+    if !matches!(event, Event::Quiet) {
+        search.came(number)?;
+    }
+    Ok(event)
+}
+
+// Begins the list of the literal, where it was not begun.
+fn begin(watches: &mut Watches, lit: Lit) {
     if watches.is_new {
         watches.is_new = false;
         watches.before = 0;
         watches.node = watches.head(lit);
     }
-    for _ in 0..watches.len() {
-        if watches.node == 0 {
-            return Event::Quiet;
+}
+
+// Looks at the clauses that watch a literal that became false.
+fn visit(
+    search: &mut Search,
+    side: Side,
+    clauses: &Clauses<'_>,
+    marks: &[bool],
+    lit: Lit,
+) -> Result<Event, NoMemory>
+    ensures { IfOk result (Comes clauses.now marks.now) }
+{
+    begin(search.watches_mut(side), lit);
+    for _ in 0..search.watches(side).len() {
+        if search.watches(side).node == 0 {
+            return Ok(Event::Quiet);
         }
-        match look(watches, clauses, marks, lit) {
+        match look_next(search, side, clauses, marks, lit)? {
             Event::Quiet => {}
-            event => return event,
+            event => return Ok(event),
         }
     }
-    Event::Quiet
+    Ok(Event::Quiet)
 }
 
 // Looks once at each clause that was not looked at before.
-fn first_look(watches: &mut Watches, clauses: &Clauses<'_>, marks: &[bool]) -> Event
+fn first_look(search: &mut Search, clauses: &Clauses<'_>, marks: &[bool]) -> Event
     ensures { Comes clauses.now marks.now result }
 {
+    let watches = search.watches_mut(Side::All);
     for number in watches.looked_at..clauses.len() {
         watches.looked_at = number + 1;
         match event_of(clauses, marks, number) {
@@ -107,32 +148,42 @@ fn first_look(watches: &mut Watches, clauses: &Clauses<'_>, marks: &[bool]) -> E
     Event::Quiet
 }
 
-// Follows the trail.
-fn follow(watches: &mut Watches, clauses: &Clauses<'_>, lits: &[Lit], marks: &[bool]) -> Event
-    ensures { Comes clauses.now marks.now result }
-{
-    for place in watches.place..lits.len() {
-        watches.place = place;
-        match visit(watches, clauses, marks, lits[place]) {
-            Event::Quiet => watches.is_new = true,
-            event => return event,
-        }
-    }
-    watches.place = lits.len();
-    Event::Quiet
-}
-
-/// What comes of the clauses that the watches find.
-pub(crate) fn watched(
-    watches: &mut Watches,
+// Follows the trail on a side.
+fn follow(
+    search: &mut Search,
+    side: Side,
     clauses: &Clauses<'_>,
     lits: &[Lit],
     marks: &[bool],
-) -> Event
-    ensures { Comes clauses.now marks.now result }
+) -> Result<Event, NoMemory>
+    ensures { IfOk result (Comes clauses.now marks.now) }
 {
-    match first_look(watches, clauses, marks) {
-        Event::Quiet => follow(watches, clauses, lits, marks),
-        event => event,
+    for place in search.watches(side).place..lits.len() {
+        search.watches_mut(side).place = place;
+        match visit(search, side, clauses, marks, lits[place])? {
+            Event::Quiet => search.watches_mut(side).is_new = true,
+            event => return Ok(event),
+        }
+    }
+    search.watches_mut(side).place = lits.len();
+    Ok(Event::Quiet)
+}
+
+/// What comes of the clauses that the watches find, of the idle ones last.
+pub(crate) fn watched(
+    search: &mut Search,
+    clauses: &Clauses<'_>,
+    lits: &[Lit],
+    marks: &[bool],
+) -> Result<Event, NoMemory>
+    ensures { IfOk result (Comes clauses.now marks.now) }
+{
+    match first_look(search, clauses, marks) {
+        Event::Quiet => {}
+        event => return Ok(event),
+    }
+    match follow(search, Side::Active, clauses, lits, marks)? {
+        Event::Quiet => follow(search, Side::All, clauses, lits, marks),
+        event => Ok(event),
     }
 }
