@@ -1,25 +1,23 @@
 -- What statuses 0, 1, 3 and 4 say of the two files: the tables of the report make the designs agree, no contents of the boxes do and
 -- its vectors show mistakes, each check leaves the question open, or a read failed.
-use Rattle.std.proofs.Common.{◌≡◌, ◌<◌, ◌⊎◌, ℕ, List, length, take, Option, Some, None, arith, codes, option_map, refl, sym, ◌∙◌, ap, subst}
-use Rattle.std.proofs.lemmas.List.{take_all, length-take}
-use Rattle.bb_outside.specs.Counts.{Reads, Rose}
+use Rattle.std.proofs.Common.{◌≡◌, ◌<◌, ◌⊎◌, ℕ, ◌==◌, Bool, true, false, if◌then◌else◌, List, ◌++◌, length, Option, Some, None, arith, codes, option_map, refl, sym, ◌∙◌, ap, subst}
+use Rattle.bb_outside.specs.Counts.{IsRead, Reads, Rose}
 use Rattle.bb_texts.specs.declared.limit.TheConstants.{READ_LIMIT}
 use Rattle.bb_ladder.specs.declared.asked.Asked.{Asked as TextsAsked}
 use Rattle.bb_cnf.specs.Clauses.{Formula}
 use Rattle.bb_cnf.specs.declared.clauses.Lit.{Lit}
-use Rattle.bb_words.specs.Asked.{Refutation, Request, asked, rup_asked}
+use Rattle.bb_make.specs.Adders.{made_imp, made_spec}
+use Rattle.bb_words.specs.Asked.{MadePair, Refutation, Request, asked, made_asked, rup_asked}
 use Rattle.bb_words.specs.Laws.{WordsAskOnce}
-use Rattle.bb_ladder.specs.Answers.{Question, AfterSpec, ImpUnread, ImpLong, BothRead, OfFiles, SpecUnread, SpecLong, SpecRead, MayAnswer, Usage, Asked, Refuting, AreRefutationTexts, AreTexts, question, question_of}
+use Rattle.bb_ladder.specs.Answers.{Question, AfterSpec, ImpUnread, ImpLong, BothRead, OfFiles, SpecUnread, SpecLong, SpecRead, MayAnswer, Usage, Asked, Making, Refuting, AreRefutationTexts, AreTexts, FileTexts, MadeTexts, Gives, IsReport, question, question_of}
+use Rattle.bb_ladder.specs.MadePairs.{JudgesMade, asked_of, head_by, head_of, made_head, made_text}
 use Rattle.bb_ladder.specs.Refutations.{AreRead, CheckLaws, Checks, FailsAt, IsRefutation, SaysWhether, no_line}
 use Rattle.bb_ladder.specs.ShownMistakes.{AreShown, ErrorsAreShown}
+use Rattle.bb_ladder.specs.Sources.{AreBytes, MayHaveFailed, Source}
 use Rattle.bb_ladder.specs.TextAnswers.{Judges, Refused, Judged, ErrorsRefute, RepairsFinish, OpenAnswersLeaveOpen, DecidedAreAnswered, LeftOpenAreAnswered}
 use Rattle.bb_ladder.specs.TextPairs.{AreRefuted, AreFinished, AreLeftOpen, AreDecided}
+use Rattle.bb_ladder.proofs.SourceLemmas.{both_whole, failed_alone, failed_second, first_of_both, given_alone, given_never_long, given_second}
 use Rattle.bb_ladder.proofs.TextPairLaws.{report_status}
-
--- a front that is shorter than the limit is the whole
-pub whole_front : (n : ℕ) (text front : List ℕ) → front ≡ take n text → length front < n → front ≡ text
-whole_front n text front e short =
-    let l = length-take n text in let m = ap length e in e ∙ take_all n text (omega arith)
 
 pub same_question : (a b : Question) → Some a ≡ Some b → a ≡ b
 same_question a b e = cc
@@ -34,6 +32,52 @@ never_both once words q f asks refutes = by (asked words) refl asks
     by : (o : Option Request) → asked words ≡ o → option_map question o ≡ Some q → ⊥
     by None e none = no none
     by (Some r) e some = once.not_both words r f e refutes
+
+pub never_files_and_made : WordsAskOnce → (words : List (List ℕ)) (q : Question) (m : MadePair) → question_of words ≡ Some q → made_asked words ≡ Some m → ⊥
+never_files_and_made once words q m asks makes = by (asked words) refl asks
+  where
+    no : None ≡ Some q → ⊥
+    no e = cc e
+
+    by : (o : Option Request) → asked words ≡ o → option_map question o ≡ Some q → ⊥
+    by None e none = no none
+    by (Some r) e some = once.not_files_and_made words r m e makes
+
+pub asks_no_pair : (m : MadePair) (o : Option MadePair) → o ≡ None → o ≡ Some m → ⊥
+asks_no_pair m o none some = no (sym none ∙ some)
+  where
+    no : None ≡ Some m → ⊥
+    no e = cc e
+
+pub same_pair : (a b : MadePair) → Some a ≡ Some b → a ≡ b
+same_pair a b e = cc
+
+-- before the report of files there is nothing
+no_head : WordsAskOnce → (words : List (List ℕ)) (q : Question) (text : List ℕ) → question_of words ≡ Some q → text ≡ head_of words ++ text
+no_head once words q text asks = by (made_asked words) refl
+  where
+    by : (o : Option MadePair) → made_asked words ≡ o → text ≡ head_by o ++ text
+    by None e = refl
+    by (Some m) e = absurd (never_files_and_made once words q m asks e)
+
+-- what is written of a made pair, unless it is refused, stands behind its head
+pub behind_head : (words : List (List ℕ)) (m : MadePair) (status : ℕ) (told text : List ℕ) → made_asked words ≡ Some m → (status ≡ 2 → ⊥) → text ≡ made_text m.n status told → text ≡ head_of words ++ told
+behind_head words m status told text makes other e = e ∙ by (status == 2) refl ∙ ap (λ o. head_by o ++ told) (sym makes)
+  where
+    by : (b : Bool) → (status == 2) ≡ b → (if b then told else made_head m.n ++ told) ≡ made_head m.n ++ told
+    by false h = refl
+    by true h = absurd (other (grind (arith, h)))
+
+-- and a refusal alone
+pub alone_at_two : (n status : ℕ) (told text : List ℕ) → status ≡ 2 → text ≡ made_text n status told → text ≡ told
+alone_at_two n status told text two e = e ∙ by (status == 2) refl
+  where
+    by : (b : Bool) → (status == 2) ≡ b → (if b then told else made_head n ++ told) ≡ told
+    by true h = refl
+    by false h = absurd (no (sym h ∙ ap (λ s. s == 2) two))
+      where
+        no : false ≡ true → ⊥
+        no x = cc x
 
 pub asks_no_comparison : (q : Question) (o : Option Question) → o ≡ None → o ≡ Some q → ⊥
 asks_no_comparison q o none some = no (sym none ∙ some)
@@ -53,67 +97,85 @@ same_refutation a b e = cc
 -- what a status says of two texts that are judged, where no refusal and no failed read has that status
 module _ (judged : List ℕ → List ℕ → ℕ → List ℕ → Type 0) (so : List ℕ → List ℕ → List ℕ → Type 0) (n : ℕ) (not_refused : n ≡ 2 → ⊥) (not_unread : n ≡ 4 → ⊥)
     (each : (spec imp : List ℕ) (status : ℕ) (text : List ℕ) → judged spec imp status text → status ≡ n → so spec imp text) where
-  after_so : (held : Option (List ℕ)) (second : List ℕ) (before after : Reads) (spec whole imp text : List ℕ) (status : ℕ) → spec ≡ take READ_LIMIT whole → length spec < READ_LIMIT → held ≡ Some imp
-      → AfterSpec judged held second before after spec status text → status ≡ n → so whole imp text
-  after_so held second before after spec whole imp text status g short there (ImpUnread c r s t) is = absurd (not_unread (sym is ∙ s))
-  after_so held second before after spec whole imp text status g short there (ImpLong other h l c s t) is = absurd (not_refused (sym is ∙ s))
-  after_so held second before after spec whole imp text status g short there (BothRead other h low c j) is =
-      let front : other ≡ take READ_LIMIT imp = rw there at h in
-      subst (λ m. so m imp text) (whole_front READ_LIMIT whole spec g short) (subst (λ m. so spec m text) (whole_front READ_LIMIT imp other front low) (each spec other status text j is))
+  after_so : (from : Source) (holds : List ℕ → Option (List ℕ)) (first second : List ℕ) (before between after : Reads) (spec imp bytes text : List ℕ) (status : ℕ) → AreBytes from holds before after first second spec imp
+      → Gives (holds first) bytes → length bytes < READ_LIMIT → IsRead before between first (Some (Some bytes)) → AfterSpec judged (holds second) second between after bytes status text → status ≡ n → so spec imp text
+  after_so from holds first second before between after spec imp bytes text status both g short c (ImpUnread d r s t) is = absurd (not_unread (sym is ∙ s))
+  after_so from holds first second before between after spec imp bytes text status both g short c (ImpLong other h l d s t) is = absurd (not_refused (sym is ∙ s))
+  after_so from holds first second before between after spec imp bytes text status both g short c (BothRead other h low d j) is =
+      let whole = both_whole holds first second from before between after spec imp bytes other both g short c h low d in
+      subst (λ m. so m imp text) whole.0 (subst (λ m. so bytes m text) whole.1 (each bytes other status text j is))
 
-  pub files_so : (holds : List ℕ → Option (List ℕ)) (first second : List ℕ) (before after : Reads) (spec imp text : List ℕ) (status : ℕ) → holds first ≡ Some spec → holds second ≡ Some imp
+  pub files_so : (from : Source) (holds : List ℕ → Option (List ℕ)) (first second : List ℕ) (before after : Reads) (spec imp text : List ℕ) (status : ℕ) → AreBytes from holds before after first second spec imp
       → OfFiles judged holds first second before after status text → status ≡ n → so spec imp text
-  files_so holds first second before after spec imp text status spec_there imp_there (SpecUnread c r s t) is = absurd (not_unread (sym is ∙ s))
-  files_so holds first second before after spec imp text status spec_there imp_there (SpecLong other g l c s t) is = absurd (not_refused (sym is ∙ s))
-  files_so holds first second before after spec imp text status spec_there imp_there (SpecRead other between g short c a) is =
-      let front : other ≡ take READ_LIMIT spec = rw spec_there at g in
-      after_so (holds second) second between after other spec imp text status front short imp_there a is
+  files_so from holds first second before after spec imp text status both (SpecUnread c r s t) is = absurd (not_unread (sym is ∙ s))
+  files_so from holds first second before after spec imp text status both (SpecLong other g l c s t) is = absurd (not_refused (sym is ∙ s))
+  files_so from holds first second before after spec imp text status both (SpecRead other between g short c a) is =
+      after_so from holds first second before between after spec imp other text status both g short c a is
 
--- the same of a comparison
+-- the same of a comparison, of files or of a made pair
 module _ (once : WordsAskOnce) (so : TextsAsked → List ℕ → List ℕ → List ℕ → Type 0) (n : ℕ) (not_refused : n ≡ 2 → ⊥) (not_unread : n ≡ 4 → ⊥)
     (judged : (asked : TextsAsked) (spec imp : List ℕ) (status : ℕ) (text : List ℕ) → Judges asked spec imp status text → status ≡ n → so asked spec imp text) where
-  answer_so : (words : List (List ℕ)) (holds : List ℕ → Option (List ℕ)) (before after : Reads) (status : ℕ) (text : List ℕ) (q : Question) (spec imp : List ℕ) → MayAnswer words holds before after status text → status ≡ n
-      → AreTexts words holds q spec imp → so q.asked spec imp text
-  answer_so words holds before after status text q spec imp (Usage none neither c s t) is texts = absurd (not_refused (sym is ∙ s))
-  answer_so words holds before after status text q spec imp (Asked known e files) is texts =
-      files_so (Judges q.asked) (so q.asked) n not_refused not_unread (judged q.asked) holds q.spec q.imp before after spec imp text status texts.spec_held texts.imp_held
-      (subst (λ (z : Question). OfFiles (Judges z.asked) holds z.spec z.imp before after status text) (same_question known q (sym e ∙ texts.asks)) files) is
-  answer_so words holds before after status text q spec imp (Refuting f e files) is texts = absurd (never_both once words q f texts.asks e)
+  made_so : (words : List (List ℕ)) (status : ℕ) (text : List ℕ) (known m : MadePair) → JudgesMade known status text → made_asked words ≡ Some m → known ≡ m → status ≡ n
+      → IsReport so words (asked_of m.options) (made_spec m.n) (made_imp m.n) text
+  made_so words status text known m judges makes same is =
+      let of_m = subst (λ z. JudgesMade z status text) same judges in
+      (of_m.0, behind_head words m status of_m.0 text makes (λ two. not_refused (sym is ∙ two)) of_m.2, judged (asked_of m.options) (made_spec m.n) (made_imp m.n) status of_m.0 of_m.1 is)
+
+  answer_so : (words : List (List ℕ)) (from : Source) (holds : List ℕ → Option (List ℕ)) (before after : Reads) (status : ℕ) (text : List ℕ) (asked : TextsAsked) (spec imp : List ℕ) → MayAnswer words holds before after status text → status ≡ n
+      → AreTexts words from holds before after asked spec imp → IsReport so words asked spec imp text
+  answer_so words from holds before after status text asked spec imp (Usage none no_pair neither c s t) is texts = absurd (not_refused (sym is ∙ s))
+  answer_so words from holds before after status text asked spec imp (Asked known e files) is (FileTexts q asks same both) = (
+    text,
+    no_head once words q text asks,
+    subst (λ z. so z spec imp text) (sym same)
+        (files_so (Judges q.asked) (so q.asked) n not_refused not_unread (judged q.asked) from holds q.spec q.imp before after spec imp text status both
+        (subst (λ (z : Question). OfFiles (Judges z.asked) holds z.spec z.imp before after status text) (same_question known q (sym e ∙ asks)) files) is),
+  )
+  answer_so words from holds before after status text asked spec imp (Asked known e files) is (MadeTexts m makes a x y) = absurd (never_files_and_made once words known m e makes)
+  answer_so words from holds before after status text asked spec imp (Making known e quiet judges) is (FileTexts q asks same both) = absurd (never_files_and_made once words q known asks e)
+  answer_so words from holds before after status text asked spec imp (Making known e quiet judges) is (MadeTexts m makes a x y) =
+      subst (λ z. IsReport so words z spec imp text) (sym a) (subst (λ z. IsReport so words (asked_of m.options) z imp text) (sym x) (subst (λ z. IsReport so words (asked_of m.options) (made_spec m.n) z text) (sym y)
+      (made_so words status text known m judges makes (same_pair known m (sym e ∙ makes)) is)))
+  answer_so words from holds before after status text asked spec imp (Refuting f e files) is (FileTexts q asks same both) = absurd (never_both once words q f asks e)
+  answer_so words from holds before after status text asked spec imp (Refuting f e files) is (MadeTexts m makes a x y) = absurd (once.not_made_and_refuted words m f makes e)
 
 -- and of a refutation
 module _ (once : WordsAskOnce) (so : List ℕ → List ℕ → List ℕ → Type 0) (n : ℕ) (not_refused : n ≡ 2 → ⊥) (not_unread : n ≡ 4 → ⊥)
     (checked : (first second : List ℕ) (status : ℕ) (text : List ℕ) → Checks first second status text → status ≡ n → so first second text) where
-  refutation_so : (words : List (List ℕ)) (holds : List ℕ → Option (List ℕ)) (before after : Reads) (status : ℕ) (text : List ℕ) (f : Refutation) (first second : List ℕ) → MayAnswer words holds before after status text → status ≡ n
-      → AreRefutationTexts words holds f first second → so first second text
-  refutation_so words holds before after status text f first second (Usage none neither c s t) is texts = absurd (not_refused (sym is ∙ s))
-  refutation_so words holds before after status text f first second (Asked q e files) is texts = absurd (never_both once words q f e texts.asks)
-  refutation_so words holds before after status text f first second (Refuting known e files) is texts =
-      files_so Checks so n not_refused not_unread checked holds f.cnf f.adds before after first second text status texts.first_held texts.second_held
+  refutation_so : (words : List (List ℕ)) (from : Source) (holds : List ℕ → Option (List ℕ)) (before after : Reads) (status : ℕ) (text : List ℕ) (f : Refutation) (first second : List ℕ) → MayAnswer words holds before after status text → status ≡ n
+      → AreRefutationTexts words from holds before after f first second → so first second text
+  refutation_so words from holds before after status text f first second (Usage none no_pair neither c s t) is texts = absurd (not_refused (sym is ∙ s))
+  refutation_so words from holds before after status text f first second (Asked q e files) is texts = absurd (never_both once words q f e texts.asks)
+  refutation_so words from holds before after status text f first second (Making m e quiet judges) is texts = absurd (once.not_made_and_refuted words m f e texts.asks)
+  refutation_so words from holds before after status text f first second (Refuting known e files) is texts =
+      files_so Checks so n not_refused not_unread checked from holds f.cnf f.adds before after first second text status texts.bytes
       (subst (λ (z : Refutation). OfFiles Checks holds z.cnf z.adds before after status text) (same_refutation known f (sym e ∙ texts.asks)) files) is
 
-pub repair_sound : WordsAskOnce → RepairsFinish → (words : List (List ℕ)) (holds : List ℕ → Option (List ℕ)) (before after : Reads) (status : ℕ) (text : List ℕ) (q : Question) (spec imp : List ℕ) → MayAnswer words holds before after status text → status ≡ 0
-    → AreTexts words holds q spec imp → AreFinished q.asked spec imp text
+pub repair_sound : WordsAskOnce → RepairsFinish → (words : List (List ℕ)) (from : Source) (holds : List ℕ → Option (List ℕ)) (before after : Reads) (status : ℕ) (text : List ℕ) (asked : TextsAsked) (spec imp : List ℕ) → MayAnswer words holds before after status text → status ≡ 0
+    → AreTexts words from holds before after asked spec imp → IsReport AreFinished words asked spec imp text
 repair_sound once finish = answer_so once AreFinished 0 (λ e. omega (arith, e)) (λ e. omega (arith, e)) finish
 
-pub error_sound : WordsAskOnce → ErrorsRefute → (words : List (List ℕ)) (holds : List ℕ → Option (List ℕ)) (before after : Reads) (status : ℕ) (text : List ℕ) (q : Question) (spec imp : List ℕ) → MayAnswer words holds before after status text → status ≡ 1
-    → AreTexts words holds q spec imp → AreRefuted q.asked spec imp
-error_sound once refute = answer_so once (λ asked spec imp text. AreRefuted asked spec imp) 1 (λ e. omega (arith, e)) (λ e. omega (arith, e)) refute
+pub error_sound : WordsAskOnce → ErrorsRefute → (words : List (List ℕ)) (from : Source) (holds : List ℕ → Option (List ℕ)) (before after : Reads) (status : ℕ) (text : List ℕ) (asked : TextsAsked) (spec imp : List ℕ) → MayAnswer words holds before after status text → status ≡ 1
+    → AreTexts words from holds before after asked spec imp → AreRefuted asked spec imp
+error_sound once refute words from holds before after status text asked spec imp may one texts =
+    (answer_so once (λ asked spec imp text. AreRefuted asked spec imp) 1 (λ e. omega (arith, e)) (λ e. omega (arith, e)) refute words from holds before after status text asked spec imp may one texts).2
 
-pub shown_sound : WordsAskOnce → ErrorsAreShown → (words : List (List ℕ)) (holds : List ℕ → Option (List ℕ)) (before after : Reads) (status : ℕ) (text : List ℕ) (q : Question) (spec imp : List ℕ) → MayAnswer words holds before after status text → status ≡ 1
-    → AreTexts words holds q spec imp → AreShown q.asked spec imp text
+pub shown_sound : WordsAskOnce → ErrorsAreShown → (words : List (List ℕ)) (from : Source) (holds : List ℕ → Option (List ℕ)) (before after : Reads) (status : ℕ) (text : List ℕ) (asked : TextsAsked) (spec imp : List ℕ) → MayAnswer words holds before after status text → status ≡ 1
+    → AreTexts words from holds before after asked spec imp → IsReport AreShown words asked spec imp text
 shown_sound once shown = answer_so once AreShown 1 (λ e. omega (arith, e)) (λ e. omega (arith, e)) shown
 
-pub open_sound : WordsAskOnce → OpenAnswersLeaveOpen → (words : List (List ℕ)) (holds : List ℕ → Option (List ℕ)) (before after : Reads) (status : ℕ) (text : List ℕ) (q : Question) (spec imp : List ℕ) → MayAnswer words holds before after status text → status ≡ 3
-    → AreTexts words holds q spec imp → AreLeftOpen q.asked spec imp
-open_sound once leave = answer_so once (λ asked spec imp text. AreLeftOpen asked spec imp) 3 (λ e. omega (arith, e)) (λ e. omega (arith, e)) leave
+pub open_sound : WordsAskOnce → OpenAnswersLeaveOpen → (words : List (List ℕ)) (from : Source) (holds : List ℕ → Option (List ℕ)) (before after : Reads) (status : ℕ) (text : List ℕ) (asked : TextsAsked) (spec imp : List ℕ) → MayAnswer words holds before after status text → status ≡ 3
+    → AreTexts words from holds before after asked spec imp → AreLeftOpen asked spec imp
+open_sound once leave words from holds before after status text asked spec imp may three texts =
+    (answer_so once (λ asked spec imp text. AreLeftOpen asked spec imp) 3 (λ e. omega (arith, e)) (λ e. omega (arith, e)) leave words from holds before after status text asked spec imp may three texts).2
 
 -- with --rup what is written is the answer to the two texts
-pub yes_sound : WordsAskOnce → CheckLaws → (words : List (List ℕ)) (holds : List ℕ → Option (List ℕ)) (before after : Reads) (status : ℕ) (text : List ℕ) (f : Refutation) (first second : List ℕ) → MayAnswer words holds before after status text → status ≡ 0
-    → AreRefutationTexts words holds f first second → (text ≡ codes "rup yes\n") × IsRefutation first second
+pub yes_sound : WordsAskOnce → CheckLaws → (words : List (List ℕ)) (from : Source) (holds : List ℕ → Option (List ℕ)) (before after : Reads) (status : ℕ) (text : List ℕ) (f : Refutation) (first second : List ℕ) → MayAnswer words holds before after status text → status ≡ 0
+    → AreRefutationTexts words from holds before after f first second → (text ≡ codes "rup yes\n") × IsRefutation first second
 yes_sound once laws = refutation_so once (λ first second text. (text ≡ codes "rup yes\n") × IsRefutation first second) 0 (λ e. omega (arith, e)) (λ e. omega (arith, e)) laws.yes
 
-pub no_sound : WordsAskOnce → CheckLaws → (words : List (List ℕ)) (holds : List ℕ → Option (List ℕ)) (before after : Reads) (status : ℕ) (text : List ℕ) (f : Refutation) (first second : List ℕ) → MayAnswer words holds before after status text → status ≡ 1
-    → AreRefutationTexts words holds f first second → (n : ℕ) × (text ≡ no_line n) × FailsAt first second n
+pub no_sound : WordsAskOnce → CheckLaws → (words : List (List ℕ)) (from : Source) (holds : List ℕ → Option (List ℕ)) (before after : Reads) (status : ℕ) (text : List ℕ) (f : Refutation) (first second : List ℕ) → MayAnswer words holds before after status text → status ≡ 1
+    → AreRefutationTexts words from holds before after f first second → (n : ℕ) × (text ≡ no_line n) × FailsAt first second n
 no_sound once laws = refutation_so once (λ first second text. (n : ℕ) × (text ≡ no_line n) × FailsAt first second n) 1 (λ e. omega (arith, e)) (λ e. omega (arith, e)) laws.no
 
 -- no text that is judged gives the status of a failed read
@@ -132,10 +194,18 @@ files_unread judged never holds first second before after status text (SpecRead 
 
 pub unread_rose : CheckLaws → (words : List (List ℕ)) (holds : List ℕ → Option (List ℕ)) (before after : Reads) (status : ℕ) (text : List ℕ) → MayAnswer words holds before after status text → status ≡ 4
     → Rose before.faults after.faults
-unread_rose laws words holds before after status text (Usage none neither c s t) four = absurd (omega (arith, s, four))
+unread_rose laws words holds before after status text (Usage none no_pair neither c s t) four = absurd (omega (arith, s, four))
 unread_rose laws words holds before after status text (Asked q e files) four = files_unread (Judges q.asked) (never_unread q.asked) holds q.spec q.imp before after status text files four
+unread_rose laws words holds before after status text (Making m e quiet judges) four = absurd (never_unread (asked_of m.options) (made_spec m.n) (made_imp m.n) status judges.0 judges.1 four)
 unread_rose laws words holds before after status text (Refuting f e files) four =
     files_unread Checks (λ first second n line checks. (laws.small first second n line checks).1) holds f.cnf f.adds before after status text files four
+
+-- of a made pair none is told
+pub made_is_read : WordsAskOnce → (words : List (List ℕ)) (m : MadePair) (holds : List ℕ → Option (List ℕ)) (before after : Reads) (status : ℕ) (text : List ℕ) → made_asked words ≡ Some m → MayAnswer words holds before after status text → status ≡ 4 → ⊥
+made_is_read once words m holds before after status text makes (Usage none no_pair neither c s t) four = omega (arith, s, four)
+made_is_read once words m holds before after status text makes (Asked q e files) four = never_files_and_made once words q m e makes
+made_is_read once words m holds before after status text makes (Making known e quiet judges) four = never_unread (asked_of known.options) (made_spec known.n) (made_imp known.n) status judges.0 judges.1 four
+made_is_read once words m holds before after status text makes (Refuting f e files) four = once.not_made_and_refuted words m f makes e
 
 -- no refutation is left open
 files_never_open : CheckLaws → (holds : List ℕ → Option (List ℕ)) (first second : List ℕ) (before after : Reads) (status : ℕ) (text : List ℕ) → OfFiles Checks holds first second before after status text → status ≡ 3 → ⊥
@@ -147,63 +217,74 @@ files_never_open laws holds first second before after status text (SpecRead spec
 
 pub open_compares : WordsAskOnce → CheckLaws → (words : List (List ℕ)) (holds : List ℕ → Option (List ℕ)) (before after : Reads) (status : ℕ) (text : List ℕ) → MayAnswer words holds before after status text → status ≡ 3
     → rup_asked words ≡ None
-open_compares once laws words holds before after status text (Usage none neither c s t) three = neither
+open_compares once laws words holds before after status text (Usage none no_pair neither c s t) three = neither
 open_compares once laws words holds before after status text (Refuting f e files) three = absurd (files_never_open laws holds f.cnf f.adds before after status text files three)
+open_compares once laws words holds before after status text (Making m e quiet judges) three = by (rup_asked words) refl
+  where
+    by : (o : Option Refutation) → rup_asked words ≡ o → o ≡ None
+    by None same = refl
+    by (Some f) same = absurd (once.not_made_and_refuted words m f e same)
 open_compares once laws words holds before after status text (Asked q e files) three = by (rup_asked words) refl
   where
     by : (o : Option Refutation) → rup_asked words ≡ o → o ≡ None
     by None same = refl
     by (Some f) same = absurd (never_both once words q f e same)
 
--- a text within the limit is not too long
-not_long : (n : ℕ) (text front : List ℕ) → front ≡ take n text → length front ≡ n → length text < n → ⊥
-not_long n text front e whole short = omega (arith, length-take n text, ap length e, whole, short)
-
 -- what is answered to two texts within the limit, where no read failed
 module _ (judged : List ℕ → List ℕ → ℕ → List ℕ → Type 0) (spec imp : List ℕ) (S : ℕ → Type 0) (answered : (status : ℕ) (text : List ℕ) → judged spec imp status text → S status)
-    (spec_short : length spec < READ_LIMIT) (imp_short : length imp < READ_LIMIT) where
-  after_answered : (held : Option (List ℕ)) (second : List ℕ) (before after : Reads) (other : List ℕ) (status : ℕ) (text : List ℕ) → other ≡ spec → held ≡ Some imp → (Rose before.faults after.faults → ⊥) → AfterSpec judged held second before after other status text
-      → S status
-  after_answered held second before after other status text same there calm (ImpUnread c rose s t) = absurd (calm rose)
-  after_answered held second before after other status text same there calm (ImpLong long h l c s t) = absurd (not_long READ_LIMIT imp long (rw there at h) l imp_short)
-  after_answered held second before after other status text same there calm (BothRead read h low c j) =
-      let whole : read ≡ imp = whole_front READ_LIMIT imp read (rw there at h) low in
-      answered status text (subst (λ z. judged z imp status text) same (subst (λ z. judged other z status text) whole j))
+    (spec_short : length spec < READ_LIMIT) (imp_short : length imp < READ_LIMIT) (from : Source) (holds : List ℕ → Option (List ℕ)) (first second : List ℕ) (before after : Reads)
+    (both : AreBytes from holds before after first second spec imp) (calm : MayHaveFailed from before after → ⊥) where
+  after_answered : (between : Reads) (bytes : List ℕ) (status : ℕ) (text : List ℕ) → Gives (holds first) bytes → length bytes < READ_LIMIT → IsRead before between first (Some (Some bytes))
+      → AfterSpec judged (holds second) second between after bytes status text → S status
+  after_answered between bytes status text g short c (ImpUnread d rose s t) = absurd (calm (failed_second holds first second from before between after spec imp (Some bytes) both c d rose))
+  after_answered between bytes status text g short c (ImpLong long h l d s t) =
+      absurd (given_never_long from long imp (given_second holds first second from before between after spec imp long (Some bytes) both h c d) l imp_short)
+  after_answered between bytes status text g short c (BothRead read h low d j) =
+      let whole = both_whole holds first second from before between after spec imp bytes read both g short c h low d in
+      answered status text (subst (λ z. judged z imp status text) whole.0 (subst (λ z. judged bytes z status text) whole.1 j))
 
-  pub files_answered : (holds : List ℕ → Option (List ℕ)) (first second : List ℕ) (before after : Reads) (status : ℕ) (text : List ℕ) → holds first ≡ Some spec → holds second ≡ Some imp → (Rose before.faults after.faults → ⊥)
-      → OfFiles judged holds first second before after status text → S status
-  files_answered holds first second before after status text spec_there imp_there calm (SpecUnread c rose s t) = absurd (calm rose)
-  files_answered holds first second before after status text spec_there imp_there calm (SpecLong long g l c s t) = absurd (not_long READ_LIMIT spec long (rw spec_there at g) l spec_short)
-  files_answered holds first second before after status text spec_there imp_there calm (SpecRead other between g short c a) =
-      after_answered (holds second) second between after other status text (whole_front READ_LIMIT spec other (rw spec_there at g) short) imp_there (λ rose. calm (omega (arith, c.later, rose))) a
+  pub files_answered : (status : ℕ) (text : List ℕ) → OfFiles judged holds first second before after status text → S status
+  files_answered status text (SpecUnread c rose s t) =
+      absurd (calm (failed_alone holds first second from before after spec (first_of_both holds first second from before after spec imp both) c rose))
+  files_answered status text (SpecLong long g l c s t) =
+      absurd (given_never_long from long spec (given_alone holds first second from before after spec long (first_of_both holds first second from before after spec imp both) g c) l spec_short)
+  files_answered status text (SpecRead bytes between g short c a) = after_answered between bytes status text g short c a
 
 -- the same of a comparison
 module _ (once : WordsAskOnce) (P : TextsAsked → List ℕ → List ℕ → Type 0) (S : ℕ → Type 0) (answered : (asked : TextsAsked) (spec imp : List ℕ) (status : ℕ) (text : List ℕ) → Judges asked spec imp status text → P asked spec imp → S status)
-    (q : Question) (spec imp : List ℕ) (spec_short : length spec < READ_LIMIT) (imp_short : length imp < READ_LIMIT) (is : P q.asked spec imp) where
-  words_answered : (words : List (List ℕ)) (holds : List ℕ → Option (List ℕ)) (before after : Reads) (status : ℕ) (text : List ℕ) → AreTexts words holds q spec imp → (Rose before.faults after.faults → ⊥) → MayAnswer words holds before after status text
-      → S status
-  words_answered words holds before after status text texts calm (Usage none neither c s t) = absurd (asks_no_comparison q (question_of words) none texts.asks)
-  words_answered words holds before after status text texts calm (Asked known e files) =
-      files_answered (Judges q.asked) spec imp S (λ n line j. answered q.asked spec imp n line j is) spec_short imp_short holds q.spec q.imp before after status text texts.spec_held texts.imp_held calm
-      (subst (λ (z : Question). OfFiles (Judges z.asked) holds z.spec z.imp before after status text) (same_question known q (sym e ∙ texts.asks)) files)
-  words_answered words holds before after status text texts calm (Refuting f e files) = absurd (never_both once words q f texts.asks e)
+    (asked : TextsAsked) (spec imp : List ℕ) (spec_short : length spec < READ_LIMIT) (imp_short : length imp < READ_LIMIT) (is : P asked spec imp) where
+  words_answered : (words : List (List ℕ)) (from : Source) (holds : List ℕ → Option (List ℕ)) (before after : Reads) (status : ℕ) (text : List ℕ) → AreTexts words from holds before after asked spec imp → (MayHaveFailed from before after → ⊥)
+      → MayAnswer words holds before after status text → S status
+  words_answered words from holds before after status text (FileTexts q asks same both) calm (Usage none no_pair neither c s t) = absurd (asks_no_comparison q (question_of words) none asks)
+  words_answered words from holds before after status text (FileTexts q asks same both) calm (Asked known e files) =
+      files_answered (Judges q.asked) spec imp S (λ n line j. answered q.asked spec imp n line j (subst (λ z. P z spec imp) same is)) spec_short imp_short from holds q.spec q.imp before after both calm status text
+      (subst (λ (z : Question). OfFiles (Judges z.asked) holds z.spec z.imp before after status text) (same_question known q (sym e ∙ asks)) files)
+  words_answered words from holds before after status text (FileTexts q asks same both) calm (Making m e quiet judges) = absurd (never_files_and_made once words q m asks e)
+  words_answered words from holds before after status text (FileTexts q asks same both) calm (Refuting f e files) = absurd (never_both once words q f asks e)
+  words_answered words from holds before after status text (MadeTexts m makes a x y) calm (Usage none no_pair neither c s t) = absurd (asks_no_pair m (made_asked words) no_pair makes)
+  words_answered words from holds before after status text (MadeTexts m makes a x y) calm (Asked q e files) = absurd (never_files_and_made once words q m e makes)
+  words_answered words from holds before after status text (MadeTexts m makes a x y) calm (Making known e quiet judges) =
+      let of_m = subst (λ z. JudgesMade z status text) (same_pair known m (sym e ∙ makes)) judges in
+      answered (asked_of m.options) (made_spec m.n) (made_imp m.n) status of_m.0 of_m.1 (subst (λ z. P (asked_of m.options) (made_spec m.n) z) y (subst (λ z. P (asked_of m.options) z imp) x (subst (λ z. P z spec imp) a is)))
+  words_answered words from holds before after status text (MadeTexts m makes a x y) calm (Refuting f e files) = absurd (once.not_made_and_refuted words m f makes e)
 
-pub decided_sound : WordsAskOnce → DecidedAreAnswered → (q : Question) (spec imp : List ℕ) → length spec < READ_LIMIT → length imp < READ_LIMIT → AreDecided q.asked spec imp
-    → (words : List (List ℕ)) (holds : List ℕ → Option (List ℕ)) (before after : Reads) (status : ℕ) (text : List ℕ) → AreTexts words holds q spec imp → (Rose before.faults after.faults → ⊥) → MayAnswer words holds before after status text
-    → (status ≡ 0) ⊎ (status ≡ 1)
+pub decided_sound : WordsAskOnce → DecidedAreAnswered → (asked : TextsAsked) (spec imp : List ℕ) → length spec < READ_LIMIT → length imp < READ_LIMIT → AreDecided asked spec imp
+    → (words : List (List ℕ)) (from : Source) (holds : List ℕ → Option (List ℕ)) (before after : Reads) (status : ℕ) (text : List ℕ) → AreTexts words from holds before after asked spec imp → (MayHaveFailed from before after → ⊥)
+    → MayAnswer words holds before after status text → (status ≡ 0) ⊎ (status ≡ 1)
 decided_sound once = words_answered once AreDecided (λ status. (status ≡ 0) ⊎ (status ≡ 1))
 
-pub open_complete : WordsAskOnce → LeftOpenAreAnswered → (q : Question) (spec imp : List ℕ) → length spec < READ_LIMIT → length imp < READ_LIMIT → AreLeftOpen q.asked spec imp
-    → (words : List (List ℕ)) (holds : List ℕ → Option (List ℕ)) (before after : Reads) (status : ℕ) (text : List ℕ) → AreTexts words holds q spec imp → (Rose before.faults after.faults → ⊥) → MayAnswer words holds before after status text
-    → status ≡ 3
+pub open_complete : WordsAskOnce → LeftOpenAreAnswered → (asked : TextsAsked) (spec imp : List ℕ) → length spec < READ_LIMIT → length imp < READ_LIMIT → AreLeftOpen asked spec imp
+    → (words : List (List ℕ)) (from : Source) (holds : List ℕ → Option (List ℕ)) (before after : Reads) (status : ℕ) (text : List ℕ) → AreTexts words from holds before after asked spec imp → (MayHaveFailed from before after → ⊥)
+    → MayAnswer words holds before after status text → status ≡ 3
 open_complete once = words_answered once AreLeftOpen (λ status. status ≡ 3)
 
 -- and of a refutation
 pub refuted_sound : WordsAskOnce → CheckLaws → (f : Refutation) (first second : List ℕ) (formula : Formula) (adds : List (List Lit)) → length first < READ_LIMIT → length second < READ_LIMIT → AreRead first second formula adds
-    → (words : List (List ℕ)) (holds : List ℕ → Option (List ℕ)) (before after : Reads) (status : ℕ) (text : List ℕ) → AreRefutationTexts words holds f first second → (Rose before.faults after.faults → ⊥) → MayAnswer words holds before after status text
-    → SaysWhether formula adds status
-refuted_sound once laws f first second formula adds short also read words holds before after status text texts calm (Usage none neither c s t) = absurd (asks_no_refutation f (rup_asked words) neither texts.asks)
-refuted_sound once laws f first second formula adds short also read words holds before after status text texts calm (Asked q e files) = absurd (never_both once words q f e texts.asks)
-refuted_sound once laws f first second formula adds short also read words holds before after status text texts calm (Refuting known e files) =
-    files_answered Checks first second (SaysWhether formula adds) (λ n line checks. laws.decided first second formula adds n line read checks) short also holds f.cnf f.adds before after status text texts.first_held texts.second_held calm
+    → (words : List (List ℕ)) (from : Source) (holds : List ℕ → Option (List ℕ)) (before after : Reads) (status : ℕ) (text : List ℕ) → AreRefutationTexts words from holds before after f first second → (MayHaveFailed from before after → ⊥)
+    → MayAnswer words holds before after status text → SaysWhether formula adds status
+refuted_sound once laws f first second formula adds short also read words from holds before after status text texts calm (Usage none no_pair neither c s t) = absurd (asks_no_refutation f (rup_asked words) neither texts.asks)
+refuted_sound once laws f first second formula adds short also read words from holds before after status text texts calm (Asked q e files) = absurd (never_both once words q f e texts.asks)
+refuted_sound once laws f first second formula adds short also read words from holds before after status text texts calm (Making m e quiet judges) = absurd (once.not_made_and_refuted words m f e texts.asks)
+refuted_sound once laws f first second formula adds short also read words from holds before after status text texts calm (Refuting known e files) =
+    files_answered Checks first second (SaysWhether formula adds) (λ n line checks. laws.decided first second formula adds n line read checks) short also from holds f.cnf f.adds before after texts.bytes calm status text
     (subst (λ (z : Refutation). OfFiles Checks holds z.cnf z.adds before after status text) (same_refutation known f (sym e ∙ texts.asks)) files)

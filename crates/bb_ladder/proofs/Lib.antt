@@ -1,7 +1,11 @@
+pub mod SourceLemmas
 pub mod HeadlineLemmas
 pub mod CallRefusalLaws
+pub mod GivenLemmas
 pub mod TextPairLaws
 pub mod RefutationLaws
 pub mod StatusLaw
 pub mod ShownLaw
 pub mod TaskLemmas
+pub mod MadeLemmas
+pub mod SomeAnswers

@@ -2,12 +2,14 @@
 use Rattle.std.proofs.Common.{◌≡◌, ℕ, List, Option, Some, None, ap, option_map}
 use Rattle.bb_outside.specs.Counts.{Reads}
 use Rattle.bb_options.specs.Rungs.{AreBounds}
-use Rattle.bb_words.specs.Asked.{AskNothing, asked, request_of}
+use Rattle.bb_words.specs.Asked.{AskNothing, MadePair, asked, made_asked, request_of}
+use Rattle.bb_words.specs.Laws.{WordsAskOnce}
 use Rattle.bb_words.specs.declared.asked.Asked.{Asked as WordsAsked}
 use Rattle.bb_ladder.specs.Answers.{OfFiles, MayAnswer, Asked, Refuting, question, question_of}
 use Rattle.bb_ladder.specs.Tasks.{AskTask, IsBounded, judged_by}
 use Rattle.bb_ladder.specs.declared.words.Task.{Task}
 use Rattle.bb_ladder.specs.declared.words.Task.TheVariants.{Comparison, Refutation}
+use Rattle.bb_ladder.proofs.HeadlineLemmas.{never_files_and_made}
 
 pub may_answer : (words : List (List ℕ)) (holds : List ℕ → Option (List ℕ)) (before after : Reads) (first second : List ℕ) (task : Task) (status : ℕ) (text : List ℕ)
     → AskTask words first second task → OfFiles (judged_by task) holds first second before after status text → MayAnswer words holds before after status text
@@ -23,3 +25,8 @@ comparison_bounded a task same bounds = rw same bounds
 
 pub no_question : (words : List (List ℕ)) → AskNothing words → question_of words ≡ None
 no_question words nothing = ap (option_map question) nothing.comparison
+
+-- words that ask for something of two files ask for no made pair
+pub task_or_pair : WordsAskOnce → (words : List (List ℕ)) (first second : List ℕ) (task : Task) (m : MadePair) → AskTask words first second task → made_asked words ≡ Some m → ⊥
+task_or_pair once words first second (Comparison asked) m asks makes = never_files_and_made once words (record { spec = first; imp = second; asked = asked }) m asks makes
+task_or_pair once words first second Refutation m asks makes = once.not_made_and_refuted words m (record { cnf = first; adds = second }) makes asks

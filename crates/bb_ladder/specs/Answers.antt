@@ -1,13 +1,16 @@
 -- What the program may answer: a status and a text, given the words, what the files hold, and the reads before and after.
-use Rattle.std.specs.Prelude.{◌≡◌, ℕ, ◌<◌, true, false, List, length, take, Option, None, Some, option_map, codes, IfSome}
+use Rattle.std.specs.Prelude.{◌≡◌, ℕ, ◌<◌, List, ◌++◌, length, take, Option, None, Some, option_map, codes, IfSome}
 use Rattle.bb_outside.specs.Counts.{IsRead, Reads, Rose}
 use Rattle.bb_texts.specs.declared.limit.TheConstants.{READ_LIMIT}
 use Rattle.bb_ladder.specs.declared.asked.Asked.{Asked as TextsAsked}
 use Rattle.bb_ladder.specs.Refutations.{Checks}
 use Rattle.bb_ladder.specs.ShownMistakes.{AreShown}
+use Rattle.bb_ladder.specs.Sources.{AreBytes, Source}
 use Rattle.bb_ladder.specs.TextAnswers.{Judges}
 use Rattle.bb_ladder.specs.TextPairs.{AreFinished, AreLeftOpen, AreRefuted}
-use Rattle.bb_words.specs.Asked.{Refutation, Request, asked, rup_asked}
+use Rattle.bb_make.specs.Adders.{made_imp, made_spec}
+use Rattle.bb_ladder.specs.MadePairs.{JudgesMade, asked_of, head_of}
+use Rattle.bb_words.specs.Asked.{MadePair, Refutation, Request, asked, made_asked, rup_asked}
 
 -- what words ask: the names of the files of the specification and of the implementation, and what is asked of their texts
 pub record Question : Type 0 where
@@ -18,7 +21,7 @@ pub record Question : Type 0 where
 abbrev pub question : Request → Question
 question r = record { spec = r.spec; imp = r.imp; asked = record { spec_top = r.top_spec; imp_top = r.top_imp; options = r.options } }
 
--- words that are not of the form of a comparison ask nothing
+-- words that do not compare two files ask nothing of them
 abbrev pub question_of : List (List ℕ) → Option Question
 question_of words = option_map question (asked words)
 
@@ -28,36 +31,39 @@ Gives held bytes = IfSome held (λ h. bytes ≡ take READ_LIMIT h)
 
 -- what may be answered after the first file was read: the second is read, and the two texts are judged
 pub data AfterSpec (judged : List ℕ → List ℕ → ℕ → List ℕ → Type 0) (held : Option (List ℕ)) (second : List ℕ) (before after : Reads) (spec : List ℕ) (status : ℕ) (text : List ℕ) : Type 0 where
-  ImpUnread : IsRead before after second (Some true) → Rose before.faults after.faults → status ≡ 4 → text ≡ codes "unread impl\n" → AfterSpec judged held second before after spec status text
-  ImpLong : (imp : List ℕ) → Gives held imp → length imp ≡ READ_LIMIT → IsRead before after second (Some false) → status ≡ 2 → text ≡ codes "refused impl toolong\n" → AfterSpec judged held second before after spec status text
-  BothRead : (imp : List ℕ) → Gives held imp → length imp < READ_LIMIT → IsRead before after second (Some false) → judged spec imp status text → AfterSpec judged held second before after spec status text
+  ImpUnread : IsRead before after second (Some None) → Rose before.faults after.faults → status ≡ 4 → text ≡ codes "unread impl\n" → AfterSpec judged held second before after spec status text
+  ImpLong : (imp : List ℕ) → Gives held imp → length imp ≡ READ_LIMIT → IsRead before after second (Some (Some imp)) → status ≡ 2 → text ≡ codes "refused impl toolong\n" → AfterSpec judged held second before after spec status text
+  BothRead : (imp : List ℕ) → Gives held imp → length imp < READ_LIMIT → IsRead before after second (Some (Some imp)) → judged spec imp status text → AfterSpec judged held second before after spec status text
 
 -- what may be answered to the names of two files, whatever is judged of their texts: the first is read first
 pub data OfFiles (judged : List ℕ → List ℕ → ℕ → List ℕ → Type 0) (holds : List ℕ → Option (List ℕ)) (first second : List ℕ) (before after : Reads) (status : ℕ) (text : List ℕ) : Type 0 where
-  SpecUnread : IsRead before after first (Some true) → Rose before.faults after.faults → status ≡ 4 → text ≡ codes "unread spec\n" → OfFiles judged holds first second before after status text
-  SpecLong : (spec : List ℕ) → Gives (holds first) spec → length spec ≡ READ_LIMIT → IsRead before after first (Some false) → status ≡ 2 → text ≡ codes "refused spec toolong\n" → OfFiles judged holds first second before after status text
-  SpecRead : (spec : List ℕ) (between : Reads) → Gives (holds first) spec → length spec < READ_LIMIT → IsRead before between first (Some false) → AfterSpec judged (holds second) second between after spec status text → OfFiles judged holds first second before after status text
+  SpecUnread : IsRead before after first (Some None) → Rose before.faults after.faults → status ≡ 4 → text ≡ codes "unread spec\n" → OfFiles judged holds first second before after status text
+  SpecLong : (spec : List ℕ) → Gives (holds first) spec → length spec ≡ READ_LIMIT → IsRead before after first (Some (Some spec)) → status ≡ 2 → text ≡ codes "refused spec toolong\n" → OfFiles judged holds first second before after status text
+  SpecRead : (spec : List ℕ) (between : Reads) → Gives (holds first) spec → length spec < READ_LIMIT → IsRead before between first (Some (Some spec)) → AfterSpec judged (holds second) second between after spec status text → OfFiles judged holds first second before after status text
 
 -- what may be answered to words, given what the files hold and the reads before the call and after it
 pub data MayAnswer (words : List (List ℕ)) (holds : List ℕ → Option (List ℕ)) (before after : Reads) (status : ℕ) (text : List ℕ) : Type 0 where
-  Usage : question_of words ≡ None → rup_asked words ≡ None → after ≡ before → status ≡ 2 → text ≡ codes "refused usage\n" → MayAnswer words holds before after status text
+  Usage : question_of words ≡ None → made_asked words ≡ None → rup_asked words ≡ None → after ≡ before → status ≡ 2 → text ≡ codes "refused usage\n" → MayAnswer words holds before after status text
   Asked : (q : Question) → question_of words ≡ Some q → OfFiles (Judges q.asked) holds q.spec q.imp before after status text → MayAnswer words holds before after status text
+  Making : (m : MadePair) → made_asked words ≡ Some m → after ≡ before → JudgesMade m status text → MayAnswer words holds before after status text
   Refuting : (f : Refutation) → rup_asked words ≡ Some f → OfFiles Checks holds f.cnf f.adds before after status text → MayAnswer words holds before after status text
 
--- the words ask this of two files, and these hold the two texts
-pub record AreTexts (words : List (List ℕ)) (holds : List ℕ → Option (List ℕ)) (q : Question) (spec imp : List ℕ) : Type 0 where
-  pub asks : question_of words ≡ Some q
-  pub spec_held : holds q.spec ≡ Some spec
-  pub imp_held : holds q.imp ≡ Some imp
+-- the words ask this of two texts: those of the two files that they name, held or given, or those of a made pair
+pub data AreTexts (words : List (List ℕ)) (from : Source) (holds : List ℕ → Option (List ℕ)) (before after : Reads) (asked : TextsAsked) (spec imp : List ℕ) : Type 0 where
+  FileTexts : (q : Question) → question_of words ≡ Some q → asked ≡ q.asked → AreBytes from holds before after q.spec q.imp spec imp → AreTexts words from holds before after asked spec imp
+  MadeTexts : (m : MadePair) → made_asked words ≡ Some m → asked ≡ asked_of m.options → spec ≡ made_spec m.n → imp ≡ made_imp m.n → AreTexts words from holds before after asked spec imp
 
--- the words ask for a refutation, and its files hold the two texts
-pub record AreRefutationTexts (words : List (List ℕ)) (holds : List ℕ → Option (List ℕ)) (f : Refutation) (first second : List ℕ) : Type 0 where
+-- the words ask for a refutation, and the two texts are those of its files, held or given
+pub record AreRefutationTexts (words : List (List ℕ)) (from : Source) (holds : List ℕ → Option (List ℕ)) (before after : Reads) (f : Refutation) (first second : List ℕ) : Type 0 where
   pub asks : rup_asked words ≡ Some f
-  pub first_held : holds f.cnf ≡ Some first
-  pub second_held : holds f.adds ≡ Some second
+  pub bytes : AreBytes from holds before after f.cnf f.adds first second
 
--- The law of it: an answer speaks of the texts that the files hold as its status says, also where a front of it alone is written.
+-- what is written is a report of the two texts, behind the head of a made pair
+abbrev pub IsReport : (TextsAsked → List ℕ → List ℕ → List ℕ → Type 0) → List (List ℕ) → TextsAsked → List ℕ → List ℕ → List ℕ → Type 0
+IsReport Says words asked spec imp text = (report : List ℕ) × (text ≡ head_of words ++ report) × Says asked spec imp report
+
+-- The law of it: an answer speaks of the texts as its status says, also where a front of it alone is written.
 abbrev pub AnswersSpeakOfTexts : Type 0
-AnswersSpeakOfTexts = (words : List (List ℕ)) (holds : List ℕ → Option (List ℕ)) (before after : Reads) (status : ℕ) (text : List ℕ) (q : Question) (spec imp : List ℕ)
-    → MayAnswer words holds before after status text → AreTexts words holds q spec imp
-    → (status ≡ 0 → AreFinished q.asked spec imp text) × (status ≡ 1 → AreRefuted q.asked spec imp × AreShown q.asked spec imp text) × (status ≡ 3 → AreLeftOpen q.asked spec imp)
+AnswersSpeakOfTexts = (words : List (List ℕ)) (from : Source) (holds : List ℕ → Option (List ℕ)) (before after : Reads) (status : ℕ) (text : List ℕ) (asked : TextsAsked) (spec imp : List ℕ)
+    → MayAnswer words holds before after status text → AreTexts words from holds before after asked spec imp
+    → (status ≡ 0 → IsReport AreFinished words asked spec imp text) × (status ≡ 1 → AreRefuted asked spec imp × IsReport AreShown words asked spec imp text) × (status ≡ 3 → AreLeftOpen asked spec imp)

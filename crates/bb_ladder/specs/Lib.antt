@@ -2,6 +2,10 @@ pub mod TextPairs
 pub mod TextAnswers
 pub mod ShownMistakes
 pub mod Refutations
+pub mod Sources
+pub mod MadePairs
 pub mod Answers
 pub mod Tasks
 pub mod CallRefusals
+pub mod GivenTexts
+pub mod SomeAnswers

@@ -1,10 +1,12 @@
--- No clause of the top call rests on this file. What is done with two texts, as the code hands it on.
-use Rattle.std.specs.Prelude.{◌≡◌, ℕ, List, Some}
+-- No clause of the top call rests on this file. What a call does, as the code hands it on.
+use Rattle.std.specs.Prelude.{◌≡◌, ℕ, ◌≤◌, List, Some}
 use Rattle.bb_options.specs.Rungs.{AreBounds}
-use Rattle.bb_words.specs.Asked.{rup_asked}
+use Rattle.bb_words.specs.Asked.{made_asked, rup_asked}
 use Rattle.bb_ladder.specs.Answers.{question_of}
 use Rattle.bb_ladder.specs.Refutations.{Checks}
 use Rattle.bb_ladder.specs.TextAnswers.{Judges}
+use Rattle.bb_ladder.specs.declared.words.Call.{Call}
+use Rattle.bb_ladder.specs.declared.words.Call.TheVariants.{Files, Made}
 use Rattle.bb_ladder.specs.declared.words.Task.{Task}
 use Rattle.bb_ladder.specs.declared.words.Task.TheVariants.{Comparison, Refutation}
 
@@ -22,3 +24,13 @@ AskTask words first second Refutation = rup_asked words ≡ Some (record { cnf =
 abbrev pub IsBounded : Task → Type 0
 IsBounded (Comparison asked) = AreBounds asked.options
 IsBounded Refutation = Unit {0}
+
+-- the words ask for this call
+abbrev pub AskCall : List (List ℕ) → Call → Type 0
+AskCall words (Files question) = AskTask words question.spec.now question.imp.now question.task
+AskCall words (Made n options) = made_asked words ≡ Some (record { n = n; options = options })
+
+-- its numbers are within their bounds
+abbrev pub HasBounds : Call → Type 0
+HasBounds (Files question) = IsBounded question.task
+HasBounds (Made n options) = (1 ≤ n) × (n ≤ 256) × AreBounds options

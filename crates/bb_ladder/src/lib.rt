@@ -1,9 +1,11 @@
-//! The top call: words, two texts and a report.
+//! The top call: words, two texts, read or made, and a report.
 #![tactic(auto)]
 
 mod answer;
+pub mod answer_laws;
 mod asked;
 mod judging;
+mod making;
 mod pair_texts;
 mod refuting;
 mod running;

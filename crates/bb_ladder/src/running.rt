@@ -1,23 +1,28 @@
-//! The top call: the words are read, then the two files, and the report is made whole before its first byte is written.
-ghost use Rattle.std.specs.Prelude.{◌≡◌, ◌≤◌, ◌<◌, ◌≢◌, ◌⊎◌, ℕ, List, None, codes, length, map, take, string_bytes, IfOk};
-ghost use Rattle.std.specs.Io.KnownBytes.{append_known};
-ghost use Rattle.bb_outside.specs.Counts.{Rose};
+//! The top call: the words are read, then the two files, or two texts are made, and the report is made whole before its first byte is written.
+ghost use Rattle.std.specs.Prelude.{◌≡◌, ◌≤◌, ◌<◌, ◌⊎◌, ◌++◌, ℕ, List, None, Some, codes, length, map, take, string_bytes, IfOk};
+ghost use Rattle.std.specs.Io.KnownBytes.{Appends, Keeps};
+ghost use Rattle.bb_outside.specs.Counts.{FileRead, Rose};
 ghost use Rattle.bb_cnf.specs.Clauses.{Formula};
 ghost use Rattle.bb_cnf.specs.declared.clauses.Lit.{Lit};
-ghost use Rattle.bb_words.specs.Asked.{Refutation, rup_asked};
+ghost use Rattle.bb_words.specs.Asked.{MadePair, Refutation, made_asked, rup_asked};
 ghost use Rattle.bb_texts.specs.declared.limit.TheConstants.{READ_LIMIT};
-ghost use Rattle.bb_ladder.specs.Answers.{AfterSpec, AreRefutationTexts, AreTexts, MayAnswer, OfFiles, Question as TextQuestion};
+ghost use Rattle.bb_ladder.specs.Answers.{AfterSpec, AreRefutationTexts, AreTexts, MayAnswer, OfFiles};
 ghost use Rattle.bb_ladder.specs.CallRefusals.{AreTold, IsCallRefusal};
+ghost use Rattle.bb_ladder.specs.declared.asked.Asked.{Asked as TextsAsked};
+ghost use Rattle.bb_ladder.specs.GivenTexts.{HaveGiven};
+ghost use Rattle.bb_ladder.specs.MadePairs.{head_of};
 ghost use Rattle.bb_ladder.specs.Refutations.{AreRead, FailsAt, IsRefutation, SaysWhether, no_line};
 ghost use Rattle.bb_ladder.specs.ShownMistakes.{AreShown};
+ghost use Rattle.bb_ladder.specs.Sources.{MayHaveFailed, Source};
 ghost use Rattle.bb_ladder.specs.Tasks.{IsBounded, judged_by};
 ghost use Rattle.bb_ladder.specs.TextPairs.{AreDecided, AreFinished, AreLeftOpen, AreRefuted};
 
 use crate::answer::{Answer, say};
 use crate::judging::judge_pair;
+use crate::making::judge_made;
 use crate::refuting::{judge_refutation, refutations_are_answered};
-use crate::text_laws::{answers_are_meant, calls_are_refused};
-use crate::words::{Question, Task, question_of};
+use crate::text_laws::{answered_have_given, answers_are_meant, calls_are_refused};
+use crate::words::{Call, Question, Task, call_of};
 use bb_bits::NoMemory;
 use bb_outside::{FileFault, Files, Sink, put_all};
 use bb_texts::READ_LIMIT;
@@ -85,15 +90,18 @@ fn answer<F: Files>(alloc: Global, words: &[String], files: &mut F) -> Result<An
         answer.status answer.report.items) }
     ensures never_falls { (F.reads files.old).faults ≤ (F.reads files.new).faults }
     ensures kept { (n : List ℕ) → F.holds files.new n ≡ F.holds files.old n }
+    ensures reads_nothing { (m : MadePair) → made_asked (map string_bytes words.now) ≡ Some m → F.reads files.new ≡ F.reads files.old }
 {
-    match question_of(alloc, words) {
-        Ok(question) => read_spec(alloc, &question, files),
+    words_ask_once();
+    match call_of(alloc, words) {
+        Ok(Call::Files(question)) => read_spec(alloc, &question, files),
+        Ok(Call::Made { n, options }) => judge_made(alloc, n, &options),
         Err(WordsFault::Usage) => say(alloc, 2, "refused usage\n"),
         Err(WordsFault::NoMemory) => Err(NoMemory),
     }
 }
 
-/// Compares the implementation with the specification, or checks clause additions against a formula, and writes a report. It answers a status:
+/// Compares the implementation with the specification, or those of a made pair, or checks clause additions against a formula, and writes a report. It answers a status:
 ///
 /// - 0: the report is written and ends with tables and `verdict repairable`, or is `rup yes`;
 /// - 1: the report is written and ends with `verdict error`, or is `rup no` and a number;
@@ -103,71 +111,78 @@ fn answer<F: Files>(alloc: Global, words: &[String], files: &mut F) -> Result<An
 /// - 5: memory ran out, and nothing is written;
 /// - 6: the sink failed, and a front of a report is written.
 ///
-/// The first word is the program's name. The specification is read first and the implementation after it, each by one read.
+/// The first word is the program's name. The specification is read first and the implementation after it, each by one read; of a
+/// made pair nothing is read, and two lines stand before its report. What is said of their texts is said of what the files hold, where they tell it, and of the bytes that the two reads gave, where the reads are told.
 pub fn run<F: Files, K: Sink>(alloc: Global, words: &[String], files: &mut F, out: &mut K) -> u8
     ensures status { result ≤ 6 }
 
     // What is written is a whole report, nothing, or a front of a report.
-    ensures whole { result < 5 → (text : List ℕ) × (K.written out.new ≡ append_known (K.written out.old) text)
+    ensures whole { result < 5 → (text : List ℕ) × Appends (K.written out.old) (K.written out.new) text
         × MayAnswer (map string_bytes words.now) (F.holds files.old) (F.reads files.old) (F.reads files.new) result text }
-    ensures silent { result ≡ 5 → K.written out.new ≡ K.written out.old }
-    ensures front { result ≡ 6 → (status : ℕ) × (text : List ℕ) × (n : ℕ) × (n < length text) × (K.written out.new ≡ append_known (K.written out.old) (take n text))
+    ensures silent { result ≡ 5 → Keeps (K.written out.old) (K.written out.new) }
+    ensures front { result ≡ 6 → (status : ℕ) × (text : List ℕ) × (n : ℕ) × (n < length text) × Appends (K.written out.old) (K.written out.new) (take n text)
         × MayAnswer (map string_bytes words.now) (F.holds files.old) (F.reads files.old) (F.reads files.new) status text }
 
     // The design is reported as repairable only with tables whose contents make every output and every next state agree on every vector.
-    ensures repairable { result ≡ 0 → (q : TextQuestion) (spec imp : List ℕ) → AreTexts (map string_bytes words.now) (F.holds files.old) q spec imp
-        → (text : List ℕ) × (K.written out.new ≡ append_known (K.written out.old) text) × AreFinished q.asked spec imp text }
+    ensures repairable { result ≡ 0 → (from : Source) (asked : TextsAsked) (spec imp : List ℕ) → AreTexts (map string_bytes words.now) from (F.holds files.old) (F.reads files.old) (F.reads files.new) asked spec imp
+        → (text : List ℕ) × Appends (K.written out.old) (K.written out.new) (head_of (map string_bytes words.now) ++ text) × AreFinished asked spec imp text }
 
     // An error is reported only where no contents of the boxes make every output and every next state agree on every vector.
-    ensures error { result ≡ 1 → (q : TextQuestion) (spec imp : List ℕ) → AreTexts (map string_bytes words.now) (F.holds files.old) q spec imp → AreRefuted q.asked spec imp }
+    ensures error { result ≡ 1 → (from : Source) (asked : TextsAsked) (spec imp : List ℕ) → AreTexts (map string_bytes words.now) from (F.holds files.old) (F.reads files.old) (F.reads files.new) asked spec imp → AreRefuted asked spec imp }
 
     // And the report shows how: behind the line of a check that finds it at a vector stand the output that is wrong there, where
     // one is told, and the vector, at which the two designs differ whatever the boxes contain.
-    ensures shown { result ≡ 1 → (q : TextQuestion) (spec imp : List ℕ)
-        → AreTexts (map string_bytes words.now) (F.holds files.old) q spec imp
-        → (text : List ℕ) × (K.written out.new ≡ append_known (K.written out.old) text) × AreShown q.asked spec imp text }
+    ensures shown { result ≡ 1 → (from : Source) (asked : TextsAsked) (spec imp : List ℕ) → AreTexts (map string_bytes words.now) from (F.holds files.old) (F.reads files.old) (F.reads files.new) asked spec imp
+        → (text : List ℕ) × Appends (K.written out.old) (K.written out.new) (head_of (map string_bytes words.now) ++ text) × AreShown asked spec imp text }
 
     // The question is left open only where, for each pair that stands for the texts, each check that is asked for finds neither a mistake
     // nor tables, or would need more nodes or clauses than it may have, or wider tables.
-    ensures left_open { result ≡ 3 → (q : TextQuestion) (spec imp : List ℕ) → AreTexts (map string_bytes words.now) (F.holds files.old) q spec imp → AreLeftOpen q.asked spec imp }
+    ensures left_open { result ≡ 3 → (from : Source) (asked : TextsAsked) (spec imp : List ℕ) → AreTexts (map string_bytes words.now) from (F.holds files.old) (F.reads files.old) (F.reads files.new) asked spec imp → AreLeftOpen asked spec imp }
 
-    // Where the files hold texts within the limit, no failure was counted, and a check that is asked for decides a pair that stands for
+    // Where the texts are within the limit, no read of them may have failed, and a check that is asked for decides a pair that stands for
     // the texts, the answer is an error or tables, unless memory runs out.
-    ensures decided { (q : TextQuestion) (spec imp : List ℕ) → AreTexts (map string_bytes words.now) (F.holds files.old) q spec imp → length spec < READ_LIMIT → length imp < READ_LIMIT
-        → AreDecided q.asked spec imp → (Rose (F.reads files.old).faults (F.reads files.new).faults → ⊥) → (Rose (K.faults out.old) (K.faults out.new) → ⊥)
+    ensures decided { (from : Source) (asked : TextsAsked) (spec imp : List ℕ) → AreTexts (map string_bytes words.now) from (F.holds files.old) (F.reads files.old) (F.reads files.new) asked spec imp → length spec < READ_LIMIT → length imp < READ_LIMIT
+        → AreDecided asked spec imp → (MayHaveFailed from (F.reads files.old) (F.reads files.new) → ⊥) → (Rose (K.faults out.old) (K.faults out.new) → ⊥)
         → ((result ≡ 0) ⊎ (result ≡ 1)) ⊎ (result ≡ 5) }
 
     // And where each check that is asked for leaves the question open, that is the answer.
-    ensures stays_open { (q : TextQuestion) (spec imp : List ℕ) → AreTexts (map string_bytes words.now) (F.holds files.old) q spec imp → length spec < READ_LIMIT → length imp < READ_LIMIT
-        → AreLeftOpen q.asked spec imp → (Rose (F.reads files.old).faults (F.reads files.new).faults → ⊥) → (Rose (K.faults out.old) (K.faults out.new) → ⊥)
+    ensures stays_open { (from : Source) (asked : TextsAsked) (spec imp : List ℕ) → AreTexts (map string_bytes words.now) from (F.holds files.old) (F.reads files.old) (F.reads files.new) asked spec imp → length spec < READ_LIMIT → length imp < READ_LIMIT
+        → AreLeftOpen asked spec imp → (MayHaveFailed from (F.reads files.old) (F.reads files.new) → ⊥) → (Rose (K.faults out.old) (K.faults out.new) → ⊥)
         → (result ≡ 3) ⊎ (result ≡ 5) }
 
     // With `--rup` status 0 says that each addition follows, and so no assignment makes all clauses of the first text true.
-    ensures refuted_yes { result ≡ 0 → (f : Refutation) (first second : List ℕ) → AreRefutationTexts (map string_bytes words.now) (F.holds files.old) f first second
-        → (K.written out.new ≡ append_known (K.written out.old) (codes "rup yes\n")) × IsRefutation first second }
+    ensures refuted_yes { result ≡ 0 → (from : Source) (f : Refutation) (first second : List ℕ) → AreRefutationTexts (map string_bytes words.now) from (F.holds files.old) (F.reads files.old) (F.reads files.new) f first second
+        → Appends (K.written out.old) (K.written out.new) (codes "rup yes\n") × IsRefutation first second }
 
     // Status 1 tells the first addition that does not.
-    ensures refuted_no { result ≡ 1 → (f : Refutation) (first second : List ℕ) → AreRefutationTexts (map string_bytes words.now) (F.holds files.old) f first second
-        → (n : ℕ) × (K.written out.new ≡ append_known (K.written out.old) (no_line n)) × FailsAt first second n }
+    ensures refuted_no { result ≡ 1 → (from : Source) (f : Refutation) (first second : List ℕ) → AreRefutationTexts (map string_bytes words.now) from (F.holds files.old) (F.reads files.old) (F.reads files.new) f first second
+        → (n : ℕ) × Appends (K.written out.old) (K.written out.new) (no_line n) × FailsAt first second n }
 
-    // Where both texts are read without fault and no failure was counted, one of the two comes, by whether the additions succeed, unless
-    // memory runs out.
-    ensures refuted { (f : Refutation) (first second : List ℕ) (formula : Formula) (adds : List (List Lit)) → AreRefutationTexts (map string_bytes words.now) (F.holds files.old) f first second
+    // Where both texts are read without fault and no read of them may have failed, one of the two comes, by whether the additions succeed,
+    // unless memory runs out.
+    ensures refuted { (from : Source) (f : Refutation) (first second : List ℕ) (formula : Formula) (adds : List (List Lit)) → AreRefutationTexts (map string_bytes words.now) from (F.holds files.old) (F.reads files.old) (F.reads files.new) f first second
         → length first < READ_LIMIT → length second < READ_LIMIT → AreRead first second formula adds
-        → (Rose (F.reads files.old).faults (F.reads files.new).faults → ⊥) → (Rose (K.faults out.old) (K.faults out.new) → ⊥)
+        → (MayHaveFailed from (F.reads files.old) (F.reads files.new) → ⊥) → (Rose (K.faults out.old) (K.faults out.new) → ⊥)
         → SaysWhether formula adds result ⊎ (result ≡ 5) }
 
     // A question is left open only of a comparison.
     ensures open_compares { result ≡ 3 → rup_asked (map string_bytes words.now) ≡ None }
 
     // Status 2 tells the first thing for which the call is refused: its words, the length of a file, or what is wrong with the two texts.
-    ensures refused { result ≡ 2 → AreTold (map string_bytes words.now) (F.holds files.old)
-        → (line : List ℕ) × (K.written out.new ≡ append_known (K.written out.old) line) × IsCallRefusal (map string_bytes words.now) (F.holds files.old) line }
+    ensures refused { result ≡ 2 → (from : Source) → AreTold (map string_bytes words.now) from (F.holds files.old) (F.reads files.old) (F.reads files.new)
+        → (line : List ℕ) × Appends (K.written out.old) (K.written out.new) line × IsCallRefusal (map string_bytes words.now) from (F.holds files.old) (F.reads files.old) (F.reads files.new) line }
 
-    // And where the call is to be refused and no failure was counted, that is told, unless memory runs out.
-    ensures stays_refused { (line : List ℕ) → IsCallRefusal (map string_bytes words.now) (F.holds files.old) line
-        → (Rose (F.reads files.old).faults (F.reads files.new).faults → ⊥) → (Rose (K.faults out.old) (K.faults out.new) → ⊥)
-        → ((result ≡ 2) × (K.written out.new ≡ append_known (K.written out.old) line)) ⊎ (result ≡ 5) }
+    // And where the call is to be refused and no read may have failed, that is told, unless memory runs out.
+    ensures stays_refused { (from : Source) (line : List ℕ) → IsCallRefusal (map string_bytes words.now) from (F.holds files.old) (F.reads files.old) (F.reads files.new) line
+        → (MayHaveFailed from (F.reads files.old) (F.reads files.new) → ⊥) → (Rose (K.faults out.old) (K.faults out.new) → ⊥)
+        → ((result ≡ 2) × Appends (K.written out.old) (K.written out.new) line) ⊎ (result ≡ 5) }
+
+    // Where the reads are told, those of this call gave the texts of which statuses 0, 1 and 3 speak, and as much as a refusal rests on.
+    ensures given { (earlier : List FileRead) → (F.reads files.old).told ≡ Some earlier
+        → HaveGiven (map string_bytes words.now) (F.holds files.old) (F.reads files.old) (F.reads files.new) result }
+
+    // Of a made pair no file is read, and none is blamed.
+    ensures reads_nothing { (m : MadePair) → made_asked (map string_bytes words.now) ≡ Some m → (F.reads files.new ≡ F.reads files.old) × (result ≡ 4 → ⊥) }
 
     // What the files hold stays, and a file or the sink is blamed only where a failure was counted in this call.
     ensures kept { (n : List ℕ) → F.holds files.new n ≡ F.holds files.old n }
@@ -180,6 +195,7 @@ pub fn run<F: Files, K: Sink>(alloc: Global, words: &[String], files: &mut F, ou
     answers_are_meant();
     refutations_are_answered();
     calls_are_refused();
+    answered_have_given();
     let Ok(answer) = answer(alloc, words, files) else {
         return 5;
     };

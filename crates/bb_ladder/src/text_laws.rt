@@ -3,6 +3,7 @@
 
 ghost use Rattle.bb_ladder.specs.Answers.{AnswersSpeakOfTexts};
 ghost use Rattle.bb_ladder.specs.CallRefusals.{CallRefusalsAreOne, RefusalsAreTold, RefusedCallsAreTold};
+ghost use Rattle.bb_ladder.specs.GivenTexts.{AnsweredHaveGiven};
 ghost use Rattle.bb_ladder.specs.ShownMistakes.{ErrorsAreShown};
 ghost use Rattle.bb_ladder.specs.TextAnswers.{ErrorsRefute, RepairsFinish, OpenAnswersLeaveOpen, DecidedAreAnswered, LeftOpenAreAnswered, JudgedRefusalsAreFirst, RefusedAreAnsweredOnce, ReportsAreOne, StatusesAreOne};
 ghost use Rattle.bb_ladder.specs.TextPairs.{DesignsAreAllowed, NotPairAndRefusal, RefusalsAreOne, TextPairsAreAlike};
@@ -114,7 +115,7 @@ pub fn reports_are_one()
     alike_reports_are_one();
 }
 
-/// An answer speaks of the texts that the files hold as its status says, also where a front of it alone is written.
+/// An answer speaks of the texts, held or given, as its status says, also where a front of it alone is written.
 pub fn answers_speak_of_texts()
     ensures { AnswersSpeakOfTexts }
 {
@@ -122,7 +123,7 @@ pub fn answers_speak_of_texts()
     answers_are_meant();
 }
 
-/// A call has at most one first refusal. Status 2 tells it, and it is told unless a failed read was counted.
+/// A call has at most one first refusal. Status 2 tells it, and it is told unless a read may have failed.
 pub fn calls_are_refused()
     ensures once { CallRefusalsAreOne }
     ensures refusals { RefusalsAreTold }
@@ -132,4 +133,11 @@ pub fn calls_are_refused()
     refusals_are_one();
     answers_are_meant();
     refutations_are_answered();
+}
+
+/// Where the reads are told, those of a call gave the texts of which its answer speaks.
+pub fn answered_have_given()
+    ensures { AnsweredHaveGiven }
+{
+    words_ask_once();
 }

@@ -1,12 +1,13 @@
 //! What the words of the command line ask for, with names of modules that outlive them.
 
 ghost use Rattle.std.specs.Prelude.{◌≡◌, ◌⊎◌, map, option_copied, string_bytes, IfErr, IfOk, None};
-ghost use Rattle.bb_words.specs.Asked.{request_of, rup_asked};
+ghost use Rattle.bb_words.specs.Asked.{made_asked, request_of, rup_asked};
 ghost use Rattle.bb_ladder.specs.Answers.{question, question_of};
-ghost use Rattle.bb_ladder.specs.Tasks.{AskTask, IsBounded};
+ghost use Rattle.bb_ladder.specs.Tasks.{AskCall, HasBounds};
 
 use crate::asked::Asked;
 use bb_bits::{Name, NoMemory};
+use bb_rungs::Options;
 use bb_words::{Asked as WordsAsked, Wanted, WordsFault, read_words};
 use std::alloc::Global;
 
@@ -25,6 +26,15 @@ pub struct Question<'a> {
     pub spec: &'a str,
     pub imp: &'a str,
     pub task: Task,
+}
+
+/// What a call does.
+#[derive(Debug, Drop)]
+pub enum Call<'a> {
+    /// Two files are read, and their texts are compared or checked.
+    Files(Question<'a>),
+    /// A pair is made, of adders of `n` bits, and its texts are compared.
+    Made { n: u32, options: Options },
 }
 
 // The name of a top, if one is given.
@@ -67,18 +77,19 @@ fn comparison<'a>(alloc: Global, asked: &WordsAsked<'a>) -> Result<Question<'a>,
 ///
 /// `Usage` where the words are not of the command's form, and want of memory.
 #[tactic(auto, using(crate::proofs::TaskLemmas::asks_comparison, crate::proofs::TaskLemmas::comparison_bounded, crate::proofs::TaskLemmas::no_question))]
-pub fn question_of<'a>(alloc: Global, words: &'a [String]) -> Result<Question<'a>, WordsFault>
-    ensures question { IfOk result (λ q. AskTask (map string_bytes words.entry.now) q.spec.now q.imp.now q.task) }
-    ensures bounds { IfOk result (λ q. IsBounded q.task) }
+pub fn call_of<'a>(alloc: Global, words: &'a [String]) -> Result<Call<'a>, WordsFault>
+    ensures call { IfOk result (AskCall (map string_bytes words.entry.now)) }
+    ensures bounds { IfOk result HasBounds }
     ensures usage { IfErr result (λ fault. (fault ≡ WordsFault.NoMemory) ⊎ ((fault ≡ WordsFault.Usage) × (question_of (map string_bytes words.entry.now) ≡ None)
-        × (rup_asked (map string_bytes words.entry.now) ≡ None))) }
+        × (made_asked (map string_bytes words.entry.now) ≡ None) × (rup_asked (map string_bytes words.entry.now) ≡ None))) }
 {
     match read_words(alloc, words)? {
-        Wanted::Comparison(asked) => Ok(comparison(alloc, &asked)?),
-        Wanted::Refutation { cnf, adds } => Ok(Question {
+        Wanted::Comparison(asked) => Ok(Call::Files(comparison(alloc, &asked)?)),
+        Wanted::MadePair { n, options } => Ok(Call::Made { n, options }),
+        Wanted::Refutation { cnf, adds } => Ok(Call::Files(Question {
             spec: cnf,
             imp: adds,
             task: Task::Refutation,
-        }),
+        })),
     }
 }

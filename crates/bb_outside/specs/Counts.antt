@@ -1,6 +1,8 @@
 -- Counts that are kept in a 64-bit number. A count goes up by one at a time and stays at its last value,
 -- 2^64 - 1. So a count that stands there at the end of a call may have been raised in it.
-use Rattle.std.specs.Prelude.{◌≡◌, ◌⊎◌, ◌↔◌, ℕ, ◌+◌, ◌-◌, ◌^◌, ◌<◌, ◌≤◌, min, Bool, true, false, List, [], ◌∷◌, ◌++◌, Option, Some, None, option_map, IfSome, Result, Ok, Err}
+use Rattle.std.specs.Prelude.{◌≡◌, ◌⊎◌, ◌↔◌, ℕ, ◌+◌, ◌-◌, ◌^◌, ◌<◌, ◌≤◌, min, List, [], ◌∷◌, ◌++◌, Option, Some, None, option_map, IfSome, Result, Ok, Err, Vec}
+use Rattle.std.specs.declared.alloc.Global.{Global}
+use Rattle.std.specs.declared.rc.Rc.{Rc}
 use Rattle.bb_outside.specs.declared.files.FileFault.{FileFault}
 use Rattle.bb_outside.specs.declared.files.FileFault.TheVariants.{Failed, NoMemory}
 
@@ -20,21 +22,25 @@ CountsWhere failed before now = (failed → now ≡ next_count before) × ((fail
 abbrev pub RoseIsGrowth : Type 0
 RoseIsGrowth = (before now : ℕ) → before ≤ now → now < 2 ^ 64 → Rose before now ↔ ((before < now) ⊎ (now ≡ 2 ^ 64 - 1))
 
--- whether a read failed; None where memory was wanting, since a list of the reads may not have found room either
-abbrev pub outcome_of : {A : Type 0} → Result A FileFault → Option Bool
-outcome_of (Ok bytes) = Some false
-outcome_of (Err Failed) = Some true
+-- a read: the name of its file, and the bytes that it gave, or None where it failed
+pub record FileRead : Type 0 where
+  pub name : List ℕ
+  pub gave : Option (List ℕ)
+
+-- what a read gave; None where memory was wanting, since a list of the reads may not have found room either
+abbrev pub outcome_of : Result (Rc (Vec ℕ Global) Global) FileFault → Option (Option (List ℕ))
+outcome_of (Ok bytes) = Some (Some bytes.value.items)
+outcome_of (Err Failed) = Some None
 outcome_of (Err NoMemory) = None
 
--- what is known of the reads so far: how many there were and how many of them failed, and, where it is told, of which name each
--- was and whether it failed, in their order
+-- what is known of the reads so far: how many there were and how many of them failed, and, where it is told, the reads in their order
 pub record Reads : Type 0 where
   pub count : ℕ
   pub faults : ℕ
-  pub told : Option (List (List ℕ × Bool))
+  pub told : Option (List FileRead)
 
--- from before to after there was one read of the file of this name, which failed or not; after want of memory what is told is left open
-pub record IsRead (before after : Reads) (name : List ℕ) (outcome : Option Bool) : Type 0 where
+-- from before to after there was one read of the file of this name, which gave bytes or failed; after want of memory what is told is left open
+pub record IsRead (before after : Reads) (name : List ℕ) (outcome : Option (Option (List ℕ))) : Type 0 where
   pub counted : after.count ≡ next_count before.count
-  pub told : IfSome outcome (λ failed. after.told ≡ option_map (λ told. told ++ (name, failed) ∷ []) before.told)
+  pub told : IfSome outcome (λ gave. after.told ≡ option_map (λ told. told ++ record { name = name; gave = gave } ∷ []) before.told)
   pub later : before.faults ≤ after.faults

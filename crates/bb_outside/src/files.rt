@@ -4,6 +4,7 @@ ghost use Rattle.bb_outside.specs.declared.files.FileFault.TheVariants.{NoMemory
 ghost use Rattle.bb_outside.specs.Counts.{IsRead, Reads, Rose, outcome_of};
 
 use std::alloc::{AllocError, AllocFailed, Global};
+use std::rc::Rc;
 
 /// Why a read gave no bytes.
 #[derive(Clone, Copy, Debug, PartialEq, Eq)]
@@ -36,14 +37,16 @@ pub trait Files {
     ghost holds: { Self → List ℕ → Option (List ℕ) };
 
     /// How many reads there were so far, how many of them failed, each up to the last 64-bit number, and of which name
-    /// each was and whether it failed, where the object tells it. What it tells after a read that found no memory is left open.
+    /// each was and the bytes that it gave or that it failed, where the object tells it. What it tells after a read that found no memory
+    /// is left open.
     ghost reads: { Self → Reads };
 
-    /// The first `limit` bytes of the file of this name, or all where there are fewer.
-    fn read(&mut self, alloc: Global, name: &str, limit: u64) -> Result<Vec<u8>, FileFault>
-        ensures within { IfOk result (λ bytes. vec_len bytes ≤ limit) }
+    /// The first `limit` bytes of the file of this name, or all where there are fewer. They are shared, so that who keeps what was read
+    /// needs no copy.
+    fn read(&mut self, alloc: Global, name: &str, limit: u64) -> Result<Rc<Vec<u8>>, FileFault>
+        ensures within { IfOk result (λ bytes. vec_len bytes.value ≤ limit) }
         ensures bytes { IfOk result (λ bytes. IfSome (holds self.old name.now)
-            (λ held. bytes.items ≡ take limit held)) }
+            (λ held. bytes.value.items ≡ take limit held)) }
 
         // What is held stays as it is, and each call is one read of this name, whatever it answers.
         ensures holds { (n : List ℕ) → holds self.new n ≡ holds self.old n }

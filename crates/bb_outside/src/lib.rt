@@ -1,9 +1,10 @@
 //! What lies outside: files that are read and a sink that takes the report. Each is a trait whose clauses
 //! speak of what is held or was written and of counts of failures; one pair of types keeps everything in
-//! memory and says exactly what it does, another is the real file system and standard output.
+//! memory and says exactly what it does, another is the real file system and standard output. A wrapper keeps what files gave.
 #![tactic(auto)]
 
 mod files;
+mod kept_files;
 mod laws;
 mod mem_files;
 mod mem_sink;
@@ -12,6 +13,7 @@ mod std_files;
 mod std_out;
 
 pub use files::{FileFault, Files};
+pub use kept_files::{KeptFiles, KeptRead};
 pub use laws::{first_of_the_name_counts, rose_is_growth};
 pub use mem_files::MemFiles;
 pub use mem_sink::{MemSink, Take};

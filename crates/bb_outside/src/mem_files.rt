@@ -6,6 +6,7 @@ ghost use Rattle.bb_outside.specs.MemFiles.{text_under, is_failing, after_read, 
 use crate::{FileFault, Files};
 use std::alloc::Global;
 use std::marker::Model;
+use std::rc::Rc;
 
 /// Files in memory. Looking up an unknown name gives the empty text, and of files with one name the first is found.
 #[derive(Debug, Drop)]
@@ -55,9 +56,9 @@ impl Files for MemFiles {
 
     ghost reads = { reads_of };
 
-    fn read(&mut self, alloc: Global, name: &str, limit: u64) -> Result<Vec<u8>, FileFault>
-        ensures within { IfOk result (λ bytes. vec_len bytes ≤ limit) }
-        ensures bytes { IfOk result (λ bytes. bytes.items ≡ take limit (text_under self.old.files name.now)) }
+    fn read(&mut self, alloc: Global, name: &str, limit: u64) -> Result<Rc<Vec<u8>>, FileFault>
+        ensures within { IfOk result (λ bytes. vec_len bytes.value ≤ limit) }
+        ensures bytes { IfOk result (λ bytes. bytes.value.items ≡ take limit (text_under self.old.files name.now)) }
 
         // It fails exactly where the number of the call is in the list. Only the counts change.
         ensures fails { IsErrOf result FileFault.Failed ↔ Contains self.old.failing self.old.reads }
@@ -76,6 +77,7 @@ impl Files for MemFiles {
         }
         let text = text(&self.files, name);
         let end = text.len().min(limit as usize);
-        Ok(text[..end].to_vec(alloc)?)
+        let bytes = text[..end].to_vec(alloc)?;
+        Ok(Rc::new(alloc, bytes)?)
     }
 }

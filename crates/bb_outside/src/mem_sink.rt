@@ -1,6 +1,6 @@
 //! A sink in memory, which takes and fails by a plan.
 ghost use Rattle.std.specs.Prelude.{◌≡◌, ◌<◌, ◌≤◌, take, ◌+◌, ◌↔◌, [], ◌++◌, Some, max, length, drop, IfOk, OnOk, OnErr, IsOk, IsErr, vec_len, vec_capacity};
-ghost use Rattle.std.specs.Io.KnownBytes.{append_known};
+ghost use Rattle.std.specs.Io.KnownBytes.{WriteAppends};
 ghost use Rattle.bb_outside.specs.Counts.{Rose};
 ghost use Rattle.bb_outside.specs.MemSink.{wanted, Refuses, after_put, after_refusal};
 
@@ -119,8 +119,7 @@ impl Sink for MemSink {
         // What a caller over any sink sees.
         ensures at_most { IfOk result (λ n. n ≤ length piece.now) }
         ensures at_least { 0 < length piece.now → IfOk result (λ n. 1 ≤ n) }
-        ensures ok { IfOk result (λ n. Some self.new.bytes ≡ append_known (Some self.old.bytes) (take n piece.now)) }
-        ensures err { OnErr result (Some self.new.bytes ≡ Some self.old.bytes) }
+        ensures bytes { WriteAppends (Some self.old.bytes) (Some self.new.bytes) result piece.now }
         ensures never_falls { self.old.faults ≤ self.new.faults }
         ensures failed { OnErr result (Rose self.old.faults self.new.faults) }
     {

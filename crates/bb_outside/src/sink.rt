@@ -1,6 +1,6 @@
 //! A sink that takes bytes in pieces.
-ghost use Rattle.std.specs.Prelude.{◌≡◌, ◌<◌, ◌≤◌, ℕ, Option, List, length, take, IfOk, OnOk, OnErr};
-ghost use Rattle.std.specs.Io.KnownBytes.{append_known};
+ghost use Rattle.std.specs.Prelude.{◌<◌, ◌≤◌, ℕ, Option, List, length, take, IfOk, OnOk, OnErr};
+ghost use Rattle.std.specs.Io.KnownBytes.{Appends, WriteAppends};
 ghost use Rattle.bb_outside.specs.Counts.{Rose};
 
 /// The sink took nothing.
@@ -19,8 +19,7 @@ pub trait Sink {
     fn put(&mut self, piece: &[u8]) -> Result<usize, Failed>
         ensures at_most { IfOk result (λ n. n ≤ length piece.now) }
         ensures at_least { 0 < length piece.now → IfOk result (λ n. 1 ≤ n) }
-        ensures ok { IfOk result (λ n. written self.new ≡ append_known (written self.old) (take n piece.now)) }
-        ensures err { OnErr result (written self.new ≡ written self.old) }
+        ensures bytes { WriteAppends (written self.old) (written self.new) result piece.now }
 
         // A failure is told only where one was counted in this call.
         ensures never_falls { faults self.old ≤ faults self.new }
@@ -29,9 +28,8 @@ pub trait Sink {
 
 /// Writes the whole piece, or a front of it that is shorter where the sink fails.
 pub fn put_all<K: Sink>(out: &mut K, piece: &[u8]) -> Result<(), Failed>
-    ensures ok { OnOk result (K.written out.new ≡ append_known (K.written out.old) piece.now) }
-    ensures err { OnErr result ((n : ℕ) × (n < length piece.now)
-        × (K.written out.new ≡ append_known (K.written out.old) (take n piece.now))) }
+    ensures ok { OnOk result (Appends (K.written out.old) (K.written out.new) piece.now) }
+    ensures err { OnErr result ((n : ℕ) × (n < length piece.now) × Appends (K.written out.old) (K.written out.new) (take n piece.now)) }
 
     // A failure is told only where one was counted in this call.
     ensures never_falls { K.faults out.old ≤ K.faults out.new }

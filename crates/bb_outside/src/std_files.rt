@@ -6,6 +6,7 @@ use crate::{FileFault, Files};
 use std::alloc::Global;
 use std::io::Read;
 use std::marker::Model;
+use std::rc::Rc;
 use std::{fs, io, rt};
 
 // How many bytes one read of a file asks for at most.
@@ -83,8 +84,8 @@ impl<R: rt::Files + Drop> Files for StdFiles<R> {
 
     ghost reads = { λ s. s };
 
-    fn read(&mut self, alloc: Global, name: &str, limit: u64) -> Result<Vec<u8>, FileFault>
-        ensures within { IfOk result (λ bytes. vec_len bytes ≤ limit) }
+    fn read(&mut self, alloc: Global, name: &str, limit: u64) -> Result<Rc<Vec<u8>>, FileFault>
+        ensures within { IfOk result (λ bytes. vec_len bytes.value ≤ limit) }
 
         // A failure is counted where it is told, and only there.
         ensures counted { CountsWhere (IsErrOf result FileFault.Failed) self.old.faults self.new.faults }
@@ -94,10 +95,13 @@ impl<R: rt::Files + Drop> Files for StdFiles<R> {
         ensures failed { IsErrOf result FileFault.Failed → Rose self.old.faults self.new.faults }
     {
         self.reads = self.reads.saturating_add(1);
-        let answer = read_opened(alloc, fs::open(&self.files, name), limit);
-        if let Err(FileFault::Failed) = answer {
-            self.faults = self.faults.saturating_add(1);
+        match read_opened(alloc, fs::open(&self.files, name), limit) {
+            Ok(bytes) => Ok(Rc::new(alloc, bytes)?),
+            Err(FileFault::Failed) => {
+                self.faults = self.faults.saturating_add(1);
+                Err(FileFault::Failed)
+            }
+            Err(FileFault::NoMemory) => Err(FileFault::NoMemory),
         }
-        answer
     }
 }

@@ -1,5 +1,5 @@
 //! Standard output.
-ghost use Rattle.std.specs.Prelude.{◌≡◌, ◌<◌, ◌≤◌, length, None, IfOk, IsErr, OnErr};
+ghost use Rattle.std.specs.Prelude.{◌≡◌, ◌<◌, ◌≤◌, length, IfOk, IsErr, OnErr};
 ghost use Rattle.std.specs.Io.KnownBytes.{WriteAppends};
 ghost use Rattle.bb_outside.specs.Counts.{CountsWhere, Rose};
 
@@ -7,7 +7,7 @@ use crate::{Failed, Sink};
 use std::io::Write;
 use std::marker::Model;
 
-/// A stream that bytes are written to, as standard output. It tells nothing of what was written.
+/// A stream that bytes are written to, as standard output. It tells what the stream tells of what was written.
 #[derive(Drop)]
 pub struct StdOut<W: Write + Drop> {
     stream: W,
@@ -32,21 +32,19 @@ impl<W: Write + Drop> StdOut<W> {
 }
 
 impl<W: Write + Drop> Sink for StdOut<W> {
-    ghost written = { λ _. None };
+    ghost written = { λ s. s.held };
 
     ghost faults = { λ s. s.faults };
 
     // A write that takes nothing of a piece is a failure, since it would never end.
     fn put(&mut self, piece: &[u8]) -> Result<usize, Failed>
-        // Where the stream tells what it holds, it has got the front of the piece that is answered, and nothing at a failure.
-        ensures stream { WriteAppends self.old.held self.new.held result piece.now }
-
         // A failure is counted where it is told, and only there.
         ensures counted { CountsWhere (IsErr result) self.old.faults self.new.faults }
 
         // What a caller over any sink sees.
         ensures at_most { IfOk result (λ n. n ≤ length piece.now) }
         ensures at_least { 0 < length piece.now → IfOk result (λ n. 1 ≤ n) }
+        ensures bytes { WriteAppends self.old.held self.new.held result piece.now }
         ensures never_falls { self.old.faults ≤ self.new.faults }
         ensures failed { OnErr result (Rose self.old.faults self.new.faults) }
     {

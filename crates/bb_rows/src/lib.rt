@@ -9,6 +9,10 @@ mod expansion_tests;
 mod fault_tests;
 #[cfg(test)]
 mod finish_tests;
+#[cfg(test)]
+mod kept_tests;
+#[cfg(test)]
+mod making_tests;
 mod memory;
 #[cfg(test)]
 mod option_tests;
@@ -18,9 +22,6 @@ mod outside_tests;
 mod pair_tests;
 #[cfg(test)]
 mod pairs;
-mod recording;
-#[cfg(test)]
-mod recording_tests;
 #[cfg(test)]
 mod refutation_tests;
 #[cfg(test)]
@@ -29,4 +30,3 @@ mod row_tests;
 mod tests;
 
 pub use memory::{Outcome, run_in_memory};
-pub use recording::{NamedRead, RecordingFiles};

@@ -1,9 +1,9 @@
 //! One run of the top call over two texts in memory.
 ghost use Rattle.std.specs.Prelude.{◌≡◌, ◌<◌, ◌≤◌, ◌∷◌, [], ℕ, List, length, take, map, codes, string_bytes, IfOk};
-ghost use Rattle.bb_ladder.specs.Answers.{AreTexts, Question, question};
-ghost use Rattle.bb_ladder.specs.CallRefusals.{IsCallRefusal};
+ghost use Rattle.bb_ladder.specs.Answers.{IsReport, question};
+ghost use Rattle.bb_ladder.specs.declared.asked.Asked.{Asked};
 ghost use Rattle.bb_ladder.specs.TextPairs.{AreFinished, AreLeftOpen, AreRefuted};
-ghost use Rattle.bb_rows.specs.Memory.{MayTell, holds};
+ghost use Rattle.bb_rows.specs.Memory.{AreNamed, IsRefusedSo, MayTell};
 ghost use Rattle.bb_words.specs.Laws.{files_alone};
 
 use bb_ladder::run;
@@ -84,16 +84,16 @@ pub fn run_in_memory(
 
     // The design is reported as repairable only with tables whose contents make the two agree, an error only where no contents of the boxes
     // do, and the question is left open only where each check that the words ask for leaves it open.
-    ensures repairable { IfOk result (λ outcome. outcome.status ≡ 0 → (q : Question) (s i : List ℕ)
-        → AreTexts (map (λ text. text.now) texts.now) (holds spec.now imp.now) q s i → AreFinished q.asked s i outcome.report.items) }
-    ensures error { IfOk result (λ outcome. outcome.status ≡ 1 → (q : Question) (s i : List ℕ)
-        → AreTexts (map (λ text. text.now) texts.now) (holds spec.now imp.now) q s i → AreRefuted q.asked s i) }
-    ensures left_open { IfOk result (λ outcome. outcome.status ≡ 3 → (q : Question) (s i : List ℕ)
-        → AreTexts (map (λ text. text.now) texts.now) (holds spec.now imp.now) q s i → AreLeftOpen q.asked s i) }
+    ensures repairable { IfOk result (λ outcome. outcome.status ≡ 0 → (asked : Asked) (s i : List ℕ)
+        → AreNamed (map (λ text. text.now) texts.now) spec.now imp.now asked s i → IsReport AreFinished (map (λ text. text.now) texts.now) asked s i outcome.report.items) }
+    ensures error { IfOk result (λ outcome. outcome.status ≡ 1 → (asked : Asked) (s i : List ℕ)
+        → AreNamed (map (λ text. text.now) texts.now) spec.now imp.now asked s i → AreRefuted asked s i) }
+    ensures left_open { IfOk result (λ outcome. outcome.status ≡ 3 → (asked : Asked) (s i : List ℕ)
+        → AreNamed (map (λ text. text.now) texts.now) spec.now imp.now asked s i → AreLeftOpen asked s i) }
 
     // A refusal tells the first thing for which the call is refused.
     ensures refused { IfOk result (λ outcome. outcome.status ≡ 2
-        → IsCallRefusal (map (λ text. text.now) texts.now) (holds spec.now imp.now) outcome.report.items) }
+        → IsRefusedSo (map (λ text. text.now) texts.now) spec.now imp.now outcome.report.items) }
 
     // So it is where the words are the two names.
     ensures refuted { IfOk result (λ outcome. outcome.status ≡ 1 → (program : List ℕ)

@@ -1,9 +1,11 @@
 //! Files and sinks, in memory and of the system.
 use bb_outside::{
-    Failed, FileFault, Files, MemFiles, MemSink, Sink, StdFiles, StdOut, Take, put_all,
+    Failed, FileFault, Files, KeptFiles, KeptRead, MemFiles, MemSink, Sink, StdFiles, StdOut, Take,
+    put_all,
 };
 use std::alloc::Global;
 use std::fs;
+use std::process::Abort;
 use std::test::Fail;
 
 fn held(alloc: Global) -> Result<Vec<(String, Vec<u8>)>, Fail> {
@@ -58,27 +60,31 @@ fn a_sink_in_memory_follows_its_plan(rt: HostRuntime) -> Result<(), Fail> {
     Ok(())
 }
 
+// Compares what reads gave that were kept.
+fn expect_kept<R: Abort>(rt: &R, reads: &[KeptRead], want: &[Option<&str>]) {
+    assert_eq!(rt; reads.len(), want.len());
+    for (found, gave) in reads.iter().zip(want) {
+        let bytes = found.gave.as_ref().map(|bytes| bytes.as_slice());
+        assert_eq!(rt; bytes, gave.map(|text| text.as_bytes()));
+    }
+}
+
 #[test]
-fn a_real_file_is_read_up_to_the_limit(rt: HostRuntime) -> Result<(), Fail> {
+fn a_real_file_is_read_up_to_the_limit_and_kept(rt: HostRuntime) -> Result<(), Fail> {
     let alloc = rt.alloc();
     let path = "bb_outside_read_test.txt";
     fs::write(&rt, path, "module top;")?;
-    let mut files = StdFiles::new(rt);
+    let mut files = KeptFiles::new(alloc, StdFiles::new(rt));
     let whole = files.read(alloc, path, 100);
     let front = files.read(alloc, path, 6);
     fs::remove_file(&rt, path)?;
     let missing = files.read(alloc, path, 100);
     let directory = files.read(alloc, ".", 100);
-    assert_eq!(rt;
-        whole.ok().unwrap_or(Vec::new(alloc)).as_slice(),
-        b"module top;".as_slice()
-    );
-    assert_eq!(rt;
-        front.ok().unwrap_or(Vec::new(alloc)).as_slice(),
-        b"module".as_slice()
-    );
+    assert!(rt; whole.is_ok() && front.is_ok());
     assert_eq!(rt; missing.err(), Some(FileFault::Failed));
     assert_eq!(rt; directory.err(), Some(FileFault::Failed));
+    let want = [Some("module top;"), Some("module"), None, None];
+    expect_kept(&rt, files.reads(), &want);
     Ok(())
 }
 

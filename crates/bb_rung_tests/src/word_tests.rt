@@ -48,11 +48,19 @@ fn tell(out: &mut String, asked: &Asked<'_>) -> Result<(), AllocError> {
     tell_bounds(out, &asked.options)
 }
 
+// The width of a made pair, and the checks.
+fn tell_pair(out: &mut String, n: u32, options: &Options) -> Result<(), AllocError> {
+    write!(out, "make {n} ")?;
+    tell_checks(out, options)?;
+    tell_bounds(out, options)
+}
+
 // What is told of words.
 fn told(alloc: Global, words: &[String]) -> Result<String, AllocError> {
     let mut out = String::new(alloc);
     match read_words(alloc, words) {
         Ok(Wanted::Comparison(asked)) => tell(&mut out, &asked)?,
+        Ok(Wanted::MadePair { n, options }) => tell_pair(&mut out, n, &options)?,
         Ok(Wanted::Refutation { cnf, adds }) => write!(out, "rup {cnf} {adds}")?,
         Err(WordsFault::Usage) => out.push_str("refused")?,
         Err(WordsFault::NoMemory) => out.push_str("no memory")?,
@@ -104,7 +112,6 @@ bbeq a b -h => refused
 bbeq a b --help => refused
 bbeq a b -V => refused
 bbeq a b --version => refused
-bbeq a b --make 1 => refused
 bbeq a b --node 1 => refused
 bbeq a b --spec a => refused
 bbeq a b -s 1 => refused
@@ -227,9 +234,51 @@ bbeq a b --rup --seed 1 => refused
 bbeq a b --rup --nodes 1000000 => refused
 bbeq a b --rup --clauses=2000000 => refused
 bbeq a b --rup --cache 65536 => refused
+bbeq a b --rup --make 4 => refused
 bbeq a b --rup --nodes x => refused";
 
 #[test]
 fn refutations_are_asked_for_alone(rt: HostRuntime) -> Result<(), Fail> {
     rows(&rt, rt.alloc(), REFUTING)
+}
+
+const MAKING: &str = "\
+// a width from 1 to 256, as the next word or behind an equals sign
+bbeq --make 1 => make 1 ternary expand false 32 1 1000000 2000000 65536 false
+bbeq --make=256 => make 256 ternary expand false 32 1 1000000 2000000 65536 false
+bbeq --make 004 => make 4 ternary expand false 32 1 1000000 2000000 65536 false
+bbeq --make 00000000000000000009 => make 9 ternary expand false 32 1 1000000 2000000 65536 false
+// with each option of the checks
+bbeq --from expand --make 4 --proof => make 4 expand expand false 32 1 1000000 2000000 65536 true
+bbeq --all --make 4 --to output --patterns 0 --seed 2 => make 4 ternary output true 0 2 1000000 2000000 65536 false
+bbeq --nodes 5 --clauses 6 --cache 7 --make 4 => make 4 ternary expand false 32 1 5 6 7 false
+// no number, or none within the bounds
+bbeq --make => refused
+bbeq --make= => refused
+bbeq --make  => refused
+bbeq --make 0 => refused
+bbeq --make 257 => refused
+bbeq --make -1 => refused
+bbeq --make=-1 => refused
+bbeq --make +1 => refused
+bbeq --make 4294967297 => refused
+bbeq --make 000000000000000000001 => refused
+bbeq --make four => refused
+// twice
+bbeq --make 4 --make 4 => refused
+// beside a file, an empty one too, a top, or a refutation
+bbeq --make 4 a => refused
+bbeq a b --make 4 => refused
+bbeq --make 4 -- a => refused
+bbeq --make 4  => refused
+bbeq --make 4 --top-spec add => refused
+bbeq --make 4 --top-impl=add => refused
+bbeq --make 4 --rup => refused
+// with another option out of its bounds
+bbeq --make 4 --from output --to local => refused
+bbeq --make 4 --seed 0 => refused";
+
+#[test]
+fn made_pairs_are_asked_for_alone(rt: HostRuntime) -> Result<(), Fail> {
+    rows(&rt, rt.alloc(), MAKING)
 }

@@ -10,6 +10,8 @@ mod fault_tests;
 #[cfg(test)]
 mod lex_tests;
 #[cfg(test)]
+mod make_tests;
+#[cfg(test)]
 mod parse_tests;
 #[cfg(test)]
 mod reading;

@@ -4,3 +4,6 @@ pub mod OnceLemmas
 pub mod PlainLemmas
 pub mod WithinLemmas
 pub mod RungNames
+pub mod WalkedWords
+pub mod MadeWords
+pub mod JoinedWords

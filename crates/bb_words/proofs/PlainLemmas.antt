@@ -7,18 +7,18 @@ use Rattle.clap.specs.Words.{Text, fault_of}
 use Rattle.clap.specs.Walk.{Names, Walk, finished, idle, is_empty, nothing_held, reading_by, settled, walk, walk_from, walked}
 use Rattle.clap.specs.Kinds.{Kinds, or_else}
 use Rattle.clap.specs.declared.parser.matches.ValueSource.TheVariants.{CommandLine}
-use Rattle.bb_words.specs.Asked.{AskNothing, asked, asked_comparison, asked_refutation}
+use Rattle.bb_words.specs.Asked.{AskNothing, asked, asked_comparison, asked_made, asked_refutation}
 use Rattle.bb_words.specs.Laws.{FewWordsAskForNothing, PlainWordsAreFiles, files_alone, is_plain}
 use Rattle.bb_words.specs.Commands.{command, found_in, is_taken, positional}
 
-abbrev shape : Shape
+abbrev pub shape : Shape
 shape = (built command).top
 
-abbrev names : Names
+abbrev pub names : Names
 names = names_of (built command)
 
 -- after the first word, and after both
-abbrev first_held : Text → Walk
+abbrev pub first_held : Text → Walk
 first_held spec = record {
   held = record { rows = []; pending = Some (codes "SPEC", spec ∷ []); skip = 0 };
   waiting = idle;
@@ -27,7 +27,7 @@ first_held spec = record {
   stopped = None;
 }
 
-abbrev both_held : Text → Text → Walk
+abbrev pub both_held : Text → Text → Walk
 both_held spec imp = record {
   held = record {
     rows = record { id = codes "SPEC"; values = spec ∷ []; count = None; source = Some CommandLine; reading = reading_by (positional (codes "SPEC")) } ∷ [];
@@ -41,7 +41,7 @@ both_held spec imp = record {
 }
 
 -- what may be wrong with words, by the walk over them
-abbrev faults_by : Walk → Kinds → Kinds
+abbrev pub faults_by : Walk → Kinds → Kinds
 faults_by end walked_fault =
     let stop = entered (built command) end.stopped in
     or_else walked_fault
@@ -50,19 +50,19 @@ faults_by end walked_fault =
     (check_fault shape (finished shape.rules end.held) (is_some stop)))))
 
 module _ (x : ℕ) (xs : List ℕ) (plain : (x == 45) ≡ false) where
-  first_turn : turn_fault shape names (walk_from nothing_held) (x ∷ xs) ≡ []
+  pub first_turn : turn_fault shape names (walk_from nothing_held) (x ∷ xs) ≡ []
   unfolding clap_on_literals
   first_turn = rw (plain, plain) refl
 
-  first_walked : walked shape.rules names (walk_from nothing_held) (x ∷ xs) ≡ first_held (x ∷ xs)
+  pub first_walked : walked shape.rules names (walk_from nothing_held) (x ∷ xs) ≡ first_held (x ∷ xs)
   unfolding clap_on_literals
   first_walked = rw (plain, plain) refl
 
-  second_turn : (spec : Text) → turn_fault shape names (first_held spec) (x ∷ xs) ≡ []
+  pub second_turn : (spec : Text) → turn_fault shape names (first_held spec) (x ∷ xs) ≡ []
   unfolding clap_on_literals
   second_turn spec = rw (plain, plain) refl
 
-  second_walked : (spec : Text) → walked shape.rules names (first_held spec) (x ∷ xs) ≡ both_held spec (x ∷ xs)
+  pub second_walked : (spec : Text) → walked shape.rules names (first_held spec) (x ∷ xs) ≡ both_held spec (x ∷ xs)
   unfolding clap_on_literals
   second_walked spec = rw (plain, plain) refl
 
@@ -102,7 +102,7 @@ module _ (program : Text) (x y : ℕ) (xs ys : List ℕ) (plain_x : (x == 45) �
   are_files : asked words ≡ Some (files_alone (x ∷ xs) (y ∷ ys))
   are_files = ap₂ (λ t rows. if t then asked_comparison rows else None) taken found ∙ read
 
-no_minus : (b : Bool) → not b ≡ true → b ≡ false
+pub no_minus : (b : Bool) → not b ≡ true → b ≡ false
 no_minus false e = refl
 no_minus true e = cc
 
@@ -120,6 +120,10 @@ module _ (program : Text) (x : ℕ) (xs : List ℕ) (plain_x : (x == 45) ≡ fal
   unfolding clap_on_literals
   one_read = refl
 
+  none_made : asked_made (finished shape.rules (first_held (x ∷ xs)).held) ≡ None
+  unfolding clap_on_literals
+  none_made = refl
+
   no_second_file : asked_refutation (finished shape.rules (first_held (x ∷ xs)).held) ≡ None
   unfolding clap_on_literals
   no_second_file = refl
@@ -131,12 +135,13 @@ module _ (program : Text) (x : ℕ) (xs : List ℕ) (plain_x : (x == 45) ≡ fal
   one_word : AskNothing (program ∷ (x ∷ xs) ∷ [])
   one_word = record {
     comparison = ap (λ rows. if is_taken (program ∷ (x ∷ xs) ∷ []) then asked_comparison rows else None) one_found ∙ either_way _ _ one_read;
+    made = ap (λ rows. if is_taken (program ∷ (x ∷ xs) ∷ []) then asked_made rows else None) one_found ∙ either_way _ _ none_made;
     refutation = ap (λ rows. if is_taken (program ∷ (x ∷ xs) ∷ []) then asked_refutation rows else None) one_found ∙ either_way _ _ no_second_file;
   }
 
 no_words : AskNothing [] × ((program : Text) → AskNothing (program ∷ []))
 unfolding clap_on_literals
-no_words = (record { comparison = refl; refutation = refl }, (λ program. record { comparison = refl; refutation = refl }))
+no_words = (record { comparison = refl; made = refl; refutation = refl }, (λ program. record { comparison = refl; made = refl; refutation = refl }))
 
 pub few_words : FewWordsAskForNothing
 few_words = (no_words.0, no_words.1, one)

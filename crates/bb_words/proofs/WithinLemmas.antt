@@ -1,16 +1,16 @@
 -- Whatever words ask for is within the table of the options.
 use Rattle.std.proofs.Common.{◌≡◌, ◌≢◌, ℕ, ◌≤◌, Bool, true, false, List, [], ◌∷◌, Option, None, Some, if◌then◌else◌, arith, codes, refl, subst}
-use Rattle.std.specs.Prelude.{IfOk, Result, Ok, Err, nat_le}
+use Rattle.std.specs.Prelude.{IfOk, Result, Ok, Err, nat_le, not, option_and_then, ◌&&◌, ◌||◌}
 use Rattle.clap.specs.Words.{Row, first_of}
 use Rattle.bb_options.specs.declared.options.Options.{Options}
 use Rattle.bb_options.specs.declared.rung.Rung.TheVariants.{Ternary, Expand}
 use Rattle.bb_options.specs.Rungs.{AreBounds, rank}
-use Rattle.bb_words.specs.Asked.{Ask, AskNothing, HasBounds, IsWantedBy, Request, asked_comparison, asked_options, asked_refutation, asked_request, file, given, is_refuting, name, request_of, rung_named, top, value_or}
+use Rattle.bb_words.specs.Asked.{Ask, AskNothing, HasBounds, IsWantedBy, MadePair, Request, asked_comparison, asked_made, asked_options, asked_refutation, asked_request, file, given, has_no_files, is_making, is_refuting, name, request_of, rung_named, top, value_or}
 use Rattle.bb_words.specs.Commands.{found_in, is_taken}
 use Rattle.bb_words.specs.declared.asked.Wanted.{Wanted}
 use Rattle.bb_words.specs.declared.asked.Wanted.TheVariants as wanted
 use Rattle.bb_words.specs.declared.asked.WordsFault.{WordsFault}
-use Rattle.bb_words.specs.Laws.{IsWithin, RequestsAreWithin}
+use Rattle.bb_words.specs.Laws.{IsMadeWithin, IsWithin, MadePairsAreWithin, RequestsAreWithin}
 use Rattle.bb_words.specs.Numbers.{number_within}
 
 -- what follows from a value that is there
@@ -76,7 +76,7 @@ request-within found r e =
     })
 
 comparison-some : (found : List Row) (r : Request) → asked_comparison found ≡ Some r → asked_request found ≡ Some r
-comparison-some found r = by (is_refuting found)
+comparison-some found r = by (is_refuting found || is_making found)
   where
     by : (b : Bool) → (if b then None else asked_request found) ≡ Some r → asked_request found ≡ Some r
     by true e = cc
@@ -89,19 +89,40 @@ requests_within words r e = go (is_taken words) e
     go true e = request-within (found_in words) r (comparison-some (found_in words) r e)
     go false e = cc
 
+made-within : (found : List Row) (m : MadePair) → asked_made found ≡ Some m → IsMadeWithin m
+made-within found m e =
+    let width = given-some (option_and_then (number_within 1 256) (first_of (codes "make") found)) _ m e in
+    let text = given-some (first_of (codes "make") found) (number_within 1 256) width.0 width.1 in
+    let options = given-some (asked_options found) _ m width.2 in
+    let bounds = number_within-some 1 256 text.0 width.0 text.2 in
+    subst IsMadeWithin (if-some (not (is_refuting found) && has_no_files found) _ m options.2).1 (record {
+      least = bounds.0;
+      most = bounds.1;
+      bounds = options-within found options.0 options.1;
+    })
+
+pub made_within : MadePairsAreWithin
+made_within words m e = go (is_taken words) e
+  where
+    go : (taken : Bool) → (if taken then asked_made (found_in words) else None) ≡ Some m → IsMadeWithin m
+    go true e = made-within (found_in words) m e
+    go false e = cc
+
 -- so what the code hands over is within the bounds of the checks
 pub handed_within : (words : List (List ℕ)) (r : Result Wanted WordsFault) → IfOk r (Ask words) → IfOk r HasBounds
 handed_within words (Ok (wanted.Comparison a)) asks = (requests_within words (request_of a) asks).bounds
+handed_within words (Ok (wanted.MadePair n options)) asks = let m = made_within words (record { n = n; options = options }) asks in (m.least, m.most, m.bounds)
 handed_within words (Ok (wanted.Refutation cnf adds)) asks = tt
 handed_within words (Err fault) asks = tt
 
 -- what is found in the rows of words that are taken is asked for by them
 pub asks_by_rows : (words : List (List ℕ)) (found : List Row) (w : Wanted) → found ≡ found_in words → is_taken words ≡ true → IsWantedBy found w → Ask words w
 asks_by_rows words found (wanted.Comparison a) same taken is = rw (taken, ← same) is
+asks_by_rows words found (wanted.MadePair n options) same taken is = rw (taken, ← same) is
 asks_by_rows words found (wanted.Refutation cnf adds) same taken is = rw (taken, ← same) is
 
-pub nothing_by_rows : (words : List (List ℕ)) (found : List Row) → found ≡ found_in words → is_taken words ≡ true → asked_comparison found ≡ None → asked_refutation found ≡ None → AskNothing words
-nothing_by_rows words found same taken none neither = record { comparison = rw (taken, ← same) none; refutation = rw (taken, ← same) neither }
+pub nothing_by_rows : (words : List (List ℕ)) (found : List Row) → found ≡ found_in words → is_taken words ≡ true → asked_comparison found ≡ None → asked_made found ≡ None → asked_refutation found ≡ None → AskNothing words
+nothing_by_rows words found same taken none no_pair neither = record { comparison = rw (taken, ← same) none; made = rw (taken, ← same) no_pair; refutation = rw (taken, ← same) neither }
 
 pub nothing_untaken : (words : List (List ℕ)) → is_taken words ≡ false → AskNothing words
-nothing_untaken words not_taken = record { comparison = rw not_taken refl; refutation = rw not_taken refl }
+nothing_untaken words not_taken = record { comparison = rw not_taken refl; made = rw not_taken refl; refutation = rw not_taken refl }

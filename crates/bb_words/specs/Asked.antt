@@ -1,7 +1,7 @@
 -- What the words of a command line ask for: which files are compared and which module is the top of each, which checks are run, and within
--- which bounds; or, with `--rup`, in which files a formula and its refutation stand. Words that clap does not take, or whose values are not
--- in the table below, ask for nothing.
-use Rattle.std.specs.Prelude.{◌≡◌, ◌&&◌, ℕ, Bool, false, not, is_some, nat_le, List, [], ◌∷◌, Option, Some, None, if◌then◌else◌, option_and_then, option_map, option_copied, find, codes}
+-- which bounds; or, with `--make`, how wide a pair is made and compared by these checks, without a file; or, with `--rup`, in which files a formula
+-- and its refutation stand. Words that clap does not take, or whose values are not in the table below, ask for nothing.
+use Rattle.std.specs.Prelude.{◌≡◌, ◌&&◌, ◌||◌, ◌≤◌, ℕ, Bool, false, not, is_some, nat_le, List, [], ◌∷◌, Option, Some, None, if◌then◌else◌, option_and_then, option_map, option_copied, find, codes}
 use Rattle.std.specs.List.{list_all}
 use Rattle.std.specs.Str.{bytes_eq}
 use Rattle.clap.specs.Words.{Row, first_of}
@@ -22,6 +22,12 @@ pub record Request : Type 0 where
   -- the name of the top module, where it is given
   pub top_spec : Option (List ℕ)
   pub top_imp : Option (List ℕ)
+  pub options : Options
+
+-- a made pair, and the checks that compare it
+pub record MadePair : Type 0 where
+  -- the number of bits of its adders
+  pub n : ℕ
   pub options : Options
 
 -- a formula and clause additions
@@ -113,9 +119,24 @@ is_alone found =
     not (is_true (first_of (codes "all") found)) && not (is_true (first_of (codes "proof") found))
     && list_all (is_absent found) options
 
--- a comparison is asked for without that flag
+-- whether the width of a made pair is given
+abbrev pub is_making : List Row → Bool
+is_making found = not (is_absent found (codes "make"))
+
+-- no file and no top is given
+abbrev pub has_no_files : List Row → Bool
+has_no_files found = list_all (is_absent found) (codes "SPEC" ∷ codes "IMPL" ∷ codes "top-spec" ∷ codes "top-impl" ∷ [])
+
+-- files are compared without that flag and without a width
 abbrev pub asked_comparison : List Row → Option Request
-asked_comparison found = if is_refuting found then None else asked_request found
+asked_comparison found = if is_refuting found || is_making found then None else asked_request found
+
+-- a made pair is asked for by its width, from 1 to 256, without that flag, a file or a top
+abbrev pub asked_made : List Row → Option MadePair
+asked_made found =
+    given (option_and_then (number_within 1 256) (first_of (codes "make") found)) (λ n.
+    given (asked_options found) (λ options.
+    if not (is_refuting found) && has_no_files found then Some (record { n = n; options = options }) else None))
 
 -- a refutation is asked for with it alone, and with both files
 abbrev pub asked_refutation : List Row → Option Refutation
@@ -124,9 +145,13 @@ asked_refutation found =
     given (file (first_of (codes "IMPL") found)) (λ adds.
     if is_refuting found && is_alone found then Some (record { cnf = cnf; adds = adds }) else None))
 
--- the comparison that words ask for
+-- the comparison of files that words ask for
 abbrev pub asked : List (List ℕ) → Option Request
 asked words = if is_taken words then asked_comparison (found_in words) else None
+
+-- the made pair that words ask for
+abbrev pub made_asked : List (List ℕ) → Option MadePair
+made_asked words = if is_taken words then asked_made (found_in words) else None
 
 -- the refutation that words ask for
 abbrev pub rup_asked : List (List ℕ) → Option Refutation
@@ -145,19 +170,23 @@ request_of a = record {
 -- what the code hands over, found in these rows
 abbrev pub IsWantedBy : List Row → Wanted → Type 0
 IsWantedBy found (wanted.Comparison a) = asked_comparison found ≡ Some (request_of a)
+IsWantedBy found (wanted.MadePair n options) = asked_made found ≡ Some (record { n = n; options = options })
 IsWantedBy found (wanted.Refutation cnf adds) = asked_refutation found ≡ Some (record { cnf = cnf.now; adds = adds.now })
 
 -- and asked for by words
 abbrev pub Ask : List (List ℕ) → Wanted → Type 0
 Ask words (wanted.Comparison a) = asked words ≡ Some (request_of a)
+Ask words (wanted.MadePair n options) = made_asked words ≡ Some (record { n = n; options = options })
 Ask words (wanted.Refutation cnf adds) = rup_asked words ≡ Some (record { cnf = cnf.now; adds = adds.now })
 
 -- words that ask for nothing
 pub record AskNothing (words : List (List ℕ)) : Type 0 where
   pub comparison : asked words ≡ None
+  pub made : made_asked words ≡ None
   pub refutation : rup_asked words ≡ None
 
 -- the bounds of the checks that are asked for
 abbrev pub HasBounds : Wanted → Type 0
 HasBounds (wanted.Comparison a) = AreBounds a.options
+HasBounds (wanted.MadePair n options) = (1 ≤ n) × (n ≤ 256) × AreBounds options
 HasBounds (wanted.Refutation cnf adds) = Unit {0}

@@ -1,9 +1,11 @@
 -- Laws of what words ask for.
-use Rattle.std.specs.Prelude.{◌≡◌, ◌≢◌, ◌==◌, ℕ, Bool, true, false, not, List, [], ◌∷◌, None, Some}
+use Rattle.std.specs.Prelude.{◌≡◌, ◌≢◌, ◌≤◌, ◌==◌, ℕ, Bool, true, false, not, List, [], ◌∷◌, ◌++◌, All, None, Some, codes}
 use Rattle.bb_options.specs.declared.rung.Rung.TheVariants.{Ternary, Expand}
 use Rattle.bb_options.specs.Rungs.{AreBounds}
-use Rattle.bb_words.specs.Asked.{AskNothing, Refutation, Request, asked, is_refuting, rup_asked}
-use Rattle.bb_words.specs.Commands.{found_in}
+use Rattle.bb_options.specs.declared.options.Options.{Options}
+use Rattle.bb_words.specs.Asked.{AskNothing, MadePair, Refutation, Request, asked, is_making, is_refuting, made_asked, rup_asked}
+use Rattle.bb_words.specs.Commands.{found_in, options}
+use Rattle.bb_words.specs.Numbers.{number_within}
 
 -- each name that has to be given is not empty, each number is within its bounds, and so is the order of the checks
 pub record IsWithin (r : Request) : Type 0 where
@@ -11,38 +13,69 @@ pub record IsWithin (r : Request) : Type 0 where
   pub imp : r.imp ≢ []
   pub bounds : AreBounds r.options
 
+-- the width is within its bounds, and so are the checks
+pub record IsMadeWithin (m : MadePair) : Type 0 where
+  pub least : 1 ≤ m.n
+  pub most : m.n ≤ 256
+  pub bounds : AreBounds m.options
+
 -- whatever words ask for is within the table of the options
 abbrev pub RequestsAreWithin : Type 0
 RequestsAreWithin = (words : List (List ℕ)) (r : Request) → asked words ≡ Some r → IsWithin r
+
+abbrev pub MadePairsAreWithin : Type 0
+MadePairsAreWithin = (words : List (List ℕ)) (m : MadePair) → made_asked words ≡ Some m → IsMadeWithin m
 
 -- a word that is not empty and does not begin with a minus sign
 abbrev pub is_plain : List ℕ → Bool
 is_plain [] = false
 is_plain (b ∷ bs) = not (b == 45)
 
+-- what stands for options that are not given
+abbrev pub options_alone : Options
+options_alone = record { from = Ternary; to = Expand; all = false; patterns = 32; seed = 1; nodes = 1000000; cache = 65536; clauses = 2000000; proof = false }
+
 -- two files, and of all else what stands for what is not given
 abbrev pub files_alone : List ℕ → List ℕ → Request
-files_alone spec imp = record {
-  spec = spec;
-  imp = imp;
-  top_spec = None;
-  top_imp = None;
-  options = record { from = Ternary; to = Expand; all = false; patterns = 32; seed = 1; nodes = 1000000; cache = 65536; clauses = 2000000; proof = false };
-}
+files_alone spec imp = record { spec = spec; imp = imp; top_spec = None; top_imp = None; options = options_alone }
+
+-- a made pair, and of all else what stands for what is not given
+abbrev pub pair_alone : ℕ → MadePair
+pair_alone n = record { n = n; options = options_alone }
 
 -- two plain words behind the program's own name are two files, and ask for nothing else
 abbrev pub PlainWordsAreFiles : Type 0
 PlainWordsAreFiles = (program spec imp : List ℕ) → is_plain spec ≡ true → is_plain imp ≡ true → asked (program ∷ spec ∷ imp ∷ []) ≡ Some (files_alone spec imp)
 
+-- `--make` with a number from 1 to 256 asks for the made pair of this width, and for nothing else
+abbrev pub WidthsAskForPairs : Type 0
+WidthsAskForPairs = (program width : List ℕ) (n : ℕ) → number_within 1 256 width ≡ Some n
+    → (made_asked (program ∷ codes "--make" ∷ width ∷ []) ≡ Some (pair_alone n)) × (made_asked (program ∷ (codes "--make=" ++ width) ∷ []) ≡ Some (pair_alone n))
+
+-- these words ask for the same
+pub record AskTheSame (words others : List (List ℕ)) : Type 0 where
+  pub files : asked words ≡ asked others
+  pub made : made_asked words ≡ made_asked others
+  pub refutation : rup_asked words ≡ rup_asked others
+
+-- behind two files a value stands behind its option as the next word, or joined to it by an equals sign
+abbrev pub ValuesMayBeJoined : Type 0
+ValuesMayBeJoined = (program spec imp value : List ℕ) → is_plain spec ≡ true → is_plain imp ≡ true → is_plain value ≡ true
+    → All (λ option. AskTheSame (program ∷ spec ∷ imp ∷ (codes "--" ++ option) ∷ value ∷ []) (program ∷ spec ∷ imp ∷ (codes "--" ++ option ++ codes "=" ++ value) ∷ [])) options
+
 -- less than two words are no two files
 abbrev pub FewWordsAskForNothing : Type 0
 FewWordsAskForNothing = AskNothing [] × ((program : List ℕ) → AskNothing (program ∷ [])) × ((program spec : List ℕ) → is_plain spec ≡ true → AskNothing (program ∷ spec ∷ []))
 
--- words ask for a comparison or for a refutation, or for nothing
+-- words ask for a comparison of files, for a made pair or for a refutation, or for nothing
 pub record WordsAskOnce : Type 0 where
   pub not_both : (words : List (List ℕ)) (r : Request) (f : Refutation) → asked words ≡ Some r → rup_asked words ≡ Some f → ⊥
-  -- and the flag alone says which
+  pub not_files_and_made : (words : List (List ℕ)) (r : Request) (m : MadePair) → asked words ≡ Some r → made_asked words ≡ Some m → ⊥
+  pub not_made_and_refuted : (words : List (List ℕ)) (m : MadePair) (f : Refutation) → made_asked words ≡ Some m → rup_asked words ≡ Some f → ⊥
+  -- and the flag and the width alone say which
   pub without : (words : List (List ℕ)) → is_refuting (found_in words) ≡ false → rup_asked words ≡ None
-  pub with : (words : List (List ℕ)) → is_refuting (found_in words) ≡ true → asked words ≡ None
+  pub with : (words : List (List ℕ)) → is_refuting (found_in words) ≡ true → (asked words ≡ None) × (made_asked words ≡ None)
+  pub without_width : (words : List (List ℕ)) → is_making (found_in words) ≡ false → made_asked words ≡ None
+  pub with_width : (words : List (List ℕ)) → is_making (found_in words) ≡ true → (asked words ≡ None) × (rup_asked words ≡ None)
   -- the names of a refutation's files are not empty
   pub names : (words : List (List ℕ)) (f : Refutation) → rup_asked words ≡ Some f → (f.cnf ≢ []) × (f.adds ≢ [])

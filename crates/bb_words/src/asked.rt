@@ -21,8 +21,10 @@ pub struct Asked<'a> {
 /// What the words ask for.
 #[derive(Clone, Copy, Debug)]
 pub enum Wanted<'a> {
-    /// The comparison of an implementation with its specification.
+    /// The comparison of an implementation with its specification, both in files.
     Comparison(Asked<'a>),
+    /// The comparison of a made pair: how many bits its adders have, from 1 to 256, and which checks are run.
+    MadePair { n: u32, options: Options },
     /// The check of clause additions against a formula: the names of their files, which are parts of the words, and not empty.
     Refutation { cnf: &'a str, adds: &'a str },
 }

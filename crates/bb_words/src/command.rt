@@ -57,7 +57,8 @@ fn command<'a>(alloc: Global) -> Result<Command<'a>, AllocError>
         .arg(valued(alloc, "seed"))?
         .arg(valued(alloc, "nodes"))?
         .arg(valued(alloc, "clauses"))?
-        .arg(valued(alloc, "cache"))?;
+        .arg(valued(alloc, "cache"))?
+        .arg(valued(alloc, "make"))?;
     Ok(command)
 }
 

@@ -1,10 +1,15 @@
 //! Laws of what words ask for. Each function has a law as its contract and does nothing.
 
-ghost use Rattle.bb_words.specs.Laws.{FewWordsAskForNothing, PlainWordsAreFiles, RequestsAreWithin, WordsAskOnce};
+ghost use Rattle.bb_words.specs.Laws.{FewWordsAskForNothing, MadePairsAreWithin, PlainWordsAreFiles, RequestsAreWithin, ValuesMayBeJoined, WidthsAskForPairs, WordsAskOnce};
 
 /// Whatever words ask for is within the table of the options.
 pub fn requests_are_within()
     ensures { RequestsAreWithin }
+{}
+
+/// And so is a made pair.
+pub fn made_pairs_are_within()
+    ensures { MadePairsAreWithin }
 {}
 
 /// Two words that are not empty and do not begin with a minus sign are two files, and ask for nothing else.
@@ -12,12 +17,22 @@ pub fn plain_words_are_files()
     ensures { PlainWordsAreFiles }
 {}
 
+/// `--make` and a number from 1 to 256 ask for the made pair of this width, and for nothing else.
+pub fn widths_ask_for_pairs()
+    ensures { WidthsAskForPairs }
+{}
+
+/// Behind two files a value is the next word behind its option, or is joined to it by an equals sign: both ask for the same.
+pub fn values_may_be_joined()
+    ensures { ValuesMayBeJoined }
+{}
+
 /// No word, and one plain word alone, ask for nothing.
 pub fn few_words_ask_for_nothing()
     ensures { FewWordsAskForNothing }
 {}
 
-/// No words ask for a comparison and for a refutation.
+/// No words ask for two of these: a comparison of files, a made pair, a refutation.
 pub fn words_ask_once()
     ensures { WordsAskOnce }
 {}

@@ -1,14 +1,14 @@
 //! What the words ask for, by the values that the command finds in them.
 
-ghost use Rattle.std.specs.Prelude.{◌≡◌, ◌⊎◌, ◌∷◌, [], true, codes, map, option_map, string_bytes, IfOk, IfErr, IfSome, IfNone, None, Some};
+ghost use Rattle.std.specs.Prelude.{◌≡◌, ◌⊎◌, ◌∷◌, [], false, true, codes, map, option_map, string_bytes, IfOk, IfErr, IfSome, IfNone, None, Some};
 ghost use Rattle.std.specs.List.{list_all};
 ghost use Rattle.clap.specs.Words.{found_of, rows_of};
 ghost use Rattle.bb_words.specs.Commands.{options as option_names};
-ghost use Rattle.bb_words.specs.Asked.{Ask, AskNothing, HasBounds, IsWantedBy, asked_comparison, asked_options, asked_refutation, asked_request, is_absent, is_alone, is_refuting, request_of};
+ghost use Rattle.bb_words.specs.Asked.{Ask, AskNothing, HasBounds, IsWantedBy, asked_comparison, asked_made, asked_options, asked_refutation, asked_request, has_no_files, is_absent, is_alone, is_refuting, request_of};
 
 use crate::asked::{Asked, Wanted, WordsFault};
 use crate::command::{parse, value};
-use crate::value::{file, is_true, number_or, rung_or, small_or, top};
+use crate::value::{file, is_true, number_or, rung_or, small, small_or, top};
 use bb_options::{Options, Rung};
 use clap::ArgMatches;
 use clap::error::ErrorKind;
@@ -59,16 +59,17 @@ fn request<'a>(matches: &ArgMatches<'a>) -> Option<Asked<'a>>
     })
 }
 
-// No bound of a check is given.
-fn no_bound(matches: &ArgMatches<'_>) -> bool
+// No option with a number is given.
+fn no_number(matches: &ArgMatches<'_>) -> bool
     ensures { result ≡ list_all (is_absent (rows_of (found_of matches.now)))
-        (codes "patterns" ∷ codes "seed" ∷ codes "nodes" ∷ codes "clauses" ∷ codes "cache" ∷ []) }
+        (codes "patterns" ∷ codes "seed" ∷ codes "nodes" ∷ codes "clauses" ∷ codes "cache" ∷ codes "make" ∷ []) }
 {
     value(matches, "patterns").is_none()
         && value(matches, "seed").is_none()
         && value(matches, "nodes").is_none()
         && value(matches, "clauses").is_none()
         && value(matches, "cache").is_none()
+        && value(matches, "make").is_none()
 }
 
 // No option is given.
@@ -79,7 +80,7 @@ fn no_option(matches: &ArgMatches<'_>) -> bool
         && value(matches, "top-impl").is_none()
         && value(matches, "from").is_none()
         && value(matches, "to").is_none()
-        && no_bound(matches)
+        && no_number(matches)
 }
 
 // No other flag and no option is given.
@@ -103,16 +104,56 @@ fn refutation<'a>(matches: &ArgMatches<'a>) -> Option<Wanted<'a>>
     Some(Wanted::Refutation { cnf, adds })
 }
 
+// No file and no top is given.
+fn no_files(matches: &ArgMatches<'_>) -> bool
+    ensures none { result ≡ has_no_files (rows_of (found_of matches.now)) }
+{
+    value(matches, "SPEC").is_none()
+        && value(matches, "IMPL").is_none()
+        && value(matches, "top-spec").is_none()
+        && value(matches, "top-impl").is_none()
+}
+
+// The made pair that is asked for.
+fn made_pair<'a>(matches: &ArgMatches<'a>) -> Option<Wanted<'a>>
+    requires comparing { is_refuting (rows_of (found_of matches.now)) ≡ false }
+    ensures some { IfSome result (IsWantedBy (rows_of (found_of matches.now))) }
+    ensures none { IfNone result (asked_made (rows_of (found_of matches.now)) ≡ None) }
+{
+    let n = small(value(matches, "make"), 1, 256)?;
+    let options = options(matches)?;
+    if !no_files(matches) {
+        return None;
+    }
+    Some(Wanted::MadePair { n, options })
+}
+
+// The comparison that is asked for.
+fn comparison<'a>(matches: &ArgMatches<'a>) -> Option<Wanted<'a>>
+    requires comparing { is_refuting (rows_of (found_of matches.now)) ≡ false }
+    ensures some { IfSome result (IsWantedBy (rows_of (found_of matches.now))) }
+    ensures no_comparison { IfNone result (asked_comparison (rows_of (found_of matches.now)) ≡ None) }
+    ensures no_made { IfNone result (asked_made (rows_of (found_of matches.now)) ≡ None) }
+{
+    if value(matches, "make").is_some() {
+        made_pair(matches)
+    } else {
+        Some(Wanted::Comparison(request(matches)?))
+    }
+}
+
 // What is asked for.
+#[tactic(auto, using(crate::proofs::OnceLemmas::no_pair_beside))]
 fn wanted<'a>(matches: &ArgMatches<'a>) -> Option<Wanted<'a>>
     ensures some { IfSome result (IsWantedBy (rows_of (found_of matches.now))) }
     ensures no_comparison { IfNone result (asked_comparison (rows_of (found_of matches.now)) ≡ None) }
+    ensures no_made { IfNone result (asked_made (rows_of (found_of matches.now)) ≡ None) }
     ensures no_refutation { IfNone result (asked_refutation (rows_of (found_of matches.now)) ≡ None) }
 {
     if is_true(value(matches, "rup")) {
         refutation(matches)
     } else {
-        Some(Wanted::Comparison(request(matches)?))
+        comparison(matches)
     }
 }
 
@@ -133,7 +174,8 @@ fn wanted<'a>(matches: &ArgMatches<'a>) -> Option<Wanted<'a>>
 /// A value stands behind its option as the next word or behind `=`; one that begins with a minus sign, and is more than that,
 /// has to stand behind `=`. No name is empty. A number has at most 20 digits. Behind `--` every word is a file.
 ///
-/// With `--rup` the two files are a formula and clause additions, and no other flag and no option may be given.
+/// With `--make` and a number from 1 to 256 a pair is made and compared, and no file and no top may be given. With `--rup` the two
+/// files are a formula and clause additions, and no other flag and no option may be given.
 ///
 /// # Errors
 /// `Usage` where the words are not of this form, and `NoMemory` where there is no memory to read them.

@@ -1,6 +1,6 @@
 //! The values of options, each read by its kind, with what stands for an option that is not given.
 
-ghost use Rattle.std.specs.Prelude.{◌≡◌, option_map, option_copied};
+ghost use Rattle.std.specs.Prelude.{◌≡◌, option_and_then, option_map, option_copied};
 ghost use Rattle.bb_words.specs.Asked.{file, is_true, name, rung_named, top, value_or};
 ghost use Rattle.bb_words.specs.Numbers.{number_within};
 
@@ -74,6 +74,13 @@ pub fn number_or(value: Option<&str>, default: u64, least: u64, most: u64) -> Op
         None => Some(default),
         Some(text) => number_within(text, least, most),
     }
+}
+
+/// A number within bounds, which has to be given.
+pub fn small(value: Option<&str>, least: u32, most: u32) -> Option<u32>
+    ensures number { result ≡ option_and_then (number_within least most) (option_copied value.entry) }
+{
+    small_within(value?, least, most)
 }
 
 /// A smaller number within bounds.

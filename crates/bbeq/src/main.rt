@@ -3,7 +3,7 @@
 #![tactic(auto)]
 
 use bb_ladder::run;
-use bb_outside::{StdFiles, StdOut};
+use bb_outside::{KeptFiles, StdFiles, StdOut};
 use std::process::ExitCode;
 use std::{env, io};
 
@@ -20,7 +20,8 @@ fn main(rt: HostRuntime) -> ExitCode {
     let Ok(words) = words(&rt) else {
         return ExitCode::from(5);
     };
-    let mut files = StdFiles::new(rt);
+    // The list of the reads is what the clauses of `run` on given bytes speak of.
+    let mut files = KeptFiles::new(rt.alloc(), StdFiles::new(rt));
     let mut out = StdOut::new(rt.stdout());
     ExitCode::from(run(rt.alloc(), &words, &mut files, &mut out))
 }

@@ -2,11 +2,11 @@ use Rattle.bb_ladder.proofs.HeadlineLemmas.{error_sound, open_sound, repair_soun
 use Rattle.bb_ladder.proofs.text_laws.answers_speak_of_texts.Goals as goal
 
 pub returns : goal.returns
-returns c = λ words holds before after status text q spec imp answer texts. (
-  (λ zero. repair_sound c.words_ask_once.ensures c.answers_are_meant.ensures.repairs words holds before after status text q spec imp answer zero texts),
+returns c = λ words from holds before after status text asked spec imp answer texts. (
+  (λ zero. repair_sound c.words_ask_once.ensures c.answers_are_meant.ensures.repairs words from holds before after status text asked spec imp answer zero texts),
   (λ one. (
-    error_sound c.words_ask_once.ensures c.answers_are_meant.ensures.errors words holds before after status text q spec imp answer one texts,
-    shown_sound c.words_ask_once.ensures c.answers_are_meant.ensures.shown words holds before after status text q spec imp answer one texts,
+    error_sound c.words_ask_once.ensures c.answers_are_meant.ensures.errors words from holds before after status text asked spec imp answer one texts,
+    shown_sound c.words_ask_once.ensures c.answers_are_meant.ensures.shown words from holds before after status text asked spec imp answer one texts,
   )),
-  (λ three. open_sound c.words_ask_once.ensures c.answers_are_meant.ensures.opens words holds before after status text q spec imp answer three texts),
+  (λ three. open_sound c.words_ask_once.ensures c.answers_are_meant.ensures.opens words from holds before after status text asked spec imp answer three texts),
 )

@@ -3,4 +3,4 @@ use Rattle.bb_outside.proofs.sink.put_all.Goals as goal
 
 pub loop-rest-preserved : goal.loop-rest-preserved
 loop-rest-preserved g c =
-    IsWritten-more _ _ _ _ _ _ _ _ _ c.loop-rest.invariant c.in_ok-taken.ensures.at_most c.in_ok-taken.ensures.ok c.put.ensures.never_falls
+    IsWritten-more _ _ _ _ _ _ _ _ _ c.loop-rest.invariant c.in_ok-taken.ensures.at_most c.in_ok-taken.ensures.bytes c.put.ensures.never_falls

@@ -1,0 +1,3 @@
+pub mod Joined
+pub mod Halves
+pub mod Lengths

@@ -1,0 +1,3 @@
+pub mod Adders
+pub mod Commas
+pub mod Laws

@@ -1,0 +1,98 @@
+//! The names of an adder's ports and carries.
+
+ghost use Rattle.std.specs.Prelude.{◌≡◌, ◌≤◌, ◌++◌, codes, length, OnOk};
+ghost use Rattle.bb_make.specs.Adders.{carry, header, inputs, numbered, outputs};
+ghost use Rattle.bb_make.specs.Commas.{joined};
+
+use bb_bits::NoMemory;
+use itoa::Buffer;
+
+/// Appends a name with a number behind it.
+pub fn push_numbered(text: &mut Vec<u8>, name: &str, i: u32) -> Result<(), NoMemory>
+    ensures text { OnOk result (text.new.items ≡ text.old.items ++ numbered name.now i) }
+{
+    text.extend_from_slice(name.as_bytes())?;
+    let mut buffer = Buffer::new();
+    text.extend_from_slice(buffer.format(i).as_bytes())?;
+    Ok(())
+}
+
+/// Appends the name of the carry into a stage, or out of the last one.
+pub fn push_carry(text: &mut Vec<u8>, n: u32, i: u32) -> Result<(), NoMemory>
+    ensures text { OnOk result (text.new.items ≡ text.old.items ++ carry n i) }
+{
+    if i == 0 {
+        text.extend_from_slice(b"ci")
+    } else if i == n {
+        text.extend_from_slice(b"co")
+    } else {
+        push_numbered(text, "c", i)
+    }
+}
+
+/// How many inputs an adder of `n` bits has: two for each bit, and the carry.
+#[tactic(auto, using(crate::proofs::Joined::inputs_counted))]
+pub fn input_count(n: u32) -> u32
+    requires width { n ≤ 256 }
+    ensures count { result ≡ length (inputs n) }
+{
+    2 * n + 1
+}
+
+// Appends the two input bits of a place, and a comma behind each.
+fn push_bits(text: &mut Vec<u8>, i: u32) -> Result<(), NoMemory>
+    ensures text { OnOk result (text.new.items ≡ text.old.items ++ (numbered (codes "a") i ++ codes "," ++ numbered (codes "b") i ++ codes ",")) }
+{
+    push_numbered(text, "a", i)?;
+    text.extend_from_slice(b",")?;
+    push_numbered(text, "b", i)?;
+    text.extend_from_slice(b",")?;
+    Ok(())
+}
+
+// Appends the inputs, joined by commas.
+fn push_inputs(text: &mut Vec<u8>, n: u32) -> Result<(), NoMemory>
+    ensures text { OnOk result (text.new.items ≡ text.old.items ++ joined (inputs n)) }
+{
+    for i in (0..n).rev() {
+        push_bits(text, i)?;
+    }
+    text.extend_from_slice(b"ci")?;
+    Ok(())
+}
+
+// Appends the output bit of a place, and a comma.
+fn push_sum(text: &mut Vec<u8>, i: u32) -> Result<(), NoMemory>
+    ensures text { OnOk result (text.new.items ≡ text.old.items ++ (numbered (codes "s") i ++ codes ",")) }
+{
+    push_numbered(text, "s", i)?;
+    text.extend_from_slice(b",")?;
+    Ok(())
+}
+
+// Appends the outputs, joined by commas.
+fn push_outputs(text: &mut Vec<u8>, n: u32) -> Result<(), NoMemory>
+    ensures text { OnOk result (text.new.items ≡ text.old.items ++ joined (outputs n)) }
+{
+    for i in (0..n).rev() {
+        push_sum(text, i)?;
+    }
+    text.extend_from_slice(b"co")?;
+    Ok(())
+}
+
+/// Appends the header of the adder, and the declarations of its ports.
+pub fn push_header(text: &mut Vec<u8>, n: u32) -> Result<(), NoMemory>
+    ensures text { OnOk result (text.new.items ≡ text.old.items ++ header (codes "add") (inputs n) (outputs n)) }
+{
+    text.extend_from_slice(b"module add(")?;
+    push_inputs(text, n)?;
+    text.extend_from_slice(b",")?;
+    push_outputs(text, n)?;
+    text.extend_from_slice(b");\ninput ")?;
+    push_inputs(text, n)?;
+    text.extend_from_slice(b";\noutput ")?;
+    push_outputs(text, n)?;
+    text.extend_from_slice(b";\n")?;
+    Ok(())
+}

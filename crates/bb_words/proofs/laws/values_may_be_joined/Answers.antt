@@ -1,0 +1,5 @@
+use Rattle.bb_words.proofs.JoinedWords.{joined_values}
+use Rattle.bb_words.proofs.laws.values_may_be_joined.Goals as goal
+
+pub returns : goal.returns
+returns c = joined_values
