@@ -8,7 +8,7 @@ use Rattle.bb_design.specs.Allowed.{IsAllowed}
 use Rattle.bb_design.specs.Dependence.{dependences}
 use Rattle.bb_design.specs.Hierarchy.{Design, Scope, boxes}
 use Rattle.bb_design.specs.NetBits.{Bit, input_bits, output_bits, top_inputs, written_bits}
-use Rattle.bb_design.specs.Reading.{copies}
+use Rattle.bb_design.specs.Reading.{copied_bits}
 use Rattle.bb_design.specs.Refusals.{Cycle, input_texts, output_texts, register_texts}
 use Rattle.bb_design.specs.Registers.{RegisterBit, registers}
 use Rattle.bb_design.specs.Texts.{bit_text, path_text}
@@ -95,7 +95,7 @@ module _ (d : Design) (r : RegisterBit) where
 
       by : Decision Clock → Decision (IsClockedBy d r input)
       by (inr none) = inr (λ c. none (c.clock, c.is))
-      by (inl (b, is)) = decide_same (into, back) (decide_both (decide_contains decide_bit (top_inputs d) input) (decide_either (decide_bit b input) (decide_leads decide_bit (copies d) b input)))
+      by (inl (b, is)) = decide_same (into, back) (decide_both (decide_contains decide_bit (top_inputs d) input) (decide_either (decide_bit b input) (decide_leads decide_bit (copied_bits d) b input)))
         where
           into : Comes b → IsClockedBy d r input
           into h = record { clock = b; is = is; top = h.0; comes = h.1 }

@@ -17,7 +17,7 @@ use Rattle.bb_net.specs.declared.flat.Reg.{Reg}
 use Rattle.bb_design.specs.Allowed.{IsAllowed}
 use Rattle.bb_design.specs.Hierarchy.{Design, Scope, boxes}
 use Rattle.bb_design.specs.NetBits.{Bit, input_bits, output_bits, top_inputs, written_bits}
-use Rattle.bb_design.specs.Reading.{copies}
+use Rattle.bb_design.specs.Reading.{copied_bits}
 use Rattle.bb_design.specs.Refusals.{TwoDrivers, register_texts}
 use Rattle.bb_design.specs.Registers.{RegisterBit, registers, cut_bits}
 use Rattle.bb_design.specs.Texts.{bit_text, pin_text}
@@ -99,7 +99,7 @@ module _ (have_orders : StandingNetsHaveBoxOrders) (have_texts : StandingNetsAre
         by : (o : Option ℕ) → IsClock d is.clock.0 o → IsSome o
         by None clock =
             let same : by_it.clock ≡ is.clock.0 = one_clock by_it.clock is.clock.0 (sym by_it.is ∙ is.clock.1) in
-            absurd (clock c by_it.top (subst (λ b. (b ≡ c) ⊎ Leads (copies d) b c) same by_it.comes))
+            absurd (clock c by_it.top (subst (λ b. (b ≡ c) ⊎ Leads (copied_bits d) b c) same by_it.comes))
         by (Some k) clock = refl
 
     pub no_clock : (r : RegisterBit) (g : Reg) → IsRegister d r g → HasNoClock d r → g.clock ≡ None
@@ -116,7 +116,7 @@ module _ (have_orders : StandingNetsHaveBoxOrders) (have_texts : StandingNetsAre
     pub clock_one : (r : RegisterBit) (b c : Bit) → IsClockedBy d r b → IsClockedBy d r c → b ≡ c
     clock_one r b c first second =
         let same : first.clock ≡ second.clock = one_clock first.clock second.clock (sym first.is ∙ second.is) in
-        one_input d (allowed.sound TwoDrivers) second.clock b c first.top second.top (subst (λ x. (x ≡ b) ⊎ Leads (copies d) x b) same first.comes) second.comes
+        one_input d (allowed.sound TwoDrivers) second.clock b c first.top second.top (subst (λ x. (x ≡ b) ⊎ Leads (copied_bits d) x b) same first.comes) second.comes
 
     -- boxes
 

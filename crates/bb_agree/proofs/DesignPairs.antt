@@ -1,14 +1,15 @@
 -- A pair stands for two designs exactly where they fit, and has the boxes of the implementation.
-use Rattle.std.proofs.Common.{◌≡◌, ℕ, suc, ◌+◌, ◌<◌, List, [], ◌∷◌, length, get_or, sym, ◌∙◌, ap, arith}
+use Rattle.std.proofs.Common.{◌≡◌, suc, List, [], ◌∷◌, length, sym, ◌∙◌, arith}
 use Rattle.std.specs.List.{AllZip}
-use Rattle.bb_bits.specs.Tables.{TableBits, HasAllBits}
+use Rattle.bb_bits.specs.Tables.{TableBits}
 use Rattle.bb_net.specs.Netlists.{Pins}
 use Rattle.bb_net.specs.Pairs.{BoxTexts, NamesPins}
 use Rattle.bb_net.specs.Values.{FitBoxes}
 use Rattle.bb_cells.specs.BoxOrders.{StandingNetsHaveBoxOrders}
-use Rattle.bb_match.specs.Laws.{FittingHavePair}
+use Rattle.bb_cells.specs.ListLaws.{StandingNetsAreFlat, StandingNetsArePrintable, StandingNetsExist}
+use Rattle.bb_match.specs.Laws.{FittingHavePair, FittingHaveKeptPair}
 use Rattle.bb_agree.specs.DesignAgreement.{IsTableOf, FittingTablesAreOfBoxes, PairsHaveBoxOrders}
-use Rattle.bb_agree.specs.DesignRefusals.{AreNetsFor, NetsAreTakenAsDesigns, PairsStandExactlyForFitting}
+use Rattle.bb_agree.specs.DesignRefusals.{AreNetsFor, FittingDesignsHavePairs, NetsAreTakenAsDesigns, PairsStandExactlyForFitting}
 
 module _ (taken : NetsAreTakenAsDesigns) (have_pair : FittingHavePair) where
   pub pairs_stand_exactly_for_fitting : PairsStandExactlyForFitting
@@ -18,6 +19,17 @@ module _ (taken : NetsAreTakenAsDesigns) (have_pair : FittingHavePair) where
         (taken spec imp pair.spec_net pair.imp_net good also nets).fit.0 pair.paired.fit;
     pair = λ fit f g nets flat also_flat. have_pair f g flat also_flat ((taken spec imp f g good also nets).fit.1 fit);
   }
+
+pub fitting_designs_have_pairs : StandingNetsExist → StandingNetsAreFlat → StandingNetsArePrintable → NetsAreTakenAsDesigns → FittingHaveKeptPair → FittingDesignsHavePairs
+fitting_designs_have_pairs exist flat printable taken have_pair spec imp good also fit =
+    let f = exist spec good in
+    let g = exist imp also in
+    let flat_f = flat spec f.0 good f.1 (printable spec f.0 good.bounded f.1) in
+    let flat_g = flat imp g.0 also g.1 (printable imp g.0 also.bounded g.1) in
+    let p = have_pair f.0 g.0 flat_f flat_g ((taken spec imp f.0 g.0 good also (record { spec_stands = f.1; imp_stands = g.1 })).fit.1 fit) in (
+      p.0,
+      record { kept = p.1; spec_net = f.0; imp_net = g.0; spec_stands = f.1; imp_stands = g.1; spec_flat = flat_f; imp_flat = flat_g; paired = p.2 },
+    )
 
 pub pairs_have_box_orders : StandingNetsHaveBoxOrders → PairsHaveBoxOrders
 pairs_have_box_orders have_orders spec imp p also pair =

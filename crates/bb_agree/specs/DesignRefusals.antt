@@ -44,3 +44,7 @@ pub record PairsStandForFitting (spec imp : Design) : Type 0 where
 
 abbrev pub PairsStandExactlyForFitting : Type 0
 PairsStandExactlyForFitting = (spec imp : Design) → IsAllowed spec → IsAllowed imp → PairsStandForFitting spec imp
+
+-- and two sound designs that fit have a pair
+abbrev pub FittingDesignsHavePairs : Type 0
+FittingDesignsHavePairs = (spec imp : Design) → IsAllowed spec → IsAllowed imp → DesignsFit spec imp → (p : NetPair) × IsPairFor spec imp p

@@ -2,18 +2,21 @@
 
 ghost use Rattle.bb_agree.specs.AlikePairs.{PairsForDesignsAreAlike};
 ghost use Rattle.bb_agree.specs.DesignAgreement.{DesignsAgreeWithThemselves, FittingTablesAreOfBoxes, NoTablesNoContents, PairsHaveBoxOrders, SpelledContentsAgree, TablesAgreeAsContents, TablesSpellContents};
-ghost use Rattle.bb_agree.specs.DesignRefusals.{DesignRefusalsAreOne, FitOrRefused, NetsAreTakenAsDesigns, NotFitAndRefused, PairsStandExactlyForFitting};
+ghost use Rattle.bb_agree.specs.DesignRefusals.{DesignRefusalsAreOne, FitOrRefused, FittingDesignsHavePairs, NetsAreTakenAsDesigns, NotFitAndRefused, PairsStandExactlyForFitting};
 ghost use Rattle.bb_agree.specs.Mistakes.{MistakesRefute, PairsAreNamed, WrongOutputsAreMistakes, WrongVectorsAreMistakes};
 
 use bb_alike::laws::rearranged_stay_alike;
-use bb_cells::list_laws::standing_nets_give_outputs;
+use bb_cells::list_laws::{
+    standing_nets_are_flat, standing_nets_are_printable, standing_nets_exist,
+    standing_nets_give_outputs,
+};
 use bb_cells::naming_laws::{
     boxes_have_heights, followed_inputs_are_one, standing_nets_are_alike, standing_nets_are_named,
     standing_nets_are_named_alike, standing_nets_have_box_orders,
 };
 use bb_cells::table_laws::{contents_have_tables, tables_give_outputs, tables_have_contents};
 use bb_match::laws::{
-    causes_are_ranked, fitting_have_pair, fitting_nets_have_their_outputs,
+    causes_are_ranked, fitting_have_kept_pair, fitting_have_pair, fitting_nets_have_their_outputs,
     flat_nets_have_cuts_apart,
 };
 use bb_net::{rearranged_keeps_values, value_goes_by_boxes};
@@ -121,6 +124,17 @@ pub fn pairs_stand_exactly_for_fitting()
 {
     nets_are_taken_as_designs();
     fitting_have_pair();
+}
+
+/// Two sound designs that fit have a pair that stands for them.
+pub fn fitting_designs_have_pairs()
+    ensures { FittingDesignsHavePairs }
+{
+    standing_nets_exist();
+    standing_nets_are_flat();
+    standing_nets_are_printable();
+    nets_are_taken_as_designs();
+    fitting_have_kept_pair();
 }
 
 /// A design agrees with itself, whatever fits its boxes.

@@ -4,7 +4,7 @@
 use Rattle.std.specs.Prelude.{◌≡◌, List, [], ◌∷◌, map}
 use Rattle.std.proofs.Common.{refl, ap}
 use Rattle.bb_ast.specs.declared.expr.Op.{Op}
-use Rattle.bb_ast.specs.Syntax.{Expression, operands, arms, parts}
+use Rattle.bb_ast.specs.Syntax.{Expression, operands, arms, listed_parts}
 use Rattle.bb_ast.specs.Folds.{Cases, of_operands, of_arms, of_parts, operand_by}
 
 abbrev pub SeesOperands : Type 0 → Type 0 → Type 0
@@ -17,7 +17,7 @@ SeesArms C A = (seen : Expression → A → C) (cases : Cases C A) (xs : List (E
 
 abbrev pub SeesParts : Type 0 → Type 0 → Type 0
 SeesParts C A = (seen : Expression → A → C) (cases : Cases C A) (xs : List Expression)
-    → of_parts seen cases (parts xs) ≡ map (operand_by seen cases) xs
+    → of_parts seen cases (listed_parts xs) ≡ map (operand_by seen cases) xs
 
 pub sees_operands : {C A : Type 0} → SeesOperands C A
 sees_operands seen cases [] = refl

@@ -45,9 +45,9 @@ abbrev pub arms : List (Expression × Expression) → Arms
 arms [] = no_arm
 arms (x ∷ xs) = arm x.0 x.1 (arms xs)
 
-abbrev pub parts : List Expression → Parts
-parts [] = no_part
-parts (x ∷ xs) = part x (parts xs)
+abbrev pub listed_parts : List Expression → Parts
+listed_parts [] = no_part
+listed_parts (x ∷ xs) = part x (listed_parts xs)
 
 -- connections: by order, a place without an expression being open, or by the names of ports
 pub data PlainConns : Type 0 where

@@ -17,7 +17,7 @@ use Rattle.bb_ast.specs.declared.module.Item.{Item}
 use Rattle.bb_ast.specs.declared.module.Module.{Module}
 use Rattle.bb_ast.specs.declared.module.Source.{Source}
 use Rattle.bb_ast.specs.Syntax.{PlainConns, Order, Named, PlainAlways, PlainBody, Ports, Nets, Regs, Supply, Assign, Gates, Calls, Always as AlwaysBody, PlainItem, PlainHead, PlainModule}
-use Rattle.bb_ast.specs.Syntax.{Expression, Net, Bit, Part, Sized, Plain, Not, Chain, Cond, Concat, Repeat, operands, arms, parts}
+use Rattle.bb_ast.specs.Syntax.{Expression, Net, Bit, Part, Sized, Plain, Not, Chain, Cond, Concat, Repeat, operands, arms, listed_parts}
 
 -- one layer, with what is below it seen already
 abbrev pub layer : Expr-F Expression → Expression
@@ -29,8 +29,8 @@ layer (of.Plain n) = Plain n
 layer (of.Not k e) = Not k e.value
 layer (of.Chain e rest) = Chain e.value (operands rest.items)
 layer (of.Cond all last) = Cond (arms all.items) last.value
-layer (of.Concat all) = Concat (parts all.items)
-layer (of.Repeat k all) = Repeat k (parts all.items)
+layer (of.Concat all) = Concat (listed_parts all.items)
+layer (of.Repeat k all) = Repeat k (listed_parts all.items)
 
 abbrev pub expression : Expr → Expression
 expression = fold-Expr Expression layer

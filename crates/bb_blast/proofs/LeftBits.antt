@@ -13,7 +13,7 @@ use Rattle.bb_ast.specs.declared.expr.Expr.TheFolds.{fold_out-Expr}
 use Rattle.bb_ast.specs.declared.expr.Expr.TheVariants.{outs-Net, outs-Bit, outs-Part, outs-Concat}
 use Rattle.bb_ast.specs.FoldLaws.{sees_parts}
 use Rattle.bb_ast.specs.Folds.{of_parts}
-use Rattle.bb_ast.specs.Syntax.{Expression, Net, Bit, Part, Concat, parts, PlainModule}
+use Rattle.bb_ast.specs.Syntax.{Expression, Net, Bit, Part, Concat, listed_parts, PlainModule}
 use Rattle.bb_ast.specs.Views.{layer, expression}
 use Rattle.bb_names.specs.Checked.{ModuleFacts, syntax, HasNets}
 use Rattle.bb_names.specs.Nets.{nets_of}
@@ -63,14 +63,14 @@ expression-bit e n i is = rw (fold_out-Expr Expression layer e, is, outs-Bit n i
 pub expression-part : (e : Expr) (n : List ℕ) (i j : ℕ) → e ≡ of.Part n i j → expression e ≡ Part n i j
 expression-part e n i j is = rw (fold_out-Expr Expression layer e, is, outs-Part n i j) refl
 
-pub expression-concat : (e : Expr) (all : Vec Expr Global) → e ≡ of.Concat all → expression e ≡ Concat (parts (map expression all.items))
+pub expression-concat : (e : Expr) (all : Vec Expr Global) → e ≡ of.Concat all → expression e ≡ Concat (listed_parts (map expression all.items))
 expression-concat e all is = rw (fold_out-Expr Expression layer e, is, outs-Concat all) refl
 
 flat-mapped : {A B C : Type 0} (g : B → List C) (v : A → B) (xs : List A) → flat_map g (map v xs) ≡ flat_map (λ x. g (v x)) xs
 flat-mapped g v [] = refl
 flat-mapped g v (x ∷ xs) = ap (λ l. g (v x) ++ l) (flat-mapped g v xs)
 
-pub written-concat : (s : Scope) (all : List Expression) → written_bits s (Concat (parts all)) ≡ flat_map (written_bits s) all
+pub written-concat : (s : Scope) (all : List Expression) → written_bits s (Concat (listed_parts all)) ≡ flat_map (written_bits s) all
 written-concat s all = ap (flat_map (λ bits. bits)) (sees_parts (λ x a. a) (assigned s) all) ∙ flat-mapped (λ bits. bits) (written_bits s) all
 
 -- what stands in a concatenation is fit
@@ -86,12 +86,12 @@ module _ (m : ModuleFacts) where
   pub fit_here : (e : Expression) → AreFit m e → IsFit m e
   fit_here e fit = (recursion_from_All (IsFit m) (expressions_in e) fit.each).0
 
-  parts_each : (xs : List Expression) → AllByRecursion (IsFit m) (flat_map (λ e. e) (of_parts (λ x all. x ∷ all) gathering (parts xs))) → AllByRecursion (AreFit m) xs
+  parts_each : (xs : List Expression) → AllByRecursion (IsFit m) (flat_map (λ e. e) (of_parts (λ x all. x ∷ all) gathering (listed_parts xs))) → AllByRecursion (AreFit m) xs
   parts_each [] h = tt
   parts_each (x ∷ xs) h = (record { each = All-from_recursion (IsFit m) (expressions_in x) (front (expressions_in x) _ h) }, parts_each xs (back (expressions_in x) _ h))
 
-  pub fit_parts : (xs : List Expression) → AreFit m (Concat (parts xs)) → All (AreFit m) xs
-  fit_parts xs fit = All-from_recursion (AreFit m) xs (parts_each xs (recursion_from_All (IsFit m) (expressions_in (Concat (parts xs))) fit.each).1)
+  pub fit_parts : (xs : List Expression) → AreFit m (Concat (listed_parts xs)) → All (AreFit m) xs
+  fit_parts xs fit = All-from_recursion (AreFit m) xs (parts_each xs (recursion_from_All (IsFit m) (expressions_in (Concat (listed_parts xs))) fit.each).1)
 
 pub bits_same : (m : PlainModule) (numbers : List ℕ) (f g : Scope → List NetBit) → ((s : Scope) → f s ≡ g s) → AreBitsIn m numbers f → AreBitsIn m numbers g
 bits_same m numbers f g same are path = are path ∙ ap (map Some) (same (record { path = path; source = m }))

@@ -2,7 +2,7 @@
 use Rattle.std.proofs.Common.{◌≡◌, ◌≤◌, ℕ, zero, suc, ◌-◌, Bool, true, false, not, if◌then◌else◌, Option, Some, None, unwrap_or, List, [], ◌∷◌, length, map, drop, get_or, All, refl, ◌∙◌, ap, subst, arith}
 use Rattle.bb_cnf.specs.declared.clauses.Lit.{Lit}
 use Rattle.bb_cnf.specs.Clauses.{IsWithin}
-use Rattle.bb_cnf.specs.Truth.{bit_of, assignment_of, Satisfies}
+use Rattle.bb_cnf.specs.Truth.{literal_bit, assignment_of, Satisfies}
 use Rattle.bb_cdcl.specs.Trails.{opposite, value_at, is_bit, is_false}
 use Rattle.bb_cdcl.specs.Events.{IsSatisfied}
 use Rattle.bb_cdcl.proofs.Literals.{no_clash}
@@ -24,7 +24,7 @@ true_value (Some true) false is = refl
 true_value (Some false) true is = refl
 true_value (Some false) false is = no_clash is
 
-literal_true : (values : List (Option Bool)) (l : Lit) → 1 ≤ l.var → is_false values (opposite l) ≡ true → bit_of (assignment_of (map (λ o. unwrap_or o false) (drop 1 values))) l ≡ true
+literal_true : (values : List (Option Bool)) (l : Lit) → 1 ≤ l.var → is_false values (opposite l) ≡ true → literal_bit (assignment_of (map (λ o. unwrap_or o false) (drop 1 values))) l ≡ true
 literal_true values l some is =
     ap (λ b. if l.neg then not b else b) (bit_of_value values l.var some) ∙ true_value (value_at values l.var) l.neg is
 

@@ -12,7 +12,7 @@ use Rattle.bb_design.specs.Allowed.{IsBounded}
 use Rattle.bb_design.specs.Constructs.{BoxContents}
 use Rattle.bb_design.specs.Dependence.{dependences}
 use Rattle.bb_design.specs.DesignLaws.{DesignLaws}
-use Rattle.bb_design.specs.Drivers.{Source, Free, Made, Box, Drive, driven, drives, driven_bits}
+use Rattle.bb_design.specs.Drivers.{Source, Free, MadeOf, Box, Drive, driven, drives, driven_bits}
 use Rattle.bb_design.specs.Hierarchy.{Design, Scope, root, boxes}
 use Rattle.bb_design.specs.NetBits.{Bit, same_bit, net_order, input_bits, output_bits}
 use Rattle.bb_design.specs.Refusals.{AreDrivenOnce, box_paths}
@@ -38,7 +38,7 @@ use Rattle.bb_cells.proofs.WalkLoops.{claims}
 -- the scope of the box that drives, where one does
 abbrev box_of : Source → Option Scope
 box_of Free = None
-box_of (Made path t) = None
+box_of (MadeOf path t) = None
 box_of (Box s pin) = Some s
 
 -- the number of the box at a pin

@@ -24,7 +24,7 @@ use Rattle.bb_design.specs.NetBits.{Bit, same_bit, net_order, bits_named, pin_bi
 use Rattle.bb_design.specs.Contexts.{width_of, context_width, made_in}
 use Rattle.bb_bits.specs.Bits.{low_bits}
 use Rattle.bb_design.specs.Constructs.{Construct, Assignment, GateInstance, Register, SupplyNet, InputConnection, OutputConnection, BoxContents, parts}
-use Rattle.bb_design.specs.Reading.{bit_itself, copied, copies, cells_at, operand_terms, read_at, read_beside, read_directly, IsRead}
+use Rattle.bb_design.specs.Reading.{bit_itself, copied, copied_bits, cells_at, operand_terms, read_at, read_beside, read_directly, IsRead}
 use Rattle.bb_cells.specs.ReadPlaces.{read_by, read_places, copy_steps, FollowsAt, IsReadPlace}
 use Rattle.bb_cells.specs.CopyLaws.{CopiesAreListed}
 use Rattle.bb_cells.specs.Stands.{Follows}
@@ -34,7 +34,7 @@ use Rattle.bb_lists.proofs.Members.{into_filter, from_drop, contains-map, into_f
 use Rattle.std.proofs.lemmas.List.{get_or_default}
 use Rattle.bb_design.specs.Laws.{BitsAreThere}
 use Rattle.bb_cells.proofs.CopyWalks.{follows_at}
-use Rattle.bb_design.specs.Drivers.{Made, Drive, driven, driven_by, terminal_terms, drives_at, drives}
+use Rattle.bb_design.specs.Drivers.{MadeOf, Drive, driven, driven_by, terminal_terms, drives_at, drives}
 use Rattle.bb_design.specs.GateFunctions.{on_terms, joins, joined, joined_after, joining_cells, gate_cells, inverts, gate_gives}
 use Rattle.bb_cells.specs.Places.{Place, Constant, Input, NetBit, Step, Joined, Inverted, BoxPin, lowered_in, Lowering, IsLowering, step_places, given_at, given_by_box, given, place_in, terminal_place, joined_place, gate_place, step_cell, join_cell, places, pins_of, data_at, data_places, IsListOf}
 use Rattle.bb_design.specs.Registers.{RegisterBit, registers, cut_bits, data_terms}
@@ -107,7 +107,7 @@ module _ (of_designs : DesignLaws) (d : Design) (lowering : Lowering) (l : Loose
     (not_last : (p : Place) (u : LooseCell) → IsListed d lowering l list p u → is_plain p ≡ true → list.number p ≡ goal → ⊥)
     (at_net : (b : Bit) → Contains (net_order d) b → list.number (NetBit b) ≡ goal → Tail b)
     (at_input : (i : ℕ) (b : Bit) → Contains (enumerate_from 0 (cut_bits d)) (i, b) → list.number (Input i) ≡ goal → Tail b)
-    (closed : (b c : Bit) → Contains (copies d) (b, c) → Tail c → Tail b) where
+    (closed : (b c : Bit) → Contains (copied_bits d) (b, c) → Tail c → Tail b) where
   abbrev pub place : Bit → ℕ
   place b = list.number (NetBit b)
 
@@ -254,7 +254,7 @@ module _ (of_designs : DesignLaws) (d : Design) (lowering : Lowering) (l : Loose
         let j = from_map (Step k x) (lowering k x).bits y.1 (sub y.1 (zip_parts all places y here).1) in
         let fits = All-contains (λ j. j < length (lowering k x).all) (lowering k x).bits j.0 lower.places j.1 in
         let low = claims.steps k s c has x (omega (arith, i.1, i.2)) j.0 fits (j.0 + 1) (omega arith) (subst (λ p. Walk n (list.number p)) (sym j.2) walk) in
-        (driven (Made s.path (term_of lowering s y.1)) y.0, sides_meet of_designs d lowering lowered s s.path all places terms same y here, (refl, subst (λ p. Below (bit_itself s.path (term_of lowering s p))) j.2 low))
+        (driven (MadeOf s.path (term_of lowering s y.1)) y.0, sides_meet of_designs d lowering lowered s s.path all places terms same y here, (refl, subst (λ p. Below (bit_itself s.path (term_of lowering s p))) j.2 low))
 
     pins_pass : (s : Scope) (path : List (List ℕ)) (pin : Pin) → ((b : Bit) → Contains (pin_bits path pin) b → Contains (net_order d) b) → (p : Place) → Contains (map NetBit (pin_bits path pin)) p → Walk n (list.number p) → Below (bit_itself path (term_of lowering s p))
     pins_pass s path pin inside p has walk =
@@ -272,7 +272,7 @@ module _ (of_designs : DesignLaws) (d : Design) (lowering : Lowering) (l : Loose
     part_passes k s (GateInstance gate outs ins) has y here walk =
         let t = gate_gives on_terms gate (terminal_terms s ins) in
         let b = from_map {B = Bit × Place} (λ b. (b, gate_place lowering gate k (length ins))) (flat_map (written_bits s) outs) y here in
-        (driven (Made s.path t) b.0, contains-map (driven (Made s.path t)) (flat_map (written_bits s) outs) b.0 b.1, (ap (λ (u : Bit × Place). u.0) b.2, gate_below k s gate outs ins has n (claims.joins k s gate outs ins has) (subst (λ (u : Bit × Place). Walk n (list.number u.1)) (sym b.2) walk)))
+        (driven (MadeOf s.path t) b.0, contains-map (driven (MadeOf s.path t)) (flat_map (written_bits s) outs) b.0 b.1, (ap (λ (u : Bit × Place). u.0) b.2, gate_below k s gate outs ins has n (claims.joins k s gate outs ins has) (subst (λ (u : Bit × Place). Walk n (list.number u.1)) (sym b.2) walk)))
     part_passes k s (Register r) has y here walk = absurd (none_in_nil y here)
     part_passes k s (SupplyNet high m) has y here walk =
         let b = from_map {B = Bit × Place} (λ b. (b, Constant high)) (bits_named s m) y here in
@@ -284,7 +284,7 @@ module _ (of_designs : DesignLaws) (d : Design) (lowering : Lowering) (l : Loose
         let path = path_to s.path i in
         let all : List Place = map NetBit (pin_bits path pin) in
         let inside = wired.pins s i pin f (from_numbered 0 (parts d) (k, (s, OutputConnection i pin f)) has) in
-        (driven (Made path (term_of lowering s y.1)) y.0, sides_meet of_designs d lowering lowered s path (written_bits s f) all _ (pin_terms lowering s path pin) y here, (refl, pins_pass s path pin inside y.1 (zip_parts (written_bits s f) all y here).1 walk))
+        (driven (MadeOf path (term_of lowering s y.1)) y.0, sides_meet of_designs d lowering lowered s path (written_bits s f) all _ (pin_terms lowering s path pin) y here, (refl, pins_pass s path pin inside y.1 (zip_parts (written_bits s f) all y here).1 walk))
     part_passes k s BoxContents has y here walk = absurd (none_in_nil y here)
 
     abbrev inputs : List (Bit × Place)
@@ -333,7 +333,7 @@ module _ (of_designs : DesignLaws) (d : Design) (lowering : Lowering) (l : Loose
             from (inl z) same =
                 let bit : z.0.bit ≡ b = z.2.0 ∙ sym same in
                 let c = z.2.1 in
-                closed b c.0 (subst (λ u. Contains (copies d) (u, c.0)) bit (into_flat (λ (z : Drive). map (λ e. (z.bit, e)) (copied z.source)) (drives d) z.0 (z.0.bit, c.0) z.1 (contains-map {B = Bit × Bit} (λ e. (z.0.bit, e)) (copied z.0.source) c.0 c.1))) c.2
+                closed b c.0 (subst (λ u. Contains (copied_bits d) (u, c.0)) bit (into_flat (λ (z : Drive). map (λ e. (z.bit, e)) (copied z.source)) (drives d) z.0 (z.0.bit, c.0) z.1 (contains-map {B = Bit × Bit} (λ e. (z.0.bit, e)) (copied z.0.source) c.0 c.1))) c.2
 
   pub claims : (n : ℕ) → Claims n
   claims zero =
@@ -605,8 +605,8 @@ module _ (of_designs : DesignLaws) (d : Design) (lowering : Lowering) (l : Loose
   read_from inside clocks timed q at follows = let w = walk_from q follows in places_read w.0 (claims w.0) inside clocks timed q at w.1
 
 module _ (of_designs : DesignLaws) (d : Design) (lowering : Lowering) (l : LooseList) (list : IsListOf d lowering l) (lowered : IsLowering d lowering) (wired : IsWired d) where
-  copy_closed : (e b c : Bit) → Contains (copies d) (b, c) → Follows d c e → Follows d b e
-  copy_closed e b c step (inl same) = inr (One (subst (λ u. Contains (copies d) (b, u)) same step))
+  copy_closed : (e b c : Bit) → Contains (copied_bits d) (b, c) → Follows d c e → Follows d b e
+  copy_closed e b c step (inl same) = inr (One (subst (λ u. Contains (copied_bits d) (b, u)) same step))
   copy_closed e b c step (inr rest) = inr (More step rest)
 
   -- to the place of a bit

@@ -19,13 +19,13 @@ use Rattle.bb_bits.specs.Closures.{Leads, One, More}
 use Rattle.bb_design.specs.Constructs.{Construct, Assignment, GateInstance, Register, SupplyNet, InputConnection, OutputConnection, BoxContents, parts}
 use Rattle.bb_design.specs.Contexts.{width_of, context_width}
 use Rattle.bb_bits.specs.Bits.{low_bits}
-use Rattle.bb_design.specs.Drivers.{Free, Made, Box, Drive, driven, driven_by, terminal_terms, drives_at, drives, driven_bits}
+use Rattle.bb_design.specs.Drivers.{Free, MadeOf, Box, Drive, driven, driven_by, terminal_terms, drives_at, drives, driven_bits}
 use Rattle.bb_design.specs.GateFunctions.{on_terms, joins, joined, inverts, gate_gives}
 use Rattle.bb_design.specs.Hierarchy.{Design, Scope, path_to, boxes}
 use Rattle.bb_design.specs.Laws.{BitsAreThere}
 use Rattle.bb_design.specs.NetBits.{Bit, same_bit, net_order, bits_named, pin_bits, output_bits, written_bits}
 use Rattle.bb_cells.specs.Places.{Place, Constant, Input, NetBit, Step, Joined, Inverted, BoxPin, lowered_in, Lowering, IsLowering, step_places, terminal_place, joined_place, gate_place, given_at, given_by_box, given, place_in, join_cell, IsListOf}
-use Rattle.bb_design.specs.Reading.{bit_itself, copied, copies}
+use Rattle.bb_design.specs.Reading.{bit_itself, copied, copied_bits}
 use Rattle.bb_cells.specs.ReadPlaces.{copy_steps, FollowsAt}
 use Rattle.bb_design.specs.Refusals.{AreDrivenOnce}
 use Rattle.bb_design.specs.Registers.{cut_bits}
@@ -145,7 +145,7 @@ module _ (of_designs : DesignLaws) (d : Design) (lowering : Lowering) (l : Loose
       let i = enumerated_from 0 (lowered_in (s, c)) n (e, w) at in
       let j = from_map (Step k n) (lowering k n).bits y.1 (sub y.1 (zip_parts all places y here).1) in
       let fits = All-contains (λ j. j < length (lowering k n).all) (lowering k n).bits j.0 lower.places j.1 in (
-        driven (Made s.path (term_of lowering s y.1)) y.0,
+        driven (MadeOf s.path (term_of lowering s y.1)) y.0,
         sides_meet of_designs d lowering lowered s s.path all places terms same y here,
         (refl, subst (λ p. (b : Bit) → Contains (bit_itself s.path (term_of lowering s p)) b → To p b) j.2 (steps_copies k s c has n (omega (arith, i.1, i.2)) j.0 fits)),
       )
@@ -170,21 +170,21 @@ module _ (of_designs : DesignLaws) (d : Design) (lowering : Lowering) (l : Loose
   part_given k s (GateInstance gate outs ins) has y here =
       let t = gate_gives on_terms gate (terminal_terms s ins) in
       let b = from_map {B = Bit × Place} (λ b. (b, gate_place lowering gate k (length ins))) (flat_map (written_bits s) outs) y here in (
-        driven (Made s.path t) b.0,
-        contains-map (driven (Made s.path t)) (flat_map (written_bits s) outs) b.0 b.1,
+        driven (MadeOf s.path t) b.0,
+        contains-map (driven (MadeOf s.path t)) (flat_map (written_bits s) outs) b.0 b.1,
         (ap (λ (u : Bit × Place). u.0) b.2, λ c low. subst (λ (u : Bit × Place). To u.1 c) b.2 (gate_copies k s gate outs ins has c low)),
       )
   part_given k s (Register r) has y here = absurd (none_in_nil y here)
   part_given k s (SupplyNet high n) has y here =
       let b = from_map {B = Bit × Place} (λ b. (b, Constant high)) (bits_named s n) y here in
-      (driven (Made s.path (term.Const high)) b.0, contains-map (driven (Made s.path (term.Const high))) (bits_named s n) b.0 b.1, (ap (λ (u : Bit × Place). u.0) b.2, λ c low. absurd (none_in_nil c low)))
+      (driven (MadeOf s.path (term.Const high)) b.0, contains-map (driven (MadeOf s.path (term.Const high))) (bits_named s n) b.0 b.1, (ap (λ (u : Bit × Place). u.0) b.2, λ c low. absurd (none_in_nil c low)))
   part_given k s (InputConnection i pin e) has y here =
       let at = contains_here (0, (e, width_of s e)) [] in
       sides k s (InputConnection i pin e) has 0 e (width_of s e) at (pin_bits (path_to s.path i) pin) (step_places lowering k 0) _ (whole_terms of_designs d lowering lowered k s (InputConnection i pin e) has 0 e (width_of s e) at) (λ p h. h) y here
   part_given k s (OutputConnection i pin e) has y here =
       let path = path_to s.path i in
       let pins : List Place = map NetBit (pin_bits path pin) in (
-        driven (Made path (term_of lowering s y.1)) y.0,
+        driven (MadeOf path (term_of lowering s y.1)) y.0,
         sides_meet of_designs d lowering lowered s path (written_bits s e) pins _ (pin_terms lowering s path pin) y here,
         (refl, pins_copies s path pin y.1 (zip_parts (written_bits s e) pins y here).1),
       )
@@ -226,13 +226,13 @@ module _ (of_designs : DesignLaws) (d : Design) (lowering : Lowering) (l : Loose
   place b = list.number (NetBit b)
 
   module _ (there : BitsAreThere d) (once : AreDrivenOnce d) where
-    bit_there : (b c : Bit) → Contains (copies d) (b, c) → Contains (net_order d) b
+    bit_there : (b c : Bit) → Contains (copied_bits d) (b, c) → Contains (net_order d) b
     bit_there b c has =
         let x = from_flat (λ (z : Drive). map (λ e. (z.bit, e)) (copied z.source)) (drives d) (b, c) has in
         let e = from_map {B = Bit × Bit} (λ e. (x.0.bit, e)) (copied x.0.source) (b, c) x.2 in
         All-contains (Contains (net_order d)) (driven_bits d) b there.driven (subst (Contains (driven_bits d)) (ap (λ (z : Bit × Bit). z.0) e.2) (contains-map (λ (z : Drive). z.bit) (drives d) x.0 x.1))
 
-    step_leads : (b c : Bit) → Contains (copies d) (b, c) → Leads (copy_steps l.cells) (place b) (place c)
+    step_leads : (b c : Bit) → Contains (copied_bits d) (b, c) → Leads (copy_steps l.cells) (place b) (place c)
     step_leads b c has =
         let x = from_flat (λ (z : Drive). map (λ e. (z.bit, e)) (copied z.source)) (drives d) (b, c) has in
         let e = from_map {B = Bit × Bit} (λ e. (x.0.bit, e)) (copied x.0.source) (b, c) x.2 in
@@ -258,7 +258,7 @@ module _ (of_designs : DesignLaws) (d : Design) (lowering : Lowering) (l : Loose
     join j k m (One step) rest = More step rest
     join j k m (More {y = y} step more) rest = More step (join y k m more rest)
 
-    copies_lead : (b c : Bit) → Leads (copies d) b c → Leads (copy_steps l.cells) (place b) (place c)
+    copies_lead : (b c : Bit) → Leads (copied_bits d) b c → Leads (copy_steps l.cells) (place b) (place c)
     copies_lead b c (One has) = step_leads b c has
     copies_lead b c (More {y = y} has rest) = join (place b) (place y) (place c) (step_leads b y has) (copies_lead y c rest)
 

@@ -16,7 +16,7 @@ use Rattle.bb_design.specs.Contexts.{width_of, context_width}
 use Rattle.bb_bits.specs.Bits.{low_bits}
 use Rattle.bb_design.specs.Constructs.{Construct, Assignment, GateInstance, Register, SupplyNet, InputConnection, OutputConnection, BoxContents, parts}
 use Rattle.bb_design.specs.Dependence.{bits_below, needed, dependences, IsOnLoop}
-use Rattle.bb_design.specs.Drivers.{Free, Made, Box, Drive, driven, driven_by, terminal_terms, drives_at, drives, driven_bits}
+use Rattle.bb_design.specs.Drivers.{Free, MadeOf, Box, Drive, driven, driven_by, terminal_terms, drives_at, drives, driven_bits}
 use Rattle.bb_design.specs.GateFunctions.{on_terms, gate_gives}
 use Rattle.bb_design.specs.Laws.{BitsAreThere}
 use Rattle.bb_cells.specs.LoopLaws.{ListsWithoutWalks}
@@ -49,7 +49,7 @@ module _ (of_designs : DesignLaws) (d : Design) (lowering : Lowering) (l : Loose
       let i = enumerated_from 0 (lowered_in (s, c)) n (e, w) at in
       let j = from_map (Step k n) (lowering k n).bits y.1 (sub y.1 (zip_parts all places y here).1) in
       let fits = All-contains (λ j. j < length (lowering k n).all) (lowering k n).bits j.0 lower.places j.1 in (
-        driven (Made s.path (term_of lowering s y.1)) y.0,
+        driven (MadeOf s.path (term_of lowering s y.1)) y.0,
         sides_meet of_designs d lowering lowered s s.path all places terms same y here,
         (refl, subst (λ p. (b : Bit) → Contains (bits_below s.path (term_of lowering s p)) b → To p b) j.2 (steps_walk d lowering l list lowered wired k s c has n (omega (arith, i.1, i.2)) j.0 fits)),
       )
@@ -74,21 +74,21 @@ module _ (of_designs : DesignLaws) (d : Design) (lowering : Lowering) (l : Loose
   part_given k s (GateInstance gate outs ins) has y here =
       let t = gate_gives on_terms gate (terminal_terms s ins) in
       let b = from_map {B = Bit × Place} (λ b. (b, gate_place lowering gate k (length ins))) (flat_map (written_bits s) outs) y here in (
-        driven (Made s.path t) b.0,
-        contains-map (driven (Made s.path t)) (flat_map (written_bits s) outs) b.0 b.1,
+        driven (MadeOf s.path t) b.0,
+        contains-map (driven (MadeOf s.path t)) (flat_map (written_bits s) outs) b.0 b.1,
         (ap (λ (u : Bit × Place). u.0) b.2, λ c low. subst (λ (u : Bit × Place). To u.1 c) b.2 (gate_walk d lowering l list lowered wired k s gate outs ins has c low)),
       )
   part_given k s (Register r) has y here = absurd (none_in_nil y here)
   part_given k s (SupplyNet high n) has y here =
       let b = from_map {B = Bit × Place} (λ b. (b, Constant high)) (bits_named s n) y here in
-      (driven (Made s.path (term.Const high)) b.0, contains-map (driven (Made s.path (term.Const high))) (bits_named s n) b.0 b.1, (ap (λ (u : Bit × Place). u.0) b.2, λ c low. absurd (none_in_nil c low)))
+      (driven (MadeOf s.path (term.Const high)) b.0, contains-map (driven (MadeOf s.path (term.Const high))) (bits_named s n) b.0 b.1, (ap (λ (u : Bit × Place). u.0) b.2, λ c low. absurd (none_in_nil c low)))
   part_given k s (InputConnection i pin e) has y here =
       let at = contains_here (0, (e, width_of s e)) [] in
       sides k s (InputConnection i pin e) has 0 e (width_of s e) at (pin_bits (path_to s.path i) pin) (step_places lowering k 0) _ (whole_terms of_designs d lowering lowered k s (InputConnection i pin e) has 0 e (width_of s e) at) (λ p h. h) y here
   part_given k s (OutputConnection i pin e) has y here =
       let path = path_to s.path i in
       let pins : List Place = map NetBit (pin_bits path pin) in (
-        driven (Made path (term_of lowering s y.1)) y.0,
+        driven (MadeOf path (term_of lowering s y.1)) y.0,
         sides_meet of_designs d lowering lowered s path (written_bits s e) pins _ (pin_terms lowering s path pin) y here,
         (refl, pins_walk s path pin y.1 (zip_parts (written_bits s e) pins y here).1),
       )

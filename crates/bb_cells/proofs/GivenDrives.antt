@@ -14,7 +14,7 @@ use Rattle.bb_design.specs.NetBits.{Bit, same_bit, net_order, bits_named, pin_bi
 use Rattle.bb_design.specs.Contexts.{width_of, context_width, made_in}
 use Rattle.bb_bits.specs.Bits.{low_bits}
 use Rattle.bb_design.specs.Constructs.{Construct, Assignment, GateInstance, Register, SupplyNet, InputConnection, OutputConnection, BoxContents, body_constructs, constructs_at, parts}
-use Rattle.bb_design.specs.Drivers.{Free, Made, Box, Drive, driven, driven_by, terminal_terms, drives_at, drives, driven_bits}
+use Rattle.bb_design.specs.Drivers.{Free, MadeOf, Box, Drive, driven, driven_by, terminal_terms, drives_at, drives, driven_bits}
 use Rattle.bb_design.specs.GateFunctions.{on_terms, gate_gives}
 use Rattle.bb_design.specs.Laws.{BitsAreThere}
 use Rattle.bb_cells.specs.Places.{Place, Constant, Input, NetBit, Step, Joined, Inverted, BoxPin, lowered_in, Lowering, IsLowering, step_places, gate_place, given_at, given_by_box, given}
@@ -92,15 +92,15 @@ module _ (of_designs : DesignLaws) (d : Design) (lowering : Lowering) (lowered :
 
   -- bits side by side with places and with what these are made of
   pub sides_meet : (s : Scope) (path : List (List ℕ)) (all : List Bit) (places : List Place) (terms : List Term) → map (term_of lowering s) places ≡ terms → (y : Bit × Place) → Contains (zip all places) y
-      → Contains (driven_by path all terms) (driven (Made path (term_of lowering s y.1)) y.0)
+      → Contains (driven_by path all terms) (driven (MadeOf path (term_of lowering s y.1)) y.0)
   sides_meet s path all places terms same y here =
       let t = zip_across (term_of lowering s) (λ (u : Term). u) all places terms (same ∙ sym (map-id terms)) y.0 y.1 here in
-      contains-map {B = Drive} (λ (x : Bit × Term). driven (Made path x.1) x.0) (zip all terms) (y.0, term_of lowering s y.1) (subst (λ (u : Term). Contains (zip all terms) (y.0, u)) (sym t.2) t.1)
+      contains-map {B = Drive} (λ (x : Bit × Term). driven (MadeOf path x.1) x.0) (zip all terms) (y.0, term_of lowering s y.1) (subst (λ (u : Term). Contains (zip all terms) (y.0, u)) (sym t.2) t.1)
 
   sides_found : (s : Scope) (path : List (List ℕ)) (all : List Bit) (places : List Place) (terms : List Term) → map (term_of lowering s) places ≡ terms → (z : Drive) → Contains (driven_by path all terms) z
       → (y : Bit × Place) × Contains (zip all places) y × (y.0 ≡ z.bit)
   sides_found s path all places terms same z here =
-      let t = from_map {B = Drive} (λ (x : Bit × Term). driven (Made path x.1) x.0) (zip all terms) z here in
+      let t = from_map {B = Drive} (λ (x : Bit × Term). driven (MadeOf path x.1) x.0) (zip all terms) z here in
       let p = zip_across (λ (u : Term). u) (term_of lowering s) all terms places (map-id terms ∙ sym same) t.0.0 t.0.1 t.1 in
       ((t.0.0, p.0), p.1, ap (λ (u : Drive). u.bit) t.2)
 
@@ -111,11 +111,11 @@ module _ (of_designs : DesignLaws) (d : Design) (lowering : Lowering) (lowered :
       (low_terms k s (Assignment left right) has (length (written_bits s left)) 0 right (context_width s left right) (contains_here (0, (right, context_width s left right)) [])) z here)
   given_found k s (GateInstance gate outs ins) has z here =
       let place = gate_place lowering gate k (length ins) in
-      let b = from_map (driven (Made s.path (gate_gives on_terms gate (terminal_terms s ins)))) (flat_map (written_bits s) outs) z here in
+      let b = from_map (driven (MadeOf s.path (gate_gives on_terms gate (terminal_terms s ins)))) (flat_map (written_bits s) outs) z here in
       inl ((b.0, place), contains-map {B = Bit × Place} (λ b. (b, place)) (flat_map (written_bits s) outs) b.0 b.1, ap (λ (u : Drive). u.bit) b.2)
   given_found k s (Register r) has z here = let b = from_map (driven Free) (written_bits s r.left) z here in inr (inl (ap (λ (u : Drive). u.source) (sym b.2)))
   given_found k s (SupplyNet high n) has z here =
-      let b = from_map (driven (Made s.path (term.Const high))) (bits_named s n) z here in
+      let b = from_map (driven (MadeOf s.path (term.Const high))) (bits_named s n) z here in
       inl ((b.0, Constant high), contains-map {B = Bit × Place} (λ b. (b, Constant high)) (bits_named s n) b.0 b.1, ap (λ (u : Drive). u.bit) b.2)
   given_found k s (InputConnection i pin e) has z here = inl (sides_found s s.path (pin_bits (path_to s.path i) pin) _ _
       (whole_terms k s (InputConnection i pin e) has 0 e (width_of s e) (contains_here (0, (e, width_of s e)) [])) z here)

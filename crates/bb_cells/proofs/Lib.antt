@@ -38,3 +38,10 @@ pub mod StandingNames
 pub mod StandingNets
 pub mod TermFormulas
 pub mod WalkLoops
+pub mod InRow
+pub mod SomeNumbers
+pub mod StandingExpressions
+pub mod SomeLists
+pub mod PrintableTexts
+pub mod PrintableNets
+pub mod SomeNets

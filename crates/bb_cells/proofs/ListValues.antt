@@ -12,7 +12,7 @@ use Rattle.bb_names.specs.Nets.{nets_of}
 use Rattle.bb_expr.specs.declared.step.BitStep.{BitStep}
 use Rattle.bb_expr.specs.declared.step.BitStep.TheVariants as steps
 use Rattle.bb_expr.specs.Lowered.{Reads, step_term, term_within, term_at}
-use Rattle.bb_expr.specs.Terms.{Term, bit_of as term_bit}
+use Rattle.bb_expr.specs.Terms.{Term, term_bit}
 use Rattle.bb_expr.specs.Terms as term
 use Rattle.bb_net.specs.declared.loose.LooseCell.{LooseCell}
 use Rattle.bb_net.specs.declared.loose.LooseCell.TheVariants as cell

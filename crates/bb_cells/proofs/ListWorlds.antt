@@ -6,7 +6,7 @@ use Rattle.std.proofs.lemmas.List.{map-append, get_or-map}
 use Rattle.std.proofs.lemmas.List.Elements.{All-contains, Contains-append_cases, Contains-append_right}
 use Rattle.bb_ast.specs.Syntax.{Expression}
 use Rattle.bb_bits.specs.Contents.{Contents, output_bit}
-use Rattle.bb_expr.specs.Terms.{Term, bit_of as term_bit}
+use Rattle.bb_expr.specs.Terms.{Term, term_bit}
 use Rattle.bb_expr.specs.Terms as term
 use Rattle.bb_net.specs.Loose.{LooseList, IsLooseValue}
 use Rattle.bb_design.specs.Hierarchy.{Design, Scope, path_to, boxes}
@@ -14,7 +14,7 @@ use Rattle.bb_design.specs.NetBits.{Bit, same_bit, net_order, bits_named, pin_bi
 use Rattle.bb_design.specs.Contexts.{width_of, context_width, made_in}
 use Rattle.bb_bits.specs.Bits.{low_bits}
 use Rattle.bb_design.specs.Constructs.{Construct, Assignment, GateInstance, Register, SupplyNet, InputConnection, OutputConnection, BoxContents, parts}
-use Rattle.bb_design.specs.Drivers.{Source, Free, Made, Box, Drive, driven, driven_by, terminal_terms, drives_at, drives, driven_bits}
+use Rattle.bb_design.specs.Drivers.{Source, Free, MadeOf, Box, Drive, driven, driven_by, terminal_terms, drives_at, drives, driven_bits}
 use Rattle.bb_design.specs.DrivenWorlds.{Gives, IsGiven, IsDrivenWorld, ConstructsHoldBitByBit}
 use Rattle.bb_design.specs.GateFunctions.{on_terms, gate_gives}
 use Rattle.bb_design.specs.Laws.{BitsAreThere}
@@ -50,7 +50,7 @@ module _ (of_designs : DesignLaws) (d : Design) (lowering : Lowering) (l : Loose
   -- what a source gives, also where nothing in the design does
   SourceGives : Source → Bit → Bool → Type 0
   SourceGives Free b bit = bit ≡ cut_value b
-  SourceGives (Made path t) b bit = bit ≡ term_bit (w path) t
+  SourceGives (MadeOf path t) b bit = bit ≡ term_bit (w path) t
   SourceGives (Box s pin) b bit = bit ≡ output_bit (contents (path_text s.path)) (bits_in w (input_bits s)) pin
 
   -- a place that gives a bit is that of a drive
@@ -64,7 +64,7 @@ module _ (of_designs : DesignLaws) (d : Design) (lowering : Lowering) (l : Loose
     unfolding SourceGives
     sides_meet path all places terms same y here =
         let t = zip_across v (term_bit (w path)) all places terms same y.0 y.1 here in
-        (driven (Made path t.0) y.0, contains-map {B = Drive} (λ (x : Bit × Term). driven (Made path x.1) x.0) (zip all terms) (y.0, t.0) t.1, (refl, t.2))
+        (driven (MadeOf path t.0) y.0, contains-map {B = Drive} (λ (x : Bit × Term). driven (MadeOf path x.1) x.0) (zip all terms) (y.0, t.0) t.1, (refl, t.2))
 
     -- an expression and the steps into which it is lowered
     whole_same : (n : ℕ) (e : Expression) (width : ℕ) → Contains (enumerate_from 0 (lowered_in (s, c))) (n, (e, width)) → map v (step_places lowering k n) ≡ map (term_bit (w s.path)) (made_in s e width).bits
@@ -83,11 +83,11 @@ module _ (of_designs : DesignLaws) (d : Design) (lowering : Lowering) (l : Loose
       let t = gate_gives on_terms gate (terminal_terms s ins) in
       let b = from_map {B = Bit × Place} (λ b. (b, place)) (flat_map (written_bits s) outs) y here in
       let same : v place ≡ term_bit (w s.path) t = gate_value d lowering l list lowered wired contents x bits value k s gate outs ins has ∙ sym (of_designs.gates (w s.path) gate (terminal_terms s ins)) in
-      (driven (Made s.path t) b.0, contains-map (driven (Made s.path t)) (flat_map (written_bits s) outs) b.0 b.1, (ap (λ (u : Bit × Place). u.0) b.2, ap (λ (u : Bit × Place). v u.1) (sym b.2) ∙ same))
+      (driven (MadeOf s.path t) b.0, contains-map (driven (MadeOf s.path t)) (flat_map (written_bits s) outs) b.0 b.1, (ap (λ (u : Bit × Place). u.0) b.2, ap (λ (u : Bit × Place). v u.1) (sym b.2) ∙ same))
   given_meets k s (Register r) has y here = absurd (none_in_nil y here)
   given_meets k s (SupplyNet high n) has y here =
       let b = from_map {B = Bit × Place} (λ b. (b, Constant high)) (bits_named s n) y here in
-      (driven (Made s.path (term.Const high)) b.0, contains-map (driven (Made s.path (term.Const high))) (bits_named s n) b.0 b.1, (ap (λ (u : Bit × Place). u.0) b.2, ap (λ (u : Bit × Place). v u.1) (sym b.2) ∙ constant_value d lowering l list lowered wired contents x bits value high))
+      (driven (MadeOf s.path (term.Const high)) b.0, contains-map (driven (MadeOf s.path (term.Const high))) (bits_named s n) b.0 b.1, (ap (λ (u : Bit × Place). u.0) b.2, ap (λ (u : Bit × Place). v u.1) (sym b.2) ∙ constant_value d lowering l list lowered wired contents x bits value high))
   given_meets k s (InputConnection i pin e) has y here = sides_meet k s (InputConnection i pin e) has s.path (pin_bits (path_to s.path i) pin) _ _
       (whole_same k s (InputConnection i pin e) has 0 e (width_of s e) (contains_here (0, (e, width_of s e)) [])) y here
   given_meets k s (OutputConnection i pin e) has y here = sides_meet k s (OutputConnection i pin e) has (path_to s.path i) (written_bits s e) _ _ (pins_same d lowering l list lowered wired contents x bits value (path_to s.path i) pin) y here
@@ -184,7 +184,7 @@ module _ (of_designs : DesignLaws) (d : Design) (lowering : Lowering) (l : Loose
     plain : (s : Source) (b : Bit) → SourceGives s b (bit_in w b) → Gives contents w s (bit_in w b)
     unfolding SourceGives
     plain Free b h = tt
-    plain (Made path t) b h = h
+    plain (MadeOf path t) b h = h
     plain (Box s pin) b h = h
 
     pub driven_world : IsDrivenWorld d contents w

@@ -9,13 +9,13 @@ use Rattle.bb_net.specs.Orders.{IsReady}
 use Rattle.bb_net.specs.declared.flat.Reg.{Reg}
 use Rattle.bb_bits.specs.Closures.{Leads, One, More}
 use Rattle.bb_design.specs.Constructs.{parts}
-use Rattle.bb_design.specs.Drivers.{Source, Free, Made, Box, Drive, driven, drives_at, drives, driven_bits}
+use Rattle.bb_design.specs.Drivers.{Source, Free, MadeOf, Box, Drive, driven, drives_at, drives, driven_bits}
 use Rattle.bb_net.specs.Flats.{FlatNet}
 use Rattle.bb_design.specs.Hierarchy.{Path, Design}
 use Rattle.bb_design.specs.Allowed.{IsAllowed}
 use Rattle.bb_cells.specs.NamingLaws.{FollowedInputsAreOne, StandingNetsAreNamed, StandingNetsAreNamedAlike}
 use Rattle.bb_design.specs.NetBits.{Bit, top_inputs}
-use Rattle.bb_design.specs.Reading.{bit_itself, copied, copies}
+use Rattle.bb_design.specs.Reading.{bit_itself, copied, copied_bits}
 use Rattle.bb_design.specs.Refusals.{TwoDrivers, AreDrivenOnce}
 use Rattle.bb_design.specs.Registers.{RegisterBit, registers}
 use Rattle.bb_cells.specs.Stands.{Follows, IsClock, IsRegister, box_texts, box_number, StandsFor}
@@ -47,18 +47,18 @@ itself_one path (Mux i t u) b c p q = absurd (none_in_nil b p)
 
 copied_one : (s : Source) (b c : Bit) → Contains (copied s) b → Contains (copied s) c → b ≡ c
 copied_one Free b c p q = absurd (none_in_nil b p)
-copied_one (Made path t) b c p q = itself_one path t b c p q
+copied_one (MadeOf path t) b c p q = itself_one path t b c p q
 copied_one (Box s pin) b c p q = absurd (none_in_nil b p)
 
 module _ (of_designs : DesignLaws) (d : Design) (once : AreDrivenOnce d) where
   -- a copy has a drive
-  copy_drive : (b c : Bit) → Contains (copies d) (b, c) → (x : Drive) × Contains (drives d) x × (x.bit ≡ b) × Contains (copied x.source) c
+  copy_drive : (b c : Bit) → Contains (copied_bits d) (b, c) → (x : Drive) × Contains (drives d) x × (x.bit ≡ b) × Contains (copied x.source) c
   copy_drive b c has =
       let x = from_flat (λ (x : Drive). map (λ c. (x.bit, c)) (copied x.source)) (drives d) (b, c) has in
       let e = from_map {B = Bit × Bit} (λ c. (x.0.bit, c)) (copied x.0.source) (b, c) x.2 in
       (x.0, x.1, ap (λ (z : Bit × Bit). z.0) e.2, subst (Contains (copied x.0.source)) (ap (λ (z : Bit × Bit). z.1) e.2) e.1)
 
-  copy_one : (b c e : Bit) → Contains (copies d) (b, c) → Contains (copies d) (b, e) → c ≡ e
+  copy_one : (b c e : Bit) → Contains (copied_bits d) (b, c) → Contains (copied_bits d) (b, e) → c ≡ e
   copy_one b c e p q =
       let x = copy_drive b c p in
       let y = copy_drive b e q in
@@ -66,21 +66,21 @@ module _ (of_designs : DesignLaws) (d : Design) (once : AreDrivenOnce d) where
       copied_one y.0.source c e (subst (λ (z : Drive). Contains (copied z.source) c) same x.3) y.3
 
   -- an input of the top is no copy
-  top_ends : (b c : Bit) → Contains (top_inputs d) b → Contains (copies d) (b, c) → ⊥
+  top_ends : (b c : Bit) → Contains (top_inputs d) b → Contains (copied_bits d) (b, c) → ⊥
   top_ends b c top p =
       let x = copy_drive b c p in
       let same : x.0 ≡ driven Free b = one_by (λ (u : Drive). u.bit) (drives d) once x.0 (driven Free b) x.1 (top_driven of_designs d b top) x.2 in
       none_in_nil c (subst (λ (z : Drive). Contains (copied z.source) c) same x.3)
 
-  top_stays : (b c : Bit) → Contains (top_inputs d) b → Leads (copies d) b c → ⊥
+  top_stays : (b c : Bit) → Contains (top_inputs d) b → Leads (copied_bits d) b c → ⊥
   top_stays b c top (One step) = top_ends b c top step
   top_stays b c top (More {y = y} step rest) = top_ends b y top step
 
-  leads_one : (b c e : Bit) → Contains (top_inputs d) c → Contains (top_inputs d) e → Leads (copies d) b c → Leads (copies d) b e → c ≡ e
+  leads_one : (b c e : Bit) → Contains (top_inputs d) c → Contains (top_inputs d) e → Leads (copied_bits d) b c → Leads (copied_bits d) b e → c ≡ e
   leads_one b c e top also (One p) (One q) = copy_one b c e p q
   leads_one b c e top also (One p) (More {y = y} q rest) = absurd (top_stays y e (subst (Contains (top_inputs d)) (copy_one b c y p q) top) rest)
   leads_one b c e top also (More {y = y} p rest) (One q) = absurd (top_stays y c (subst (Contains (top_inputs d)) (copy_one b e y q p) also) rest)
-  leads_one b c e top also (More {y = y} p rest) (More {y = z} q more) = leads_one z c e top also (subst (λ u. Leads (copies d) u c) (copy_one b y z p q) rest) more
+  leads_one b c e top also (More {y = y} p rest) (More {y = z} q more) = leads_one z c e top also (subst (λ u. Leads (copied_bits d) u c) (copy_one b y z p q) rest) more
 
   follows_one : (b c e : Bit) → Contains (top_inputs d) c → Contains (top_inputs d) e → Follows d b c → Follows d b e → c ≡ e
   follows_one b c e top also (inl p) (inl q) = sym p ∙ q

@@ -24,7 +24,7 @@ use Rattle.bb_bits.specs.Bits.{low_bits}
 use Rattle.bb_cells.specs.LoopLaws.{ListWalksAreLoops}
 use Rattle.bb_design.specs.Constructs.{Construct, Assignment, GateInstance, Register, SupplyNet, InputConnection, OutputConnection, BoxContents, parts}
 use Rattle.bb_design.specs.Dependence.{bits_below, needed, dependences}
-use Rattle.bb_design.specs.Drivers.{Made, Box, Drive, driven, driven_by, terminal_terms, drives_at, drives}
+use Rattle.bb_design.specs.Drivers.{MadeOf, Box, Drive, driven, driven_by, terminal_terms, drives_at, drives}
 use Rattle.bb_design.specs.GateFunctions.{on_terms, joins, joined, inverts, gate_gives}
 use Rattle.bb_cells.specs.Places.{Place, Constant, Input, NetBit, Step, Joined, Inverted, BoxPin, lowered_in, Lowering, IsLowering, step_places, given_at, given_by_box, given, place_in, terminal_place, joined_place, gate_place, join_cell, IsListOf}
 use Rattle.bb_design.specs.Registers.{cut_bits}
@@ -286,7 +286,7 @@ module _ (of_designs : DesignLaws) (d : Design) (lowering : Lowering) (l : Loose
         let j = from_map (Step k x) (lowering k x).bits y.1 (sub y.1 (zip_parts all places y here).1) in
         let fits = All-contains (λ j. j < length (lowering k x).all) (lowering k x).bits j.0 lower.places j.1 in
         let low = claims.steps k s c has x (omega (arith, i.1, i.2)) j.0 fits (j.0 + 1) (omega arith) (subst (λ p. Walk n (list.number p)) (sym j.2) walk) in
-        (driven (Made s.path (term_of lowering s y.1)) y.0, sides_meet of_designs d lowering lowered s s.path all places terms same y here, (refl, subst (λ p. Below (bits_below s.path (term_of lowering s p))) j.2 low))
+        (driven (MadeOf s.path (term_of lowering s y.1)) y.0, sides_meet of_designs d lowering lowered s s.path all places terms same y here, (refl, subst (λ p. Below (bits_below s.path (term_of lowering s p))) j.2 low))
 
     pins_pass : (s : Scope) (path : List (List ℕ)) (pin : Pin) → ((b : Bit) → Contains (pin_bits path pin) b → Contains (net_order d) b) → (p : Place) → Contains (map NetBit (pin_bits path pin)) p → Walk n (list.number p) → Below (bits_below path (term_of lowering s p))
     pins_pass s path pin inside p has walk =
@@ -304,7 +304,7 @@ module _ (of_designs : DesignLaws) (d : Design) (lowering : Lowering) (l : Loose
     part_passes k s (GateInstance gate outs ins) has y here walk =
         let t = gate_gives on_terms gate (terminal_terms s ins) in
         let b = from_map {B = Bit × Place} (λ b. (b, gate_place lowering gate k (length ins))) (flat_map (written_bits s) outs) y here in
-        (driven (Made s.path t) b.0, contains-map (driven (Made s.path t)) (flat_map (written_bits s) outs) b.0 b.1, (ap (λ (u : Bit × Place). u.0) b.2, claims.gates k s gate outs ins has (subst (λ (u : Bit × Place). Walk n (list.number u.1)) (sym b.2) walk)))
+        (driven (MadeOf s.path t) b.0, contains-map (driven (MadeOf s.path t)) (flat_map (written_bits s) outs) b.0 b.1, (ap (λ (u : Bit × Place). u.0) b.2, claims.gates k s gate outs ins has (subst (λ (u : Bit × Place). Walk n (list.number u.1)) (sym b.2) walk)))
     part_passes k s (Register r) has y here walk = absurd (none_in_nil y here)
     part_passes k s (SupplyNet high m) has y here walk =
         let b = from_map {B = Bit × Place} (λ b. (b, Constant high)) (bits_named s m) y here in
@@ -316,7 +316,7 @@ module _ (of_designs : DesignLaws) (d : Design) (lowering : Lowering) (l : Loose
         let path = path_to s.path i in
         let all : List Place = map NetBit (pin_bits path pin) in
         let inside = wired.pins s i pin f (from_numbered 0 (parts d) (k, (s, OutputConnection i pin f)) has) in
-        (driven (Made path (term_of lowering s y.1)) y.0, sides_meet of_designs d lowering lowered s path (written_bits s f) all _ (pin_terms lowering s path pin) y here, (refl, pins_pass s path pin inside y.1 (zip_parts (written_bits s f) all y here).1 walk))
+        (driven (MadeOf path (term_of lowering s y.1)) y.0, sides_meet of_designs d lowering lowered s path (written_bits s f) all _ (pin_terms lowering s path pin) y here, (refl, pins_pass s path pin inside y.1 (zip_parts (written_bits s f) all y here).1 walk))
     part_passes k s BoxContents has y here walk = absurd (none_in_nil y here)
 
     abbrev inputs : List (Bit × Place)

@@ -75,3 +75,15 @@ StandingNetsAreFlat = (d : Design) (f : FlatNet) → IsAllowed d → StandsFor d
 -- the list of cells of a design begins with the constants and the inputs, as a list of cells has to
 abbrev pub ListsBegin : Type 0
 ListsBegin = (d : Design) (lowering : Lowering) (l : LooseList) → IsListOf d lowering l → take (l.inputs + 2) l.cells ≡ Const false ∷ Const true ∷ map Input (range_with_len 0 l.inputs)
+
+-- each design of a well-formed text without faults that is neither too deep nor too large has a list of cells
+abbrev pub ListsExist : Type 0
+ListsExist = (d : Design) → IsBounded d → (lowering : Lowering) × IsLowering d lowering × ((l : LooseList) × IsListOf d lowering l)
+
+-- the texts of a netlist that stands for such a design are printable
+abbrev pub StandingNetsArePrintable : Type 0
+StandingNetsArePrintable = (d : Design) (f : FlatNet) → IsBounded d → StandsFor d f → ArePrintable f
+
+-- and each sound design has a netlist that stands for it
+abbrev pub StandingNetsExist : Type 0
+StandingNetsExist = (d : Design) → IsAllowed d → (f : FlatNet) × StandsFor d f

@@ -12,14 +12,14 @@ use Rattle.bb_bits.specs.Closures.{Leads}
 use Rattle.bb_design.specs.Hierarchy.{Design, Scope, root, boxes, top_of}
 use Rattle.bb_design.specs.NetBits.{Bit, input_bits, output_bits, top_inputs, top_outputs, written_bits}
 use Rattle.bb_design.specs.Registers.{RegisterBit, registers}
-use Rattle.bb_design.specs.Reading.{copies}
+use Rattle.bb_design.specs.Reading.{copied_bits}
 use Rattle.bb_design.specs.Texts.{path_text, bit_text, pin_text}
 use Rattle.bb_cells.specs.Places.{Lowering, IsLowering, IsListOf}
 use Rattle.bb_net.specs.Flats.{FlatNet}
 
 -- a bit is another, or a copy of it, directly or through other copies
 abbrev pub Follows : Design → Bit → Bit → Type 0
-Follows d b c = (b ≡ c) ⊎ Leads (copies d) b c
+Follows d b c = (b ≡ c) ⊎ Leads (copied_bits d) b c
 
 -- the input of the top from which a clock comes
 abbrev pub IsClock : Design → Bit → Option ℕ → Type 0

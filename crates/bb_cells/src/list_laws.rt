@@ -2,11 +2,11 @@
 //! has a law as its contract and does nothing.
 
 ghost use Rattle.bb_cells.specs.CellLaws.{CellLaws};
-ghost use Rattle.bb_cells.specs.ListLaws.{ListsBegin, ListsAreLoose, ListsGiveWorlds, StandingNetsGiveOutputs, StandingNetsAgree, NetsAreNoLarger, PlacesAreFew, StandingNetsAreFlat};
+ghost use Rattle.bb_cells.specs.ListLaws.{ListsBegin, ListsExist, StandingNetsArePrintable, StandingNetsExist, ListsAreLoose, ListsGiveWorlds, StandingNetsGiveOutputs, StandingNetsAgree, NetsAreNoLarger, PlacesAreFew, StandingNetsAreFlat};
 
 use bb_design::laws::{constructs_hold_bit_by_bit, laws_of_designs};
-use bb_expr::laws::{made_has_value, values_have_width};
-use bb_net::{order_keeps_values, value_goes_by_boxes};
+use bb_expr::laws::{lowerings_exist, made_has_value, standing_is_fit_in, values_have_width};
+use bb_net::{order_exists, order_keeps_values, value_goes_by_boxes};
 
 /// The list of cells of a design may be given to `order`.
 pub fn lists_are_loose()
@@ -68,6 +68,32 @@ pub fn standing_nets_are_flat()
 pub fn lists_begin()
     ensures { ListsBegin }
 {}
+
+/// A design of a well-formed text without faults that is neither too deep nor too large has a list of cells.
+pub fn lists_exist()
+    ensures { ListsExist }
+{
+    laws_of_designs();
+    standing_is_fit_in();
+    lowerings_exist();
+}
+
+/// The texts of a netlist that stands for such a design are printable.
+pub fn standing_nets_are_printable()
+    ensures { StandingNetsArePrintable }
+{
+    laws_of_designs();
+}
+
+/// A sound design has a netlist that stands for it.
+pub fn standing_nets_exist()
+    ensures { StandingNetsExist }
+{
+    laws_of_designs();
+    lists_exist();
+    lists_are_loose();
+    order_exists();
+}
 
 /// The laws of lists of cells on which elaboration rests, as one.
 pub fn laws_of_cells()

@@ -8,14 +8,14 @@ use Rattle.std.proofs.lemmas.List.Folds.{Any-from_list_any}
 use Rattle.std.proofs.lemmas.Option.{slice_get-map}
 use Rattle.bb_cnf.specs.declared.clauses.Lit.{Lit}
 use Rattle.bb_cnf.specs.Clauses.{Literals, literals_of, same_literal, IsWithin}
-use Rattle.bb_cnf.specs.Truth.{bit_of, IsTrueClause, Satisfies, HaveNoModel}
+use Rattle.bb_cnf.specs.Truth.{literal_bit, IsTrueClause, Satisfies, HaveNoModel}
 use Rattle.bb_cnf.proofs.Literals.{same_literal-is, same_number, number_itself}
 use Rattle.bb_cnf.proofs.Within.{AreWithin}
 use mathlib.Core.Bool.{beq}
 
 -- each literal has a variable from 1 to n, and is false
 abbrev pub IsFalseWithin : ℕ → (ℕ → Bool) → Literals → Type 0
-IsFalseWithin n v c = (l : Lit) → c l ≡ true → (1 ≤ l.var) × (l.var ≤ n) × (bit_of v l ≡ false)
+IsFalseWithin n v c = (l : Lit) → c l ≡ true → (1 ≤ l.var) × (l.var ≤ n) × (literal_bit v l ≡ false)
 
 -- the assignment with another bit for one variable
 abbrev pub with_bit : (ℕ → Bool) → ℕ → Bool → ℕ → Bool
@@ -30,15 +30,15 @@ or_parts false b h = (refl, h)
 or_parts true b h = absurd (let clash : true ≡ false = h in cc)
 
 -- a list of literals, none of which is true
-false_list : (v : ℕ → Bool) (n : ℕ) (lits : List Lit) → list_any (bit_of v) lits ≡ false → AreWithin n lits → IsFalseWithin n v (literals_of lits)
+false_list : (v : ℕ → Bool) (n : ℕ) (lits : List Lit) → list_any (literal_bit v) lits ≡ false → AreWithin n lits → IsFalseWithin n v (literals_of lits)
 false_list v n [] none within l member = absurd (let clash : false ≡ true = member in cc)
 false_list v n (m ∷ lits) none within l member =
-    let parts = or_parts (bit_of v m) (list_any (bit_of v) lits) none in
-    elim (same_literal m l) as (λ b. same_literal m l ≡ b → (b || literals_of lits l) ≡ true → (1 ≤ l.var) × (l.var ≤ n) × (bit_of v l ≡ false)) [
+    let parts = or_parts (literal_bit v m) (list_any (literal_bit v) lits) none in
+    elim (same_literal m l) as (λ b. same_literal m l ≡ b → (b || literals_of lits l) ≡ true → (1 ≤ l.var) × (l.var ≤ n) × (literal_bit v l ≡ false)) [
       | true ↦ λ same _.
           let is : m ≡ l = same_literal-is m l same in
           let inside = All-head (λ k. (1 ≤ k.var) × (k.var ≤ n)) m lits within in
-          subst (λ k. (1 ≤ k.var) × (k.var ≤ n) × (bit_of v k ≡ false)) is (inside.0, inside.1, parts.0)
+          subst (λ k. (1 ≤ k.var) × (k.var ≤ n) × (literal_bit v k ≡ false)) is (inside.0, inside.1, parts.0)
       | false ↦ λ _ rest. false_list v n lits parts.1 (All-tail (λ k. (1 ≤ k.var) × (k.var ≤ n)) m lits within) l rest
     ] refl member
 
@@ -56,9 +56,9 @@ behind n v c clauses one = record { place = suc one.place; lits = one.lits; ther
 all_or_one : (n : ℕ) (v : ℕ → Bool) (clauses : List (List Lit)) → IsWithin n clauses → Satisfies v clauses ⊎ FalseOne n v clauses
 all_or_one n v [] within = inl (All-nil (IsTrueClause v))
 all_or_one n v (c ∷ clauses) within =
-    elim (list_any (bit_of v) c) as (λ b. list_any (bit_of v) c ≡ b → Satisfies v (c ∷ clauses) ⊎ FalseOne n v (c ∷ clauses)) [
+    elim (list_any (literal_bit v) c) as (λ b. list_any (literal_bit v) c ≡ b → Satisfies v (c ∷ clauses) ⊎ FalseOne n v (c ∷ clauses)) [
       | true ↦ λ some. elim (all_or_one n v clauses (All-tail (AreWithin n) c clauses within)) [
-        | inl all ↦ inl (All-cons (IsTrueClause v) c clauses (Any-from_list_any (bit_of v) c some) all)
+        | inl all ↦ inl (All-cons (IsTrueClause v) c clauses (Any-from_list_any (literal_bit v) c some) all)
         | inr one ↦ inr (behind n v c clauses one)
       ]
       | false ↦ λ none. inr (record { place = 0; lits = c; there = refl; is_false = false_list v n c none (All-head (AreWithin n) c clauses within) })
@@ -73,10 +73,10 @@ false_one n v clauses within none = elim (all_or_one n v clauses within) [
 ]
 
 -- the bit of a literal of the variable itself
-own_bit : (v : ℕ → Bool) (x : ℕ) (b : Bool) (l : Lit) → (l.var == x) ≡ true → bit_of (with_bit v x b) l ≡ (if l.neg then not b else b)
+own_bit : (v : ℕ → Bool) (x : ℕ) (b : Bool) (l : Lit) → (l.var == x) ≡ true → literal_bit (with_bit v x b) l ≡ (if l.neg then not b else b)
 own_bit v x b l same = ap (λ t. if l.neg then not (if t then b else v l.var) else (if t then b else v l.var)) same
 
-other_bit : (v : ℕ → Bool) (x : ℕ) (b : Bool) (l : Lit) → (l.var == x) ≡ false → bit_of (with_bit v x b) l ≡ bit_of v l
+other_bit : (v : ℕ → Bool) (x : ℕ) (b : Bool) (l : Lit) → (l.var == x) ≡ false → literal_bit (with_bit v x b) l ≡ literal_bit v l
 other_bit v x b l other = ap (λ t. if l.neg then not (if t then b else v l.var) else (if t then b else v l.var)) other
 
 -- where it is false, it is the false literal
@@ -88,10 +88,10 @@ sign_is false false h = refl
 
 -- a literal of a clause that is false for the bit b of the last variable, if it is another one than that variable's
 pub lower : (n : ℕ) (v : ℕ → Bool) (b : Bool) (c : Literals) → IsFalseWithin (suc n) (with_bit v (suc n) b) c
-    → (l : Lit) → c l ≡ true → same_literal (false_literal (suc n) b) l ≡ false → (1 ≤ l.var) × (l.var ≤ n) × (bit_of v l ≡ false)
+    → (l : Lit) → c l ≡ true → same_literal (false_literal (suc n) b) l ≡ false → (1 ≤ l.var) × (l.var ≤ n) × (literal_bit v l ≡ false)
 lower n v b c all_false l member other =
     let known = all_false l member in
-    elim (l.var == suc n) as (λ t. (l.var == suc n) ≡ t → (1 ≤ l.var) × (l.var ≤ n) × (bit_of v l ≡ false)) [
+    elim (l.var == suc n) as (λ t. (l.var == suc n) ≡ t → (1 ≤ l.var) × (l.var ≤ n) × (literal_bit v l ≡ false)) [
       | true ↦ λ same.
           let sign = sign_is l.neg b (sym (own_bit v (suc n) b l same) ∙ known.2) in
           let itself : (suc n == l.var) ≡ true = ap (λ k. suc n == k) (same_number l.var (suc n) same) ∙ number_itself (suc n) in

@@ -7,14 +7,14 @@ use Rattle.std.proofs.lemmas.List.Elements.{All-append, All-head, All-tail, All-
 use Rattle.std.proofs.lemmas.List.FromFn.{get_or-map-range_with_len, length-range_with_len}
 use Rattle.bb_cnf.specs.declared.clauses.Lit.{Lit}
 use Rattle.bb_cnf.specs.Clauses.{Formula, IsWithin}
-use Rattle.bb_cnf.specs.Truth.{bit_of, Satisfies, assignment_of, IsModel, IsTrueClause}
+use Rattle.bb_cnf.specs.Truth.{literal_bit, Satisfies, assignment_of, IsModel, IsTrueClause}
 use Rattle.bb_cnf.specs.Laws.{ModelLaws}
 
 -- assignments that agree from 1 to n
 abbrev Agree : ℕ → (ℕ → Bool) → (ℕ → Bool) → Type 0
 Agree n v w = (x : ℕ) → 1 ≤ x → x ≤ n → v x ≡ w x
 
-bit_of-agree : (v w : ℕ → Bool) (n : ℕ) → Agree n v w → (l : Lit) → (1 ≤ l.var) × (l.var ≤ n) → bit_of v l ≡ bit_of w l
+bit_of-agree : (v w : ℕ → Bool) (n : ℕ) → Agree n v w → (l : Lit) → (1 ≤ l.var) × (l.var ≤ n) → literal_bit v l ≡ literal_bit w l
 bit_of-agree v w n agree l within = let e = agree l.var within.0 within.1 in ap (λ b. cond l.neg (not b) b) e
 
 satisfies_agree : (v w : ℕ → Bool) (n : ℕ) → Agree n v w → (clauses : List (List Lit)) → IsWithin n clauses → Satisfies v clauses → Satisfies w clauses

@@ -8,7 +8,7 @@ use Rattle.bb_cnf.specs.declared.clauses.Lit.{Lit}
 use Rattle.bb_cnf.specs.declared.refutation.Step.{Step}
 use Rattle.bb_cnf.specs.Clauses.{Literals, literals_of, positive, negated, same_literal}
 use Rattle.bb_cnf.specs.Chains.{resolvent, resolution, chain, made_by, derived, IsEmpty, EndsEmpty, IsRefutation}
-use Rattle.bb_cnf.specs.Truth.{bit_of, IsTrueClause, Satisfies, IsTrueUnder, HaveNoModel}
+use Rattle.bb_cnf.specs.Truth.{literal_bit, IsTrueClause, Satisfies, IsTrueUnder, HaveNoModel}
 use Rattle.bb_cnf.specs.Laws.{SoundnessLaws}
 
 -- a literal of c is true, and it is not m: it is in the resolvent
@@ -19,10 +19,10 @@ pub from_named : (v : ℕ → Bool) (c d : Literals) (m n : Lit) (w : IsTrueUnde
 from_named v c d m n w other = record { literal = w.literal; member = grind (arith, w.member, other); holds = w.holds }
 
 -- literals that are the same have one bit
-pub bit_of-same : (v : ℕ → Bool) (a b : Lit) → same_literal a b ≡ true → bit_of v a ≡ bit_of v b
-bit_of-same v a b same = ap (bit_of v) (same_literal-is a b same)
+pub bit_of-same : (v : ℕ → Bool) (a b : Lit) → same_literal a b ≡ true → literal_bit v a ≡ literal_bit v b
+bit_of-same v a b same = ap (literal_bit v) (same_literal-is a b same)
 
-pub resolvent_true : (v : ℕ → Bool) (c d : Literals) (m n : Lit) → (bit_of v m ≡ true → bit_of v n ≡ false)
+pub resolvent_true : (v : ℕ → Bool) (c d : Literals) (m n : Lit) → (literal_bit v m ≡ true → literal_bit v n ≡ false)
     → IsTrueUnder v c → IsTrueUnder v d → IsTrueUnder v (resolvent c d m n)
 resolvent_true v c d m n opposite w u =
     elim (same_literal m w.literal) as (λ b. same_literal m w.literal ≡ b → IsTrueUnder v (resolvent c d m n)) [
@@ -30,17 +30,17 @@ resolvent_true v c d m n opposite w u =
       | true ↦ λ same. elim (same_literal n u.literal) as (λ b. same_literal n u.literal ≡ b → IsTrueUnder v (resolvent c d m n)) [
         | false ↦ λ other. from_named v c d m n u other
         | true ↦ λ alike.
-            let taken : bit_of v m ≡ true = bit_of-same v m w.literal same ∙ w.holds in
-            let left : bit_of v n ≡ true = bit_of-same v n u.literal alike ∙ u.holds in
+            let taken : literal_bit v m ≡ true = bit_of-same v m w.literal same ∙ w.holds in
+            let left : literal_bit v n ≡ true = bit_of-same v n u.literal alike ∙ u.holds in
             let clash : false ≡ true = sym (opposite taken) ∙ left in
             cc
       ] refl
     ] refl
 
-pub opposite_positive : (v : ℕ → Bool) (x : ℕ) → bit_of v (positive x) ≡ true → bit_of v (negated x) ≡ false
+pub opposite_positive : (v : ℕ → Bool) (x : ℕ) → literal_bit v (positive x) ≡ true → literal_bit v (negated x) ≡ false
 opposite_positive v x h = ap not h
 
-pub opposite_negated : (v : ℕ → Bool) (x : ℕ) → bit_of v (negated x) ≡ true → bit_of v (positive x) ≡ false
+pub opposite_negated : (v : ℕ → Bool) (x : ℕ) → literal_bit v (negated x) ≡ true → literal_bit v (positive x) ≡ false
 opposite_negated v x h = grind arith
 
 pub choice_true : (P : Literals → Type 0) (b : Bool) (e : Literals) (o : Option Literals) → P e → IfSome o P → IfSome (if b then Some e else o) P
@@ -78,10 +78,10 @@ derived_true v (step ∷ steps) earlier all =
     (λ c w. chain_true v earlier all step.rest.items c w))
     (λ c w. derived_true v steps (earlier ++ c ∷ []) (All-push (IsTrueUnder v) earlier c all w))
 
-pub given_true : (v : ℕ → Bool) (c : List Lit) → list_any (bit_of v) c ≡ true → IsTrueUnder v (literals_of c)
+pub given_true : (v : ℕ → Bool) (c : List Lit) → list_any (literal_bit v) c ≡ true → IsTrueUnder v (literals_of c)
 given_true v [] any = absurd (let clash : false ≡ true = any in cc)
 given_true v (l ∷ c) any =
-    elim (bit_of v l) as (λ b. bit_of v l ≡ b → (b || list_any (bit_of v) c) ≡ true → IsTrueUnder v (literals_of (l ∷ c))) [
+    elim (literal_bit v l) as (λ b. literal_bit v l ≡ b → (b || list_any (literal_bit v) c) ≡ true → IsTrueUnder v (literals_of (l ∷ c))) [
       | true ↦ λ here _. record { literal = l; member = ap (λ b. b || list_any (λ m. same_literal m l) c) (same_literal-itself l); holds = here }
       | false ↦ λ _ rest. let w = given_true v c rest in
           record { literal = w.literal; member = grind (arith, w.member); holds = w.holds }
@@ -90,7 +90,7 @@ given_true v (l ∷ c) any =
 pub all_given_true : (v : ℕ → Bool) (clauses : List (List Lit)) → Satisfies v clauses → All (IsTrueUnder v) (map literals_of clauses)
 all_given_true v clauses all =
     All-map (IsTrueUnder v) literals_of clauses
-    (All-weaker (Any (λ l. bit_of v l ≡ true)) (λ c. IsTrueUnder v (literals_of c)) (λ c any. given_true v c (list_any-from_Any (bit_of v) c any)) clauses all)
+    (All-weaker (Any (λ l. literal_bit v l ≡ true)) (λ c. IsTrueUnder v (literals_of c)) (λ c any. given_true v c (list_any-from_Any (literal_bit v) c any)) clauses all)
 
 pub not_both : {A : Type 0} (P Q : A → Type 0) (o : Option A) → IsSomeAnd o P → IfSome o Q → ((a : A) → P a → Q a → ⊥) → ⊥
 not_both P Q None p q clash = p
@@ -106,14 +106,14 @@ refutations_are_sound clauses steps refutation v solves =
     (λ all ends true_all. not_both IsEmpty (IsTrueUnder v) (slice_get all (length all - 1)) ends
     (IfSome-slice_get (IsTrueUnder v) all (length all - 1) true_all) (not_empty v))
 
-true_given : (v : ℕ → Bool) (lits : List Lit) (l : Lit) → literals_of lits l ≡ true → bit_of v l ≡ true → IsTrueClause v lits
+true_given : (v : ℕ → Bool) (lits : List Lit) (l : Lit) → literals_of lits l ≡ true → literal_bit v l ≡ true → IsTrueClause v lits
 true_given v lits l member holds =
     let found = Any-from_list_any (λ m. same_literal m l) lits member in
     (found.0, found.1, found.2, found.3, bit_of-same v found.1 l found.4 ∙ holds)
 
 pub soundness_laws : SoundnessLaws
 soundness_laws = record {
-  clause = λ v lits. (λ w. true_given v lits w.literal w.member w.holds, λ any. given_true v lits (list_any-from_Any (bit_of v) lits any));
+  clause = λ v lits. (λ w. true_given v lits w.literal w.member w.holds, λ any. given_true v lits (list_any-from_Any (literal_bit v) lits any));
   resolvent = resolution_true;
   chain = chain_true;
   derived = derived_true;

@@ -4,12 +4,12 @@ use Rattle.bb_cnf.specs.declared.clauses.Lit.{Lit}
 use Rattle.bb_cnf.specs.Clauses.{Literals, Formula}
 
 -- the literal's bit
-abbrev pub bit_of : (ℕ → Bool) → Lit → Bool
-bit_of v l = if l.neg then not (v l.var) else v l.var
+abbrev pub literal_bit : (ℕ → Bool) → Lit → Bool
+literal_bit v l = if l.neg then not (v l.var) else v l.var
 
 -- one of the literals is true
 abbrev pub IsTrueClause : (ℕ → Bool) → List Lit → Type 0
-IsTrueClause v lits = Any (λ l. bit_of v l ≡ true) lits
+IsTrueClause v lits = Any (λ l. literal_bit v l ≡ true) lits
 
 -- the assignment makes each clause true
 abbrev pub Satisfies : (ℕ → Bool) → List (List Lit) → Type 0
@@ -19,7 +19,7 @@ Satisfies v clauses = All (IsTrueClause v) clauses
 pub record IsTrueUnder (v : ℕ → Bool) (c : Literals) : Type 0 where
   pub literal : Lit
   pub member : c literal ≡ true
-  pub holds : bit_of v literal ≡ true
+  pub holds : literal_bit v literal ≡ true
 
 -- the assignment that a list of bits gives, the bit of the variable 1 first; 0 where the list has no bit
 abbrev pub assignment_of : List Bool → ℕ → Bool

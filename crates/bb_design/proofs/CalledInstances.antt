@@ -9,7 +9,7 @@ use Rattle.bb_bits.specs.Names.{same_name, placed}
 use Rattle.bb_ast.specs.Syntax.{PlainModule}
 use Rattle.bb_names.specs.Faults.{IsSound}
 use Rattle.bb_names.specs.Spots.{module_named}
-use Rattle.bb_design.specs.Callees.{place_named, callees, called, place_of, source_of, child}
+use Rattle.bb_design.specs.Callees.{place_named, callees, called, callee_place, source_of, child}
 use Rattle.bb_design.specs.Hierarchy.{Instance, Scope, instances_of, instantiations, children, path_to}
 use Rattle.bb_lists.proofs.Places.{got-map}
 use Rattle.bb_lists.proofs.Members.{contains-map, into_flat, contains_here, contains_there, contains_cases, none_in_nil}
@@ -54,10 +54,10 @@ module _ (text : List PlainModule) (sound : IsSound text) (m : PlainModule) (her
       (All-contains (λ (x : List ℕ × List ℕ). Contains (names_of text) x.1) (instantiations text) (m.name, i.target) (sound_texts_have_targets text sound)
       (into_flat (λ (x : PlainModule). map (λ (j : Instance). (x.name, j.target)) (instances_of x)) text m (m.name, i.target) here (contains-map (λ (j : Instance). (m.name, j.target)) (instances_of m) i has)))
 
-  pub stands : (i : Instance) → Contains (instances_of m) i → slice_get text (place_of text i) ≡ Some (source_of text m i)
+  pub stands : (i : Instance) → Contains (instances_of m) i → slice_get text (callee_place text i) ≡ Some (source_of text m i)
   stands i has =
       let t = target_there i has in
-      let place : place_of text i ≡ 0 + t.0 = ap (λ o. unwrap_or o 0) t.2 in
+      let place : callee_place text i ≡ 0 + t.0 = ap (λ o. unwrap_or o 0) t.2 in
       ap (slice_get text) (place ∙ zero_plus t.0) ∙ t.3 ∙ ap (λ o. Some (unwrap_or o m)) (sym t.4)
     where
       zero_plus : (k : ℕ) → 0 + k ≡ k
@@ -66,13 +66,13 @@ module _ (text : List PlainModule) (sound : IsSound text) (m : PlainModule) (her
   pub meant : (i : Instance) → Contains (instances_of m) i → module_named text i.target ≡ Some (source_of text m i)
   meant i has = let t = target_there i has in t.4 ∙ ap (λ o. Some (unwrap_or o m)) (sym t.4)
 
-  pub callees_are : callees text m ≡ map (place_of text) (instances_of m)
-  callees_are = all_some (λ (i : Instance). place_named text i.target) (place_of text) (instances_of m) (λ i has. let t = target_there i has in t.2 ∙ ap (λ o. Some (unwrap_or o 0)) (sym t.2))
+  pub callees_are : callees text m ≡ map (callee_place text) (instances_of m)
+  callees_are = all_some (λ (i : Instance). place_named text i.target) (callee_place text) (instances_of m) (λ i has. let t = target_there i has in t.2 ∙ ap (λ o. Some (unwrap_or o 0)) (sym t.2))
 
   pub children_are : (s : Scope) → s.source ≡ m → children text s ≡ map (child text s) (instances_of s.source)
   children_are s is = all_some (λ (i : Instance). option_map (λ (t : PlainModule). record { path = path_to s.path i.name; source = t }) (module_named text i.target)) (child text s) (instances_of s.source)
       (λ i has. let t = target_there i (subst (λ (x : PlainModule). Contains (instances_of x) i) is has) in
       ap (option_map (λ (u : PlainModule). record { path = path_to s.path i.name; source = u })) t.4 ∙ ap (λ o. Some (record { path = path_to s.path i.name; source = unwrap_or o s.source })) (sym t.4))
 
-  pub called_here : (k : ℕ) → slice_get text k ≡ Some m → slice_index_or (called text) k [] ≡ map (place_of text) (instances_of m)
+  pub called_here : (k : ℕ) → slice_get text k ≡ Some m → slice_index_or (called text) k [] ≡ map (callee_place text) (instances_of m)
   called_here k at = get_or_from_slice_get (called text) k (callees text m) [] (got-map (callees text) text k m at) ∙ callees_are

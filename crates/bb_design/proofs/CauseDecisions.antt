@@ -9,7 +9,7 @@ use Rattle.bb_bits.specs.Closures.{Leads, One, More, IsFirst, IsFirstRepeat}
 use Rattle.bb_design.specs.Hierarchy.{Design, Scope, instances, instances_of, instantiations, top_of, too_low}
 use Rattle.bb_design.specs.NetBits.{Bit, net_order}
 use Rattle.bb_design.specs.Drivers.{drives, driven_bits}
-use Rattle.bb_design.specs.Reading.{read_directly, copies, IsRead}
+use Rattle.bb_design.specs.Reading.{read_directly, copied_bits, IsRead}
 use Rattle.bb_design.specs.Dependence.{needed, dependences, IsOnLoop}
 use Rattle.bb_design.specs.Sizes.{cells_in, bits_and_instances}
 use Rattle.bb_design.specs.Texts.{path_text, bit_text}
@@ -60,7 +60,7 @@ decide_some Q decide xs = from (first_or_none Q decide xs)
     from (inr r) = inl (r.0, first_there Q xs r.0 r.1, r.1.holds)
 
 decide_read : (d : Design) (b : Bit) → Decision (IsRead d b)
-decide_read d b = decide_either (decide_contains decide_bit (read_directly d) b) (decide_some (λ c. Leads (copies d) c b) (λ c. decide_leads decide_bit (copies d) c b) (read_directly d))
+decide_read d b = decide_either (decide_contains decide_bit (read_directly d) b) (decide_some (λ c. Leads (copied_bits d) c b) (λ c. decide_leads decide_bit (copied_bits d) c b) (read_directly d))
 
 decide_not : {P : Type 0} → Decision P → Decision (P → ⊥)
 decide_not (inl p) = inr (λ n. n p)

@@ -7,7 +7,7 @@ use Rattle.bb_ast.specs.Syntax.{PlainAlways}
 use Rattle.bb_names.specs.Declarations.{range_of}
 use Rattle.bb_expr.specs.Cells.{Made}
 use Rattle.bb_expr.specs.Laws.{MadeHasValue}
-use Rattle.bb_expr.specs.Terms.{Term, bit_of as term_bit}
+use Rattle.bb_expr.specs.Terms.{Term, term_bit}
 use Rattle.bb_design.specs.Hierarchy.{Design, Scope}
 use Rattle.bb_design.specs.NetBits.{Bit, same_bit, net_order, top_outputs, written_bits}
 use Rattle.bb_design.specs.Contexts.{width_of, context_width, value_in, made_in}

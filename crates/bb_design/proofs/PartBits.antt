@@ -14,7 +14,7 @@ use Rattle.bb_design.specs.NetBits.{Bit, scope_bits, bits_named, pin_bits, outpu
 use Rattle.bb_design.specs.Contexts.{width_of, context_width, made_in}
 use Rattle.bb_bits.specs.Bits.{low_bits}
 use Rattle.bb_design.specs.Constructs.{Construct, Assignment, GateInstance, Register, SupplyNet, InputConnection, OutputConnection, BoxContents}
-use Rattle.bb_design.specs.Drivers.{Free, Made, Box, Drive, driven, driven_by, terminal_terms, drives_at}
+use Rattle.bb_design.specs.Drivers.{Free, MadeOf, Box, Drive, driven, driven_by, terminal_terms, drives_at}
 use Rattle.bb_design.specs.GateFunctions.{on_terms, gate_gives, gate_cells}
 use Rattle.bb_design.specs.Reading.{cells_at, operand_terms, bit_itself, read_beside, read_at, copied}
 use Rattle.bb_design.specs.Registers.{data_terms}
@@ -64,7 +64,7 @@ module _ (G : Bit → Type 0) where
 
     by_terms : (bits : List Bit) (terms : List Term) → ((b : Bit) → Contains bits b → G b) → Each terms (Names s) → (x : Drive) → Contains (driven_by s.path bits terms) x → IsThere x
     by_terms bits terms there all x has =
-        let z = from_map (λ y. driven (Made s.path y.1) y.0) (zip bits terms) x has in
+        let z = from_map (λ y. driven (MadeOf s.path y.1) y.0) (zip bits terms) x has in
         let p = zip_parts bits terms z.0 z.1 in
         subst IsThere z.2 (there z.0.0 p.0, λ c at. up c (itself_there s z.0.1 (all z.0.1 p.1) c at))
 
@@ -116,7 +116,7 @@ module _ (G : Bit → Type 0) where
         let all = gate_named s gate terms (terminals_named ins nets.1) in
         record {
           driven = λ x has.
-              let z = from_map (driven (Made s.path (gate_gives on_terms gate terms))) (flat_map (written_bits s) outs) x has in
+              let z = from_map (driven (MadeOf s.path (gate_gives on_terms gate terms))) (flat_map (written_bits s) outs) x has in
               let e = from_flat (written_bits s) outs z.0 z.1 in
               subst IsThere z.2 (written_up e.0 (nets.0 e.0 e.1) z.0 e.2, λ c at. up c (itself_there s (gate_gives on_terms gate terms) all.0 c at));
           read = by_both (GateInstance gate outs ins) (by_cells (flat_map (λ e. (made_in s e (width_of s e)).cells) ins ++ gate_cells gate terms)
@@ -137,7 +137,7 @@ module _ (G : Bit → Type 0) where
             by (inr h) = let t = from_flat (bit_itself s.path) (data_terms s r) b h in up b (itself_there s t.0 (all t.0 t.1) b t.2)
     part_there (SupplyNet high n) nets = record {
       driven = λ x has.
-          let z = from_map (driven (Made s.path (term.Const high))) (bits_named s n) x has in
+          let z = from_map (driven (MadeOf s.path (term.Const high))) (bits_named s n) x has in
           subst IsThere z.2 (up z.0 (bits_there s n 0 (range_width (range_of s.source n)) nets (omega arith) z.0 z.1), λ c at. absurd (none_in_nil c at));
       read = by_both (SupplyNet high n) nothing_beside nothing_beside;
     }
@@ -150,7 +150,7 @@ module _ (G : Bit → Type 0) where
     part_there (OutputConnection i pin e) nets = record {
       driven = λ x has.
           let pins = pin_bits (path_to s.path i) pin in
-          let z = from_map (λ y. driven (Made (path_to s.path i) y.1) y.0) (zip (written_bits s e) (map (λ b. term.Net b.net b.place) pins)) x has in
+          let z = from_map (λ y. driven (MadeOf (path_to s.path i) y.1) y.0) (zip (written_bits s e) (map (λ b. term.Net b.net b.place) pins)) x has in
           let p = zip_parts (written_bits s e) (map (λ b. term.Net b.net b.place) pins) z.0 z.1 in
           subst IsThere z.2 (written_up e nets.0 z.0.0 p.0, λ c at. pin_copied i pin nets.1 z.0.1 p.1 c at);
       read = by_both (OutputConnection i pin e) nothing_beside nothing_beside;

@@ -13,8 +13,8 @@ use Rattle.bb_design.specs.NetBits.{Bit, input_bits, output_bits, bits_named, pi
 use Rattle.bb_design.specs.Contexts.{width_of, context_width, made_in}
 use Rattle.bb_design.specs.Constructs.{Construct, Assignment, GateInstance, Register, SupplyNet, InputConnection, OutputConnection, BoxContents, parts}
 use Rattle.bb_design.specs.GateFunctions.{on_terms, joins, joined, inverts, gate_gives, joined_after, joining_cells, gate_cells}
-use Rattle.bb_design.specs.Drivers.{Source, Free, Made, Box, Drive, driven, driven_by, terminal_terms, drives_at, drives}
-use Rattle.bb_design.specs.Reading.{cells_at, operand_terms, bit_itself, read_beside, read_at, read_directly, copied, copies, IsRead}
+use Rattle.bb_design.specs.Drivers.{Source, Free, MadeOf, Box, Drive, driven, driven_by, terminal_terms, drives_at, drives}
+use Rattle.bb_design.specs.Reading.{cells_at, operand_terms, bit_itself, read_beside, read_at, read_directly, copied, copied_bits, IsRead}
 use Rattle.bb_design.specs.Dependence.{bits_below, needed}
 use Rattle.bb_design.specs.Laws.{ReadNeedsRead}
 use Rattle.bb_lists.proofs.Members.{from_flat, from_map, contains-map, contains_here, contains_there, contains_cases, none_in_nil, into_flat}
@@ -113,7 +113,7 @@ zip_right (x ∷ xs) (y ∷ ys) z has = by (contains_cases (x, y) (zip xs ys) z 
 Needs : Scope × Construct → Drive → Bit → Type 0
 Needs part x c = Contains (needed x.source) c → Contains (copied x.source) c ⊎ Contains (read_at part) c
 
-made_needs : (part : Scope × Construct) (t : Term) (b c : Bit) → OpsIn (cells_at part) t → Needs part (driven (Made part.0.path t) b) c
+made_needs : (part : Scope × Construct) (t : Term) (b c : Bit) → OpsIn (cells_at part) t → Needs part (driven (MadeOf part.0.path t) b) c
 unfolding Needs Below IsOperand
 made_needs part t b c ops has = by (below part.0.path (cells_at part) t c ops has)
   where
@@ -125,7 +125,7 @@ made_needs part t b c ops has = by (below part.0.path (cells_at part) t c ops ha
 terms_need : (part : Scope × Construct) (bits : List Bit) (terms : List Term) → Each terms (OpsIn (cells_at part)) → (x : Drive) → Contains (driven_by part.0.path bits terms) x → (c : Bit) → Needs part x c
 unfolding Needs
 terms_need part bits terms all x has c =
-    let z = from_map (λ y. driven (Made part.0.path y.1) y.0) (zip bits terms) x has in
+    let z = from_map (λ y. driven (MadeOf part.0.path y.1) y.0) (zip bits terms) x has in
     subst (λ w. Needs part w c) z.2 (made_needs part z.0.1 z.0.0 c (all z.0.1 (zip_right bits terms z.0 z.1)))
 
 same_needs : (part : Scope × Construct) (source : Source) (bits : List Bit) → ((b c : Bit) → Needs part (driven source b) c) → (x : Drive) → Contains (map (driven source) bits) x → (c : Bit) → Needs part x c
@@ -142,18 +142,18 @@ part_needs (s, Assignment left right) x has c = terms_need (s, Assignment left r
 part_needs (s, GateInstance gate outs ins) x has c =
     let cells = flat_map (λ e. (made_in s e (width_of s e)).cells) ins in
     let terms = terminal_terms s ins in
-    same_needs (s, GateInstance gate outs ins) (Made s.path (gate_gives on_terms gate terms)) (flat_map (written_bits s) outs)
+    same_needs (s, GateInstance gate outs ins) (MadeOf s.path (gate_gives on_terms gate terms)) (flat_map (written_bits s) outs)
     (λ b e. made_needs (s, GateInstance gate outs ins) (gate_gives on_terms gate terms) b e
     (gate_ops gate (cells ++ gate_cells gate terms) terms (λ t h. ops_left cells (gate_cells gate terms) t (terminal_ops s ins t h)) (λ t h. Contains-append_right cells (gate_cells gate terms) t h))) x has c
 part_needs (s, Register r) x has c = same_needs (s, Register r) Free (written_bits s r.left) (free_needs (s, Register r)) x has c
-part_needs (s, SupplyNet high n) x has c = same_needs (s, SupplyNet high n) (Made s.path (Const high)) (bits_named s n) (λ b e h. absurd (none_in_nil e h)) x has c
+part_needs (s, SupplyNet high n) x has c = same_needs (s, SupplyNet high n) (MadeOf s.path (Const high)) (bits_named s n) (λ b e h. absurd (none_in_nil e h)) x has c
 part_needs (s, InputConnection i pin e) x has c =
-    let z = from_map (λ y. driven (Made s.path y.1) y.0) (zip (pin_bits (path_to s.path i) pin) (made_in s e (width_of s e)).bits) x has in
+    let z = from_map (λ y. driven (MadeOf s.path y.1) y.0) (zip (pin_bits (path_to s.path i) pin) (made_in s e (width_of s e)).bits) x has in
     subst (λ w. Needs (s, InputConnection i pin e) w c) z.2 (made_needs (s, InputConnection i pin e) z.0.1 z.0.0 c (closed (range_of s.source) e (width_of s e) z.0.1 (zip_right (pin_bits (path_to s.path i) pin) (made_in s e (width_of s e)).bits z.0 z.1)))
 part_needs (s, OutputConnection i pin e) x has c =
-    let z = from_map (λ y. driven (Made (path_to s.path i) y.1) y.0) (zip (written_bits s e) (map (λ (b : Bit). Net b.net b.place) (pin_bits (path_to s.path i) pin))) x has in
+    let z = from_map (λ y. driven (MadeOf (path_to s.path i) y.1) y.0) (zip (written_bits s e) (map (λ (b : Bit). Net b.net b.place) (pin_bits (path_to s.path i) pin))) x has in
     let t = from_map (λ (b : Bit). Net b.net b.place) (pin_bits (path_to s.path i) pin) z.0.1 (zip_right (written_bits s e) _ z.0 z.1) in
-    subst (λ w. Needs (s, OutputConnection i pin e) w c) z.2 (subst (λ w. Needs (s, OutputConnection i pin e) (driven (Made (path_to s.path i) w) z.0.0) c) t.2 (λ h. inl h))
+    subst (λ w. Needs (s, OutputConnection i pin e) w c) z.2 (subst (λ w. Needs (s, OutputConnection i pin e) (driven (MadeOf (path_to s.path i) w) z.0.0) c) t.2 (λ h. inl h))
 part_needs (s, BoxContents) x has c =
     let z = from_map (λ y. driven (Box s y.0) y.1) (enumerate_from 0 (output_bits s)) x has in
     subst (λ w. Needs (s, BoxContents) w c) z.2 (λ h. inr (Contains-append_right [] (input_bits s) c h))
@@ -181,10 +181,10 @@ read_needs_read d b c read has =
     let bit : x.0.bit ≡ b = ap (λ z. z.0) y.2 in
     by x.0 x.1 bit (drive_needs d x.0 x.1 c there)
   where
-    copy : Contains (copies d) (b, c) → Contains (read_directly d) b ⊎ ((e : Bit) × Contains (read_directly d) e × Leads (copies d) e b) → IsRead d c
+    copy : Contains (copied_bits d) (b, c) → Contains (read_directly d) b ⊎ ((e : Bit) × Contains (read_directly d) e × Leads (copied_bits d) e b) → IsRead d c
     copy step (inl direct) = inr (b, direct, One step)
-    copy step (inr far) = inr (far.0, far.1, more_behind (copies d) far.2 step)
+    copy step (inr far) = inr (far.0, far.1, more_behind (copied_bits d) far.2 step)
 
     by : (x : Drive) → Contains (drives d) x → x.bit ≡ b → Contains (copied x.source) c ⊎ Contains (read_directly d) c → IsRead d c
-    by x in_drives bit (inl here) = copy (subst (λ z. Contains (copies d) (z, c)) bit (into_flat (λ y. map (λ e. (y.bit, e)) (copied y.source)) (drives d) x (x.bit, c) in_drives (contains-map {B = Bit × Bit} (λ e. (x.bit, e)) (copied x.source) c here))) read
+    by x in_drives bit (inl here) = copy (subst (λ z. Contains (copied_bits d) (z, c)) bit (into_flat (λ y. map (λ e. (y.bit, e)) (copied y.source)) (drives d) x (x.bit, c) in_drives (contains-map {B = Bit × Bit} (λ e. (x.bit, e)) (copied x.source) c here))) read
     by x in_drives bit (inr direct) = inl direct

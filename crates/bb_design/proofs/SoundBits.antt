@@ -20,7 +20,7 @@ use Rattle.bb_design.specs.Hierarchy.{Instance, instance_of, instances_in, insta
 use Rattle.bb_design.specs.NetBits.{Bit, scope_bits, pin_bits, net_order, top_inputs, top_outputs}
 use Rattle.bb_design.specs.Constructs.{Construct, Assignment, Register, SupplyNet, InputConnection, OutputConnection, BoxContents, initial_construct, gate_construct, connection, connections, body_constructs, constructs_at, parts}
 use Rattle.bb_design.specs.Drivers.{Free, Drive, driven, drives_at, drives}
-use Rattle.bb_design.specs.Reading.{read_at, copied, copies, IsRead}
+use Rattle.bb_design.specs.Reading.{read_at, copied, copied_bits, IsRead}
 use Rattle.bb_design.specs.Refusals.{IsShallow, design_on}
 use Rattle.bb_design.specs.Laws.{BitsAreThere, SoundBitsAreThere}
 use Rattle.bb_lists.proofs.Members.{from_flat, from_map, all_from, contains-map, into_flat, mapped_there, contains_here, contains_there, contains_cases, none_in_nil, from_find}
@@ -218,13 +218,13 @@ module _ (text : List PlainModule) (top : PlainModule) (sound : IsSound text) (i
       by (inl h) = let z = from_map (driven Free) (top_inputs d) x h in subst (IsThere IsIn) z.2 (into_flat scope_bits (scopes d) (root d) z.0 root_there (filtered_there (root d) _ z.0 z.1), λ c at. absurd (none_in_nil c at))
       by (inr h) = let part = from_flat drives_at (parts d) x h in (each_part part.0 part.1).driven x part.2
 
-  each_copy : (b c : Bit) → Contains (copies d) (b, c) → IsIn c
+  each_copy : (b c : Bit) → Contains (copied_bits d) (b, c) → IsIn c
   each_copy b c has =
       let x = from_flat (λ x. map (λ c. (x.bit, c)) (copied x.source)) (drives d) (b, c) has in
       let k = from_map (λ c. (x.0.bit, c)) (copied x.0.source) (b, c) x.2 in
       subst IsIn (ap (λ (z : Bit × Bit). z.1) k.2) ((each_drive x.0 x.1).1 k.0 k.1)
 
-  ends : (b c : Bit) → Leads (copies d) b c → IsIn c
+  ends : (b c : Bit) → Leads (copied_bits d) b c → IsIn c
   ends b c (One has) = each_copy b c has
   ends b c (More has rest) = ends _ c rest
 

@@ -4,12 +4,12 @@ use Rattle.std.specs.List.{enumerate_from, list_any}
 use Rattle.std.proofs.lemmas.List.{map-append}
 use Rattle.std.proofs.lemmas.List.Elements.{All-contains, Contains-append_left, Contains-append_right}
 use Rattle.bb_bits.specs.Contents.{Contents, output_bit}
-use Rattle.bb_expr.specs.Terms.{bit_of}
+use Rattle.bb_expr.specs.Terms.{term_bit}
 use Rattle.bb_design.specs.Hierarchy.{Design, Scope}
 use Rattle.bb_design.specs.NetBits.{Bit, same_bit, net_order, input_bits, top_inputs, written_bits}
 use Rattle.bb_design.specs.Constructs.{Construct, Assignment, GateInstance, Register, SupplyNet, InputConnection, OutputConnection, BoxContents, parts}
 use Rattle.bb_design.specs.Registers.{RegisterBit, stored_at, stored, registers}
-use Rattle.bb_design.specs.Drivers.{Source, Free, Made, Box, Drive, driven, drives_at, drives, driven_bits}
+use Rattle.bb_design.specs.Drivers.{Source, Free, MadeOf, Box, Drive, driven, drives_at, drives, driven_bits}
 use Rattle.bb_design.specs.Dependence.{needed, dependences}
 use Rattle.bb_design.specs.Texts.{path_text, bit_text}
 use Rattle.bb_design.specs.Worlds.{World, Vector, HasVector, bits_in}
@@ -67,13 +67,13 @@ module _ (d : Design) (contents : Contents) (x : Vector) where
   -- what a source gives, where the bits that it needs are known
   value_by : (Bit → Bool) → Source → Bit → Bool
   value_by bit Free b = if list_any (same_bit b) (top_inputs d) then x (TopInput (bit_text d b)) else x (State (bit_text d b))
-  value_by bit (Made path t) b = bit_of (world_of bit path) t
+  value_by bit (MadeOf path t) b = term_bit (world_of bit path) t
   value_by bit (Box s pin) b = output_bit (contents (path_text s.path)) (bits_in (world_of bit) (input_bits s)) pin
 
   value_same : (f g : Bit → Bool) (s : Source) (b : Bit) → ((c : Bit) → Contains (needed s) c → f c ≡ g c) → value_by f s b ≡ value_by g s b
   unfolding value_by
   value_same f g Free b same = refl
-  value_same f g (Made path t) b same = same_terms path (world_of f) (world_of g) t same
+  value_same f g (MadeOf path t) b same = same_terms path (world_of f) (world_of g) t same
   value_same f g (Box s pin) b same = ap (λ ins. output_bit (contents (path_text s.path)) ins pin) (same_bits (world_of f) (world_of g) (input_bits s) same)
 
   value_at : (Bit → Bool) → Option Drive → Bit → Bool
@@ -126,7 +126,7 @@ module _ (d : Design) (contents : Contents) (x : Vector) where
     given : (y : Drive) (s : Source) → final y.bit ≡ value_by final s y.bit → Gives contents (world_of final) s (final y.bit)
     unfolding value_by
     given y Free e = tt
-    given y (Made path t) e = e
+    given y (MadeOf path t) e = e
     given y (Box s pin) e = e
 
     tops_first : driven_bits d ≡ top_inputs d ++ map (λ u. u.bit) (flat_map drives_at (parts d))

@@ -5,12 +5,12 @@ use Rattle.std.proofs.lemmas.List.Elements.{All-contains, Contains-append_cases,
 use lib.Pointwise.{pointwise, pointwise_decides, bytes_decides}
 use Rattle.bb_bits.specs.Names.{same_name}
 use Rattle.bb_bits.specs.Contents.{Contents, output_bit}
-use Rattle.bb_expr.specs.Terms.{Term, Const, Net, Not, And, Or, Xor, Mux, bit_of}
+use Rattle.bb_expr.specs.Terms.{Term, Const, Net, Not, And, Or, Xor, Mux, term_bit}
 use Rattle.bb_design.specs.Hierarchy.{Path, Design, Scope, path_to}
 use Rattle.bb_design.specs.NetBits.{Bit, same_bit, net_order, input_bits, top_inputs, written_bits}
 use Rattle.bb_design.specs.Constructs.{Construct, Assignment, GateInstance, Register, SupplyNet, InputConnection, OutputConnection, BoxContents, parts}
 use Rattle.bb_design.specs.Registers.{RegisterBit, stored_at, stored, registers}
-use Rattle.bb_design.specs.Drivers.{Source, Free, Made, Box, Drive, driven, drives_at, drives, driven_bits}
+use Rattle.bb_design.specs.Drivers.{Source, Free, MadeOf, Box, Drive, driven, drives_at, drives, driven_bits}
 use Rattle.bb_design.specs.Dependence.{bits_below, needed, dependences}
 use Rattle.bb_design.specs.Reading.{IsRead}
 use Rattle.bb_design.specs.Texts.{path_text, bit_text}
@@ -58,7 +58,7 @@ into_filter_map h (z ∷ zs) x y has e = by (contains_cases z zs x has) (h z) re
 
 is_free : Source → Bool
 is_free Free = true
-is_free (Made path t) = false
+is_free (MadeOf path t) = false
 is_free (Box s pin) = false
 
 not_free : (source : Source) (x : Drive) (b : Bit) → is_free source ≡ false → driven source b ≡ x → x.source ≡ Free → ⊥
@@ -67,16 +67,16 @@ not_free source x b off e free = grind (arith, sym off ∙ ap (λ (y : Drive). i
 
 pub free_stored : (part : Scope × Construct) (x : Drive) → Contains (drives_at part) x → x.source ≡ Free → (r : RegisterBit) × Contains (stored_at part) r × (r.bit ≡ x.bit)
 unfolding is_free
-free_stored (s, Assignment left right) x has free = let z = from_map (λ y. driven (Made s.path y.1) y.0) _ x has in absurd (not_free (Made s.path z.0.1) x z.0.0 refl z.2 free)
+free_stored (s, Assignment left right) x has free = let z = from_map (λ y. driven (MadeOf s.path y.1) y.0) _ x has in absurd (not_free (MadeOf s.path z.0.1) x z.0.0 refl z.2 free)
 free_stored (s, GateInstance gate outs ins) x has free = let z = from_map (driven _) (flat_map (written_bits s) outs) x has in absurd (not_free _ x z.0 refl z.2 free)
 free_stored (s, Register r) x has free =
     let z = from_map (driven Free) (written_bits s r.left) x has in
     let k = numbered_there 0 (written_bits s r.left) z.0 z.1 in
     let make : ℕ × Bit → RegisterBit = λ y. record { scope = s; item = r; place = y.0; bit = y.1 } in
     (make (k.0, z.0), contains-map make (enumerate_from 0 (written_bits s r.left)) (k.0, z.0) k.1, ap (λ (y : Drive). y.bit) z.2)
-free_stored (s, SupplyNet high n) x has free = let z = from_map (driven (Made s.path (Const high))) _ x has in absurd (not_free (Made s.path (Const high)) x z.0 refl z.2 free)
-free_stored (s, InputConnection i pin e) x has free = let z = from_map (λ y. driven (Made s.path y.1) y.0) _ x has in absurd (not_free (Made s.path z.0.1) x z.0.0 refl z.2 free)
-free_stored (s, OutputConnection i pin e) x has free = let z = from_map (λ y. driven (Made (path_to s.path i) y.1) y.0) _ x has in absurd (not_free (Made (path_to s.path i) z.0.1) x z.0.0 refl z.2 free)
+free_stored (s, SupplyNet high n) x has free = let z = from_map (driven (MadeOf s.path (Const high))) _ x has in absurd (not_free (MadeOf s.path (Const high)) x z.0 refl z.2 free)
+free_stored (s, InputConnection i pin e) x has free = let z = from_map (λ y. driven (MadeOf s.path y.1) y.0) _ x has in absurd (not_free (MadeOf s.path z.0.1) x z.0.0 refl z.2 free)
+free_stored (s, OutputConnection i pin e) x has free = let z = from_map (λ y. driven (MadeOf (path_to s.path i) y.1) y.0) _ x has in absurd (not_free (MadeOf (path_to s.path i) z.0.1) x z.0.0 refl z.2 free)
 free_stored (s, BoxContents) x has free = let z = from_map (λ y. driven (Box s y.0) y.1) _ x has in absurd (not_free (Box s z.0.0) x z.0.1 refl z.2 free)
 
 -- a stored bit of the design is a register
@@ -108,7 +108,7 @@ free_bit d x w v there one two y has free = by (Contains-append_cases (map (driv
     by (inr more) = let p = from_flat drives_at (parts d) y more in state p.0 p.1 p.2
 
 -- terms of the same bits have the same bit
-pub same_terms : (path : Path) (w v : World) (t : Term) → ((c : Bit) → Contains (bits_below path t) c → bit_in w c ≡ bit_in v c) → bit_of (w path) t ≡ bit_of (v path) t
+pub same_terms : (path : Path) (w v : World) (t : Term) → ((c : Bit) → Contains (bits_below path t) c → bit_in w c ≡ bit_in v c) → term_bit (w path) t ≡ term_bit (v path) t
 same_terms path w v (Const b) same = refl
 same_terms path w v (Net n i) same = same (record { path = path; net = n; place = i }) (contains_here _ [])
 same_terms path w v (Not a) same = ap not (same_terms path w v a same)
@@ -131,7 +131,7 @@ module _ (read_law : ReadNeedsRead) (d : Design) (contents : Contents) (x : Vect
   -- a source gives the same bit where what it needs has the same bits
   same_source : (y : Drive) → Contains (drives d) y → (s : Source) → y.source ≡ s → Gives contents w s (bit_in w y.bit) → Gives contents v s (bit_in v y.bit) → ((c : Bit) → Contains (needed s) c → bit_in w c ≡ bit_in v c) → bit_in w y.bit ≡ bit_in v y.bit
   same_source y has Free e a b same = free_bit d x w v there one two y has e
-  same_source y has (Made path t) e a b same = a ∙ same_terms path w v t same ∙ sym b
+  same_source y has (MadeOf path t) e a b same = a ∙ same_terms path w v t same ∙ sym b
   same_source y has (Box s pin) e a b same = a ∙ ap (λ ins. output_bit (contents (path_text s.path)) ins pin) (same_bits w v (input_bits s) same) ∙ sym b
 
   agree : (n : ℕ) (b : Bit) → acyclic.0 b < n → IsRead d b → bit_in w b ≡ bit_in v b

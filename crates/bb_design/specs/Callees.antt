@@ -25,8 +25,8 @@ abbrev pub called : List PlainModule → List (List ℕ)
 called text = map (callees text) text
 
 -- the place of the module of which an instance is a copy, and 0 where there is none
-abbrev pub place_of : List PlainModule → Instance → ℕ
-place_of text i = unwrap_or (place_named text i.target) 0
+abbrev pub callee_place : List PlainModule → Instance → ℕ
+callee_place text i = unwrap_or (place_named text i.target) 0
 
 -- that module, and the module in which the instance stands where there is none
 abbrev pub source_of : List PlainModule → PlainModule → Instance → PlainModule

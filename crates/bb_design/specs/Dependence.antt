@@ -7,7 +7,7 @@ use Rattle.bb_expr.specs.Terms.{Term, Const, Net, Not, And, Or, Xor, Mux}
 use Rattle.bb_design.specs.Hierarchy.{Path, Design}
 use Rattle.bb_design.specs.NetBits.{Bit, input_bits}
 use Rattle.bb_bits.specs.Closures.{Leads}
-use Rattle.bb_design.specs.Drivers.{Source, Free, Made, Box, drives}
+use Rattle.bb_design.specs.Drivers.{Source, Free, MadeOf, Box, drives}
 
 -- the bits of which a term is made
 abbrev pub bits_below : Path → Term → List Bit
@@ -21,7 +21,7 @@ bits_below path (Mux c t e) = bits_below path c ++ bits_below path t ++ bits_bel
 
 abbrev pub needed : Source → List Bit
 needed Free = []
-needed (Made path t) = bits_below path t
+needed (MadeOf path t) = bits_below path t
 needed (Box s pin) = input_bits s
 
 -- each driven bit with each bit on which it depends

@@ -3,7 +3,7 @@ use Rattle.std.specs.Prelude.{◌≡◌, ℕ, Bool, List, ◌++◌, flat_map, le
 use Rattle.bb_ast.specs.declared.module.Gate.{Gate}
 use Rattle.bb_ast.specs.Syntax.{PlainAlways, Always, PlainBody, PlainModule}
 use Rattle.bb_bits.specs.Bits.{low_bits}
-use Rattle.bb_expr.specs.Terms.{Term, bit_of}
+use Rattle.bb_expr.specs.Terms.{Term, term_bit}
 use Rattle.bb_expr.specs.Values.{Bits}
 use Rattle.bb_design.specs.Constructs.{Construct, Register, body_constructs, parts}
 use Rattle.bb_design.specs.Contexts.{context_width, value_in}
@@ -18,7 +18,7 @@ use Rattle.bb_design.specs.Worlds.{World, bit_in, next_bit, outputs_in}
 
 -- a gate of terms has the bit that the gate gives for the bits of the terms
 abbrev pub GatesGoByTerms : Type 0
-GatesGoByTerms = (env : Bits) (gate : Gate) (ts : List Term) → bit_of env (gate_gives on_terms gate ts) ≡ gate_gives on_bits gate (map (bit_of env) ts)
+GatesGoByTerms = (env : Bits) (gate : Gate) (ts : List Term) → term_bit env (gate_gives on_terms gate ts) ≡ gate_gives on_bits gate (map (term_bit env) ts)
 
 -- the inputs of the top are driven first
 abbrev pub TopInputsAreDriven : Type 0
@@ -50,7 +50,7 @@ RegistersAreAlwaysItems = (text : List PlainModule) (body : PlainBody) (a : Plai
 
 -- what a register is to become is what its terms give
 abbrev pub NextStatesGoByTerms : Type 0
-NextStatesGoByTerms = (w : World) (s : Scope) (a : PlainAlways) → low_bits (length (written_bits s a.left)) (value_in (w s.path) s a.right (context_width s a.left a.right)) ≡ map (bit_of (w s.path)) (data_terms s a)
+NextStatesGoByTerms = (w : World) (s : Scope) (a : PlainAlways) → low_bits (length (written_bits s a.left)) (value_in (w s.path) s a.right (context_width s a.left a.right)) ≡ map (term_bit (w s.path)) (data_terms s a)
 
 -- the bits of the cut outputs of a world, in their order
 abbrev pub cut_output_bits : Design → World → List Bool

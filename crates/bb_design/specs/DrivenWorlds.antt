@@ -5,12 +5,12 @@ use Rattle.bb_ast.specs.Names.{names_in}
 use Rattle.bb_ast.specs.Syntax.{Expression, PlainModule}
 use Rattle.bb_bits.specs.Contents.{Contents, HasShape, output_bit}
 use Rattle.bb_names.specs.Faults.{IsSound}
-use Rattle.bb_expr.specs.Terms.{bit_of}
+use Rattle.bb_expr.specs.Terms.{term_bit}
 use Rattle.bb_design.specs.Hierarchy.{Design, Scope, is_box}
 use Rattle.bb_design.specs.NetBits.{Bit, input_bits, output_bits}
 use Rattle.bb_design.specs.Contexts.{width_of}
 use Rattle.bb_design.specs.Constructs.{Construct, Assignment, GateInstance, Register, SupplyNet, InputConnection, OutputConnection, BoxContents, constructs_at, parts}
-use Rattle.bb_design.specs.Drivers.{Source, Free, Made, Box, Drive, drives_at, drives}
+use Rattle.bb_design.specs.Drivers.{Source, Free, MadeOf, Box, Drive, drives_at, drives}
 use Rattle.bb_design.specs.Texts.{path_text}
 use Rattle.bb_design.specs.Worlds.{World, Vector, HasVector, bit_in, bits_in, Holds, IsWorld}
 use Rattle.bb_design.specs.Reading.{IsRead}
@@ -20,7 +20,7 @@ use Rattle.bb_design.specs.Laws.{BitsAreThere, ScopesAreEnds}
 -- the source gives this bit
 abbrev pub Gives : Contents → World → Source → Bool → Type 0
 Gives contents w Free b = Unit {0}
-Gives contents w (Made path t) b = b ≡ bit_of (w path) t
+Gives contents w (MadeOf path t) b = b ≡ term_bit (w path) t
 Gives contents w (Box s pin) b = b ≡ output_bit (contents (path_text s.path)) (bits_in w (input_bits s)) pin
 
 abbrev pub IsGiven : Contents → World → Drive → Type 0

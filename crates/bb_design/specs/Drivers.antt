@@ -10,8 +10,7 @@ use Rattle.bb_expr.specs.Terms.{Term}
 use Rattle.bb_expr.specs.Terms as term
 use Rattle.bb_design.specs.Hierarchy.{Path, Design, Scope, path_to}
 use Rattle.bb_design.specs.NetBits.{Bit, bits_named, pin_bits, output_bits, top_inputs, written_bits}
-use Rattle.bb_design.specs.Contexts.{width_of, context_width, made_in}
-use Rattle.bb_bits.specs.Bits.{low_bits}
+use Rattle.bb_design.specs.Contexts.{width_of, made_in, assigned_terms}
 use Rattle.bb_design.specs.Constructs.{Construct, Assignment, GateInstance, Register, SupplyNet, InputConnection, OutputConnection, BoxContents, parts}
 use Rattle.bb_design.specs.GateFunctions.{on_terms, gate_gives}
 
@@ -20,7 +19,7 @@ pub data Source : Type 0 where
   -- nothing in the design: it is an input of the top, or a register
   Free : Source
   -- what is made of the nets of the scope at a path
-  Made : Path → Term → Source
+  MadeOf : Path → Term → Source
   -- the box at a scope, which gives the bit at its output pin with this number
   Box : Scope → ℕ → Source
 
@@ -33,7 +32,7 @@ driven source b = record { bit = b; source = source }
 
 -- bits and what they are made of in the scope at a path, place by place
 abbrev pub driven_by : Path → List Bit → List Term → List Drive
-driven_by path bits terms = map (λ x. driven (Made path x.1) x.0) (zip bits terms)
+driven_by path bits terms = map (λ x. driven (MadeOf path x.1) x.0) (zip bits terms)
 
 -- the bits of the terminals of a gate, in order
 abbrev pub terminal_terms : Scope → List Expression → List Term
@@ -41,10 +40,10 @@ terminal_terms s ins = flat_map (λ e. (made_in s e (width_of s e)).bits) ins
 
 -- what a construct drives
 abbrev pub drives_at : Scope × Construct → List Drive
-drives_at (s, Assignment left right) = driven_by s.path (written_bits s left) (low_bits (length (written_bits s left)) (made_in s right (context_width s left right)).bits)
-drives_at (s, GateInstance gate outs ins) = map (driven (Made s.path (gate_gives on_terms gate (terminal_terms s ins)))) (flat_map (written_bits s) outs)
+drives_at (s, Assignment left right) = driven_by s.path (written_bits s left) (assigned_terms s left right)
+drives_at (s, GateInstance gate outs ins) = map (driven (MadeOf s.path (gate_gives on_terms gate (terminal_terms s ins)))) (flat_map (written_bits s) outs)
 drives_at (s, Register r) = map (driven Free) (written_bits s r.left)
-drives_at (s, SupplyNet high n) = map (driven (Made s.path (term.Const high))) (bits_named s n)
+drives_at (s, SupplyNet high n) = map (driven (MadeOf s.path (term.Const high))) (bits_named s n)
 drives_at (s, InputConnection i pin e) = driven_by s.path (pin_bits (path_to s.path i) pin) (made_in s e (width_of s e)).bits
 drives_at (s, OutputConnection i pin e) = driven_by (path_to s.path i) (written_bits s e) (map (λ b. term.Net b.net b.place) (pin_bits (path_to s.path i) pin))
 drives_at (s, BoxContents) = map (λ x. driven (Box s x.0) x.1) (enumerate_from 0 (output_bits s))

@@ -2,7 +2,7 @@
 use Rattle.std.specs.Prelude.{◌≡◌, ◌≢◌, ◌↔◌, ℕ, List, map, All, AllPairs, Contains, Some, slice_get, [], ◌∷◌, ◌++◌, codes}
 use Rattle.bb_ast.specs.Syntax.{PlainModule}
 use Rattle.bb_names.specs.Faults.{IsSound}
-use Rattle.bb_design.specs.Callees.{callees, calls, child, place_of, source_of}
+use Rattle.bb_design.specs.Callees.{callees, calls, child, callee_place, source_of}
 use Rattle.bb_bits.specs.Closures.{Leads}
 use Rattle.bb_design.specs.Hierarchy.{instantiations, Instance, Path, Scope, children, instances_of, path_to}
 use Rattle.std.specs.List.{slice_index_or}
@@ -29,9 +29,9 @@ WalksAreByPlaces = (text : List PlainModule) (m n : PlainModule) (j k : ℕ) →
 
 -- each instance in a module of a text without faults has its module, which stands at the place of the callee, and its scope
 pub record HasItsInstances (text : List PlainModule) (m : PlainModule) : Type 0 where
-  pub stands : (i : Instance) → Contains (instances_of m) i → slice_get text (place_of text i) ≡ Some (source_of text m i)
+  pub stands : (i : Instance) → Contains (instances_of m) i → slice_get text (callee_place text i) ≡ Some (source_of text m i)
   pub meant : (i : Instance) → Contains (instances_of m) i → module_named text i.target ≡ Some (source_of text m i)
-  pub called : (k : ℕ) → slice_get text k ≡ Some m → slice_index_or (map (callees text) text) k [] ≡ map (place_of text) (instances_of m)
+  pub called : (k : ℕ) → slice_get text k ≡ Some m → slice_index_or (map (callees text) text) k [] ≡ map (callee_place text) (instances_of m)
   pub children : (s : Scope) → s.source ≡ m → children text s ≡ map (child text s) (instances_of s.source)
 
 abbrev pub SoundTextsHaveInstances : Type 0

@@ -12,7 +12,7 @@ use Rattle.bb_design.specs.Constructs.{Construct, Assignment, GateInstance, Regi
 use Rattle.bb_design.specs.GateFunctions.{gate_cells}
 use Rattle.bb_design.specs.Registers.{data_terms}
 use Rattle.bb_bits.specs.Closures.{Leads}
-use Rattle.bb_design.specs.Drivers.{Source, Free, Made as MadeOf, Box, drives, terminal_terms}
+use Rattle.bb_design.specs.Drivers.{Source, Free, MadeOf, Box, drives, terminal_terms}
 
 -- the cells of a construct, but for the output pins of a box: each is what its operator is made of
 abbrev pub cells_at : Scope × Construct → List Term
@@ -59,9 +59,9 @@ copied (MadeOf path t) = bit_itself path t
 copied (Box s pin) = []
 
 -- each copy with the bit of which it is one
-abbrev pub copies : Design → List (Bit × Bit)
-copies d = flat_map (λ x. map (λ c. (x.bit, c)) (copied x.source)) (drives d)
+abbrev pub copied_bits : Design → List (Bit × Bit)
+copied_bits d = flat_map (λ x. map (λ c. (x.bit, c)) (copied x.source)) (drives d)
 
 -- a bit is read
 abbrev pub IsRead : Design → Bit → Type 0
-IsRead d b = Contains (read_directly d) b ⊎ ((c : Bit) × Contains (read_directly d) c × Leads (copies d) c b)
+IsRead d b = Contains (read_directly d) b ⊎ ((c : Bit) × Contains (read_directly d) c × Leads (copied_bits d) c b)

@@ -7,8 +7,7 @@ use Rattle.bb_expr.specs.Terms.{Term}
 use Rattle.bb_design.specs.Hierarchy.{Design, Scope}
 use Rattle.bb_design.specs.NetBits.{Bit, same_bit, net_order, top_inputs, written_bits}
 use Rattle.bb_design.specs.Constructs.{Construct, Register, parts}
-use Rattle.bb_design.specs.Contexts.{context_width, made_in}
-use Rattle.bb_bits.specs.Bits.{low_bits}
+use Rattle.bb_design.specs.Contexts.{assigned_terms}
 
 -- a register bit: its scope, its always item, and its place on the left side, from the most significant on
 pub record RegisterBit : Type 0 where
@@ -35,4 +34,4 @@ cut_bits d = top_inputs d ++ map (λ r. r.bit) (registers d)
 
 -- what the data bits of an always item are made of
 abbrev pub data_terms : Scope → PlainAlways → List Term
-data_terms s r = low_bits (length (written_bits s r.left)) (made_in s r.right (context_width s r.left r.right)).bits
+data_terms s r = assigned_terms s r.left r.right

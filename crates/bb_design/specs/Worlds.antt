@@ -11,8 +11,7 @@ use Rattle.bb_expr.specs.Values.{Bits}
 use Rattle.bb_net.specs.CutPoints.{CutInput, TopInput, State, CutOutput, TopOutput, NextState}
 use Rattle.bb_design.specs.Hierarchy.{Path, Design, Scope, path_to, module_at, boxes}
 use Rattle.bb_design.specs.NetBits.{Bit, pin_bits, bits_named, input_bits, output_bits, top_inputs, top_outputs, written_bits}
-use Rattle.bb_design.specs.Contexts.{width_of, context_width, value_in}
-use Rattle.bb_bits.specs.Bits.{low_bits}
+use Rattle.bb_design.specs.Contexts.{width_of, value_in, assigned_values}
 use Rattle.bb_design.specs.Constructs.{Construct, Assignment, GateInstance, Register, SupplyNet, InputConnection, OutputConnection, BoxContents, constructs_at}
 use Rattle.bb_design.specs.GateFunctions.{on_bits, gate_gives}
 use Rattle.bb_design.specs.Registers.{RegisterBit, registers}
@@ -30,7 +29,7 @@ bits_in w bits = map (bit_in w) bits
 
 -- the equation of a construct of a scope
 abbrev pub Holds : Contents → World → Scope → Construct → Type 0
-Holds contents w s (Assignment left right) = bits_in w (written_bits s left) ≡ low_bits (length (written_bits s left)) (value_in (w s.path) s right (context_width s left right))
+Holds contents w s (Assignment left right) = bits_in w (written_bits s left) ≡ assigned_values (w s.path) s left right
 Holds contents w s (GateInstance gate outs ins) = All (λ b. bit_in w b ≡ gate_gives on_bits gate (flat_map (λ e. value_in (w s.path) s e (width_of s e)) ins)) (flat_map (written_bits s) outs)
 Holds contents w s (Register r) = Unit {0}
 Holds contents w s (SupplyNet high n) = All (λ b. bit_in w b ≡ high) (bits_named s n)
@@ -57,7 +56,7 @@ pub record HasVector (d : Design) (x : Vector) (w : World) : Type 0 where
 
 -- what a register bit is to become
 abbrev pub next_bit : World → RegisterBit → Bool
-next_bit w r = slice_index_or (low_bits (length (written_bits r.scope r.item.left)) (value_in (w r.scope.path) r.scope r.item.right (context_width r.scope r.item.left r.item.right))) r.place false
+next_bit w r = slice_index_or (assigned_values (w r.scope.path) r.scope r.item.left r.item.right) r.place false
 
 -- the cut outputs and their bits: the output ports of the top in net order, then the registers in net order
 abbrev pub outputs_in : Design → World → List (CutOutput × Bool)

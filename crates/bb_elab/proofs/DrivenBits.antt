@@ -8,13 +8,13 @@ use Rattle.bb_ast.specs.Syntax.{Expression}
 use Rattle.bb_names.specs.Declarations.{range_of}
 use Rattle.bb_names.specs.Spots.{Pin}
 use Rattle.bb_expr.specs.Laws.{ValuesHaveWidth, MadeHasValue}
-use Rattle.bb_expr.specs.Terms.{Term, bit_of}
+use Rattle.bb_expr.specs.Terms.{Term, term_bit}
 use Rattle.bb_design.specs.Hierarchy.{Design, Path, Scope, path_to, scopes, is_box}
 use Rattle.bb_design.specs.NetBits.{Bit, bits_named, pin_bits, output_bits, top_inputs, written_bits}
 use Rattle.bb_design.specs.Contexts.{width_of, context_width, made_in}
 use Rattle.bb_bits.specs.Bits.{low_bits}
 use Rattle.bb_design.specs.Constructs.{Construct, Assignment, GateInstance, Register, SupplyNet, InputConnection, OutputConnection, BoxContents, body_constructs, constructs_at, parts}
-use Rattle.bb_design.specs.Drivers.{Source, Free, Made, Box, Drive, driven, driven_by, terminal_terms, drives_at, driven_bits}
+use Rattle.bb_design.specs.Drivers.{Source, Free, MadeOf, Box, Drive, driven, driven_by, terminal_terms, drives_at, driven_bits}
 use Rattle.bb_design.specs.DrivenWorlds.{IsLegal}
 use Rattle.bb_design.specs.GateFunctions.{on_terms, gate_gives}
 use Rattle.bb_design.specs.Allowed.{IsBounded}
@@ -74,7 +74,7 @@ module _ (of_designs : DesignLaws) (values : ValuesHaveWidth) (cells : MadeHasVa
   made_long : (s : Scope) (e : Expression) (n : ℕ) → width_of s e ≤ n → length (made_in s e n).bits ≡ n
   made_long s e n fits =
       let env : List ℕ → ℕ → Bool = λ m k. false in
-      sym (length-map (made_in s e n).bits (bit_of env)) ∙ ap length (cells (range_of s.source) env e n fits) ∙ values (range_of s.source) env e n fits
+      sym (length-map (made_in s e n).bits (term_bit env)) ∙ ap length (cells (range_of s.source) env e n fits) ∙ values (range_of s.source) env e n fits
 
   drives_are : (s : Scope) (c : Construct) → IsFitting s c → map (λ (x : Drive). x.bit) (drives_at (s, c)) ≡ bits_driven s c
   drives_are s (Assignment left right) legal =
@@ -85,9 +85,9 @@ module _ (of_designs : DesignLaws) (values : ValuesHaveWidth) (cells : MadeHasVa
       let long = made_long s right wide fits in
       let short = of_designs.written_few s left in
       of_terms s.path (written_bits s left) (low_bits n made) (omega (arith, length-drop (length made - n) made, long, short))
-  drives_are s (GateInstance gate outs ins) legal = of_driven (Made s.path (gate_gives on_terms gate (terminal_terms s ins))) (flat_map (written_bits s) outs)
+  drives_are s (GateInstance gate outs ins) legal = of_driven (MadeOf s.path (gate_gives on_terms gate (terminal_terms s ins))) (flat_map (written_bits s) outs)
   drives_are s (Register r) legal = of_driven Free (written_bits s r.left)
-  drives_are s (SupplyNet high n) legal = of_driven (Made s.path (term.Const high)) (bits_named s n)
+  drives_are s (SupplyNet high n) legal = of_driven (MadeOf s.path (term.Const high)) (bits_named s n)
   drives_are s (InputConnection i pin e) legal = of_terms s.path (pin_bits (path_to s.path i) pin) (made_in s e (width_of s e)).bits (omega (arith, pins_long (path_to s.path i) pin, legal, made_long s e (width_of s e) (omega arith)))
   drives_are s (OutputConnection i pin e) legal =
       let pins = pin_bits (path_to s.path i) pin in

@@ -1,25 +1,20 @@
 -- The flat netlist of a design whose cells are in order and whose texts are found: it stands for the design, and where no text
 -- stands twice, the design is sound.
-use Rattle.std.proofs.Common.{◌≡◌, ℕ, ◌<◌, Bool, List, [], map, filter, flat_map, length, Contains, sym, ap, ◌∙◌, subst, arith}
+use Rattle.std.proofs.Common.{◌≡◌, ℕ, ◌<◌, List, map, length, Contains, ap, ◌∙◌, subst, arith}
 use Rattle.std.specs.Prelude.{All, slice_index}
 use Rattle.std.specs.List.{AllZip, enumerate_from}
 use Rattle.std.proofs.lemmas.List.{length-map, get_or_default}
-use Rattle.std.proofs.lemmas.List.Elements.{Contains-get_or}
-use Rattle.bb_bits.specs.Names.{IsPrintable}
 use Rattle.bb_ast.specs.Syntax.{PlainModule}
-use Rattle.bb_names.specs.declared.net.NetInfo.{NetInfo}
-use Rattle.bb_names.specs.Nets.{nets_of}
 use Rattle.bb_net.specs.Loose.{LooseList}
 use Rattle.bb_net.specs.Netlists.{Netlist}
 use Rattle.bb_net.specs.Pairs.{BoxTexts as BoxTextsOf}
 use Rattle.bb_design.specs.declared.fault.ElabFault.{ElabFault}
 use Rattle.bb_net.specs.declared.flat.Reg.{Reg}
 use Rattle.bb_elab.specs.declared.growing.Grown.{Grown}
-use Rattle.bb_net.specs.Flats.{FlatNet, ArePrintable, IsFlat}
-use Rattle.bb_design.specs.Hierarchy.{Design, scopes, root, boxes, instances}
-use Rattle.bb_cells.specs.ListLaws.{StandingNetsAreFlat}
-use Rattle.bb_design.specs.Allowed.{IsBounded}
-use Rattle.bb_design.specs.NetBits.{Bit, bits_of_net, net_order, scope_bits, top_inputs, top_outputs}
+use Rattle.bb_net.specs.Flats.{FlatNet, IsFlat}
+use Rattle.bb_design.specs.Hierarchy.{Design, boxes}
+use Rattle.bb_cells.specs.ListLaws.{StandingNetsAreFlat, StandingNetsArePrintable}
+use Rattle.bb_design.specs.NetBits.{net_order}
 use Rattle.bb_blast.specs.Placements.{IsScopeAt, IsStoredAt}
 use Rattle.bb_cells.specs.Places.{pins_of}
 use Rattle.bb_design.specs.Refusals.{TwoDrivers, NoDriver, Cycle, BoxTexts, RegisterTexts, PortTexts, IsAbsent, IsSoundDesign, IsRefusalOf, input_texts, output_texts}
@@ -27,27 +22,13 @@ use Rattle.bb_design.specs.CauseLaws.{TellsOf, AreClear}
 use Rattle.bb_design.specs.Registers.{RegisterBit, registers}
 use Rattle.bb_elab.specs.Stages.{HasGrown, AreArranged}
 use Rattle.bb_cells.specs.Stands.{IsRegister, StandsFor, box_number, box_texts}
-use Rattle.bb_design.specs.Texts.{bit_text}
-use Rattle.bb_lists.proofs.Members.{all_from, from_flat, from_map, into_flat, contains_here, kept_from}
+use Rattle.bb_lists.proofs.Members.{all_from}
 use Rattle.bb_lists.proofs.Places.{there_at}
 use Rattle.bb_lists.proofs.Numbered.{length-enumerated}
 use Rattle.bb_lists.proofs.Zips.{zip_length}
-use Rattle.bb_elab.proofs.PrintableTexts.{bit_printable, box_printable}
 use Rattle.bb_elab.proofs.FiniteDesigns.{finite_clear}
 use Rattle.bb_elab.proofs.TimedRegisters.{zip_back}
 use Rattle.bb_design.specs.DesignLaws.{DesignLaws}
-
--- a bit of some nets of the top is one of the design
-ports_there : (d : Design) (some : NetInfo → Bool) (b : Bit) → Contains (flat_map (bits_of_net []) (filter some (nets_of d.top))) b → Contains (net_order d) b
-ports_there d some b has =
-    let net = from_flat (bits_of_net []) (filter some (nets_of d.top)) b has in
-    into_flat scope_bits (scopes d) (root d) b (contains_here (root d) (instances d)) (into_flat (bits_of_net []) (nets_of d.top) net.0 b (kept_from some (nets_of d.top) net.0 net.1).0 net.2)
-
-module _ (of_designs : DesignLaws) where
-  texts_printable : (d : Design) → IsBounded d → (bits : List Bit) → ((b : Bit) → Contains bits b → Contains (net_order d) b) → All IsPrintable (map (bit_text d) bits)
-  texts_printable d bounded bits there = all_from IsPrintable (map (bit_text d) bits) (λ n has.
-      let b = from_map (bit_text d) bits n has in
-      subst IsPrintable b.2 (bit_printable of_designs d bounded b.0 (there b.0 b.1)))
 
 module _ (of_designs : DesignLaws) (text : List PlainModule) (d : Design) (g : Grown) (has : HasGrown text d g) (list : LooseList) (net : Netlist) (numbers : List ℕ) (are : AreArranged d list net numbers) where
   -- each number is that of a box
@@ -108,23 +89,5 @@ module _ (of_designs : DesignLaws) (text : List PlainModule) (d : Design) (g : G
           boxes = named_are;
         }
 
-        register_printable : (reg : Reg) → Contains regs reg → IsPrintable reg.text
-        register_printable reg there =
-            let r = zip_back (IsRegister d) (registers d) regs reg regs_are there in
-            subst IsPrintable (sym r.2.text) (bit_printable of_designs d has.finite.bounded r.0.bit (register_there r.0 r.1))
-
-        box_named : (x : BoxTextsOf) → Contains (map (λ b. box_texts d (box_number d b)) numbers) x → IsPrintable x.path
-        box_named x there =
-            let b = from_map (λ b. box_texts d (box_number d b)) numbers x there in
-            subst (λ (y : BoxTextsOf). IsPrintable y.path) b.2 (box_printable of_designs d has.finite.bounded (box_number d b.0) (Contains-get_or (boxes d) b.0 (root d) (number_there b.0 b.1)))
-
-        are_printable : ArePrintable flat
-        are_printable = record {
-          ins = subst (All IsPrintable) (sym ins_are) (texts_printable of_designs d has.finite.bounded (top_inputs d) (ports_there d _));
-          regs = all_from (λ (r : Reg). IsPrintable r.text) regs register_printable;
-          outs = subst (All IsPrintable) (sym outs_are) (texts_printable of_designs d has.finite.bounded (top_outputs d) (ports_there d _));
-          boxes = all_from (λ (x : BoxTextsOf). IsPrintable x.path) named (λ x there. box_named x (subst (λ l. Contains l x) named_are there));
-        }
-
-        pub is_flat : StandingNetsAreFlat → IsFlat flat
-        is_flat law = law d flat (record { bounded = has.finite.bounded; sound = is_sound }) stands are_printable
+        pub is_flat : StandingNetsAreFlat → StandingNetsArePrintable → IsFlat flat
+        is_flat law printable = law d flat (record { bounded = has.finite.bounded; sound = is_sound }) stands (printable d flat has.finite.bounded stands)

@@ -15,7 +15,6 @@ pub mod NamedBits
 pub mod NamedRegisters
 pub mod NamedScopes
 pub mod PlacedPaths
-pub mod PrintableTexts
 pub mod ReadBits
 pub mod ReadDesigns
 pub mod RegisterNumbers

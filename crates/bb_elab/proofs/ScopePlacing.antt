@@ -11,7 +11,7 @@ use Rattle.bb_names.specs.Ranges.{range_width}
 use Rattle.bb_blast.specs.declared.placed.Placed.{Placed}
 use Rattle.bb_elab.specs.declared.scopes.Placing.{Placing}
 use Rattle.bb_hier.specs.declared.sketch.Sketch.{Sketch}
-use Rattle.bb_design.specs.Callees.{callees, place_of, source_of, child, called as called_lists}
+use Rattle.bb_design.specs.Callees.{callees, callee_place, source_of, child, called as called_lists}
 use Rattle.bb_design.specs.Hierarchy.{Design, Instance, Path, Scope, root, path_to, instances_of, children, below, instances, scopes, is_top, is_box}
 use Rattle.bb_design.specs.NetBits.{scope_bits}
 use Rattle.bb_elab.specs.Placings.{bits_before, IsAdded, with_children, AreSketched, MayBePlaced, IsNext, IsPlacedNext}
@@ -153,7 +153,7 @@ module _ (of_designs : DesignLaws) (d : Design) (called : List (List ℕ)) (sket
     child_here : IsScopeAt d (length now.scopes.items) (child d.text s i)
     child_here = (drop_first (scopes d) (length now.scopes.items) (child d.text s i) (below (levels - 1) d.text (child d.text s i) ++ left_from (k + 1)) behind_now).1
 
-    pub next_child : (number target : ℕ) (name : List ℕ) → number ≡ m → target ≡ place_of d.text i → name ≡ i.name
+    pub next_child : (number target : ℕ) (name : List ℕ) → number ≡ m → target ≡ callee_place d.text i → name ≡ i.name
         → IsNext d called sketches now target (Some (record { scope = number; name = name })) (levels - 1) (child d.text s i) (left_from (k + 1))
     next_child number target name is to named = record {
       may = next.may;
@@ -232,20 +232,20 @@ module _ (of_designs : DesignLaws) (d : Design) (called : List (List ℕ)) (sket
 -- the instances of a scope with their modules, as they stand in the lists
 module _ (of_designs : DesignLaws) (d : Design) (lists : List (Vec ℕ Global)) (sketches : List Sketch) (start : Placing) (place : ℕ) (instance : Option placed.Instance) (levels : ℕ) (s : Scope) (rest : List Scope)
     (next : IsNext d (map (λ list. list.items) lists) sketches start place instance levels s rest) (list : Vec ℕ Global) (is : list ≡ get_or lists place list) where
-  pub targets_here : list.items ≡ map (place_of d.text) (instances_of s.source)
+  pub targets_here : list.items ≡ map (callee_place d.text) (instances_of s.source)
   targets_here =
       let there = there_at d.text place s.source next.source in
       let lt : place < length lists = omega (arith, list_there of_designs d (map (λ list. list.items) lists) sketches start place instance levels s rest next, length-map lists (λ list. list.items)) in
       sym (list_here lists place list list.items (called_lists d.text) next.sketched.lists lt is refl) ∙ (of_designs.instances d.text next.may.faultless s.source there).called place next.source
 
   pub as_many : length list.items ≡ length (instances_of s.source)
-  as_many = ap length targets_here ∙ length-map (instances_of s.source) (place_of d.text)
+  as_many = ap length targets_here ∙ length-map (instances_of s.source) (callee_place d.text)
 
   pub chosen : (sketch : Sketch) → IsSketch s.source sketch → (k : ℕ) → k < length list.items → (target : ℕ) → target ≡ get_or list.items k target → (name copy : List ℕ) → name ≡ get_or sketch.names.items k name → copy ≡ name
-      → (i : Instance) × (slice_get (instances_of s.source) k ≡ Some i) × (target ≡ place_of d.text i) × (copy ≡ i.name)
+      → (i : Instance) × (slice_get (instances_of s.source) k ≡ Some i) × (target ≡ callee_place d.text i) × (copy ≡ i.name)
   chosen sketch sketched k lt target at name copy named copied =
       let i = some_at (instances_of s.source) k (omega (arith, lt, as_many)) in
-      (i.0, i.1, map_at (place_of d.text) (instances_of s.source) list.items k i.0 target i.1 targets_here at, copied ∙ map_at (λ (j : Instance). j.name) (instances_of s.source) sketch.names.items k i.0 name i.1 sketched.names named)
+      (i.0, i.1, map_at (callee_place d.text) (instances_of s.source) list.items k i.0 target i.1 targets_here at, copied ∙ map_at (λ (j : Instance). j.name) (instances_of s.source) sketch.names.items k i.0 name i.1 sketched.names named)
 
   pub named_there : (sketch : Sketch) → IsSketch s.source sketch → (k : ℕ) → k < length list.items → k < length sketch.names.items
   named_there sketch sketched k lt = omega (arith, lt, as_many, ap length sketched.names, length-map (instances_of s.source) (λ (j : Instance). j.name))

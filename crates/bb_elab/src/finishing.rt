@@ -13,7 +13,7 @@ use crate::box_names::{box_names, boxes_apart};
 use crate::growing::Grown;
 use crate::port_names::ports_apart;
 use crate::register_names::{named_registers, registers_apart};
-use bb_cells::list_laws::standing_nets_are_flat;
+use bb_cells::list_laws::{standing_nets_are_flat, standing_nets_are_printable};
 use bb_design::ElabFault;
 use bb_design::laws::laws_of_designs;
 use bb_names::Checked;
@@ -35,6 +35,7 @@ pub(crate) fn finish(
 {
     laws_of_designs();
     standing_nets_are_flat();
+    standing_nets_are_printable();
     let boxed = boxes_apart(alloc, checked, grown)?;
     let texts = registers_apart(alloc, checked, grown)?;
     let ports = ports_apart(alloc, checked, grown)?;

@@ -71,7 +71,7 @@ row_true false y t e = absurd (true≢false (sym e))
 -- the two clauses of a row, where d is whether a literal of the row is true
 row_bits : (v : ℕ → Bool) (lits : List Lit) (y t : ℕ) → all_bits v ((lits ++ negated y ∷ positive t ∷ []) ∷ (lits ++ positive y ∷ negated t ∷ []) ∷ [])
     ≡ ((clause_bit v lits || (not (v y) || (v t || false))) && ((clause_bit v lits || (v y || (not (v t) || false))) && true))
-row_bits v lits y t = rw (list_any-append (truth.bit_of v) lits (negated y ∷ positive t ∷ []), list_any-append (truth.bit_of v) lits (positive y ∷ negated t ∷ [])) refl
+row_bits v lits y t = rw (list_any-append (truth.literal_bit v) lits (negated y ∷ positive t ∷ []), list_any-append (truth.literal_bit v) lits (positive y ∷ negated t ∷ [])) refl
 
 -- a row says something where the pins have its bits
 row_says : (v : ℕ → Bool) (var : ℕ → ℕ) (pins : List ℕ) (y t : ℕ) (row : List Bool) → length row ≡ length pins → Satisfies v (row_clauses var pins y row t) ↔ (map (λ p. v (var p)) pins ≡ row → v y ≡ v t)

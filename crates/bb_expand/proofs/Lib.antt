@@ -16,3 +16,4 @@ pub mod TableBits
 pub mod Tested
 pub mod ToModel
 pub mod Variables
+pub mod SomeExpanded

@@ -12,7 +12,7 @@ use Rattle.bb_cnf.specs.Truth as truth
 
 -- whether a clause is true, and whether all are
 abbrev pub clause_bit : (ℕ → Bool) → List Lit → Bool
-clause_bit v lits = list_any (truth.bit_of v) lits
+clause_bit v lits = list_any (truth.literal_bit v) lits
 
 abbrev pub all_bits : (ℕ → Bool) → List (List Lit) → Bool
 all_bits v clauses = list_all (clause_bit v) clauses
@@ -31,11 +31,11 @@ both_true false b ea eb = absurd (true≢false (sym ea))
 
 pub satisfies_from : (v : ℕ → Bool) (clauses : List (List Lit)) → all_bits v clauses ≡ true → Satisfies v clauses
 satisfies_from v [] e = All-nil (IsTrueClause v)
-satisfies_from v (c ∷ clauses) e = All-cons (IsTrueClause v) c clauses (Any-from_list_any (truth.bit_of v) c (and_left (clause_bit v c) (all_bits v clauses) e)) (satisfies_from v clauses (and_right (clause_bit v c) (all_bits v clauses) e))
+satisfies_from v (c ∷ clauses) e = All-cons (IsTrueClause v) c clauses (Any-from_list_any (truth.literal_bit v) c (and_left (clause_bit v c) (all_bits v clauses) e)) (satisfies_from v clauses (and_right (clause_bit v c) (all_bits v clauses) e))
 
 pub bits_from : (v : ℕ → Bool) (clauses : List (List Lit)) → Satisfies v clauses → all_bits v clauses ≡ true
 bits_from v [] all = refl
-bits_from v (c ∷ clauses) all = both_true (clause_bit v c) (all_bits v clauses) (list_any-from_Any (truth.bit_of v) c (All-head (IsTrueClause v) c clauses all)) (bits_from v clauses (All-tail (IsTrueClause v) c clauses all))
+bits_from v (c ∷ clauses) all = both_true (clause_bit v c) (all_bits v clauses) (list_any-from_Any (truth.literal_bit v) c (All-head (IsTrueClause v) c clauses all)) (bits_from v clauses (All-tail (IsTrueClause v) c clauses all))
 
 -- two bits are the same
 abbrev pub same : Bool → Bool → Bool
@@ -62,8 +62,8 @@ unit_bit false false = refl
 
 pub unit_says : (v : ℕ → Bool) (y : ℕ) (b : Bool) → IsTrueClause v (having y b ∷ []) ↔ (v y ≡ b)
 unit_says v y b = (
-  λ h. same_is (v y) b (sym (unit_bit (v y) b) ∙ list_any-from_Any (truth.bit_of v) (having y b ∷ []) h),
-  λ e. Any-from_list_any (truth.bit_of v) (having y b ∷ []) (unit_bit (v y) b ∙ is_same (v y) b e),
+  λ h. same_is (v y) b (sym (unit_bit (v y) b) ∙ list_any-from_Any (truth.literal_bit v) (having y b ∷ []) h),
+  λ e. Any-from_list_any (truth.literal_bit v) (having y b ∷ []) (unit_bit (v y) b ∙ is_same (v y) b e),
 )
 
 pub not_bits : (y a : Bool) → ((y || (a || false)) && ((not y || (not a || false)) && true)) ≡ same y (not a)

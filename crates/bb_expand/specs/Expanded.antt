@@ -1,6 +1,6 @@
 -- What the check by expansion answers of a pair: tables that agree, or a refutation by resolution of the expansion over all
 -- vectors, after which no tables agree.
-use Rattle.std.specs.Prelude.{◌≡◌, ℕ, ◌≤◌, Bool, List, length, map, vec_items}
+use Rattle.std.specs.Prelude.{◌≡◌, ℕ, ◌<◌, ◌≤◌, ◌^◌, Bool, List, length, map, vec_items}
 use Rattle.bb_cnf.specs.declared.refutation.Step.{Step}
 use Rattle.bb_cnf.specs.Chains.{IsRefutation}
 use Rattle.bb_cnf.specs.Clauses.{Formula}
@@ -22,3 +22,8 @@ pub record IsError (spec imp : Netlist) (budget : ℕ) (vectors : List (List Boo
 abbrev pub IsExpanded : Netlist → Netlist → ℕ → Expanded → Type 0
 IsExpanded spec imp budget (answers.Error vectors cnf refutation) = IsError spec imp budget (map vec_items vectors.items) cnf refutation.steps.items
 IsExpanded spec imp budget (answers.Repair tables) = AreCompletion spec imp tables.items
+
+-- where no tables agree, the expansion has a refutation whose steps a list in memory may hold: an expansion of many variables may
+-- have no shorter one than a list may be long
+abbrev pub HasShortRefutation : Netlist → Netlist → Type 0
+HasShortRefutation spec imp = NoTablesAgree spec imp → (steps : List Step) × (length steps < 2 ^ 63) × IsRefutation (expansion spec imp (all_vectors imp.inputs)).clauses steps

@@ -1,17 +1,21 @@
 -- What a reader expects of expansions: their clauses speak of tables, and are as many as was counted.
-use Rattle.std.specs.Prelude.{◌≡◌, ◌↔◌, ℕ, ◌<◌, ◌*◌, ◌^◌, Bool, List, [], length, All, Contains}
+use Rattle.std.specs.Prelude.{◌≡◌, ◌↔◌, ℕ, ◌<◌, ◌≤◌, ◌*◌, ◌^◌, Bool, List, [], length, All, Contains}
 use Rattle.std.specs.List.{slice_index_or}
 use Rattle.bb_bits.specs.Numbers.{number_of}
 use Rattle.bb_bits.specs.Tables.{TableBits}
 use Rattle.bb_net.specs.declared.cell.Cell.{Cell}
 use Rattle.bb_net.specs.Agreement.{AllRight}
-use Rattle.bb_net.specs.Conditions.{SomeTablesAgree}
+use Rattle.bb_net.specs.Conditions.{NoTablesAgree, SomeTablesAgree}
 use Rattle.bb_net.specs.Netlists.{Netlist, Pins, IsNetlist}
 use Rattle.bb_net.specs.Values.{gate, flat_with, FitBoxes}
+use Rattle.bb_cnf.specs.Chains.{IsRefutation}
 use Rattle.bb_cnf.specs.Clauses.{IsWithin}
+use Rattle.bb_cnf.specs.declared.refutation.Step.{Step}
 use Rattle.bb_cnf.specs.Truth.{Satisfies}
 use Rattle.bb_cdcl.specs.Outcomes.{HasModel}
-use Rattle.bb_expand.specs.ClauseCounts.{clauses_per_vector}
+use Rattle.bb_expand.specs.ClauseCounts.{clauses_per_vector, clause_total}
+use Rattle.bb_expand.specs.declared.expanded.Expanded.{Expanded}
+use Rattle.bb_expand.specs.Expanded.{IsExpanded, HasShortRefutation}
 use Rattle.bb_expand.specs.Expansions.{table_variable, cell_clauses, expansion, all_vectors}
 
 -- what the boxes give by the bits of the table variables
@@ -50,3 +54,11 @@ VectorsRise = (n k : ℕ) → k < 2 ^ n → number_of (slice_index_or (all_vecto
 -- and each vector is in the list
 abbrev pub VectorsAreAll : Type 0
 VectorsAreAll = (x : List Bool) → Contains (all_vectors (length x)) x
+
+-- where no tables agree, the expansion has a refutation
+abbrev pub ExpansionsAreRefuted : Type 0
+ExpansionsAreRefuted = (spec imp : Netlist) → IsNetlist imp → NoTablesAgree spec imp → (steps : List Step) × IsRefutation (expansion spec imp (all_vectors imp.inputs)).clauses steps
+
+-- a pair within the budget has an answer, where a refutation that it needs is short enough
+abbrev pub AnswersExist : Type 0
+AnswersExist = (spec imp : Netlist) (budget : ℕ) → IsNetlist imp → clause_total imp ≤ budget → budget < 2 ^ 63 → HasShortRefutation spec imp → (answer : Expanded) × IsExpanded spec imp budget answer

@@ -1,10 +1,11 @@
-//! Laws of expansions. The public function has laws as its contract and does nothing.
+//! Laws of expansions. Each public function has laws as its contract and does nothing.
 
-ghost use Rattle.bb_expand.specs.Laws.{CellClausesSayGate, ModelsAreTables, AllVectorsDecide, ClausesAreCounted, VariablesAreWithin, VectorsRise, VectorsAreAll};
+ghost use Rattle.bb_expand.specs.Laws.{CellClausesSayGate, ModelsAreTables, AllVectorsDecide, ClausesAreCounted, VariablesAreWithin, VectorsRise, VectorsAreAll, ExpansionsAreRefuted, AnswersExist};
 ghost use Rattle.bb_expand.specs.LawsBelow.{Numbering, ValueExists, ValueIsUnique};
 
 use bb_bits::{number_is_below, number_spelled, number_spelled_once};
-use bb_net::{value_exists, value_is_unique};
+use bb_cnf::laws;
+use bb_net::{conditions_hold_or_not, value_exists, value_is_unique};
 
 /// A cell's clauses say that its variable is the gate's bit; so an expansion has a model exactly where some tables give every
 /// output the wanted bit at each of its vectors, and over all vectors exactly where some tables agree.
@@ -20,6 +21,19 @@ pub fn expansions_and_tables()
     ensures rise { VectorsRise }
     ensures each { VectorsAreAll }
 {
+    laws_below();
+}
+
+/// Where no tables agree the expansion over all vectors has a refutation, so a pair whose expansion is within the budget has an
+/// answer, unless every refutation has more steps than a list may hold.
+pub fn answers_exist()
+    ensures refuted { ExpansionsAreRefuted }
+    ensures answer { AnswersExist }
+{
+    laws::refutations_exist();
+    laws::models();
+    conditions_hold_or_not();
+    expansions_and_tables();
     laws_below();
 }
 

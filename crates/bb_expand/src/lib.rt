@@ -18,4 +18,4 @@ mod vectors;
 pub use counting::clause_count;
 pub use decision::expand;
 pub use expanded::{ExpandFault, Expanded};
-pub use laws::expansions_and_tables;
+pub use laws::{answers_exist, expansions_and_tables};

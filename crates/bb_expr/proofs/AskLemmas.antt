@@ -5,7 +5,7 @@ use Rattle.std.specs.List.{AllByRecursion}
 use Rattle.std.proofs.lemmas.List.Elements.{All-from_recursion}
 use Rattle.std.proofs.lemmas.List.Sums.{sum-map}
 use Rattle.bb_ast.specs.declared.expr.Op.{Op}
-use Rattle.bb_ast.specs.Syntax.{Expression, Not, Chain, Cond, Concat, Repeat, operands, arms, parts}
+use Rattle.bb_ast.specs.Syntax.{Expression, Not, Chain, Cond, Concat, Repeat, operands, arms, listed_parts}
 use Rattle.bb_names.specs.Widths.{own_width, greatest}
 use Rattle.bb_names.specs.Checked.{ModuleFacts}
 use Rattle.bb_expr.specs.Cells.{is_odd, cell_count}
@@ -59,12 +59,12 @@ module _ (m : ModuleFacts) where
   asked-cond xs last w n h = subst (λ k. n + most_steps w k ≤ 2 ^ 32) (cond-cells (ranges_in m) xs last w) h.room
 
   -- parts are no wider side by side than their context, and make the cells of the whole
-  pub asked-concat : (xs : List Expression) (w n : ℕ) → IsAsked m (Concat (parts xs)) w n → (sum_by (own_width (ranges_in m)) xs ≤ w) × (n + (w + 3 * sum_by (own_cells (ranges_in m)) xs) ≤ 2 ^ 32)
+  pub asked-concat : (xs : List Expression) (w n : ℕ) → IsAsked m (Concat (listed_parts xs)) w n → (sum_by (own_width (ranges_in m)) xs ≤ w) × (n + (w + 3 * sum_by (own_cells (ranges_in m)) xs) ≤ 2 ^ 32)
   asked-concat xs w n h = (omega (arith, h.own, concat-width (ranges_in m) xs, sum-map (own_width (ranges_in m)) xs), omega (arith, h.room, concat-cells (ranges_in m) xs w))
 
-  pub asked-repeat : (k : ℕ) (xs : List Expression) (w n : ℕ) → IsAsked m (Repeat k (parts xs)) w n
+  pub asked-repeat : (k : ℕ) (xs : List Expression) (w n : ℕ) → IsAsked m (Repeat k (listed_parts xs)) w n
       → (sum_by (own_width (ranges_in m)) xs ≤ w) × (n + (w + 3 * sum_by (own_cells (ranges_in m)) xs) ≤ 2 ^ 32) × (1 ≤ k) × (k * sum_by (own_width (ranges_in m)) xs ≤ w)
   asked-repeat k xs w n h =
-      let some : 1 ≤ k = (fit-here m (Repeat k (parts xs)) h.fit).right in
+      let some : 1 ≤ k = (fit-here m (Repeat k (listed_parts xs)) h.fit).right in
       let whole : k * sum_by (own_width (ranges_in m)) xs ≤ w = omega (arith, h.own, repeat-width (ranges_in m) k xs, ap (λ s. k * s) (sum-map (own_width (ranges_in m)) xs)) in
       (omega (arith, whole, copies-cover k (sum_by (own_width (ranges_in m)) xs) some), omega (arith, h.room, repeat-cells (ranges_in m) k xs w), some, whole)

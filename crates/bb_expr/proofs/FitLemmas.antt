@@ -1,6 +1,6 @@
 -- An expression that is well formed, and at whose spots nothing is at fault, is fit, with all that stands in it.
 use Rattle.std.proofs.Common.{◌≡◌, ℕ, zero, suc, ◌+◌, ◌*◌, ◌≤◌, Bool, true, false, List, [], ◌∷◌, ◌++◌, Option, Some, None, refl, arith}
-use Rattle.std.specs.Prelude.{codes, nat_lt, ◌==◌, if◌then◌else◌, sum}
+use Rattle.std.specs.Prelude.{Contains, codes, nat_lt, ◌==◌, if◌then◌else◌, sum}
 use Rattle.std.specs.List.{AllByRecursion, flat_map}
 use Rattle.std.proofs.lemmas.Bool.Decides.{nat_tests}
 use Rattle.std.proofs.lemmas.List.Sums.{sum_by-cons}
@@ -10,13 +10,13 @@ use Rattle.bb_ast.specs.Folds.{of_operands, of_arms, of_parts}
 use Rattle.bb_ast.specs.Formed.{IsFormedExpression, AreFormedOperands, AreFormedArms, AreFormedParts}
 use Rattle.bb_names.specs.Ranges.{range_width, has_bits}
 use Rattle.bb_names.specs.Widths.{widths, own_width}
-use Rattle.bb_names.specs.Declarations.{is_instance}
+use Rattle.bb_names.specs.Declarations.{is_instance, range_of}
 use Rattle.bb_names.specs.Spots.{Use, Read, Driven, Stored, Spot, Number, Whole, Used, with_inside, part_spots, inside, is_plain, spots_in}
 use Rattle.bb_names.specs.Faults.{told_if, wrong_role, widest, is_no_copy}
-use Rattle.bb_names.specs.Checked.{ModuleFacts, syntax, HasNets}
+use Rattle.bb_names.specs.Nets.{net_names}
 use Rattle.bb_expr.specs.Standing.{gathering, expressions_in}
-use Rattle.bb_expr.specs.Fit.{ranges_in, HasNet, IsRight, IsFit}
-use Rattle.bb_expr.proofs.KnownNames.{has-net}
+use Rattle.bb_expr.specs.Fit.{IsRightIn, IsFitIn}
+use Rattle.bb_expr.proofs.KnownNames.{known-there}
 use Rattle.bb_expr.proofs.Booleans.{not-not, or-second}
 use Rattle.bb_expr.proofs.ListLemmas.{all-front, all-back, all-join, front-nil, back-nil}
 use Rattle.bb_expr.proofs.SpotLemmas.{IsClean, AreClean}
@@ -49,35 +49,35 @@ sum-some x xs some = omega (arith, some, sum-cons x xs)
 abbrev arm_spots : Use → Arms → List Spot
 arm_spots how rest = flat_map (λ x. with_inside x.0 ++ with_inside x.1) (of_arms (λ x spots. (x, spots)) (inside how) rest)
 
-module _ (text : List PlainModule) (m : ModuleFacts) (nets : HasNets m) where
-  plain-use : (how : Use) (n : List ℕ) (bits : Option (ℕ × ℕ)) → wrong_role text (syntax m) (Used how n bits) ≡ [] → is_instance (syntax m) n ≡ false
+module _ (text : List PlainModule) (m : PlainModule) where
+  plain-use : (how : Use) (n : List ℕ) (bits : Option (ℕ × ℕ)) → wrong_role text m (Used how n bits) ≡ [] → is_instance m n ≡ false
   plain-use Read n bits h = told-not _ n h
-  plain-use Driven n bits h = or-second _ (is_instance (syntax m) n) (told-not _ n h)
-  plain-use Stored n bits h = or-second _ (is_instance (syntax m) n) (told-not _ n h)
+  plain-use Driven n bits h = or-second _ (is_instance m n) (told-not _ n h)
+  plain-use Stored n bits h = or-second _ (is_instance m n) (told-not _ n h)
 
-  net-used : (how : Use) (n : List ℕ) (bits : Option (ℕ × ℕ)) → IsClean text (syntax m) (Used how n bits) → HasNet m n
-  net-used how n bits clean = has-net m nets n (not-not _ (told-not _ n clean.unknown)) (plain-use how n bits clean.role)
+  net-used : (how : Use) (n : List ℕ) (bits : Option (ℕ × ℕ)) → IsClean text m (Used how n bits) → Contains (net_names m) n
+  net-used how n bits clean = known-there m n (not-not _ (told-not _ n clean.unknown)) (plain-use how n bits clean.role)
 
-  bits-used : (how : Use) (n : List ℕ) (i j : ℕ) → IsClean text (syntax m) (Used how n (Some (i, j))) → has_bits (ranges_in m n) i j ≡ true
+  bits-used : (how : Use) (n : List ℕ) (i j : ℕ) → IsClean text m (Used how n (Some (i, j))) → has_bits (range_of m n) i j ≡ true
   bits-used how n i j clean = not-not _ (told-not _ n clean.select)
 
-  copies-used : (k : ℕ) (all : Parts) → IsClean text (syntax m) (Whole (Repeat k all)) → 1 ≤ k
+  copies-used : (k : ℕ) (all : Parts) → IsClean text m (Whole (Repeat k all)) → 1 ≤ k
   copies-used k all clean = some-copy k (told-not _ _ (front-nil (told_if (k == 0) (codes "repeat")) _ clean.width))
 
-  fit : (e : Expression) → IsRight m e → 1 ≤ own_width (ranges_in m) e → IsClean text (syntax m) (Whole e) → IsFit m e
+  fit : (e : Expression) → IsRightIn m e → 1 ≤ own_width (range_of m) e → IsClean text m (Whole e) → IsFitIn m e
   fit e right some clean = record {
     right = right;
     some = some;
-    bounded = at-most widest (own_width (ranges_in m) e) (told-not _ (codes "wide") (back-nil (told_if (is_no_copy e) (codes "repeat")) _ clean.width));
+    bounded = at-most widest (own_width (range_of m) e) (told-not _ (codes "wide") (back-nil (told_if (is_no_copy e) (codes "repeat")) _ clean.width));
   }
 
-  part-clean : (b : Bool) (spots : List Spot) → AreClean text (syntax m) (if b then Number ∷ spots else spots) → AreClean text (syntax m) spots
+  part-clean : (b : Bool) (spots : List Spot) → AreClean text m (if b then Number ∷ spots else spots) → AreClean text m spots
   part-clean true spots h = h.1
   part-clean false spots h = h
 
   mutual
-    pub fits : (how : Use) (e : Expression) → IsFormedExpression e → AreClean text (syntax m) (spots_in how e) → AllByRecursion (IsFit m) (expressions_in e)
-    fits how (Net n) formed clean = (fit (Net n) (net-used how n None clean.1.0) (range-some (ranges_in m n)) clean.0, tt)
+    pub fits : (how : Use) (e : Expression) → IsFormedExpression e → AreClean text m (spots_in how e) → AllByRecursion (IsFitIn m) (expressions_in e)
+    fits how (Net n) formed clean = (fit (Net n) (net-used how n None clean.1.0) (range-some (range_of m n)) clean.0, tt)
     fits how (Bit n i) formed clean = (fit (Bit n i) (net-used how n (Some (i, i)) clean.1.0, bits-used how n i i clean.1.0) (omega arith) clean.0, tt)
     fits how (Part n i j) formed clean = (fit (Part n i j) (net-used how n (Some (i, j)) clean.1.0, bits-used how n i j clean.1.0) (omega arith) clean.0, tt)
     fits how (Sized bits) formed clean = (fit (Sized bits) tt formed.0 clean.0, tt)
@@ -87,60 +87,60 @@ module _ (text : List PlainModule) (m : ModuleFacts) (nets : HasNets m) where
         (fit (Not k e) tt inner.0.some clean.0, inner)
     fits how (Chain e no_operand) formed clean = absurd formed
     fits how (Chain e (operand op x rest)) formed clean =
-        let first = fits how e formed.0 (all-front (IsClean text (syntax m)) (spots_in how e) _ clean.1) in
-        let others = all-back (IsClean text (syntax m)) (spots_in how e) _ clean.1 in
-        let second = fits how x formed.1 (all-front (IsClean text (syntax m)) (spots_in how x) _ others) in
-        let last = operands-fit how rest formed.2 (all-back (IsClean text (syntax m)) (spots_in how x) _ others) in (
+        let first = fits how e formed.0 (all-front (IsClean text m) (spots_in how e) _ clean.1) in
+        let others = all-back (IsClean text m) (spots_in how e) _ clean.1 in
+        let second = fits how x formed.1 (all-front (IsClean text m) (spots_in how x) _ others) in
+        let last = operands-fit how rest formed.2 (all-back (IsClean text m) (spots_in how x) _ others) in (
           fit (Chain e (operand op x rest)) tt (omega (arith, first.0.some)) clean.0,
-          all-join (IsFit m) (expressions_in e) _ first (all-join (IsFit m) (expressions_in x) _ second last),
+          all-join (IsFitIn m) (expressions_in e) _ first (all-join (IsFitIn m) (expressions_in x) _ second last),
         )
     fits how (Cond no_arm last) formed clean = absurd formed
     fits how (Cond (arm c v rest) last) formed clean =
-        let arms = all-front (IsClean text (syntax m)) ((spots_in how c ++ spots_in how v) ++ arm_spots how rest) (spots_in how last) clean.1 in
-        let first = all-front (IsClean text (syntax m)) (spots_in how c ++ spots_in how v) (arm_spots how rest) arms in
-        let condition = fits how c formed.0 (all-front (IsClean text (syntax m)) (spots_in how c) (spots_in how v) first) in
-        let chosen = fits how v formed.1 (all-back (IsClean text (syntax m)) (spots_in how c) (spots_in how v) first) in
-        let others = arms-fit how rest formed.2 (all-back (IsClean text (syntax m)) (spots_in how c ++ spots_in how v) _ arms) in
-        let final = fits how last formed.3 (all-back (IsClean text (syntax m)) ((spots_in how c ++ spots_in how v) ++ arm_spots how rest) (spots_in how last) clean.1) in (
+        let arms = all-front (IsClean text m) ((spots_in how c ++ spots_in how v) ++ arm_spots how rest) (spots_in how last) clean.1 in
+        let first = all-front (IsClean text m) (spots_in how c ++ spots_in how v) (arm_spots how rest) arms in
+        let condition = fits how c formed.0 (all-front (IsClean text m) (spots_in how c) (spots_in how v) first) in
+        let chosen = fits how v formed.1 (all-back (IsClean text m) (spots_in how c) (spots_in how v) first) in
+        let others = arms-fit how rest formed.2 (all-back (IsClean text m) (spots_in how c ++ spots_in how v) _ arms) in
+        let final = fits how last formed.3 (all-back (IsClean text m) ((spots_in how c ++ spots_in how v) ++ arm_spots how rest) (spots_in how last) clean.1) in (
           fit (Cond (arm c v rest) last) tt (omega (arith, final.0.some)) clean.0,
-          all-join (IsFit m) ((expressions_in c ++ expressions_in v) ++ flat_map (λ x. x.0 ++ x.1) (of_arms (λ x all. x ∷ all) gathering rest)) (expressions_in last)
-              (all-join (IsFit m) (expressions_in c ++ expressions_in v) _ (all-join (IsFit m) (expressions_in c) (expressions_in v) condition chosen) others) final,
+          all-join (IsFitIn m) ((expressions_in c ++ expressions_in v) ++ flat_map (λ x. x.0 ++ x.1) (of_arms (λ x all. x ∷ all) gathering rest)) (expressions_in last)
+              (all-join (IsFitIn m) (expressions_in c ++ expressions_in v) _ (all-join (IsFitIn m) (expressions_in c) (expressions_in v) condition chosen) others) final,
         )
     fits how (Concat no_part) formed clean = absurd formed
     fits how (Concat (part e rest)) formed clean =
-        let first = fits how e formed.0 (part-clean (is_plain e) (spots_in how e) (all-front (IsClean text (syntax m)) (if is_plain e then Number ∷ spots_in how e else spots_in how e) _ clean.1)) in
-        let others = parts-fit how rest formed.1 (all-back (IsClean text (syntax m)) (if is_plain e then Number ∷ spots_in how e else spots_in how e) _ clean.1) in
-        (fit (Concat (part e rest)) tt (sum-some (own_width (ranges_in m) e) (of_parts (λ x a. a) (widths (ranges_in m)) rest) first.0.some) clean.0, all-join (IsFit m) (expressions_in e) _ first others)
+        let first = fits how e formed.0 (part-clean (is_plain e) (spots_in how e) (all-front (IsClean text m) (if is_plain e then Number ∷ spots_in how e else spots_in how e) _ clean.1)) in
+        let others = parts-fit how rest formed.1 (all-back (IsClean text m) (if is_plain e then Number ∷ spots_in how e else spots_in how e) _ clean.1) in
+        (fit (Concat (part e rest)) tt (sum-some (own_width (range_of m) e) (of_parts (λ x a. a) (widths (range_of m)) rest) first.0.some) clean.0, all-join (IsFitIn m) (expressions_in e) _ first others)
     fits how (Repeat k no_part) formed clean = absurd formed
     fits how (Repeat k (part e rest)) formed clean =
-        let first = fits how e formed.1 (part-clean (is_plain e) (spots_in how e) (all-front (IsClean text (syntax m)) (if is_plain e then Number ∷ spots_in how e else spots_in how e) _ clean.1)) in
-        let others = parts-fit how rest formed.2 (all-back (IsClean text (syntax m)) (if is_plain e then Number ∷ spots_in how e else spots_in how e) _ clean.1) in
+        let first = fits how e formed.1 (part-clean (is_plain e) (spots_in how e) (all-front (IsClean text m) (if is_plain e then Number ∷ spots_in how e else spots_in how e) _ clean.1)) in
+        let others = parts-fit how rest formed.2 (all-back (IsClean text m) (if is_plain e then Number ∷ spots_in how e else spots_in how e) _ clean.1) in
         let some : 1 ≤ k = copies-used k (part e rest) clean.0 in (
-          fit (Repeat k (part e rest)) some (product-some k (sum (own_width (ranges_in m) e ∷ of_parts (λ x a. a) (widths (ranges_in m)) rest)) some (sum-some (own_width (ranges_in m) e) (of_parts (λ x a. a) (widths (ranges_in m)) rest) first.0.some)) clean.0,
-          all-join (IsFit m) (expressions_in e) _ first others,
+          fit (Repeat k (part e rest)) some (product-some k (sum (own_width (range_of m) e ∷ of_parts (λ x a. a) (widths (range_of m)) rest)) some (sum-some (own_width (range_of m) e) (of_parts (λ x a. a) (widths (range_of m)) rest) first.0.some)) clean.0,
+          all-join (IsFitIn m) (expressions_in e) _ first others,
         )
 
-    operands-fit : (how : Use) (rest : Operands) → AreFormedOperands rest → AreClean text (syntax m) (flat_map (λ x. with_inside x.1) (of_operands (λ x spots. (x, spots)) (inside how) rest))
-        → AllByRecursion (IsFit m) (flat_map (λ x. x.1) (of_operands (λ x all. x ∷ all) gathering rest))
+    operands-fit : (how : Use) (rest : Operands) → AreFormedOperands rest → AreClean text m (flat_map (λ x. with_inside x.1) (of_operands (λ x spots. (x, spots)) (inside how) rest))
+        → AllByRecursion (IsFitIn m) (flat_map (λ x. x.1) (of_operands (λ x all. x ∷ all) gathering rest))
     operands-fit how no_operand formed clean = tt
     operands-fit how (operand op e rest) formed clean =
-        all-join (IsFit m) (expressions_in e) _ (fits how e formed.0 (all-front (IsClean text (syntax m)) (spots_in how e) _ clean))
-        (operands-fit how rest formed.1 (all-back (IsClean text (syntax m)) (spots_in how e) _ clean))
+        all-join (IsFitIn m) (expressions_in e) _ (fits how e formed.0 (all-front (IsClean text m) (spots_in how e) _ clean))
+        (operands-fit how rest formed.1 (all-back (IsClean text m) (spots_in how e) _ clean))
 
-    arms-fit : (how : Use) (rest : Arms) → AreFormedArms rest → AreClean text (syntax m) (flat_map (λ x. with_inside x.0 ++ with_inside x.1) (of_arms (λ x spots. (x, spots)) (inside how) rest))
-        → AllByRecursion (IsFit m) (flat_map (λ x. x.0 ++ x.1) (of_arms (λ x all. x ∷ all) gathering rest))
+    arms-fit : (how : Use) (rest : Arms) → AreFormedArms rest → AreClean text m (flat_map (λ x. with_inside x.0 ++ with_inside x.1) (of_arms (λ x spots. (x, spots)) (inside how) rest))
+        → AllByRecursion (IsFitIn m) (flat_map (λ x. x.0 ++ x.1) (of_arms (λ x all. x ∷ all) gathering rest))
     arms-fit how no_arm formed clean = tt
     arms-fit how (arm c v rest) formed clean =
-        let first = all-front (IsClean text (syntax m)) (spots_in how c ++ spots_in how v) (arm_spots how rest) clean in
-        all-join (IsFit m) (expressions_in c ++ expressions_in v) _
-        (all-join (IsFit m) (expressions_in c) (expressions_in v) (fits how c formed.0 (all-front (IsClean text (syntax m)) (spots_in how c) (spots_in how v) first))
-        (fits how v formed.1 (all-back (IsClean text (syntax m)) (spots_in how c) (spots_in how v) first)))
-        (arms-fit how rest formed.2 (all-back (IsClean text (syntax m)) (spots_in how c ++ spots_in how v) _ clean))
+        let first = all-front (IsClean text m) (spots_in how c ++ spots_in how v) (arm_spots how rest) clean in
+        all-join (IsFitIn m) (expressions_in c ++ expressions_in v) _
+        (all-join (IsFitIn m) (expressions_in c) (expressions_in v) (fits how c formed.0 (all-front (IsClean text m) (spots_in how c) (spots_in how v) first))
+        (fits how v formed.1 (all-back (IsClean text m) (spots_in how c) (spots_in how v) first)))
+        (arms-fit how rest formed.2 (all-back (IsClean text m) (spots_in how c ++ spots_in how v) _ clean))
 
-    parts-fit : (how : Use) (rest : Parts) → AreFormedParts rest → AreClean text (syntax m) (flat_map part_spots (of_parts (λ x spots. (x, spots)) (inside how) rest))
-        → AllByRecursion (IsFit m) (flat_map (λ e. e) (of_parts (λ x all. x ∷ all) gathering rest))
+    parts-fit : (how : Use) (rest : Parts) → AreFormedParts rest → AreClean text m (flat_map part_spots (of_parts (λ x spots. (x, spots)) (inside how) rest))
+        → AllByRecursion (IsFitIn m) (flat_map (λ e. e) (of_parts (λ x all. x ∷ all) gathering rest))
     parts-fit how no_part formed clean = tt
     parts-fit how (part e rest) formed clean =
-        all-join (IsFit m) (expressions_in e) _
-        (fits how e formed.0 (part-clean (is_plain e) (spots_in how e) (all-front (IsClean text (syntax m)) (if is_plain e then Number ∷ spots_in how e else spots_in how e) _ clean)))
-        (parts-fit how rest formed.1 (all-back (IsClean text (syntax m)) (if is_plain e then Number ∷ spots_in how e else spots_in how e) _ clean))
+        all-join (IsFitIn m) (expressions_in e) _
+        (fits how e formed.0 (part-clean (is_plain e) (spots_in how e) (all-front (IsClean text m) (if is_plain e then Number ∷ spots_in how e else spots_in how e) _ clean)))
+        (parts-fit how rest formed.1 (all-back (IsClean text m) (if is_plain e then Number ∷ spots_in how e else spots_in how e) _ clean))

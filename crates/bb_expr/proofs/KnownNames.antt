@@ -1,6 +1,6 @@
 -- A name that is known and is no instance's is the name of a net, with its place; and the names of nets differ.
-use Rattle.std.proofs.Common.{◌≡◌, ◌≢◌, ℕ, zero, suc, ◌+◌, Bool, true, false, not, ◌||◌, cond, List, [], ◌∷◌, ◌++◌, map, Some, refl, sym, ap, ◌∙◌, subst, arith, inl, inr}
-use Rattle.std.specs.Prelude.{slice_get, All}
+use Rattle.std.proofs.Common.{◌≡◌, ◌≢◌, ℕ, zero, suc, ◌+◌, Bool, true, false, not, ◌||◌, cond, List, [], ◌∷◌, ◌++◌, length, map, get_or, ◌<◌, Some, refl, sym, ap, ◌∙◌, subst, arith, inl, inr}
+use Rattle.std.specs.Prelude.{slice_get, All, Contains}
 use Rattle.std.specs.List.{find, filter, list_any, AllByRecursion, AllPairs}
 use Rattle.std.specs.Map.{lookup}
 use Rattle.std.specs.Option.{option_map_or}
@@ -13,7 +13,7 @@ use Rattle.bb_bits.specs.Names.{same_name, placed}
 use Rattle.bb_ast.specs.Syntax.{PlainModule}
 use Rattle.bb_bits.specs.Earlier.{once, has_name}
 use Rattle.bb_names.specs.Declarations.{Declaration, declarations, is_declared, is_instance, implicit_names, is_known}
-use Rattle.bb_names.specs.Nets.{net_names, net_of}
+use Rattle.bb_names.specs.Nets.{net_names, net_of, nets_of}
 use Rattle.bb_names.specs.Checked.{ModuleFacts, syntax, HasNets}
 use Rattle.bb_expr.specs.Fit.{HasNet}
 use Rattle.bb_expr.specs.FitLaws.{NetNamesDiffer}
@@ -108,20 +108,43 @@ names-of-nets : (m : PlainModule) (names : List (List ℕ)) → map (λ net. net
 names-of-nets m [] = refl
 names-of-nets m (n ∷ names) = ap (λ r. n ∷ r) (names-of-nets m names)
 
-pub has-net : (m : ModuleFacts) → HasNets m → (n : List ℕ) → is_known (syntax m) n ≡ true → is_instance (syntax m) n ≡ false → HasNet m n
-has-net m nets n known plain =
-    let at = placed-found n (net_names (syntax m)) 0 (known-listed (syntax m) n known plain) in
-    record {
-      place = at.0;
-      net = net_of (syntax m) n;
-      kept = ap (lookup (same_name n)) (nets.index ∙ ap (λ l. placed 0 (map (λ net. net.name) l)) nets.nets ∙ ap (placed 0) (names-of-nets (syntax m) (net_names (syntax m)))) ∙ at.1 ∙ ap Some (zero-plus at.0);
-      there = ap (λ l. slice_get l at.0) nets.nets ∙ slice_get-map (net_of (syntax m)) (net_names (syntax m)) at.0 n at.2;
-      name = refl;
-      range = refl;
-    }
+got-there : {X : Type 0} (xs : List X) (k : ℕ) (x : X) → slice_get xs k ≡ Some x → Contains xs x
+got-there [] k x h = cc
+got-there (y ∷ xs) zero x h = (0, omega arith, some-is y x h)
+  where
+    some-is : {X : Type 0} (y x : X) → Some y ≡ Some x → y ≡ x
+    some-is y x h = cc
+got-there (y ∷ xs) (suc k) x h = let rest = got-there xs k x h in (suc rest.0, omega (arith, rest.1), rest.2)
+
+-- a name that is known and no instance's is that of a net
+pub known-there : (m : PlainModule) (n : List ℕ) → is_known m n ≡ true → is_instance m n ≡ false → Contains (net_names m) n
+known-there m n known plain = let at = placed-found n (net_names m) 0 (known-listed m n known plain) in got-there (net_names m) at.0 n at.2
+
+there-listed : (n : List ℕ) (names : List (List ℕ)) (k : ℕ) → k < length names → get_or names k n ≡ n → list_any (same_name n) names ≡ true
+there-listed n [] k lt is = absurd (omega (arith, lt))
+there-listed n (m ∷ names) zero lt is = ap (λ b. b || list_any (same_name n) names) (subst (λ x. same_name n x ≡ true) (sym is) (same_self n))
+there-listed n (m ∷ names) (suc k) lt is = ap (λ b. same_name n m || b) (there-listed n names k (omega (arith, lt)) is) ∙ or-true (same_name n m)
+
+-- the net of a name stands at a place of the nets, which the index keeps for it
+pub net-at : (m : PlainModule) (n : List ℕ) → Contains (net_names m) n → (k : ℕ) × (lookup (same_name n) (placed 0 (net_names m)) ≡ Some k) × (slice_get (nets_of m) k ≡ Some (net_of m n))
+net-at m n has =
+    let at = placed-found n (net_names m) 0 (there-listed n (net_names m) has.0 has.1 has.2) in
+    (at.0, at.1 ∙ ap Some (zero-plus at.0), slice_get-map (net_of m) (net_names m) at.0 n at.2)
   where
     zero-plus : (k : ℕ) → 0 + k ≡ k
     zero-plus k = omega arith
+
+pub has-net : (m : ModuleFacts) → HasNets m → (n : List ℕ) → Contains (net_names (syntax m)) n → HasNet m n
+has-net m nets n there =
+    let at = net-at (syntax m) n there in
+    record {
+      place = at.0;
+      net = net_of (syntax m) n;
+      kept = ap (lookup (same_name n)) (nets.index ∙ ap (λ l. placed 0 (map (λ net. net.name) l)) nets.nets ∙ ap (placed 0) (names-of-nets (syntax m) (net_names (syntax m)))) ∙ at.1;
+      there = ap (λ l. slice_get l at.0) nets.nets ∙ at.2;
+      name = refl;
+      range = refl;
+    }
 
 -- no name stands twice
 abbrev AreApart : List (List ℕ) → Type 0

@@ -26,3 +26,5 @@ pub mod NetBitLemmas
 pub mod WalkLemmas
 pub mod AskLemmas
 pub mod NameLemmas
+pub mod SomeRows
+pub mod SomeLowerings

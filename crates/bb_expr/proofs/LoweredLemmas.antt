@@ -11,7 +11,7 @@ use Rattle.bb_names.specs.declared.net.NetInfo.{NetInfo}
 use Rattle.bb_names.specs.Widths.{Ranges, own_width}
 use Rattle.bb_expr.specs.declared.step.BitStep.{BitStep}
 use Rattle.bb_expr.specs.declared.step.BitStep.TheVariants as steps
-use Rattle.bb_expr.specs.Terms.{bit_of}
+use Rattle.bb_expr.specs.Terms.{term_bit}
 use Rattle.bb_expr.specs.Cells.{made}
 use Rattle.bb_expr.specs.Lowered.{Reads, term_at, IsUsed, IsLowered, HasValue}
 use Rattle.bb_expr.specs.Growing.{AreOrdered, AreSteps, Adds}
@@ -48,4 +48,4 @@ module _ (nets : List NetInfo) (ranges : Ranges) (e : Expression) (w : ℕ) (all
       }
 
   pub has-value : HasValue nets ranges e w all bits
-  has-value env = sym (map-map (bit_of env) (term_at nets all) bits) ∙ ap (map (bit_of env)) (adds.makes [] [] (nothing-stands nets)).1 ∙ made-value ranges env e w own
+  has-value env = sym (map-map (term_bit env) (term_at nets all) bits) ∙ ap (map (term_bit env)) (adds.makes [] [] (nothing-stands nets)).1 ∙ made-value ranges env e w own

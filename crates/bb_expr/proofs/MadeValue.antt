@@ -12,7 +12,7 @@ use Rattle.bb_names.specs.Ranges.{distance, range_width, place_of}
 use Rattle.bb_names.specs.Widths.{Ranges, greatest, own_width, widths, Operand, alone}
 use Rattle.bb_expr.specs.Lists.{extended, copies, bitwise}
 use Rattle.bb_expr.specs.Values.{Bits, value, values, op_bit, chosen, complemented}
-use Rattle.bb_expr.specs.Terms.{Term, Const, Net as NetTerm, And, Or, Xor, bit_of}
+use Rattle.bb_expr.specs.Terms.{Term, Const, Net as NetTerm, And, Or, Xor, term_bit}
 use Rattle.bb_expr.specs.Cells.{Made, made, makes, net_terms, inverted, operated, chained, any_from, any_bit, selected, arms_made, is_odd}
 use Rattle.bb_expr.specs.Laws.{MadeHasValue}
 use Rattle.bb_expr.proofs.ValueLemmas.{value-length, arms-length, seen}
@@ -25,38 +25,38 @@ pub map-replicate : {A B : Type 0} (f : A → B) (n : ℕ) (x : A) → map f (re
 map-replicate f zero x = refl
 map-replicate f (suc n) x = ap (λ r. f x ∷ r) (map-replicate f n x)
 
-pub map-extended : (env : Bits) (w : ℕ) (bits : List Term) → map (bit_of env) (extended (Const false) w bits) ≡ extended false w (map (bit_of env) bits)
+pub map-extended : (env : Bits) (w : ℕ) (bits : List Term) → map (term_bit env) (extended (Const false) w bits) ≡ extended false w (map (term_bit env) bits)
 map-extended env w bits = rw (map-append, map-replicate, length-map) refl
 
-pub map-net_terms : (env : Bits) (n : List ℕ) (places : List ℕ) → map (bit_of env) (map (NetTerm n) places) ≡ map (env n) places
+pub map-net_terms : (env : Bits) (n : List ℕ) (places : List ℕ) → map (term_bit env) (map (NetTerm n) places) ≡ map (env n) places
 map-net_terms env n [] = refl
 map-net_terms env n (i ∷ is) = ap (λ r. env n i ∷ r) (map-net_terms env n is)
 
-pub map-constants : (env : Bits) (bits : List Bool) → map (bit_of env) (map Const bits) ≡ bits
+pub map-constants : (env : Bits) (bits : List Bool) → map (term_bit env) (map Const bits) ≡ bits
 map-constants env [] = refl
 map-constants env (b ∷ bits) = ap (λ r. b ∷ r) (map-constants env bits)
 
-pub map-copies : (env : Bits) (k : ℕ) (bits : List Term) → map (bit_of env) (copies k bits) ≡ copies k (map (bit_of env) bits)
+pub map-copies : (env : Bits) (k : ℕ) (bits : List Term) → map (term_bit env) (copies k bits) ≡ copies k (map (term_bit env) bits)
 map-copies env zero bits = refl
-map-copies env (suc k) bits = map-append (bit_of env) bits (copies k bits) ∙ ap (λ r. map (bit_of env) bits ++ r) (map-copies env k bits)
+map-copies env (suc k) bits = map-append (term_bit env) bits (copies k bits) ∙ ap (λ r. map (term_bit env) bits ++ r) (map-copies env k bits)
 
-pub map-bitwise : (env : Bits) (gate : Term → Term → Term) (op : Bool → Bool → Bool) → ((a b : Term) → bit_of env (gate a b) ≡ op (bit_of env a) (bit_of env b))
-    → (xs ys : List Term) → map (bit_of env) (bitwise gate xs ys) ≡ bitwise op (map (bit_of env) xs) (map (bit_of env) ys)
+pub map-bitwise : (env : Bits) (gate : Term → Term → Term) (op : Bool → Bool → Bool) → ((a b : Term) → term_bit env (gate a b) ≡ op (term_bit env a) (term_bit env b))
+    → (xs ys : List Term) → map (term_bit env) (bitwise gate xs ys) ≡ bitwise op (map (term_bit env) xs) (map (term_bit env) ys)
 map-bitwise env gate op same [] ys = refl
 map-bitwise env gate op same (x ∷ xs) [] = refl
 map-bitwise env gate op same (x ∷ xs) (y ∷ ys) = ap₂ (λ a r. a ∷ r) (same x y) (map-bitwise env gate op same xs ys)
 
-xnor-inverted : (env : Bits) (xs ys : List Term) → map (bit_of env) (inverted (bitwise Xor xs ys)) ≡ bitwise (op_bit ops.Xnor) (map (bit_of env) xs) (map (bit_of env) ys)
+xnor-inverted : (env : Bits) (xs ys : List Term) → map (term_bit env) (inverted (bitwise Xor xs ys)) ≡ bitwise (op_bit ops.Xnor) (map (term_bit env) xs) (map (term_bit env) ys)
 xnor-inverted env [] ys = refl
 xnor-inverted env (x ∷ xs) [] = refl
-xnor-inverted env (x ∷ xs) (y ∷ ys) = ap₂ (λ a r. a ∷ r) (xnor-bit (bit_of env x) (bit_of env y)) (xnor-inverted env xs ys)
+xnor-inverted env (x ∷ xs) (y ∷ ys) = ap₂ (λ a r. a ∷ r) (xnor-bit (term_bit env x) (term_bit env y)) (xnor-inverted env xs ys)
   where
     xnor-bit : (a b : Bool) → not (if a then not b else b) ≡ (if a then b else not b)
     xnor-bit true true = refl
     xnor-bit true false = refl
     xnor-bit false b = refl
 
-pub map-operated : (env : Bits) (op : Op) (xs ys : List Term) → map (bit_of env) (operated op xs ys).bits ≡ bitwise (op_bit op) (map (bit_of env) xs) (map (bit_of env) ys)
+pub map-operated : (env : Bits) (op : Op) (xs ys : List Term) → map (term_bit env) (operated op xs ys).bits ≡ bitwise (op_bit op) (map (term_bit env) xs) (map (term_bit env) ys)
 map-operated env ops.And xs ys = map-bitwise env And (op_bit ops.And) (λ a b. refl) xs ys
 map-operated env ops.Or xs ys = map-bitwise env Or (op_bit ops.Or) (λ a b. refl) xs ys
 map-operated env ops.Xor xs ys = map-bitwise env Xor (op_bit ops.Xor) (λ a b. refl) xs ys
@@ -80,24 +80,24 @@ pub complemented-odd : (k : ℕ) (b : Bool) → complemented k b ≡ (if is_odd 
 complemented-odd zero b = refl
 complemented-odd (suc k) b = ap not (complemented-odd k b) ∙ not-if (is_odd k) b
 
-map-complements : (env : Bits) (f : Bool → Bool) → ((b : Bool) → f b ≡ not b) → (bits : List Term) → map (bit_of env) (inverted bits) ≡ map f (map (bit_of env) bits)
+map-complements : (env : Bits) (f : Bool → Bool) → ((b : Bool) → f b ≡ not b) → (bits : List Term) → map (term_bit env) (inverted bits) ≡ map f (map (term_bit env) bits)
 map-complements env f same [] = refl
-map-complements env f same (b ∷ bits) = ap₂ (λ c r. c ∷ r) (sym (same (bit_of env b))) (map-complements env f same bits)
+map-complements env f same (b ∷ bits) = ap₂ (λ c r. c ∷ r) (sym (same (term_bit env b))) (map-complements env f same bits)
 
 map-same : (f : Bool → Bool) → ((b : Bool) → f b ≡ b) → (bits : List Bool) → bits ≡ map f bits
 map-same f same [] = refl
 map-same f same (b ∷ bits) = ap₂ (λ c r. c ∷ r) (sym (same b)) (map-same f same bits)
 
 inverted-by : (env : Bits) (o : Bool) (f : Bool → Bool) → ((b : Bool) → f b ≡ (if o then not b else b)) → (x : Made)
-    → map (bit_of env) (if o then record { bits = inverted x.bits; cells = x.cells ++ inverted x.bits } else x).bits ≡ map f (map (bit_of env) x.bits)
+    → map (term_bit env) (if o then record { bits = inverted x.bits; cells = x.cells ++ inverted x.bits } else x).bits ≡ map f (map (term_bit env) x.bits)
 inverted-by env true f same x = map-complements env f same x.bits
-inverted-by env false f same x = map-same f same (map (bit_of env) x.bits)
+inverted-by env false f same x = map-same f same (map (term_bit env) x.bits)
 
-any-from : (env : Bits) (a : Term) (bits : List Term) → bit_of env (any_from a bits).0 ≡ (bit_of env a || list_any (λ b. b) (map (bit_of env) bits))
-any-from env a [] = sym (or-false (bit_of env a))
-any-from env a (b ∷ bits) = any-from env (Or a b) bits ∙ or-assoc (bit_of env a) (bit_of env b) _
+any-from : (env : Bits) (a : Term) (bits : List Term) → term_bit env (any_from a bits).0 ≡ (term_bit env a || list_any (λ b. b) (map (term_bit env) bits))
+any-from env a [] = sym (or-false (term_bit env a))
+any-from env a (b ∷ bits) = any-from env (Or a b) bits ∙ or-assoc (term_bit env a) (term_bit env b) _
 
-pub any-bit : (env : Bits) (bits : List Term) → bit_of env (any_bit bits).0 ≡ list_any (λ b. b) (map (bit_of env) bits)
+pub any-bit : (env : Bits) (bits : List Term) → term_bit env (any_bit bits).0 ≡ list_any (λ b. b) (map (term_bit env) bits)
 any-bit env [] = refl
 any-bit env (b ∷ bits) = any-from env b bits
 
@@ -110,13 +110,13 @@ if-cons true x y xs ys = refl
 if-cons false x y xs ys = refl
 
 pub map-selected : (env : Bits) (c : Term) (ts es : List Term) → length ts ≡ length es
-    → map (bit_of env) (selected c ts es) ≡ (if bit_of env c then map (bit_of env) ts else map (bit_of env) es)
-map-selected env c [] [] long = if-same (bit_of env c) []
+    → map (term_bit env) (selected c ts es) ≡ (if term_bit env c then map (term_bit env) ts else map (term_bit env) es)
+map-selected env c [] [] long = if-same (term_bit env c) []
 map-selected env c [] (e ∷ es) long = grind (arith, long)
 map-selected env c (t ∷ ts) [] long = grind (arith, long)
 map-selected env c (t ∷ ts) (e ∷ es) long =
-    ap (λ r. (if bit_of env c then bit_of env t else bit_of env e) ∷ r) (map-selected env c ts es (grind (arith, long)))
-    ∙ if-cons (bit_of env c) (bit_of env t) (bit_of env e) (map (bit_of env) ts) (map (bit_of env) es)
+    ap (λ r. (if term_bit env c then term_bit env t else term_bit env e) ∷ r) (map-selected env c ts es (grind (arith, long)))
+    ∙ if-cons (term_bit env c) (term_bit env t) (term_bit env e) (map (term_bit env) ts) (map (term_bit env) es)
 
 -- what an operand of the cells is seen as
 abbrev pub made_seen : Ranges → Expression → (ℕ → Made) → Operand Made
@@ -124,15 +124,15 @@ made_seen ranges e a = record { width = own_width ranges e; at = a }
 
 -- the bits that are made have the value, at each width that suffices
 abbrev pub Means : Ranges → Bits → Expression → Type 0
-Means ranges env e = (w : ℕ) → own_width ranges e ≤ w → map (bit_of env) (made ranges e w).bits ≡ value ranges env e w
+Means ranges env e = (w : ℕ) → own_width ranges e ≤ w → map (term_bit env) (made ranges e w).bits ≡ value ranges env e w
 
 -- as many bits are made
 pub made-long : (ranges : Ranges) (env : Bits) (e : Expression) → Means ranges env e → (w : ℕ) → own_width ranges e ≤ w → length (made ranges e w).bits ≡ w
-made-long ranges env e means w fits = sym (length-map (made ranges e w).bits (bit_of env)) ∙ ap length (means w fits) ∙ value-length ranges env e w fits
+made-long ranges env e means w fits = sym (length-map (made ranges e w).bits (term_bit env)) ∙ ap length (means w fits) ∙ value-length ranges env e w fits
 
 -- as long as the value
-pub long-by : (env : Bits) (w : ℕ) (xs : List Term) (ys : List Bool) → map (bit_of env) xs ≡ ys → length ys ≡ w → length xs ≡ w
-long-by env w xs ys same long = sym (length-map xs (bit_of env)) ∙ ap length same ∙ long
+pub long-by : (env : Bits) (w : ℕ) (xs : List Term) (ys : List Bool) → map (term_bit env) xs ≡ ys → length ys ≡ w → length xs ≡ w
+long-by env w xs ys same long = sym (length-map xs (term_bit env)) ∙ ap length same ∙ long
 
 if-of : {A : Type 0} {b c : Bool} {x y u v : A} → b ≡ c → x ≡ u → y ≡ v → (if b then x else y) ≡ (if c then u else v)
 if-of same first second = rw (same, first, second) refl
@@ -150,9 +150,9 @@ mutual
   made-value ranges env (Concat all) w fits = map-extended env w _ ∙ ap (extended false w) (parts-value ranges env all)
   made-value ranges env (Repeat k all) w fits = map-extended env w _ ∙ ap (extended false w) (map-copies env k _ ∙ ap (copies k) (parts-value ranges env all))
 
-  chain-value : (ranges : Ranges) (env : Bits) (rest : Operands) (w : ℕ) (m : Made) (bits : List Bool) → map (bit_of env) m.bits ≡ bits
+  chain-value : (ranges : Ranges) (env : Bits) (rest : Operands) (w : ℕ) (m : Made) (bits : List Bool) → map (term_bit env) m.bits ≡ bits
       → greatest (map (λ x. x.1) (of_operands (λ x a. a) (widths ranges) rest)) ≤ w
-      → map (bit_of env) (fold (λ a x. let b = x.1.at w in chained a b (operated x.0 a.bits b.bits)) m (of_operands (made_seen ranges) (makes ranges) rest)).bits
+      → map (term_bit env) (fold (λ a x. let b = x.1.at w in chained a b (operated x.0 a.bits b.bits)) m (of_operands (made_seen ranges) (makes ranges) rest)).bits
       ≡ fold (λ b x. bitwise (op_bit x.0) b (x.1.at w)) bits (of_operands (seen ranges) (values ranges env) rest)
   chain-value ranges env no_operand w m bits same fits = same
   chain-value ranges env (operand op e rest) w m bits same fits =
@@ -161,26 +161,26 @@ mutual
 
   pub arms-value : (ranges : Ranges) (env : Bits) (all : Arms) (w : ℕ) (last : Expression)
       → greatest (map (λ x. x.1) (of_arms (λ x a. a) (widths ranges) all)) ≤ w → own_width ranges last ≤ w
-      → map (bit_of env) (made ranges last w).bits ≡ value ranges env last w
-      → map (bit_of env) (arms_made (of_arms (made_seen ranges) (makes ranges) all) (made_seen ranges last (made ranges last)) w).bits
+      → map (term_bit env) (made ranges last w).bits ≡ value ranges env last w
+      → map (term_bit env) (arms_made (of_arms (made_seen ranges) (makes ranges) all) (made_seen ranges last (made ranges last)) w).bits
       ≡ chosen (of_arms (seen ranges) (values ranges env) all) (seen ranges last (value ranges env last)) w
   arms-value ranges env no_arm w last fits own same = same
   arms-value ranges env (arm c e rest) w last fits own same =
-      let below : map (bit_of env) (arms_made (of_arms (made_seen ranges) (makes ranges) rest) (made_seen ranges last (made ranges last)) w).bits
+      let below : map (term_bit env) (arms_made (of_arms (made_seen ranges) (makes ranges) rest) (made_seen ranges last (made ranges last)) w).bits
       ≡ chosen (of_arms (seen ranges) (values ranges env) rest) (seen ranges last (value ranges env last)) w
       = arms-value ranges env rest w last (omega (arith, fits)) own same in
-      let branch : map (bit_of env) (made ranges e w).bits ≡ value ranges env e w = made-value ranges env e w (omega (arith, fits)) in
-      let condition : map (bit_of env) (made ranges c (own_width ranges c)).bits ≡ value ranges env c (own_width ranges c) = made-value ranges env c (own_width ranges c) (omega arith) in
+      let branch : map (term_bit env) (made ranges e w).bits ≡ value ranges env e w = made-value ranges env e w (omega (arith, fits)) in
+      let condition : map (term_bit env) (made ranges c (own_width ranges c)).bits ≡ value ranges env c (own_width ranges c) = made-value ranges env c (own_width ranges c) (omega arith) in
       map-selected env (any_bit (made ranges c (own_width ranges c)).bits).0 (made ranges e w).bits _
       (long-by env w _ _ branch (value-length ranges env e w (omega (arith, fits)))
       ∙ sym (long-by env w _ _ below (arms-length ranges env rest w last (omega (arith, fits)) (value-length ranges env last w own))))
       ∙ if-of (any-bit env (made ranges c (own_width ranges c)).bits ∙ ap (list_any (λ b. b)) condition) branch below
 
   parts-value : (ranges : Ranges) (env : Bits) (all : Parts)
-      → map (bit_of env) (flat_map (λ x. (alone {A = Made} x).bits) (of_parts (made_seen ranges) (makes ranges) all)) ≡ flat_map alone (of_parts (seen ranges) (values ranges env) all)
+      → map (term_bit env) (flat_map (λ x. (alone {A = Made} x).bits) (of_parts (made_seen ranges) (makes ranges) all)) ≡ flat_map alone (of_parts (seen ranges) (values ranges env) all)
   parts-value ranges env no_part = refl
   parts-value ranges env (part e rest) =
-      map-append (bit_of env) (made ranges e (own_width ranges e)).bits (flat_map (λ x. (alone {A = Made} x).bits) (of_parts (made_seen ranges) (makes ranges) rest))
+      map-append (term_bit env) (made ranges e (own_width ranges e)).bits (flat_map (λ x. (alone {A = Made} x).bits) (of_parts (made_seen ranges) (makes ranges) rest))
       ∙ ap₂ (λ a r. a ++ r) (made-value ranges env e (own_width ranges e) (omega arith)) (parts-value ranges env rest)
 
 pub made_has_value : MadeHasValue

@@ -82,14 +82,18 @@ module _ (nets : List NetInfo) where
   adds-constants bits old new places row =
       subst (λ terms. Adds nets (without_cells terms) old new places) (constants-terms bits) (adds-leaves nets (map steps.Const bits) old new places row (constants-leaves bits))
 
+-- bits of the net at a place
+pub adds-net-at : (nets : List NetInfo) (n : List ℕ) (net : NetInfo) (k from count : ℕ) (old new : List BitStep) (places : List ℕ) → slice_get nets k ≡ Some net → net.name ≡ n → from + count ≤ range_width net.range
+    → AddsRow (map (steps.Net k) (range_with_len from count)) old new places → Adds nets (without_cells (net_terms n from count)) old new places
+adds-net-at nets n net k from count old new places there name fits row =
+    let named : name_at nets k ≡ n = ap (λ o. option_map_or (λ (net : NetInfo). net.name) o []) there ∙ name in
+    subst (λ terms. Adds nets (without_cells terms) old new places)
+    (net-terms nets k (range_with_len from count) ∙ ap (λ name. map (Net name) (range_with_len from count)) named)
+    (adds-leaves nets (map (steps.Net k) (range_with_len from count)) old new places row (net-leaves nets k net there from count fits))
+
 -- bits of a net of a module
 pub adds-net : (m : ModuleFacts) (n : List ℕ) (k from count : ℕ) (old new : List BitStep) (places : List ℕ) → HasNet m n → lookup (same_name n) m.index ≡ Some k → from + count ≤ range_width (ranges_in m n)
     → AddsRow (map (steps.Net k) (range_with_len from count)) old new places → Adds m.nets (without_cells (net_terms n from count)) old new places
 adds-net m n k from count old new places has kept fits row =
     let same : has.place ≡ k = some-same has.place k (sym has.kept ∙ kept) in
-    let there : slice_get m.nets k ≡ Some has.net = ap (slice_get m.nets) (sym same) ∙ has.there in
-    let name : name_at m.nets k ≡ n = ap (λ o. option_map_or (λ (net : NetInfo). net.name) o []) there ∙ has.name in
-    subst (λ terms. Adds m.nets (without_cells terms) old new places)
-    (net-terms m.nets k (range_with_len from count) ∙ ap (λ name. map (Net name) (range_with_len from count)) name)
-    (adds-leaves m.nets (map (steps.Net k) (range_with_len from count)) old new places row
-    (net-leaves m.nets k has.net there from count (subst (λ w. from + count ≤ w) (ap range_width (sym has.range)) fits)))
+    adds-net-at m.nets n has.net k from count old new places (ap (slice_get m.nets) (sym same) ∙ has.there) has.name (subst (λ w. from + count ≤ w) (ap range_width (sym has.range)) fits) row

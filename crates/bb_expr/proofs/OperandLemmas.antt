@@ -4,7 +4,7 @@ use Rattle.std.specs.Prelude.{All, sum, max}
 use Rattle.std.specs.List.{AllByRecursion, flat_map}
 use Rattle.std.proofs.lemmas.List.Elements.{All-from_recursion, recursion_from_All}
 use Rattle.bb_ast.specs.declared.expr.Op.{Op}
-use Rattle.bb_ast.specs.Syntax.{Expression, Not, Chain, Cond, Concat, Repeat, operands, arms, parts}
+use Rattle.bb_ast.specs.Syntax.{Expression, Not, Chain, Cond, Concat, Repeat, operands, arms, listed_parts}
 use Rattle.bb_ast.specs.Folds.{of_operands, of_arms, of_parts}
 use Rattle.bb_names.specs.Widths.{Ranges, greatest, widths, own_width}
 use Rattle.bb_names.specs.Faults.{widest}
@@ -50,15 +50,15 @@ module _ (m : ModuleFacts) where
   pub fit-last : (xs : List (Expression × Expression)) (last : Expression) → AreFit m (Cond (arms xs) last) → AreFit m last
   fit-last xs last fit = fit-of last (all-back (IsFit m) (flat_map (λ x. x.0 ++ x.1) (of_arms (λ x all. x ∷ all) gathering (arms xs))) (expressions_in last) (each-in (Cond (arms xs) last) fit).1)
 
-  parts-each : (xs : List Expression) → AllByRecursion (IsFit m) (flat_map (λ e. e) (of_parts (λ x all. x ∷ all) gathering (parts xs))) → AllByRecursion (AreFit m) xs
+  parts-each : (xs : List Expression) → AllByRecursion (IsFit m) (flat_map (λ e. e) (of_parts (λ x all. x ∷ all) gathering (listed_parts xs))) → AllByRecursion (AreFit m) xs
   parts-each [] h = tt
   parts-each (x ∷ xs) h = (fit-of x (all-front (IsFit m) (expressions_in x) _ h), parts-each xs (all-back (IsFit m) (expressions_in x) _ h))
 
-  pub fit-parts : (xs : List Expression) → AreFit m (Concat (parts xs)) → All (AreFit m) xs
-  fit-parts xs fit = All-from_recursion (AreFit m) xs (parts-each xs (each-in (Concat (parts xs)) fit).1)
+  pub fit-parts : (xs : List Expression) → AreFit m (Concat (listed_parts xs)) → All (AreFit m) xs
+  fit-parts xs fit = All-from_recursion (AreFit m) xs (parts-each xs (each-in (Concat (listed_parts xs)) fit).1)
 
-  pub fit-copied : (k : ℕ) (xs : List Expression) → AreFit m (Repeat k (parts xs)) → All (AreFit m) xs
-  fit-copied k xs fit = All-from_recursion (AreFit m) xs (parts-each xs (each-in (Repeat k (parts xs)) fit).1)
+  pub fit-copied : (k : ℕ) (xs : List Expression) → AreFit m (Repeat k (listed_parts xs)) → All (AreFit m) xs
+  fit-copied k xs fit = All-from_recursion (AreFit m) xs (parts-each xs (each-in (Repeat k (listed_parts xs)) fit).1)
 
 operand-widths : (ranges : Ranges) (xs : List (Op × Expression)) → map (λ x. x.1) (of_operands (λ x a. a) (widths ranges) (operands xs)) ≡ map (λ x. own_width ranges x.1) xs
 operand-widths ranges [] = refl
@@ -68,7 +68,7 @@ arm-widths : (ranges : Ranges) (xs : List (Expression × Expression)) → map (�
 arm-widths ranges [] = refl
 arm-widths ranges (x ∷ xs) = ap (λ r. own_width ranges x.1 ∷ r) (arm-widths ranges xs)
 
-part-widths : (ranges : Ranges) (xs : List Expression) → of_parts (λ x a. a) (widths ranges) (parts xs) ≡ map (own_width ranges) xs
+part-widths : (ranges : Ranges) (xs : List Expression) → of_parts (λ x a. a) (widths ranges) (listed_parts xs) ≡ map (own_width ranges) xs
 part-widths ranges [] = refl
 part-widths ranges (x ∷ xs) = ap (λ r. own_width ranges x ∷ r) (part-widths ranges xs)
 
@@ -78,10 +78,10 @@ chain-width ranges e xs = ap (λ l. max (own_width ranges e) (greatest l)) (oper
 pub cond-width : (ranges : Ranges) (xs : List (Expression × Expression)) (last : Expression) → own_width ranges (Cond (arms xs) last) ≡ max (greatest (map (λ x. own_width ranges x.1) xs)) (own_width ranges last)
 cond-width ranges xs last = ap (λ l. max (greatest l) (own_width ranges last)) (arm-widths ranges xs)
 
-pub concat-width : (ranges : Ranges) (xs : List Expression) → own_width ranges (Concat (parts xs)) ≡ sum (map (own_width ranges) xs)
+pub concat-width : (ranges : Ranges) (xs : List Expression) → own_width ranges (Concat (listed_parts xs)) ≡ sum (map (own_width ranges) xs)
 concat-width ranges xs = ap sum (part-widths ranges xs)
 
-pub repeat-width : (ranges : Ranges) (k : ℕ) (xs : List Expression) → own_width ranges (Repeat k (parts xs)) ≡ k * sum (map (own_width ranges) xs)
+pub repeat-width : (ranges : Ranges) (k : ℕ) (xs : List Expression) → own_width ranges (Repeat k (listed_parts xs)) ≡ k * sum (map (own_width ranges) xs)
 repeat-width ranges k xs = ap (λ l. k * sum l) (part-widths ranges xs)
 
 product-bounds : (k n b : ℕ) → 1 ≤ k → k * n ≤ b → n ≤ b
@@ -89,13 +89,13 @@ product-bounds zero n b some most = absurd (omega (arith, some))
 product-bounds (suc k) n b some most = grind (arith, most)
 
 -- the parts of a concatenation and of a replication are no wider side by side than a net may be
-pub parts-bounded : (m : ModuleFacts) (xs : List Expression) → AreFit m (Concat (parts xs)) → sum (map (own_width (ranges_in m)) xs) ≤ widest
-parts-bounded m xs fit = omega (arith, concat-width (ranges_in m) xs, (fit-here m (Concat (parts xs)) fit).bounded)
+pub parts-bounded : (m : ModuleFacts) (xs : List Expression) → AreFit m (Concat (listed_parts xs)) → sum (map (own_width (ranges_in m)) xs) ≤ widest
+parts-bounded m xs fit = omega (arith, concat-width (ranges_in m) xs, (fit-here m (Concat (listed_parts xs)) fit).bounded)
 
-pub copied-bounded : (m : ModuleFacts) (k : ℕ) (xs : List Expression) → AreFit m (Repeat k (parts xs)) → sum (map (own_width (ranges_in m)) xs) ≤ widest
+pub copied-bounded : (m : ModuleFacts) (k : ℕ) (xs : List Expression) → AreFit m (Repeat k (listed_parts xs)) → sum (map (own_width (ranges_in m)) xs) ≤ widest
 copied-bounded m k xs fit =
-    let here = fit-here m (Repeat k (parts xs)) fit in
+    let here = fit-here m (Repeat k (listed_parts xs)) fit in
     product-bounds k (sum (map (own_width (ranges_in m)) xs)) widest here.right (omega (arith, repeat-width (ranges_in m) k xs, here.bounded))
 
-pub copies-bounded : (m : ModuleFacts) (k : ℕ) (xs : List Expression) → AreFit m (Repeat k (parts xs)) → k * sum (map (own_width (ranges_in m)) xs) ≤ widest
-copies-bounded m k xs fit = omega (arith, repeat-width (ranges_in m) k xs, (fit-here m (Repeat k (parts xs)) fit).bounded)
+pub copies-bounded : (m : ModuleFacts) (k : ℕ) (xs : List Expression) → AreFit m (Repeat k (listed_parts xs)) → k * sum (map (own_width (ranges_in m)) xs) ≤ widest
+copies-bounded m k xs fit = omega (arith, repeat-width (ranges_in m) k xs, (fit-here m (Repeat k (listed_parts xs)) fit).bounded)

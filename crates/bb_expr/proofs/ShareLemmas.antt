@@ -7,7 +7,7 @@ use Rattle.std.proofs.lemmas.List.{map_more, take_all}
 use Rattle.std.proofs.lemmas.Bool.Decides.{nat_tests}
 use Rattle.bb_ast.specs.declared.expr.Op.{Op}
 use Rattle.bb_ast.specs.declared.expr.Op.TheVariants as ops
-use Rattle.bb_ast.specs.Syntax.{Expression, Chain, Cond, Concat, Repeat, operands, arms, parts}
+use Rattle.bb_ast.specs.Syntax.{Expression, Chain, Cond, Concat, Repeat, operands, arms, listed_parts}
 use Rattle.bb_ast.specs.Folds.{of_operands, of_arms, of_parts}
 use Rattle.bb_names.specs.Widths.{Ranges, Operand, alone}
 use Rattle.bb_expr.specs.Cells.{is_odd, op_cells, counts, cell_count}
@@ -24,9 +24,9 @@ arms-counted : (ranges : Ranges) (w : ℕ) (xs : List (Expression × Expression)
 arms-counted ranges w [] = refl
 arms-counted ranges w (x ∷ xs) = sum_by-cons (λ (y : Operand ℕ × Operand ℕ). alone y.0 + (y.0.width - 1) + y.1.at w + w) (count_seen ranges x.0 (cell_count ranges x.0), count_seen ranges x.1 (cell_count ranges x.1)) (of_arms (count_seen ranges) counts (arms xs)) ∙ ap (λ n. arm_cells ranges w x + n) (arms-counted ranges w xs) ∙ sym (sum_by-cons (arm_cells ranges w) x xs)
 
-parts-counted : (ranges : Ranges) (xs : List Expression) → sum_by alone (of_parts (count_seen ranges) counts (parts xs)) ≡ sum_by (own_cells ranges) xs
+parts-counted : (ranges : Ranges) (xs : List Expression) → sum_by alone (of_parts (count_seen ranges) counts (listed_parts xs)) ≡ sum_by (own_cells ranges) xs
 parts-counted ranges [] = refl
-parts-counted ranges (x ∷ xs) = sum_by-cons (alone {A = ℕ}) (count_seen ranges x (cell_count ranges x)) (of_parts (count_seen ranges) counts (parts xs)) ∙ ap (λ n. own_cells ranges x + n) (parts-counted ranges xs) ∙ sym (sum_by-cons (own_cells ranges) x xs)
+parts-counted ranges (x ∷ xs) = sum_by-cons (alone {A = ℕ}) (count_seen ranges x (cell_count ranges x)) (of_parts (count_seen ranges) counts (listed_parts xs)) ∙ ap (λ n. own_cells ranges x + n) (parts-counted ranges xs) ∙ sym (sum_by-cons (own_cells ranges) x xs)
 
 pub chain-cells : (ranges : Ranges) (e : Expression) (xs : List (Op × Expression)) (w : ℕ) → cell_count ranges (Chain e (operands xs)) w ≡ cell_count ranges e w + sum_by (operand_cells ranges w) xs
 chain-cells ranges e xs w = ap (λ n. cell_count ranges e w + n) (operands-counted ranges w xs)
@@ -34,10 +34,10 @@ chain-cells ranges e xs w = ap (λ n. cell_count ranges e w + n) (operands-count
 pub cond-cells : (ranges : Ranges) (xs : List (Expression × Expression)) (last : Expression) (w : ℕ) → cell_count ranges (Cond (arms xs) last) w ≡ sum_by (arm_cells ranges w) xs + cell_count ranges last w
 cond-cells ranges xs last w = ap (λ n. n + cell_count ranges last w) (arms-counted ranges w xs)
 
-pub concat-cells : (ranges : Ranges) (xs : List Expression) (w : ℕ) → cell_count ranges (Concat (parts xs)) w ≡ sum_by (own_cells ranges) xs
+pub concat-cells : (ranges : Ranges) (xs : List Expression) (w : ℕ) → cell_count ranges (Concat (listed_parts xs)) w ≡ sum_by (own_cells ranges) xs
 concat-cells ranges xs w = parts-counted ranges xs
 
-pub repeat-cells : (ranges : Ranges) (k : ℕ) (xs : List Expression) (w : ℕ) → cell_count ranges (Repeat k (parts xs)) w ≡ sum_by (own_cells ranges) xs
+pub repeat-cells : (ranges : Ranges) (k : ℕ) (xs : List Expression) (w : ℕ) → cell_count ranges (Repeat k (listed_parts xs)) w ≡ sum_by (own_cells ranges) xs
 repeat-cells ranges k xs w = parts-counted ranges xs
 
 -- sums that stop at a greatest number m

@@ -2,18 +2,19 @@
 use Rattle.std.proofs.Common.{ℕ, zero, suc, List, [], ◌∷◌, ◌++◌, map, get_or, Option, Some, None, sym, subst, inl, inr, arith}
 use Rattle.std.specs.Prelude.{Contains, IfSome, IsSomeAnd, slice_get, option_to_list}
 use Rattle.std.specs.List.{AllByRecursion, flat_map}
-use Rattle.std.proofs.lemmas.List.Elements.{All-from_recursion, recursion_from_All, All-contains, Contains-get_or, Contains-append_left, Contains-append_right, Contains-append_cases}
+use Rattle.std.proofs.lemmas.List.Elements.{All-weaker, All-from_recursion, recursion_from_All, All-contains, Contains-get_or, Contains-append_left, Contains-append_right, Contains-append_cases}
 use Rattle.bb_ast.specs.Syntax.{Expression, Net, Bit, Part, Sized, Plain, Not, Chain, Cond, Concat, Repeat, Operands, no_operand, operand, Arms, no_arm, arm, Parts, no_part, part}
 use Rattle.bb_ast.specs.Syntax.{PlainConns, Order, Named, PlainBody, Ports, Nets, Regs, Supply, Assign, Gates, Calls, Always, PlainItem, PlainModule}
 use Rattle.bb_ast.specs.Folds.{fold_by, of_operands, of_arms, of_parts}
 use Rattle.bb_ast.specs.Formed.{IsFormedExpression, IsFormedConns, IsFormedBody, IsFormed}
 use Rattle.bb_names.specs.Checked.{ModuleFacts, syntax, HasNets}
 use Rattle.bb_expr.specs.Standing.{gathering, expressions_in, conns_expressions, item_expressions, StandsIn, StandsAt}
-use Rattle.bb_expr.specs.Fit.{IsFit, AreFit}
-use Rattle.bb_expr.specs.FitLaws.{StandingIsFit, PartsStand}
+use Rattle.bb_expr.specs.Fit.{IsRight, IsRightIn, IsFit, IsFitIn, AreFit, AreFitIn}
+use Rattle.bb_expr.specs.FitLaws.{StandingIsFit, StandingIsFitIn, PartsStand}
 use Rattle.bb_expr.proofs.ListLemmas.{all-join, single}
 use Rattle.bb_expr.proofs.SpotLemmas.{HasCleanSpots, IsCleanItem, IsCleanModule, sound-clean, item-clean}
 use Rattle.bb_expr.proofs.FitLemmas.{fits}
+use Rattle.bb_expr.proofs.KnownNames.{has-net}
 
 -- with each expression a list has those in it
 abbrev pub IsClosed : List Expression → Type 0
@@ -109,31 +110,49 @@ body-formed (Gates gate all) h = flat-formed _ (λ x. x.1) (λ x terms. terms.2)
 body-formed (Calls target all) h = flat-formed _ (λ x. conns_expressions x.1) (λ x call. conns-formed x.1 call.1) all h.1.1
 body-formed (Always r) h = (h.0, (h.1, (h.2, tt)))
 
-module _ (text : List PlainModule) (m : ModuleFacts) (nets : HasNets m) where
-  expressions-fit : (es : List Expression) → AllByRecursion IsFormedExpression es → AllByRecursion (HasCleanSpots text (syntax m)) es → AllByRecursion (IsFit m) (flat_map expressions_in es)
+module _ (text : List PlainModule) (m : PlainModule) where
+  expressions-fit : (es : List Expression) → AllByRecursion IsFormedExpression es → AllByRecursion (HasCleanSpots text m) es → AllByRecursion (IsFitIn m) (flat_map expressions_in es)
   expressions-fit [] formed clean = tt
   expressions-fit (e ∷ es) formed clean =
-      all-join (IsFit m) (expressions_in e) (flat_map expressions_in es) (fits text m nets clean.0.0 e formed.0 clean.0.1) (expressions-fit es formed.1 clean.1)
+      all-join (IsFitIn m) (expressions_in e) (flat_map expressions_in es) (fits text m clean.0.0 e formed.0 clean.0.1) (expressions-fit es formed.1 clean.1)
 
-  items-fit : (items : List PlainItem) → AllByRecursion (λ item. IsFormedBody item.body) items → AllByRecursion (IsCleanItem text (syntax m)) items
-      → AllByRecursion (IsFit m) (flat_map (λ item. flat_map expressions_in (item_expressions item.body)) items)
+  items-fit : (items : List PlainItem) → AllByRecursion (λ item. IsFormedBody item.body) items → AllByRecursion (IsCleanItem text m) items
+      → AllByRecursion (IsFitIn m) (flat_map (λ item. flat_map expressions_in (item_expressions item.body)) items)
   items-fit [] formed clean = tt
   items-fit (item ∷ items) formed clean =
-      all-join (IsFit m) (flat_map expressions_in (item_expressions item.body)) _
-      (expressions-fit (item_expressions item.body) (body-formed item.body formed.0) (item-clean text (syntax m) clean.0.0 item.body clean.0.1)) (items-fit items formed.1 clean.1)
+      all-join (IsFitIn m) (flat_map expressions_in (item_expressions item.body)) _
+      (expressions-fit (item_expressions item.body) (body-formed item.body formed.0) (item-clean text m clean.0.0 item.body clean.0.1)) (items-fit items formed.1 clean.1)
 
-  module-fit : IsFormed (syntax m) → IsCleanModule text (syntax m) → (e : Expression) → StandsIn (syntax m) e → AreFit m e
+  pub module-fit : IsFormed m → IsCleanModule text m → (e : Expression) → StandsIn m e → AreFitIn m e
   module-fit formed clean e stands =
-      let all = All-from_recursion (IsFit m) (standing (syntax m)) (items-fit (syntax m).items formed.2 clean) in
-      record {
-        each = λ k d lt. All-contains (IsFit m) (standing (syntax m)) (get_or (expressions_in e) k d) all
-            (standing-closed (syntax m) e (get_or (expressions_in e) k d) stands (Contains-get_or (expressions_in e) k d lt));
-      }
+      let all = All-from_recursion (IsFitIn m) (standing m) (items-fit m.items formed.2 clean) in
+      λ k d lt. All-contains (IsFitIn m) (standing m) (get_or (expressions_in e) k d) all
+      (standing-closed m e (get_or (expressions_in e) k d) stands (Contains-get_or (expressions_in e) k d lt))
+
+pub standing_is_fit_in : StandingIsFitIn
+standing_is_fit_in text m e formed sound has stands =
+    module-fit text m (All-contains IsFormed text m (All-from_recursion IsFormed text formed) has) (All-contains (IsCleanModule text) text m (All-from_recursion (IsCleanModule text) text (sound-clean text sound)) has) e stands
+
+-- what is fit in a module is fit by what is kept about it
+right-kept : (m : ModuleFacts) → HasNets m → (e : Expression) → IsRightIn (syntax m) e → IsRight m e
+right-kept m nets (Net n) h = has-net m nets n h
+right-kept m nets (Bit n i) h = (has-net m nets n h.0, h.1)
+right-kept m nets (Part n i j) h = (has-net m nets n h.0, h.1)
+right-kept m nets (Sized bits) h = tt
+right-kept m nets (Plain n) h = tt
+right-kept m nets (Not k e) h = tt
+right-kept m nets (Chain e rest) h = tt
+right-kept m nets (Cond all last) h = tt
+right-kept m nets (Concat all) h = tt
+right-kept m nets (Repeat k all) h = h
+
+fit-kept : (m : ModuleFacts) → HasNets m → (e : Expression) → AreFitIn (syntax m) e → AreFit m e
+fit-kept m nets e fit = record { each = All-weaker (IsFitIn (syntax m)) (IsFit m) (λ x h. record { right = right-kept m nets x h.right; some = h.some; bounded = h.bounded }) (expressions_in e) fit }
 
 modules-fit : (text : List PlainModule) (e : Expression) (ms : List ModuleFacts) → AllByRecursion IsFormed (map syntax ms) → AllByRecursion (IsCleanModule text) (map syntax ms) → AllByRecursion HasNets ms
     → (k : ℕ) → StandsAt ms k e → IsSomeAnd (slice_get ms k) (λ m. AreFit m e)
 modules-fit text e [] formed clean nets k stands = stands
-modules-fit text e (m ∷ ms) formed clean nets zero stands = module-fit text m nets.0 formed.0 clean.0 e stands
+modules-fit text e (m ∷ ms) formed clean nets zero stands = fit-kept m nets.0 e (module-fit text (syntax m) formed.0 clean.0 e stands)
 modules-fit text e (m ∷ ms) formed clean nets (suc k) stands = modules-fit text e ms formed.1 clean.1 nets.1 k stands
 
 pub standing_is_fit : StandingIsFit

@@ -5,7 +5,7 @@ use Rattle.bb_ast.specs.declared.expr.Expr.{Expr}
 use Rattle.bb_ast.specs.declared.expr.Expr as of
 use Rattle.bb_ast.specs.declared.expr.Expr.TheFolds.{fold_out-Expr}
 use Rattle.bb_ast.specs.declared.expr.Expr.TheVariants.{outs-Net, outs-Bit, outs-Part, outs-Sized, outs-Plain, outs-Not, outs-Chain, outs-Cond, outs-Concat, outs-Repeat}
-use Rattle.bb_ast.specs.Syntax.{Expression, Net, Bit, Part, Sized, Plain, Not, Chain, Cond, Concat, Repeat, operands, arms, parts}
+use Rattle.bb_ast.specs.Syntax.{Expression, Net, Bit, Part, Sized, Plain, Not, Chain, Cond, Concat, Repeat, operands, arms, listed_parts}
 use Rattle.bb_ast.specs.Views.{layer, expression, operand_view, arm_view}
 
 pub expression-not : (e : Expr) (k : ℕ) (operand : Box Expr Global) → e ≡ of.Not k operand → expression e ≡ Not k (expression operand.value)
@@ -17,10 +17,10 @@ expression-chain e first rest is = rw (fold_out-Expr Expression layer e, is, out
 pub expression-cond : (e : Expr) (all : Vec (Expr × Expr) Global) (last : Box Expr Global) → e ≡ of.Cond all last → expression e ≡ Cond (arms (map arm_view all.items)) (expression last.value)
 expression-cond e all last is = rw (fold_out-Expr Expression layer e, is, outs-Cond all last) refl
 
-pub expression-concat : (e : Expr) (all : Vec Expr Global) → e ≡ of.Concat all → expression e ≡ Concat (parts (map expression all.items))
+pub expression-concat : (e : Expr) (all : Vec Expr Global) → e ≡ of.Concat all → expression e ≡ Concat (listed_parts (map expression all.items))
 expression-concat e all is = rw (fold_out-Expr Expression layer e, is, outs-Concat all) refl
 
-pub expression-repeat : (e : Expr) (k : ℕ) (all : Vec Expr Global) → e ≡ of.Repeat k all → expression e ≡ Repeat k (parts (map expression all.items))
+pub expression-repeat : (e : Expr) (k : ℕ) (all : Vec Expr Global) → e ≡ of.Repeat k all → expression e ≡ Repeat k (listed_parts (map expression all.items))
 expression-repeat e k all is = rw (fold_out-Expr Expression layer e, is, outs-Repeat k all) refl
 
 pub expression-net : (e : Expr) (n : List ℕ) → e ≡ of.Net n → expression e ≡ Net n

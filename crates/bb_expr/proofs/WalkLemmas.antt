@@ -6,7 +6,7 @@ use Rattle.std.proofs.lemmas.List.{at_drop_all}
 use Rattle.std.proofs.lemmas.List.Concat.{flat_map-append}
 use Rattle.std.proofs.lemmas.List.Sums.{sum_by-cons}
 use Rattle.bb_ast.specs.declared.expr.Op.{Op}
-use Rattle.bb_ast.specs.Syntax.{Expression, Chain, Cond, Concat, Repeat, Not, operands, arms, parts}
+use Rattle.bb_ast.specs.Syntax.{Expression, Chain, Cond, Concat, Repeat, Not, operands, arms, listed_parts}
 use Rattle.bb_ast.specs.Folds.{of_operands, of_parts}
 use Rattle.bb_names.specs.declared.net.NetInfo.{NetInfo}
 use Rattle.bb_names.specs.Widths.{Ranges, own_width}
@@ -40,11 +40,11 @@ cond-made ranges w [] last = refl
 cond-made ranges w (x ∷ xs) last = ap (arm_made (made ranges x.0 (own_width ranges x.0)) (made ranges x.1 w)) (cond-made ranges w xs last)
 
 -- parts, with zeros on their left
-parts-bits : (ranges : Ranges) (xs : List Expression) → part_bits (of_parts (made_seen ranges) (makes ranges) (parts xs)) ≡ (beside ranges xs).bits
+parts-bits : (ranges : Ranges) (xs : List Expression) → part_bits (of_parts (made_seen ranges) (makes ranges) (listed_parts xs)) ≡ (beside ranges xs).bits
 parts-bits ranges [] = refl
 parts-bits ranges (x ∷ xs) = ap (λ r. (made ranges x (own_width ranges x)).bits ++ r) (parts-bits ranges xs)
 
-parts-cells : (ranges : Ranges) (xs : List Expression) → part_cells (of_parts (made_seen ranges) (makes ranges) (parts xs)) ≡ (beside ranges xs).cells
+parts-cells : (ranges : Ranges) (xs : List Expression) → part_cells (of_parts (made_seen ranges) (makes ranges) (listed_parts xs)) ≡ (beside ranges xs).cells
 parts-cells ranges [] = refl
 parts-cells ranges (x ∷ xs) = ap (λ r. (made ranges x (own_width ranges x)).cells ++ r) (parts-cells ranges xs)
 
@@ -59,15 +59,15 @@ before g f xs turn = ap (λ k. sum_by g (map f (take k xs))) (same (length xs) t
     same n turn = omega arith
 
 module _ (nets : List NetInfo) (ranges : Ranges) where
-  pub concat-made : (xs : List Expression) (w : ℕ) (old new : List BitStep) (bits : List ℕ) → Adds nets (widened w (beside ranges xs)) old new bits → Adds nets (made ranges (Concat (parts xs)) w) old new bits
+  pub concat-made : (xs : List Expression) (w : ℕ) (old new : List BitStep) (bits : List ℕ) → Adds nets (widened w (beside ranges xs)) old new bits → Adds nets (made ranges (Concat (listed_parts xs)) w) old new bits
   concat-made xs w old new bits h =
-      subst (λ b. Adds nets (record { bits = b; cells = part_cells (of_parts (made_seen ranges) (makes ranges) (parts xs)) }) old new bits) (ap (extended (Const false) w) (sym (parts-bits ranges xs)))
+      subst (λ b. Adds nets (record { bits = b; cells = part_cells (of_parts (made_seen ranges) (makes ranges) (listed_parts xs)) }) old new bits) (ap (extended (Const false) w) (sym (parts-bits ranges xs)))
       (subst (λ c. Adds nets (record { bits = (widened w (beside ranges xs)).bits; cells = c }) old new bits) (sym (parts-cells ranges xs)) h)
 
   pub repeat-made : (k : ℕ) (xs : List Expression) (w : ℕ) (old new : List BitStep) (bits : List ℕ)
-      → Adds nets (widened w (record { bits = copies k (beside ranges xs).bits; cells = (beside ranges xs).cells })) old new bits → Adds nets (made ranges (Repeat k (parts xs)) w) old new bits
+      → Adds nets (widened w (record { bits = copies k (beside ranges xs).bits; cells = (beside ranges xs).cells })) old new bits → Adds nets (made ranges (Repeat k (listed_parts xs)) w) old new bits
   repeat-made k xs w old new bits h =
-      subst (λ b. Adds nets (record { bits = b; cells = part_cells (of_parts (made_seen ranges) (makes ranges) (parts xs)) }) old new bits) (ap (λ b. extended (Const false) w (copies k b)) (sym (parts-bits ranges xs)))
+      subst (λ b. Adds nets (record { bits = b; cells = part_cells (of_parts (made_seen ranges) (makes ranges) (listed_parts xs)) }) old new bits) (ap (λ b. extended (Const false) w (copies k b)) (sym (parts-bits ranges xs)))
       (subst (λ c. Adds nets (record { bits = extended (Const false) w (copies k (beside ranges xs).bits); cells = c }) old new bits) (sym (parts-cells ranges xs)) h)
 
   -- one part more

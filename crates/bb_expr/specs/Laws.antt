@@ -4,7 +4,7 @@ use Rattle.bb_ast.specs.Syntax.{Expression}
 use Rattle.bb_names.specs.Widths.{Ranges, own_width}
 use Rattle.bb_expr.specs.Cells.{made, cell_count}
 use Rattle.bb_expr.specs.Steady.{is_steady}
-use Rattle.bb_expr.specs.Terms.{bit_of}
+use Rattle.bb_expr.specs.Terms.{term_bit}
 use Rattle.bb_expr.specs.Values.{Bits, value}
 
 -- a value has as many bits as its context
@@ -13,7 +13,7 @@ ValuesHaveWidth = (ranges : Ranges) (env : Bits) (e : Expression) (w : ℕ) → 
 
 -- the bits that the cells make have the value
 abbrev pub MadeHasValue : Type 0
-MadeHasValue = (ranges : Ranges) (env : Bits) (e : Expression) (w : ℕ) → own_width ranges e ≤ w → map (bit_of env) (made ranges e w).bits ≡ value ranges env e w
+MadeHasValue = (ranges : Ranges) (env : Bits) (e : Expression) (w : ℕ) → own_width ranges e ≤ w → map (term_bit env) (made ranges e w).bits ≡ value ranges env e w
 
 -- there are as many cells as are counted
 abbrev pub CellsAreCounted : Type 0

@@ -10,7 +10,7 @@ use Rattle.bb_names.specs.Widths.{Ranges}
 use Rattle.bb_expr.specs.declared.step.BitStep.{BitStep}
 use Rattle.bb_expr.specs.declared.step.BitStep.TheVariants as steps
 use Rattle.bb_expr.specs.Values.{Bits, value}
-use Rattle.bb_expr.specs.Terms.{Term, Const, Net, Not, And, Or, Xor, Mux, bit_of}
+use Rattle.bb_expr.specs.Terms.{Term, Const, Net, Not, And, Or, Xor, Mux, term_bit}
 use Rattle.bb_expr.specs.Cells.{made}
 
 abbrev pub name_at : List NetInfo → ℕ → List ℕ
@@ -80,4 +80,4 @@ pub record IsLowered (nets : List NetInfo) (ranges : Ranges) (e : Expression) (w
 
 -- the bits have the value of the expression, whatever the bits of the nets are
 abbrev pub HasValue : List NetInfo → Ranges → Expression → ℕ → List BitStep → List ℕ → Type 0
-HasValue nets ranges e w all bits = (env : Bits) → map (λ k. bit_of env (term_at nets all k)) bits ≡ value ranges env e w
+HasValue nets ranges e w all bits = (env : Bits) → map (λ k. term_bit env (term_at nets all k)) bits ≡ value ranges env e w

@@ -12,11 +12,11 @@ pub data Term : Type 0 where
   Mux : Term → Term → Term → Term
 
 -- its bit, given those of the nets
-abbrev pub bit_of : Bits → Term → Bool
-bit_of env (Const b) = b
-bit_of env (Net n i) = env n i
-bit_of env (Not a) = not (bit_of env a)
-bit_of env (And a b) = bit_of env a && bit_of env b
-bit_of env (Or a b) = bit_of env a || bit_of env b
-bit_of env (Xor a b) = if bit_of env a then not (bit_of env b) else bit_of env b
-bit_of env (Mux c t e) = if bit_of env c then bit_of env t else bit_of env e
+abbrev pub term_bit : Bits → Term → Bool
+term_bit env (Const b) = b
+term_bit env (Net n i) = env n i
+term_bit env (Not a) = not (term_bit env a)
+term_bit env (And a b) = term_bit env a && term_bit env b
+term_bit env (Or a b) = term_bit env a || term_bit env b
+term_bit env (Xor a b) = if term_bit env a then not (term_bit env b) else term_bit env b
+term_bit env (Mux c t e) = if term_bit env c then term_bit env t else term_bit env e

@@ -1,7 +1,7 @@
 //! Laws of widths, values and cells, and of what stands in a checked module. Each function has a law as its contract.
 
 ghost use Rattle.bb_expr.specs.Laws.{ValuesHaveWidth, MadeHasValue, CellsAreCounted, WiderAddsZeros};
-ghost use Rattle.bb_expr.specs.FitLaws.{StandingIsFit, NamesAreNets, PartsStand, NetNamesDiffer, AssignableIsNets};
+ghost use Rattle.bb_expr.specs.FitLaws.{StandingIsFit, StandingIsFitIn, LoweringsExist, NamesAreNets, PartsStand, NetNamesDiffer, AssignableIsNets};
 
 /// A value has as many bits as its context.
 #[tactic(auto, using(crate::proofs::ValueLemmas::values_have_width))]
@@ -30,6 +30,16 @@ pub fn wider_adds_zeros()
 /// What stands in a checked module is fit, with all that stands in it.
 pub fn standing_is_fit()
     ensures { StandingIsFit }
+{}
+
+/// The same of a module of a well-formed text without faults.
+pub fn standing_is_fit_in()
+    ensures { StandingIsFitIn }
+{}
+
+/// What is fit has steps at each width that is at least its own.
+pub fn lowerings_exist()
+    ensures { LoweringsExist }
 {}
 
 /// The names in what stands in a checked module are names of nets, each with its place.

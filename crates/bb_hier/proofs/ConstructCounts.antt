@@ -22,7 +22,7 @@ use Rattle.bb_expr.specs.FitLaws.{AssignableIsNets}
 use Rattle.bb_expr.specs.Laws.{CellsAreCounted, MadeHasValue, ValuesHaveWidth}
 use Rattle.bb_expr.specs.Shares.{own_cells}
 use Rattle.bb_expr.specs.Standing.{conns_expressions}
-use Rattle.bb_expr.specs.Terms.{Term, bit_of}
+use Rattle.bb_expr.specs.Terms.{Term, term_bit}
 use Rattle.bb_expr.specs.Values.{Bits}
 use Rattle.bb_design.specs.Constructs.{Construct, Assignment, Register, SupplyNet, InputConnection, OutputConnection, initial_construct, gate_construct, connection, connections, body_constructs}
 use Rattle.bb_design.specs.Contexts.{width_of, made_in}
@@ -123,7 +123,7 @@ module _ (of_designs : DesignLaws) (counted : CellsAreCounted) (made_value : Mad
   assigned_made left right = at_width right (max left (width_of s right)) (omega arith)
 
   long_bits : (e : Expression) → length (made_in s e (width_of s e)).bits ≡ width_of s e
-  long_bits e = sym (length-map (made_in s e (width_of s e)).bits (bit_of none)) ∙ ap length (made_value (range_of s.source) none e (width_of s e) (omega arith)) ∙ long_value (range_of s.source) none e (width_of s e) (omega arith)
+  long_bits e = sym (length-map (made_in s e (width_of s e)).bits (term_bit none)) ∙ ap length (made_value (range_of s.source) none e (width_of s e) (omega arith)) ∙ long_value (range_of s.source) none e (width_of s e) (omega arith)
     where
       none : Bits
       none n k = false

@@ -13,7 +13,7 @@ use Rattle.bb_hier.specs.Depths.{is_tall}
 use Rattle.bb_design.specs.Hierarchy.{Instance, Path, Scope, instances_of, children, path_to, below, root, instances}
 use Rattle.bb_design.specs.Refusals.{Depth, IsTooLow, IsTold, IsAbsent, design_on}
 use Rattle.bb_design.specs.Texts.{path_text}
-use Rattle.bb_design.specs.Callees.{place_of, child, called}
+use Rattle.bb_design.specs.Callees.{callee_place, child, called}
 use Rattle.bb_lists.proofs.Places.{there_at, got, some_at, split, taken, list_here}
 use Rattle.bb_lists.proofs.Members.{all_from, from_flat, from_map, contains_there, contains_cases, none_in_nil}
 use Rattle.bb_lists.proofs.Orders.{less_or_past}
@@ -27,17 +27,17 @@ module _ (of_designs : DesignLaws) (text : List PlainModule) (sound : IsSound te
   low_is_tall zero s k at long y has low = refl
   low_is_tall (suc n) s k at long y has low =
       by (contains_cases s (below (suc n) text s) y has)
-      (λ i there c. low_is_tall n (child text s i) (place_of text i) ((of_designs.instances text sound s.source (there_at text k s.source at)).stands i there) (omega (arith, long, length-append s.path (i.name ∷ []))) y c low)
+      (λ i there c. low_is_tall n (child text s i) (callee_place text i) ((of_designs.instances text sound s.source (there_at text k s.source at)).stands i there) (omega (arith, long, length-append s.path (i.name ∷ []))) y c low)
     where
-      by : (s ≡ y) ⊎ Contains (below (suc n) text s) y → ((i : Instance) → Contains (instances_of s.source) i → Contains (child text s i ∷ below n text (child text s i)) y → is_tall (called text) n (place_of text i) ≡ true)
+      by : (s ≡ y) ⊎ Contains (below (suc n) text s) y → ((i : Instance) → Contains (instances_of s.source) i → Contains (child text s i ∷ below n text (child text s i)) y → is_tall (called text) n (callee_place text i) ≡ true)
           → is_tall (called text) (suc n) k ≡ true
       by (inl same) rest = absurd (omega (arith, long, low, ap (λ (z : Scope). length z.path) same))
       by (inr more) rest =
           let c = from_flat (λ c. c ∷ below n text c) (children text s) y more in
           let i = from_map (child text s) (instances_of s.source) c.0 (subst (λ l. Contains l c.0) ((of_designs.instances text sound s.source (there_at text k s.source at)).children s refl) c.1) in
-          ap (list_any (is_tall (called text) n)) ((of_designs.instances text sound s.source (there_at text k s.source at)).called k at) ∙ any-map (is_tall (called text) n) (place_of text) (instances_of s.source)
-          ∙ list_any_at (λ (j : Instance). is_tall (called text) n (place_of text j)) (instances_of s.source) i.1.0 i.0 i.1.1
-          (ap (λ (j : Instance). is_tall (called text) n (place_of text j)) i.1.2 ∙ rest i.0 i.1 (subst (λ (z : Scope). Contains (z ∷ below n text z) y) (sym i.2) c.2))
+          ap (list_any (is_tall (called text) n)) ((of_designs.instances text sound s.source (there_at text k s.source at)).called k at) ∙ any-map (is_tall (called text) n) (callee_place text) (instances_of s.source)
+          ∙ list_any_at (λ (j : Instance). is_tall (called text) n (callee_place text j)) (instances_of s.source) i.1.0 i.0 i.1.1
+          (ap (λ (j : Instance). is_tall (called text) n (callee_place text j)) i.1.2 ∙ rest i.0 i.1 (subst (λ (z : Scope). Contains (z ∷ below n text z) y) (sym i.2) c.2))
 
   -- the first instance that is tall enough leads on
   module _ (n : ℕ) (s : Scope) (k : ℕ) (at : slice_get text k ≡ Some s.source) (long : length s.path + suc n ≡ 64) (j : ℕ) (x : Instance) (chosen : slice_get (instances_of s.source) j ≡ Some x)
@@ -68,9 +68,9 @@ module _ (of_designs : DesignLaws) (text : List PlainModule) (sound : IsSound te
         let i = from_map (child text s) front c.0 c.1 in
         let t = taken (instances_of s.source) j i.0 i.1 in
         let g = got (instances_of s.source) t.0 i.0 i.0 t.2 in
-        let place : slice_index_or (slice_index_or (called text) k []) t.0 0 ≡ place_of text i.0 =
-        ap (λ l. slice_index_or l t.0 0) ((of_designs.instances text sound s.source (there_at text k s.source at)).called k at) ∙ get_or-map (place_of text) (instances_of s.source) t.0 i.0 0 g.0 ∙ ap (place_of text) g.1 in
-        let tall = low_is_tall n (child text s i.0) (place_of text i.0) ((of_designs.instances text sound s.source (there_at text k s.source at)).stands i.0 (there_at (instances_of s.source) t.0 i.0 t.2))
+        let place : slice_index_or (slice_index_or (called text) k []) t.0 0 ≡ callee_place text i.0 =
+        ap (λ l. slice_index_or l t.0 0) ((of_designs.instances text sound s.source (there_at text k s.source at)).called k at) ∙ get_or-map (callee_place text) (instances_of s.source) t.0 i.0 0 g.0 ∙ ap (callee_place text) g.1 in
+        let tall = low_is_tall n (child text s i.0) (callee_place text i.0) ((of_designs.instances text sound s.source (there_at text k s.source at)).stands i.0 (there_at (instances_of s.source) t.0 i.0 t.2))
         (omega (arith, long, length-append s.path (i.0.name ∷ []))) y (subst (λ (z : Scope). Contains (z ∷ below n text z) y) (sym i.2) c.2) low in
         true≢false (sym tall ∙ sym (ap (is_tall (called text) n) place) ∙ first t.0 t.1)
 
@@ -150,12 +150,12 @@ module _ (of_designs : DesignLaws) where
       let long : length s.path + suc n ≡ 64 = omega (arith, way.long, small) in
       let there = there_at text place s.source way.at in
       let list = (of_designs.instances text sound s.source there).called place way.at in
-      let lt : next < length (instances_of s.source) = omega (arith, within, ap length list, length-map (instances_of s.source) (place_of text)) in
+      let lt : next < length (instances_of s.source) = omega (arith, within, ap length list, length-map (instances_of s.source) (callee_place text)) in
       let x = some_at (instances_of s.source) next lt in
       let same : Some m ≡ Some s.source = sym here ∙ way.at in
       let is : m ≡ s.source = grind (arith, same) in
       let g = got (instances_of s.source) next x.0 x.0 x.1 in
-      let to : slice_index_or (slice_index_or (called text) place []) next 0 ≡ place_of text x.0 = ap (λ l. slice_index_or l next 0) list ∙ get_or-map (place_of text) (instances_of s.source) next x.0 0 g.0 ∙ ap (place_of text) g.1 in
+      let to : slice_index_or (slice_index_or (called text) place []) next 0 ≡ callee_place text x.0 = ap (λ l. slice_index_or l next 0) list ∙ get_or-map (callee_place text) (instances_of s.source) next x.0 0 g.0 ∙ ap (callee_place text) g.1 in
       record {
         head = way.head;
         from = way.from;

@@ -14,7 +14,7 @@ use Rattle.bb_design.specs.NetBits.{bits_of_net, scope_bits, net_order}
 use Rattle.bb_design.specs.Refusals.{design_on}
 use Rattle.bb_design.specs.Sizes.{bits_and_instances}
 use Rattle.bb_hier.specs.Weights.{net_width, bit_count, total_below}
-use Rattle.bb_design.specs.Callees.{place_of, child, called}
+use Rattle.bb_design.specs.Callees.{callee_place, child, called}
 use Rattle.bb_lists.proofs.Places.{there_at}
 use Rattle.bb_lists.proofs.Orders.{less_or_not}
 use Rattle.bb_hier.proofs.CellSums.{sum_flat}
@@ -60,11 +60,11 @@ module _ (of_designs : DesignLaws) (text : List PlainModule) (sound : IsSound te
       sum_flat (λ (c : Scope). weight c.source) (λ c. c ∷ below n text c) (children text s)
       ∙ ap (sum_by (λ c. sum_by (λ (c : Scope). weight c.source) (c ∷ below n text c))) ((of_designs.instances text sound s.source here).children s refl)
       ∙ sum_map (λ c. sum_by (λ (c : Scope). weight c.source) (c ∷ below n text c)) (child text s) is
-      ∙ sum_same (λ i. sum_by (λ (c : Scope). weight c.source) (child text s i ∷ below n text (child text s i))) (λ i. weight_at weight text (place_of text i) + total_below (called text) (weight_at weight text) n (place_of text i)) is
+      ∙ sum_same (λ i. sum_by (λ (c : Scope). weight c.source) (child text s i ∷ below n text (child text s i))) (λ i. weight_at weight text (callee_place text i) + total_below (called text) (weight_at weight text) n (callee_place text i)) is
       (λ i has. sum_by-cons (λ (c : Scope). weight c.source) (child text s i) (below n text (child text s i))
       ∙ ap (λ w. w + sum_by (λ (c : Scope). weight c.source) (below n text (child text s i))) (ap (weight_or weight) (sym ((of_designs.instances text sound s.source here).stands i has)))
-      ∙ ap (λ t. weight_at weight text (place_of text i) + t) (sum_below n (child text s i) (place_of text i) ((of_designs.instances text sound s.source here).stands i has)))
-      ∙ sym (sum_map (λ j. weight_at weight text j + total_below (called text) (weight_at weight text) n j) (place_of text) is)
+      ∙ ap (λ t. weight_at weight text (callee_place text i) + t) (sum_below n (child text s i) (callee_place text i) ((of_designs.instances text sound s.source here).stands i has)))
+      ∙ sym (sum_map (λ j. weight_at weight text j + total_below (called text) (weight_at weight text) n j) (callee_place text) is)
       ∙ ap (sum_by (λ j. weight_at weight text j + total_below (called text) (weight_at weight text) n j)) (sym ((of_designs.instances text sound s.source here).called k at))
 
 -- bits

@@ -16,7 +16,7 @@ use Rattle.bb_ast.specs.declared.expr.Expr as of
 use Rattle.bb_ast.specs.declared.expr.Expr.TheFolds.{fold_out-Expr}
 use Rattle.bb_ast.specs.declared.expr.Expr.TheVariants.{outs-Bit, outs-Concat}
 use Rattle.bb_ast.specs.FoldLaws.{sees_parts}
-use Rattle.bb_ast.specs.Syntax.{Expression, Bit as BitOf, Concat, parts, PlainModule}
+use Rattle.bb_ast.specs.Syntax.{Expression, Bit as BitOf, Concat, listed_parts, PlainModule}
 use Rattle.bb_ast.specs.Views.{layer, expression}
 use Rattle.bb_names.specs.declared.net.NetInfo.{NetInfo}
 use Rattle.bb_names.specs.Checked.{ModuleFacts, syntax, HasNets}
@@ -357,7 +357,7 @@ flat_same f (x ∷ xs) = ap (λ ys. f x ++ ys) (flat_same f xs)
 pub parts_written : (m : PlainModule) (e : Expr) (all : Vec Expr Global) → e ≡ of.Concat all → written_bits (any_scope m) (expression e) ≡ flat_map (written_bits (any_scope m)) (map expression all.items)
 parts_written m e all is = ap (written_bits (any_scope m)) view ∙ ap (flat_map (λ bits. bits)) (sees_parts (λ e a. a) (assigned (any_scope m)) (map expression all.items)) ∙ flat_same (written_bits (any_scope m)) (map expression all.items)
   where
-    view : expression e ≡ Concat (parts (map expression all.items))
+    view : expression e ≡ Concat (listed_parts (map expression all.items))
     view = rw (fold_out-Expr Expression layer e, is, outs-Concat all) refl
 
 -- loops

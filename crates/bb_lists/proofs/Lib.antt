@@ -17,3 +17,6 @@ pub mod Ranges
 pub mod Turns
 pub mod Walks
 pub mod Zips
+pub mod Vectors
+pub mod LeastBits
+pub mod Chosen

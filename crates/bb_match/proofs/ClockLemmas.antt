@@ -8,7 +8,7 @@ use Rattle.bb_bits.specs.Names.{same_name}
 use Rattle.bb_net.specs.declared.flat.Reg.{Reg}
 use Rattle.bb_net.specs.Flats.{FlatNet}
 use Rattle.bb_net.specs.CutPoints.{register_texts, clock_text}
-use Rattle.bb_match.specs.Places.{ArePlaces, place_of}
+use Rattle.bb_match.specs.Places.{ArePlaces, text_place}
 use Rattle.bb_match.specs.Refusals.{IsClockedApart, IsClockedAlike}
 use Rattle.bb_lists.proofs.Orders.{less_or_same}
 use Rattle.bb_match.proofs.Decisions.{decide_bool, decide_optional}
@@ -34,29 +34,29 @@ one_place regs j k q apart lj lk same = elim (less_or_same j k) [
 
 -- the register that stands at the place of a text
 place_there : (g : FlatNet) (entries : List (List ℕ × ℕ)) (q : Reg) → ArePlaces (register_texts g) entries → Contains g.regs q
-    → (place_of entries q.text < length g.regs) × ((get_or g.regs (place_of entries q.text) q).text ≡ q.text)
+    → (text_place entries q.text < length g.regs) × ((get_or g.regs (text_place entries q.text) q).text ≡ q.text)
 place_there g entries q places has =
     let texts = map (λ r. r.text) g.regs in
     let long : length texts ≡ length g.regs = length-map g.regs (λ r. r.text) in
     let in_texts : Contains texts q.text = (has.0, omega (arith, has.1, long), get_or-map (λ r. r.text) g.regs has.0 q q.text has.1 ∙ ap (λ r. r.text) has.2) in
     let got = place_right texts entries q.text places in_texts in
-    let within : place_of entries q.text < length g.regs = omega (arith, slice_get_within texts (place_of entries q.text) q.text got, long) in
-    (within, sym (get_or-map (λ r. r.text) g.regs (place_of entries q.text) q q.text within) ∙ get_or_from_slice_get texts (place_of entries q.text) q.text q.text got)
+    let within : text_place entries q.text < length g.regs = omega (arith, slice_get_within texts (text_place entries q.text) q.text got, long) in
+    (within, sym (get_or-map (λ r. r.text) g.regs (text_place entries q.text) q q.text within) ∙ get_or_from_slice_get texts (text_place entries q.text) q.text q.text got)
 
 -- no register stands there
-pub alike_past : (f g : FlatNet) (r : Reg) (entries : List (List ℕ × ℕ)) (regs : List Reg) (k : ℕ) → ArePlaces (register_texts g) entries → regs ≡ g.regs → k ≡ place_of entries r.text → length regs ≤ k → IsClockedAlike f g r
+pub alike_past : (f g : FlatNet) (r : Reg) (entries : List (List ℕ × ℕ)) (regs : List Reg) (k : ℕ) → ArePlaces (register_texts g) entries → regs ≡ g.regs → k ≡ text_place entries r.text → length regs ≤ k → IsClockedAlike f g r
 alike_past f g r entries regs k places all at past q has same =
     let there = place_there g entries q places has in
-    absurd (omega (arith, past, ap length all, at, subst (λ t. place_of entries t < length g.regs) same there.0))
+    absurd (omega (arith, past, ap length all, at, subst (λ t. text_place entries t < length g.regs) same there.0))
 
 -- one of another text stands there
-pub alike_other : (f g : FlatNet) (r p : Reg) (entries : List (List ℕ × ℕ)) (regs : List Reg) (k : ℕ) → ArePlaces (register_texts g) entries → regs ≡ g.regs → k ≡ place_of entries r.text → p ≡ get_or regs k p → same_name p.text r.text ≡ false
+pub alike_other : (f g : FlatNet) (r p : Reg) (entries : List (List ℕ × ℕ)) (regs : List Reg) (k : ℕ) → ArePlaces (register_texts g) entries → regs ≡ g.regs → k ≡ text_place entries r.text → p ≡ get_or regs k p → same_name p.text r.text ≡ false
     → IsClockedAlike f g r
 alike_other f g r p entries regs k places all place at off q has same =
     let there = place_there g entries q places has in
-    let within : place_of entries r.text < length g.regs = subst (λ t. place_of entries t < length g.regs) same there.0 in
-    let p_at : p ≡ get_or g.regs (place_of entries r.text) p = at ∙ ap₂ (λ l j. get_or l j p) all place in
-    let is : p.text ≡ r.text = ap (λ x. x.text) (p_at ∙ get_or_default g.regs (place_of entries r.text) p q within) ∙ ap (λ t. (get_or g.regs (place_of entries t) q).text) (sym same) ∙ there.1 ∙ same in
+    let within : text_place entries r.text < length g.regs = subst (λ t. text_place entries t < length g.regs) same there.0 in
+    let p_at : p ≡ get_or g.regs (text_place entries r.text) p = at ∙ ap₂ (λ l j. get_or l j p) all place in
+    let is : p.text ≡ r.text = ap (λ x. x.text) (p_at ∙ get_or_default g.regs (text_place entries r.text) p q within) ∙ ap (λ t. (get_or g.regs (text_place entries t) q).text) (sym same) ∙ there.1 ∙ same in
     absurd (true≢false (sym ((bytes_eq-Decides p.text r.text).1 is) ∙ off))
 
 -- the one of that text stands there

@@ -15,7 +15,7 @@ use Rattle.bb_net.specs.declared.flat.Reg.{Reg}
 use Rattle.bb_net.specs.Flats.{FlatNet, IsFlat}
 use Rattle.bb_net.specs.CutPoints.{CutInput, TopInput, State, CutOutput, TopOutput, NextState, register_texts, cut_inputs, cut_outputs}
 use Rattle.bb_match.specs.Refusals.{Box, SpecInput, SpecOutput, ImpInput, SpecRegister, ImpRegister, Fit, Pins as TooManyPins}
-use Rattle.bb_match.specs.Places.{ArePlaces, place_of}
+use Rattle.bb_match.specs.Places.{ArePlaces, text_place}
 use Rattle.bb_match.specs.Pairing.{Picks, IsPairOf, input_text, output_name}
 use Rattle.bb_match.proofs.PlaceLemmas.{place_fits}
 use Rattle.bb_match.proofs.PickLemmas.{placed, at_front, at_back, picks_both, picks_length, picks_within, one_length}
@@ -71,18 +71,18 @@ ins_fit f texts bound e flat h = omega (arith, ins_below f bound flat h, ap leng
 pub outs_fit : (f : FlatNet) (texts : List (List ℕ)) (bound : ℕ) → texts ≡ f.outs → IsFlat f → 2000000 < bound → length texts < bound
 outs_fit f texts bound e flat h = omega (arith, outs_below f bound flat h, ap length e)
 
-pub ins_places_fit : (f : FlatNet) (entries : List (List ℕ × ℕ)) (bound : ℕ) → ArePlaces f.ins entries → IsFlat f → 2000000 < bound → (n : List ℕ) → 0 + place_of entries n < bound
+pub ins_places_fit : (f : FlatNet) (entries : List (List ℕ × ℕ)) (bound : ℕ) → ArePlaces f.ins entries → IsFlat f → 2000000 < bound → (n : List ℕ) → 0 + text_place entries n < bound
 ins_places_fit f entries bound places flat h = place_fits f.ins entries 0 bound places (omega (arith, ins_below f bound flat h))
 
-pub outs_places_fit : (f : FlatNet) (entries : List (List ℕ × ℕ)) (bound : ℕ) → ArePlaces f.outs entries → IsFlat f → 2000000 < bound → (n : List ℕ) → 0 + place_of entries n < bound
+pub outs_places_fit : (f : FlatNet) (entries : List (List ℕ × ℕ)) (bound : ℕ) → ArePlaces f.outs entries → IsFlat f → 2000000 < bound → (n : List ℕ) → 0 + text_place entries n < bound
 outs_places_fit f entries bound places flat h = place_fits f.outs entries 0 bound places (omega (arith, outs_below f bound flat h))
 
-pub states_places_fit : (f : FlatNet) (texts : List (List ℕ)) (entries : List (List ℕ × ℕ)) (bound : ℕ) → texts ≡ f.ins → ArePlaces (register_texts f) entries → IsFlat f → 2000000 < bound → (n : List ℕ) → length texts + place_of entries n < bound
+pub states_places_fit : (f : FlatNet) (texts : List (List ℕ)) (entries : List (List ℕ × ℕ)) (bound : ℕ) → texts ≡ f.ins → ArePlaces (register_texts f) entries → IsFlat f → 2000000 < bound → (n : List ℕ) → length texts + text_place entries n < bound
 states_places_fit f texts entries bound e places flat h =
     let regs : length (register_texts f) ≡ length f.regs = length-map f.regs (λ r. r.text) in
     place_fits (register_texts f) entries (length texts) bound places (omega (arith, ins_below f bound flat h, regs, ap length e))
 
-pub next_places_fit : (f : FlatNet) (texts : List (List ℕ)) (entries : List (List ℕ × ℕ)) (bound : ℕ) → texts ≡ f.outs → ArePlaces (register_texts f) entries → IsFlat f → 2000000 < bound → (n : List ℕ) → length texts + place_of entries n < bound
+pub next_places_fit : (f : FlatNet) (texts : List (List ℕ)) (entries : List (List ℕ × ℕ)) (bound : ℕ) → texts ≡ f.outs → ArePlaces (register_texts f) entries → IsFlat f → 2000000 < bound → (n : List ℕ) → length texts + text_place entries n < bound
 next_places_fit f texts entries bound e places flat h =
     let regs : length (register_texts f) ≡ length f.regs = length-map f.regs (λ r. r.text) in
     place_fits (register_texts f) entries (length texts) bound places (omega (arith, outs_below f bound flat h, regs, ap length e))
@@ -90,40 +90,40 @@ next_places_fit f texts entries bound e places flat h =
 -- inputs of the implementation in the specification, and outputs of the specification in the implementation
 
 pub numbers_picked : (spec imp : FlatNet) (ins regs : List (List ℕ × ℕ)) → ArePlaces spec.ins ins → ArePlaces (register_texts spec) regs → Fit spec imp
-    → Picks (cut_inputs spec) (map (λ text. 0 + place_of ins text) imp.ins ++ map (λ text. length spec.ins + place_of regs text) (register_texts imp)) (cut_inputs imp)
+    → Picks (cut_inputs spec) (map (λ text. 0 + text_place ins text) imp.ins ++ map (λ text. length spec.ins + text_place regs text) (register_texts imp)) (cut_inputs imp)
 numbers_picked spec imp ins regs at_ins at_regs fit =
     let front : List CutInput = map TopInput spec.ins in
     let long : length front ≡ length spec.ins = length-map spec.ins TopInput in
-    picks_both (cut_inputs spec) (map (λ text. 0 + place_of ins text) imp.ins) (map (λ text. length spec.ins + place_of regs text) (register_texts imp)) (map TopInput imp.ins) (map State (register_texts imp))
+    picks_both (cut_inputs spec) (map (λ text. 0 + text_place ins text) imp.ins) (map (λ text. length spec.ins + text_place regs text) (register_texts imp)) (map TopInput imp.ins) (map State (register_texts imp))
     (placed TopInput (cut_inputs spec) 0 spec.ins ins imp.ins at_ins (at_front TopInput spec.ins (map State (register_texts spec))) (fit ImpInput))
     (placed State (cut_inputs spec) (length spec.ins) (register_texts spec) regs (register_texts imp) at_regs
     (λ k n e. subst (λ b. slice_get (cut_inputs spec) (b + k) ≡ Some (State n)) long (at_back State front (register_texts spec) k n e)) (fit ImpRegister))
 
 pub outputs_picked : (spec imp : FlatNet) (outs regs : List (List ℕ × ℕ)) → ArePlaces imp.outs outs → ArePlaces (register_texts imp) regs → Fit spec imp
-    → Picks (cut_outputs imp) (map (λ text. 0 + place_of outs text) spec.outs ++ map (λ text. length imp.outs + place_of regs text) (register_texts spec)) (cut_outputs spec)
+    → Picks (cut_outputs imp) (map (λ text. 0 + text_place outs text) spec.outs ++ map (λ text. length imp.outs + text_place regs text) (register_texts spec)) (cut_outputs spec)
 outputs_picked spec imp outs regs at_outs at_regs fit =
     let front : List CutOutput = map TopOutput imp.outs in
     let long : length front ≡ length imp.outs = length-map imp.outs TopOutput in
-    picks_both (cut_outputs imp) (map (λ text. 0 + place_of outs text) spec.outs) (map (λ text. length imp.outs + place_of regs text) (register_texts spec)) (map TopOutput spec.outs) (map NextState (register_texts spec))
+    picks_both (cut_outputs imp) (map (λ text. 0 + text_place outs text) spec.outs) (map (λ text. length imp.outs + text_place regs text) (register_texts spec)) (map TopOutput spec.outs) (map NextState (register_texts spec))
     (placed TopOutput (cut_outputs imp) 0 imp.outs outs spec.outs at_outs (at_front TopOutput imp.outs (map NextState (register_texts imp))) (fit SpecOutput))
     (placed NextState (cut_outputs imp) (length imp.outs) (register_texts imp) regs (register_texts spec) at_regs
     (λ k n e. subst (λ b. slice_get (cut_outputs imp) (b + k) ≡ Some (NextState n)) long (at_back NextState front (register_texts imp) k n e)) (fit SpecRegister))
 
 -- the places of texts in one list, and then of those in another behind it
 abbrev Behind : List (List ℕ × ℕ) → List (List ℕ × ℕ) → List (List ℕ) → List (List ℕ) → List (List ℕ) → List ℕ
-Behind first second base these those = map (λ text. 0 + place_of first text) these ++ map (λ text. length base + place_of second text) those
+Behind first second base these those = map (λ text. 0 + text_place first text) these ++ map (λ text. length base + text_place second text) those
 
 same_behind : (first second : List (List ℕ × ℕ)) (base base' these these' those those' : List (List ℕ)) → base ≡ base' → these ≡ these' → those ≡ those' → Behind first second base these those ≡ Behind first second base' these' those'
 same_behind first second base base' these these' those those' b t o =
     ap (λ l. Behind first second l these those) b ∙ ap (λ l. Behind first second base' l those) t ∙ ap (λ l. Behind first second base' these' l) o
 
 pub numbers_made : (spec imp : FlatNet) (ins regs : List (List ℕ × ℕ)) (spec_ins imp_ins reg_texts : List (List ℕ)) (numbers : List ℕ) → ArePlaces spec.ins ins → ArePlaces (register_texts spec) regs → Fit spec imp
-    → spec_ins ≡ spec.ins → imp_ins ≡ imp.ins → reg_texts ≡ register_texts imp → numbers ≡ map (λ text. 0 + place_of ins text) imp_ins ++ map (λ text. length spec_ins + place_of regs text) reg_texts → Picks (cut_inputs spec) numbers (cut_inputs imp)
+    → spec_ins ≡ spec.ins → imp_ins ≡ imp.ins → reg_texts ≡ register_texts imp → numbers ≡ map (λ text. 0 + text_place ins text) imp_ins ++ map (λ text. length spec_ins + text_place regs text) reg_texts → Picks (cut_inputs spec) numbers (cut_inputs imp)
 numbers_made spec imp ins regs spec_ins imp_ins reg_texts numbers at_ins at_regs fit s i r made =
     subst (λ l. Picks (cut_inputs spec) l (cut_inputs imp)) (sym (made ∙ same_behind ins regs spec_ins spec.ins imp_ins imp.ins reg_texts (register_texts imp) s i r)) (numbers_picked spec imp ins regs at_ins at_regs fit)
 
 pub picks_made : (spec imp : FlatNet) (outs regs : List (List ℕ × ℕ)) (spec_outs imp_outs reg_texts : List (List ℕ)) (picks : List ℕ) → ArePlaces imp.outs outs → ArePlaces (register_texts imp) regs → Fit spec imp
-    → spec_outs ≡ spec.outs → imp_outs ≡ imp.outs → reg_texts ≡ register_texts spec → picks ≡ map (λ text. 0 + place_of outs text) spec_outs ++ map (λ text. length imp_outs + place_of regs text) reg_texts → Picks (cut_outputs imp) picks (cut_outputs spec)
+    → spec_outs ≡ spec.outs → imp_outs ≡ imp.outs → reg_texts ≡ register_texts spec → picks ≡ map (λ text. 0 + text_place outs text) spec_outs ++ map (λ text. length imp_outs + text_place regs text) reg_texts → Picks (cut_outputs imp) picks (cut_outputs spec)
 picks_made spec imp outs regs spec_outs imp_outs reg_texts picks at_outs at_regs fit s i r made =
     subst (λ l. Picks (cut_outputs imp) l (cut_outputs spec)) (sym (made ∙ same_behind outs regs imp_outs imp.outs spec_outs spec.outs reg_texts (register_texts spec) i s r)) (outputs_picked spec imp outs regs at_outs at_regs fit)
 

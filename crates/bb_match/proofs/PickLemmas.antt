@@ -6,17 +6,17 @@ use Rattle.std.proofs.lemmas.List.Edits.{length-remove}
 use Rattle.std.proofs.lemmas.List.Elements.{All-head, All-tail}
 use Rattle.std.proofs.lemmas.Grind.{in_remove}
 use Rattle.std.proofs.lemmas.Option.{slice_get_within}
-use Rattle.bb_match.specs.Places.{ArePlaces, place_of}
+use Rattle.bb_match.specs.Places.{ArePlaces, text_place}
 use Rattle.bb_match.specs.Refusals.{AreAmong}
 use Rattle.bb_match.specs.Pairing.{Picks}
 use Rattle.bb_match.proofs.PlaceLemmas.{place_right}
 
 -- where each text stands in a list that has what another list has, from a place on
 pub placed : {A : Type 0} (f : List ℕ → A) (xs : List A) (base : ℕ) (others : List (List ℕ)) (entries : List (List ℕ × ℕ)) (texts : List (List ℕ)) → ArePlaces others entries
-    → ((k : ℕ) (n : List ℕ) → slice_get others k ≡ Some n → slice_get xs (base + k) ≡ Some (f n)) → AreAmong texts others → Picks xs (map (λ n. base + place_of entries n) texts) (map f texts)
+    → ((k : ℕ) (n : List ℕ) → slice_get others k ≡ Some n → slice_get xs (base + k) ≡ Some (f n)) → AreAmong texts others → Picks xs (map (λ n. base + text_place entries n) texts) (map f texts)
 placed f xs base others entries [] places moves among = refl
 placed f xs base others entries (n ∷ ns) places moves among =
-    ap₂ (λ x l. x ∷ l) (moves (place_of entries n) n (place_right others entries n places (All-head (Contains others) n ns among))) (placed f xs base others entries ns places moves (All-tail (Contains others) n ns among))
+    ap₂ (λ x l. x ∷ l) (moves (text_place entries n) n (place_right others entries n places (All-head (Contains others) n ns among))) (placed f xs base others entries ns places moves (All-tail (Contains others) n ns among))
 
 pub at_front : {A : Type 0} (f : List ℕ → A) (others : List (List ℕ)) (more : List A) (k : ℕ) (n : List ℕ) → slice_get others k ≡ Some n → slice_get (map f others ++ more) (0 + k) ≡ Some (f n)
 at_front f others more k n e = let on : 0 + k ≡ k = omega arith in ap (slice_get (map f others ++ more)) on ∙ walk others k e

@@ -6,7 +6,7 @@ use Rattle.std.proofs.lemmas.List.Elements.{All-contains, All-weaker}
 use Rattle.std.proofs.lemmas.Option.{same_Some, slice_get-get_or, slice_get_within, get_or_from_slice_get}
 use Rattle.std.proofs.lemmas.Slice.Eq.{bytes_eq-Decides}
 use Rattle.bb_bits.specs.Names.{same_name}
-use Rattle.bb_match.specs.Places.{ArePlaces, place_of}
+use Rattle.bb_match.specs.Places.{ArePlaces, text_place}
 use Rattle.bb_match.specs.Refusals.{IsMissing}
 use Rattle.bb_match.proofs.Loops.{all_more}
 use Rattle.bb_match.proofs.RefusalLaws.{none_is_not_some}
@@ -73,7 +73,7 @@ there_where_some others entries n places some = by (lookup (same_name n) entries
     by (Some k) e h = stands_at others n k (places.right n k e)
     by None e h = absurd (true≢false (sym h))
 
-pub place_right : (others : List (List ℕ)) (entries : List (List ℕ × ℕ)) (n : List ℕ) → ArePlaces others entries → Contains others n → slice_get others (place_of entries n) ≡ Some n
+pub place_right : (others : List (List ℕ)) (entries : List (List ℕ × ℕ)) (n : List ℕ) → ArePlaces others entries → Contains others n → slice_get others (text_place entries n) ≡ Some n
 place_right others entries n places has = by (lookup (same_name n) entries) refl (All-contains (λ text. IsSome (lookup (same_name text) entries)) others n places.whole has)
   where
     by : (o : Option ℕ) → lookup (same_name n) entries ≡ o → IsSome o → slice_get others (unwrap_or o 0) ≡ Some n
@@ -81,7 +81,7 @@ place_right others entries n places has = by (lookup (same_name n) entries) refl
     by None e h = absurd (true≢false (sym h))
 
 -- places are counted in as many bits as the length of the list
-pub place_fits : (others : List (List ℕ)) (entries : List (List ℕ × ℕ)) (base bound : ℕ) → ArePlaces others entries → base + length others < bound → (n : List ℕ) → base + place_of entries n < bound
+pub place_fits : (others : List (List ℕ)) (entries : List (List ℕ × ℕ)) (base bound : ℕ) → ArePlaces others entries → base + length others < bound → (n : List ℕ) → base + text_place entries n < bound
 place_fits others entries base bound places fits n = by (lookup (same_name n) entries) refl
   where
     by : (o : Option ℕ) → lookup (same_name n) entries ≡ o → base + unwrap_or o 0 < bound

@@ -1,7 +1,7 @@
 -- Laws of refusals, of pairs and of cut points.
 use Rattle.std.specs.Prelude.{◌≡◌, ◌≢◌, ◌⊎◌, ℕ, ◌<◌, All, AllPairs, Contains}
 use Rattle.bb_net.specs.CutPoints.{cut_inputs, cut_outputs}
-use Rattle.bb_net.specs.Pairs.{NetPair}
+use Rattle.bb_net.specs.Pairs.{NetPair, IsPair}
 use Rattle.bb_net.specs.Flats.{FlatNet, IsFlat}
 use Rattle.bb_match.specs.declared.fault.MatchFault.{MatchFault}
 use Rattle.bb_match.specs.Refusals.{Cause, Fit, IsFirstRefusal, rank}
@@ -32,6 +32,10 @@ PairsAreOne = (spec imp : FlatNet) (p q : NetPair) → IsFlat spec → IsFlat im
 -- two netlists that fit have a pair
 abbrev pub FittingHavePair : Type 0
 FittingHavePair = (spec imp : FlatNet) → IsFlat spec → IsFlat imp → Fit spec imp → (p : NetPair) × IsPairOf spec imp p
+
+-- which is what every pair keeps
+abbrev pub FittingHaveKeptPair : Type 0
+FittingHaveKeptPair = (spec imp : FlatNet) → IsFlat spec → IsFlat imp → Fit spec imp → (p : NetPair) × IsPair p × IsPairOf spec imp p
 
 -- nothing stands twice among the cut inputs of a flat netlist, nor among its cut outputs
 pub record HasCutsApart (f : FlatNet) : Type 0 where

@@ -13,8 +13,8 @@ pub record ArePlaces (texts : List (List ℕ)) (entries : List (List ℕ × ℕ)
   pub whole : All (λ text. IsSome (lookup (same_name text) entries)) texts
 
 -- the place of a text, and 0 where it has none
-abbrev pub place_of : List (List ℕ × ℕ) → List ℕ → ℕ
-place_of entries text = unwrap_or (lookup (same_name text) entries) 0
+abbrev pub text_place : List (List ℕ × ℕ) → List ℕ → ℕ
+text_place entries text = unwrap_or (lookup (same_name text) entries) 0
 
 -- the texts of the registers of a flat netlist, and the places of its texts
 pub record IsIndexOf (f : FlatNet) (reg_texts : List (List ℕ)) (in_places reg_places out_places : List (List ℕ × ℕ)) : Type 0 where

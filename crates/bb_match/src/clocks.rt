@@ -6,7 +6,7 @@ ghost use Rattle.bb_net.specs.CutPoints.{register_texts, clock_text};
 ghost use Rattle.bb_match.specs.Places.{ArePlaces};
 ghost use Rattle.bb_match.specs.Refusals.{HasNoClock, IsClockedApart, IsClockedAlike, AreClockedAlike};
 
-use crate::places::{Places, place_of};
+use crate::places::{Places, text_place};
 use bb_bits::Name;
 use bb_net::{Flat, Reg};
 
@@ -43,7 +43,7 @@ fn is_clocked_apart(spec: &Flat, imp: &Flat, places: &Places, r: &Reg) -> bool
     requires places { ArePlaces (register_texts imp.now) places.now.entries }
     ensures apart { MatchBool result (IsClockedApart spec.now imp.now r.now) (IsClockedAlike spec.now imp.now r.now) }
 {
-    match imp.regs().get(place_of(places, &r.text) as usize) {
+    match imp.regs().get(text_place(places, &r.text) as usize) {
         Some(q) => q.text == r.text && !are_alike(spec, r, imp, q),
         None => false,
     }

@@ -1,6 +1,8 @@
 //! Laws of refusals, of pairs and of cut points. Each function has a law as its contract and does nothing.
 
-ghost use Rattle.bb_match.specs.Laws.{CausesAreRanked, NotFitAndRefused, FirstRefusalsAreOne, FitOrRefused, PairsAreOne, FittingHavePair, FlatNetsHaveCutsApart, FittingNetsHaveTheirOutputs};
+ghost use Rattle.bb_match.specs.Laws.{CausesAreRanked, NotFitAndRefused, FirstRefusalsAreOne, FitOrRefused, PairsAreOne, FittingHavePair, FittingHaveKeptPair, FlatNetsHaveCutsApart, FittingNetsHaveTheirOutputs};
+
+use bb_net::rearranged_nets_exist;
 
 /// Causes are told by their ranks.
 pub fn causes_are_ranked()
@@ -27,10 +29,19 @@ pub fn pairs_are_one()
     ensures { PairsAreOne }
 {}
 
+/// Two netlists that fit have a pair, with all that pairs keep.
+pub fn fitting_have_kept_pair()
+    ensures { FittingHaveKeptPair }
+{
+    rearranged_nets_exist();
+}
+
 /// Two netlists that fit have a pair.
 pub fn fitting_have_pair()
     ensures { FittingHavePair }
-{}
+{
+    fitting_have_kept_pair();
+}
 
 /// Nothing stands twice among the cut inputs of a flat netlist, nor among its cut outputs.
 pub fn flat_nets_have_cuts_apart()

@@ -1,6 +1,6 @@
 //! The places of texts in a list.
 ghost use Rattle.std.specs.Prelude.{◌≡◌, ◌<◌, ◌+◌, ◌++◌, ◌^◌, ℕ, List, length, map, IfOk, OnOk, IfSome, IfNone};
-ghost use Rattle.bb_match.specs.Places.{ArePlaces, place_of};
+ghost use Rattle.bb_match.specs.Places.{ArePlaces, text_place};
 ghost use Rattle.bb_match.specs.Refusals.{IsFirstMissing, AreAmong};
 
 use bb_bits::{Name, NoMemory};
@@ -23,8 +23,8 @@ pub(crate) fn places_of(alloc: Global, texts: &[Name]) -> Result<Places, NoMemor
 }
 
 /// The place of a text, and 0 where it has none.
-pub(crate) fn place_of(places: &Places, text: &Name) -> u32
-    ensures place { result ≡ place_of places.now.entries text.now }
+pub(crate) fn text_place(places: &Places, text: &Name) -> u32
+    ensures place { result ≡ text_place places.now.entries text.now }
 {
     places.get(text).copied().unwrap_or(0)
 }
@@ -49,11 +49,11 @@ pub(crate) fn add_places(
     texts: &[Name],
     list: &mut Vec<u32>,
 ) -> Result<(), NoMemory>
-    requires small { (text : List ℕ) → base + place_of places.now.entries text < 2 ^ 32 }
-    ensures added { OnOk result (list.new.items ≡ list.old.items ++ map (λ text. base + place_of places.now.entries text) texts.now) }
+    requires small { (text : List ℕ) → base + text_place places.now.entries text < 2 ^ 32 }
+    ensures added { OnOk result (list.new.items ≡ list.old.items ++ map (λ text. base + text_place places.now.entries text) texts.now) }
 {
     for text in texts {
-        list.push(base + place_of(places, text))?;
+        list.push(base + text_place(places, text))?;
     }
     Ok(())
 }
@@ -67,9 +67,9 @@ pub(crate) fn places_behind(
     second: &Places,
     those: &[Name],
 ) -> Result<Vec<u32>, NoMemory>
-    requires first { (text : List ℕ) → 0 + place_of first.now.entries text < 2 ^ 32 }
-    requires second { (text : List ℕ) → base + place_of second.now.entries text < 2 ^ 32 }
-    ensures places { IfOk result (λ list. list.items ≡ map (λ text. 0 + place_of first.now.entries text) these.now ++ map (λ text. base + place_of second.now.entries text) those.now) }
+    requires first { (text : List ℕ) → 0 + text_place first.now.entries text < 2 ^ 32 }
+    requires second { (text : List ℕ) → base + text_place second.now.entries text < 2 ^ 32 }
+    ensures places { IfOk result (λ list. list.items ≡ map (λ text. 0 + text_place first.now.entries text) these.now ++ map (λ text. base + text_place second.now.entries text) those.now) }
 {
     let mut list = Vec::with_capacity(alloc, these.len().saturating_add(those.len()))?;
     add_places(first, 0, these, &mut list)?;

@@ -12,7 +12,7 @@ use Rattle.bb_ast.specs.declared.expr.Expr.TheOpen.{Expr-F}
 use Rattle.bb_ast.specs.declared.expr.Expr.TheFolds.{fold_out-Expr, map-Expr}
 use Rattle.bb_ast.specs.FoldLaws.{sees_operands, sees_arms, sees_parts}
 use Rattle.bb_ast.specs.Names.{naming, names_in}
-use Rattle.bb_ast.specs.Syntax.{Expression, Chain, Cond, Concat, Repeat, operands, arms, parts}
+use Rattle.bb_ast.specs.Syntax.{Expression, Chain, Cond, Concat, Repeat, operands, arms, listed_parts}
 use Rattle.bb_ast.specs.Views.{layer, expression}
 
 pub view-of : (e : Expr) (o : Expr-F Expr) → out-Expr e ≡ o → expression e ≡ layer (map-Expr Expr Expression expression o)
@@ -29,17 +29,17 @@ names-chain e rest = ap (λ z. names_in e ++ flat_map (λ x. x.1) z) (sees_opera
 pub names-cond : (all : List (Expression × Expression)) (last : Expression) → names_in (Cond (arms all) last) ≡ flat_map (λ x. names_in x.0 ++ names_in x.1) all ++ names_in last
 names-cond all last = ap (λ z. flat_map (λ x. x.0 ++ x.1) z ++ names_in last) (sees_arms (λ x a. a) naming all) ∙ ap (λ z. z ++ names_in last) (flat_map-map (λ x. x.0 ++ x.1) (λ x. (names_in x.0, names_in x.1)) all)
 
-pub names-concat : (all : List Expression) → names_in (Concat (parts all)) ≡ flat_map names_in all
+pub names-concat : (all : List Expression) → names_in (Concat (listed_parts all)) ≡ flat_map names_in all
 names-concat all = ap (flat_map (λ e. e)) (sees_parts (λ x a. a) naming all) ∙ flat_map-map (λ e. e) names_in all
 
-pub names-repeat : (k : ℕ) (all : List Expression) → names_in (Repeat k (parts all)) ≡ flat_map names_in all
+pub names-repeat : (k : ℕ) (all : List Expression) → names_in (Repeat k (listed_parts all)) ≡ flat_map names_in all
 names-repeat k all = ap (flat_map (λ e. e)) (sees_parts (λ x a. a) naming all) ∙ flat_map-map (λ e. e) names_in all
 
 all-map : {X Y : Type 0} (p : Y → Bool) (v : X → Y) (xs : List X) → list_all p (map v xs) ≡ list_all (λ x. p (v x)) xs
 all-map p v [] = refl
 all-map p v (x ∷ xs) = ap (λ b. p (v x) && b) (all-map p v xs)
 
-pub assignable-concat : (all : List Expression) → is_assignable (Concat (parts all)) ≡ list_all is_assignable all
+pub assignable-concat : (all : List Expression) → is_assignable (Concat (listed_parts all)) ≡ list_all is_assignable all
 assignable-concat all = ap (list_all (λ e. e)) (sees_parts (λ x a. a) assigning all) ∙ all-map (λ e. e) is_assignable all
 
 -- what stands in an expression by its form
@@ -53,10 +53,10 @@ spots-cond how all last =
     ap (λ z. flat_map (λ x. with_inside x.0 ++ with_inside x.1) z ++ spots_in how last) (sees_arms (λ x spots. (x, spots)) (inside how) all)
     ∙ ap (λ z. z ++ spots_in how last) (flat_map-map (λ x. with_inside x.0 ++ with_inside x.1) (λ x. ((x.0, inner_spots how x.0), (x.1, inner_spots how x.1))) all)
 
-pub spots-concat : (how : Use) (all : List Expression) → inner_spots how (Concat (parts all)) ≡ flat_map (spots_of_part how) all
+pub spots-concat : (how : Use) (all : List Expression) → inner_spots how (Concat (listed_parts all)) ≡ flat_map (spots_of_part how) all
 spots-concat how all = ap (flat_map part_spots) (sees_parts (λ x spots. (x, spots)) (inside how) all) ∙ flat_map-map part_spots (λ x. (x, inner_spots how x)) all
 
-pub spots-repeat : (how : Use) (k : ℕ) (all : List Expression) → inner_spots how (Repeat k (parts all)) ≡ flat_map (spots_of_part how) all
+pub spots-repeat : (how : Use) (k : ℕ) (all : List Expression) → inner_spots how (Repeat k (listed_parts all)) ≡ flat_map (spots_of_part how) all
 spots-repeat how k all = ap (flat_map part_spots) (sees_parts (λ x spots. (x, spots)) (inside how) all) ∙ flat_map-map part_spots (λ x. (x, inner_spots how x)) all
 
 -- the own width by the form
@@ -70,8 +70,8 @@ width-chain ranges e rest = ap (λ z. max (own_width ranges e) (greatest z)) (ap
 pub width-cond : (ranges : Ranges) (all : List (Expression × Expression)) (last : Expression) → own_width ranges (Cond (arms all) last) ≡ max (greatest (map (λ x. own_width ranges x.1) all)) (own_width ranges last)
 width-cond ranges all last = ap (λ z. max (greatest z) (own_width ranges last)) (ap (map (λ x. x.1)) (sees_arms (λ x a. a) (widths ranges) all) ∙ map-map (λ x. x.1) (λ x. (own_width ranges x.0, own_width ranges x.1)) all)
 
-pub width-concat : (ranges : Ranges) (all : List Expression) → own_width ranges (Concat (parts all)) ≡ sum (map (own_width ranges) all)
+pub width-concat : (ranges : Ranges) (all : List Expression) → own_width ranges (Concat (listed_parts all)) ≡ sum (map (own_width ranges) all)
 width-concat ranges all = ap sum (sees_parts (λ x a. a) (widths ranges) all)
 
-pub width-repeat : (ranges : Ranges) (k : ℕ) (all : List Expression) → own_width ranges (Repeat k (parts all)) ≡ k * sum (map (own_width ranges) all)
+pub width-repeat : (ranges : Ranges) (k : ℕ) (all : List Expression) → own_width ranges (Repeat k (listed_parts all)) ≡ k * sum (map (own_width ranges) all)
 width-repeat ranges k all = ap (λ z. k * sum z) (sees_parts (λ x a. a) (widths ranges) all)

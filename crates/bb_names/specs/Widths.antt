@@ -41,6 +41,8 @@ pub record Operand (A : Type 0) : Type 0 where
 abbrev pub alone : {A : Type 0} → Operand A → A
 alone x = x.at x.width
 
--- a definition by width: operands tell their own width
+-- A definition by width: a case answers a function of the width of its context, and sees of an operand its own width and what it
+-- gives at each width. So in `a & 3'd1` at width 8, a being a net of one bit, the case of a chain sees a with the width 1 and the
+-- number with the width 3, and takes both at 8; that of a conditional takes the condition by itself, at its own width.
 abbrev pub fold_at : {A : Type 0} → Ranges → Cases (Operand A) (ℕ → A) → Expression → ℕ → A
 fold_at ranges = fold_by (λ e a. record { width = own_width ranges e; at = a })

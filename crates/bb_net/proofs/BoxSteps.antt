@@ -16,7 +16,7 @@ use Rattle.bb_net.specs.Netlists.{Netlist, Pins, box_at, with_cell, with_box}
 use Rattle.bb_net.specs.Values.{bit_of}
 use Rattle.bb_net.specs.Loose.{LooseList, loose_at, operands, IsLoose}
 use Rattle.bb_net.specs.Orders.{IsKept, IsMoved}
-use Rattle.bb_net.specs.Placings.{IsPlaced, place_of, IsBuilt, boxes_of, IsLeastFirst, IsPlacingBy, IsComing}
+use Rattle.bb_net.specs.Placings.{IsPlaced, given_place, IsBuilt, boxes_of, IsLeastFirst, IsPlacingBy, IsComing}
 use Rattle.bb_net.proofs.PlaceLists.{length-le_from_apart}
 use Rattle.bb_net.proofs.PlacedCells.{placed_or_open, place_of-at}
 use Rattle.bb_net.proofs.Queues.{Contains-cons_cases, IsWaiting-drop}
@@ -95,7 +95,7 @@ IsPlacing-output l net to numbers numbered waiting fresh ready b number p old co
     IsPlacing-put l net to numbers numbered waiting fresh ready [] (drop p outs) (drop (p + 1) outs) k (cell.BoxOut number p) old pin.0 (coming.free p (omega arith) h)
     (subst IsKept (sym pin.1) tt)
     (λ a reads. old.begun.pins b a has (subst (λ c. Contains (operands l.boxes c) a) pin.1 reads))
-    (subst (λ c. IsMoved (place_of to) numbers c (cell.BoxOut number p)) (sym pin.1) (number, coming.there, coming.is, refl))
+    (subst (λ c. IsMoved (given_place to) numbers c (cell.BoxOut number p)) (sym pin.1) (number, coming.there, coming.is, refl))
     (λ c q e. let is : BoxOut b p ≡ BoxOut c q = sym pin.1 ∙ e in let same : b ≡ c = cc is in subst (Contains numbers) same has)
     (λ m in'. Contains-cons_cases k (drop (p + 1) outs) m (subst (λ xs. Contains xs m) (drop_more outs p 0 h) in'))
 
@@ -124,9 +124,9 @@ box_room l net to numbers numbered waiting ready b s free known least =
     omega (arith, few, length_push numbers b)
 
 -- the places of the input pins of a box that is ready are there
-pub ins_there : (l : LooseList) (net : Netlist) (to : List (Option ℕ)) (numbers : List ℕ) (ins : List ℕ) → IsBuilt l net to numbers → ((pin : ℕ) → Contains ins pin → IsPlaced to pin) → All (λ place. place < length net.cells) (map (place_of to) ins)
+pub ins_there : (l : LooseList) (net : Netlist) (to : List (Option ℕ)) (numbers : List ℕ) (ins : List ℕ) → IsBuilt l net to numbers → ((pin : ℕ) → Contains ins pin → IsPlaced to pin) → All (λ place. place < length net.cells) (map (given_place to) ins)
 ins_there l net to numbers ins built placed =
-    All-map (λ place. place < length net.cells) (place_of to) ins
+    All-map (λ place. place < length net.cells) (given_place to) ins
     (λ k d h. let p = placed (get_or ins k d) (Contains-get_or ins k d h) in subst (λ j. j < length net.cells) (sym (place_of-at to (get_or ins k d) p.0 p.1)) (built.there (get_or ins k d) p.0 p.1))
 
 pub IsComing-first : (l : LooseList) (net : Netlist) (to : List (Option ℕ)) (numbers : List ℕ) (numbered : List Bool) (waiting : List (List Waiter)) (ready : List (Reverse ℕ)) (b number : ℕ) (ins : List ℕ)

@@ -11,7 +11,7 @@ use Rattle.bb_net.specs.declared.loose.LooseCell.TheVariants.{Const, Input, Not,
 use Rattle.bb_net.specs.Netlists.{Netlist, Pins, cell_at, box_at, MayFollow, with_pin, with_cell, with_box}
 use Rattle.bb_net.specs.Loose.{LooseList, loose_at, operands, IsLoose}
 use Rattle.bb_net.specs.Orders.{IsKept, IsMoved}
-use Rattle.bb_net.specs.Placings.{IsAt, IsPlaced, IsOpen, IsOutput, place_of, IsBegun, IsBuilt}
+use Rattle.bb_net.specs.Placings.{IsAt, IsPlaced, IsOpen, IsOutput, given_place, IsBegun, IsBuilt}
 use Rattle.bb_net.proofs.PlacedCells.{place_of-at, at_old, at_new, at_cases, place_of-old, open_count-set, index_cases}
 
 first_of : (a : ℕ) (xs : List ℕ) → Contains (a ∷ xs) a
@@ -85,15 +85,15 @@ map_same f g (x ∷ xs) same =
 
 -- the input pins of the boxes with numbers stay where they are
 ins_stay : (l : LooseList) (to : List (Option ℕ)) (numbers : List ℕ) (k q : ℕ) → IsBegun l to numbers → IsOpen to k → (b : ℕ) → b < length numbers
-    → map (place_of to) (box_at l.boxes (slice_index numbers b)).ins ≡ map (place_of (set to k (Some q))) (box_at l.boxes (slice_index numbers b)).ins
-ins_stay l to numbers k q begun free b h = map_same (place_of to) (place_of (set to k (Some q))) (box_at l.boxes (slice_index numbers b)).ins (λ a has. place_of-old to k q a free (begun.pins (slice_index numbers b) a (Contains-get_or numbers b 0 h) has))
+    → map (given_place to) (box_at l.boxes (slice_index numbers b)).ins ≡ map (given_place (set to k (Some q))) (box_at l.boxes (slice_index numbers b)).ins
+ins_stay l to numbers k q begun free b h = map_same (given_place to) (given_place (set to k (Some q))) (box_at l.boxes (slice_index numbers b)).ins (λ a has. place_of-old to k q a free (begun.pins (slice_index numbers b) a (Contains-get_or numbers b 0 h) has))
 
-old_moved : (l : LooseList) (to : List (Option ℕ)) (numbers : List ℕ) (k q m place : ℕ) (d : Cell) → IsBegun l to numbers → IsOpen to k → IsAt to m place → IsMoved (place_of to) numbers (loose_at l m) d → IsMoved (place_of (set to k (Some q))) numbers (loose_at l m) d
+old_moved : (l : LooseList) (to : List (Option ℕ)) (numbers : List ℕ) (k q m place : ℕ) (d : Cell) → IsBegun l to numbers → IsOpen to k → IsAt to m place → IsMoved (given_place to) numbers (loose_at l m) d → IsMoved (given_place (set to k (Some q))) numbers (loose_at l m) d
 old_moved l to numbers k q m place d begun free at moved =
-    IsMoved-same (place_of to) (place_of (set to k (Some q))) numbers l.boxes (loose_at l m) d (λ a has. place_of-old to k q a free (begun.reads m place a at has)) moved
+    IsMoved-same (given_place to) (given_place (set to k (Some q))) numbers l.boxes (loose_at l m) d (λ a has. place_of-old to k q a free (begun.reads m place a at has)) moved
 
 pub IsBuilt-more : (l : LooseList) (net : Netlist) (to : List (Option ℕ)) (numbers : List ℕ) (k : ℕ) (c : Cell) → IsBegun l to numbers → IsBuilt l net to numbers → k < length to → IsOpen to k → IsKept (loose_at l k)
-    → ((a : ℕ) → Contains (operands l.boxes (loose_at l k)) a → IsPlaced to a) → IsMoved (place_of to) numbers (loose_at l k) c → IsBuilt l (with_cell net c) (set to k (Some (length net.cells))) numbers
+    → ((a : ℕ) → Contains (operands l.boxes (loose_at l k)) a → IsPlaced to a) → IsMoved (given_place to) numbers (loose_at l k) c → IsBuilt l (with_cell net c) (set to k (Some (length net.cells))) numbers
 IsBuilt-more l net to numbers k c begun old lt free keep reads is =
     let q : ℕ = length net.cells in
     let new : List (Option ℕ) = set to k (Some q) in
@@ -106,11 +106,11 @@ IsBuilt-more l net to numbers k c begun old lt free keep reads is =
       moved = λ m place at kept. elim (at_cases to k q m place lt at) [
         | inl e ↦
             let here : cell_at (net.cells ++ c ∷ []) place ≡ c = get_or_push net.cells c _ place (sym e.1) in
-            let mine : IsMoved (place_of new) numbers (loose_at l k) c = IsMoved-same (place_of to) (place_of new) numbers l.boxes (loose_at l k) c (λ a has. place_of-old to k q a free (reads a has)) is in
-            subst (IsMoved (place_of new) numbers (loose_at l m)) (sym here) (subst (λ j. IsMoved (place_of new) numbers (loose_at l j) c) (sym e.0) mine)
+            let mine : IsMoved (given_place new) numbers (loose_at l k) c = IsMoved-same (given_place to) (given_place new) numbers l.boxes (loose_at l k) c (λ a has. place_of-old to k q a free (reads a has)) is in
+            subst (IsMoved (given_place new) numbers (loose_at l m)) (sym here) (subst (λ j. IsMoved (given_place new) numbers (loose_at l j) c) (sym e.0) mine)
         | inr o ↦
             let here : cell_at (net.cells ++ c ∷ []) place ≡ cell_at net.cells place = get_or_append_left net.cells (c ∷ []) _ place (old.there m place o) in
-            subst (IsMoved (place_of new) numbers (loose_at l m)) (sym here) (old_moved l to numbers k q m place (cell_at net.cells place) begun free o (old.moved m place o kept))
+            subst (IsMoved (given_place new) numbers (loose_at l m)) (sym here) (old_moved l to numbers k q m place (cell_at net.cells place) begun free o (old.moved m place o kept))
       ];
       apart = λ m j place at other kept kept'. elim (at_cases to k q m place lt at) [
         | inl e ↦ elim (at_cases to k q j place lt other) [ inl f ↦ e.0 ∙ sym f.0 | inr o ↦ absurd (omega (arith, e.1, old.there j place o)) ]
@@ -148,39 +148,39 @@ IsBuilt-copy l net to numbers k p q begun old lt free copy stands =
       ins = λ b h. old.ins b h ∙ ins_stay l to numbers k q begun free b h;
     }
 
-pub IsBuilt-box : (l : LooseList) (net : Netlist) (to : List (Option ℕ)) (numbers : List ℕ) (b : ℕ) → IsBuilt l net to numbers → IsBuilt l (with_box net (map (place_of to) (box_at l.boxes b).ins)) to (numbers ++ b ∷ [])
+pub IsBuilt-box : (l : LooseList) (net : Netlist) (to : List (Option ℕ)) (numbers : List ℕ) (b : ℕ) → IsBuilt l net to numbers → IsBuilt l (with_box net (map (given_place to) (box_at l.boxes b).ins)) to (numbers ++ b ∷ [])
 IsBuilt-box l net to numbers b old =
     let n : ℕ = length numbers in
-    let q : Pins = record { ins = map (place_of to) (box_at l.boxes b).ins; outs = [] } in
+    let q : Pins = record { ins = map (given_place to) (box_at l.boxes b).ins; outs = [] } in
     let len : length (numbers ++ b ∷ []) ≡ n + 1 = length_push numbers b in
     record {
       inputs = old.inputs;
       outs = old.outs;
       room = old.room;
       there = old.there;
-      moved = λ m place at kept. IsMoved-numbers (place_of to) numbers b (loose_at l m) (cell_at net.cells place) (old.moved m place at kept);
+      moved = λ m place at kept. IsMoved-numbers (given_place to) numbers b (loose_at l m) (cell_at net.cells place) (old.moved m place at kept);
       apart = old.apart;
       all = old.all;
       box_count = omega (arith, len, length_push net.boxes q, old.box_count);
       ins = λ i h. elim (index_cases n i (omega (arith, h, len))) [
         | inl below ↦
             ap (λ (r : Pins). r.ins) (get_or_append_left net.boxes (q ∷ []) _ i (omega (arith, below, old.box_count))) ∙ old.ins i below
-            ∙ ap (λ j. map (place_of to) (box_at l.boxes j).ins) (sym (get_or_append_left numbers (b ∷ []) 0 i below))
+            ∙ ap (λ j. map (given_place to) (box_at l.boxes j).ins) (sym (get_or_append_left numbers (b ∷ []) 0 i below))
         | inr e ↦
             ap (λ (r : Pins). r.ins) (get_or_push net.boxes q _ i (old.box_count ∙ e))
-            ∙ ap (λ j. map (place_of to) (box_at l.boxes j).ins) (sym (get_or_push numbers b 0 i e))
+            ∙ ap (λ j. map (given_place to) (box_at l.boxes j).ins) (sym (get_or_push numbers b 0 i e))
       ];
     }
 
 -- the moved cell may follow
 pub follows : (l : LooseList) (net : Netlist) (to : List (Option ℕ)) (numbers : List ℕ) (c : LooseCell) (d : Cell) → IsBuilt l net to numbers → (IsOutput c → ⊥) → ((i : ℕ) → c ≡ Input i → i < l.inputs)
-    → ((a : ℕ) → Contains (operands [] c) a → IsPlaced to a) → IsMoved (place_of to) numbers c d → MayFollow net d
+    → ((a : ℕ) → Contains (operands [] c) a → IsPlaced to a) → IsMoved (given_place to) numbers c d → MayFollow net d
 follows l net to numbers c d built out ins reads m = by_case c out ins reads m
   where
-    under : (a : ℕ) → IsPlaced to a → place_of to a < length net.cells
+    under : (a : ℕ) → IsPlaced to a → given_place to a < length net.cells
     under a p = subst (λ j. j < length net.cells) (sym (place_of-at to a p.0 p.1)) (built.there a p.0 p.1)
 
-    by_case : (c : LooseCell) → (IsOutput c → ⊥) → ((i : ℕ) → c ≡ Input i → i < l.inputs) → ((a : ℕ) → Contains (operands [] c) a → IsPlaced to a) → IsMoved (place_of to) numbers c d → MayFollow net d
+    by_case : (c : LooseCell) → (IsOutput c → ⊥) → ((i : ℕ) → c ≡ Input i → i < l.inputs) → ((a : ℕ) → Contains (operands [] c) a → IsPlaced to a) → IsMoved (given_place to) numbers c d → MayFollow net d
     by_case (Const b) out ins reads m = subst (MayFollow net) (sym m) tt
     by_case (Input i) out ins reads m = subst (MayFollow net) (sym m) (subst (λ n. i < n) (sym built.inputs) (ins i refl))
     by_case (Not a) out ins reads m = subst (MayFollow net) (sym m) (under a (reads a (first_of a [])))

@@ -27,7 +27,7 @@ wrong_or_right : (value : Option Bool) (wanted : Bool) → ((bit : Bool) × (val
 wrong_or_right None wanted = inr tt
 wrong_or_right (Some bit) wanted = elim (bits_cases wanted bit) [ inl same ↦ inr same | inr other ↦ inl (bit, refl, other) ]
 
-known_cases : (spec imp : Netlist) (x : List Bool) (j : ℕ) → IsKnownWrong spec imp x j ⊎ MayBeRight spec imp x j
+pub known_cases : (spec imp : Netlist) (x : List Bool) (j : ℕ) → IsKnownWrong spec imp x j ⊎ MayBeRight spec imp x j
 known_cases spec imp x j = wrong_or_right (tern_of (tern imp x) (slice_index imp.outs j)) (wanted_bit spec x j)
 
 turned : {A B : Type 0} → A ⊎ B → B ⊎ A
@@ -110,12 +110,19 @@ one_or_not spec imp =
       | inr one ↦ inl (one.0, one.1, one.2.0, one.2.1, one.2.2)
     ]
 
+pub always_or_not : (spec imp : Netlist) (x : List Bool) (j : ℕ) → IsAlwaysWrong spec imp x j ⊎ ((z : List Bool) × AreBoxOutputs imp z × IsRight spec imp x (flat imp x z) j)
+always_or_not spec imp x j = turned (output_cases spec imp x j)
+
+-- some output is always wrong, or all are right together for some outputs of the boxes
+pub all_or_not : (spec imp : Netlist) (x : List Bool) → HasAlwaysWrong spec imp x ⊎ ((z : List Bool) × AreBoxOutputs imp z × AllRight spec imp x (flat imp x z))
+all_or_not spec imp x =
+    lists_or_one (λ z. SomeWrong spec imp x (flat imp x z)) (λ z. AllRight spec imp x (flat imp x z)) (output_pins imp.boxes) (λ z zs. turned (all_right_cases spec imp x (flat imp x z)))
+
 pub some_or_not : (spec imp : Netlist) → SomeAlwaysWrong spec imp ⊎ AllSometimesRight spec imp
 some_or_not spec imp = turned (lists_or_one
     (λ x. (z : List Bool) × AreBoxOutputs imp z × AllRight spec imp x (flat imp x z))
     (HasAlwaysWrong spec imp)
-    imp.inputs (λ x len. turned (lists_or_one (λ z. SomeWrong spec imp x (flat imp x z)) (λ z. AllRight spec imp x (flat imp x z)) (output_pins imp.boxes)
-    (λ z zs. turned (all_right_cases spec imp x (flat imp x z))))))
+    imp.inputs (λ x len. turned (all_or_not spec imp x)))
 
 -- the choices are won, or cannot be
 wins_or_not : (suit : List PinBits → Type 0) → ((chosen : List PinBits) → suit chosen ⊎ (suit chosen → ⊥)) → (boxes : List Pins) (chosen : List PinBits) → Wins suit boxes chosen ⊎ (Wins suit boxes chosen → ⊥)
@@ -133,7 +140,7 @@ wins_or_not suit each (box ∷ boxes) chosen =
       | inr lost ↦ inr (λ won. let answer = won lost.0 lost.1 in lost.2 answer.0 answer.1 answer.2)
     ]
 
-suit_or_not : (spec imp : Netlist) (chosen : List PinBits) → Suit spec imp chosen ⊎ (Suit spec imp chosen → ⊥)
+pub suit_or_not : (spec imp : Netlist) (chosen : List PinBits) → Suit spec imp chosen ⊎ (Suit spec imp chosen → ⊥)
 suit_or_not spec imp chosen =
     let z = all_outs chosen in
     let leads : List Bool → Type 0 = λ x. all_ins imp.boxes (flat imp x z) ≡ map (λ (bits : PinBits). bits.ins) chosen in

@@ -21,3 +21,5 @@ pub mod PlacingSteps
 pub mod LookedAt
 pub mod BoxSteps
 pub mod OrderedLists
+pub mod SomeParts
+pub mod SomeOrders

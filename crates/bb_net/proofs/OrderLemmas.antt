@@ -14,7 +14,7 @@ use Rattle.bb_net.specs.Orders.{IsKept, IsSource, IsMoved, IsOrderOf, renumbered
 use Rattle.bb_net.proofs.BuildLemmas.{reads_before}
 use Rattle.bb_net.proofs.ValueLaws.{value_exists_lem}
 
-copy_or_kept : (c : LooseCell) → ((p : ℕ) × (c ≡ Copy p)) ⊎ IsKept c
+pub copy_or_kept : (c : LooseCell) → ((p : ℕ) × (c ≡ Copy p)) ⊎ IsKept c
 copy_or_kept (Copy p) = inl (p, refl)
 copy_or_kept (Const b) = inr tt
 copy_or_kept (Input i) = inr tt

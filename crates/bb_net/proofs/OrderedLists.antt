@@ -16,7 +16,7 @@ use Rattle.bb_net.specs.Netlists.{Netlist, Pins, cell_at, box_at, first_cells, I
 use Rattle.bb_net.specs.Values.{bit_of}
 use Rattle.bb_net.specs.Loose.{LooseList, loose_at, operands, IsLoose, IsOnClosedWalk}
 use Rattle.bb_net.specs.Orders.{IsKept, IsMoved, IsOrderOf}
-use Rattle.bb_net.specs.Placings.{IsAt, IsPlaced, IsOpen, IsWaiter, waiters_at, place_of, open_count, EndsWithin, IsBegun, IsBuilt, IsLeastFirst, IsPlacingBy, AreAll}
+use Rattle.bb_net.specs.Placings.{IsAt, IsPlaced, IsOpen, IsWaiter, waiters_at, given_place, open_count, EndsWithin, IsBegun, IsBuilt, IsLeastFirst, IsPlacingBy, AreAll}
 use Rattle.bb_net.proofs.NetLemmas.{length-first_cells}
 use Rattle.bb_net.proofs.PlaceLists.{Contains-none, Reaches-push, walk_from_steps, box_number, le-length_from_all, length-le_from_apart}
 use Rattle.bb_net.proofs.PlacedCells.{placed_or_open, at_unique, at_open, at_within, place_of-at}
@@ -114,56 +114,61 @@ no_two numbers i j apart h g e = elim (cases_lt i j) [
 
 -- the output pins of a box, moved
 outs_moved : (l : LooseList) (net : Netlist) (to : List (Option ℕ)) (numbers : List ℕ) → IsLoose l → length to ≡ length l.cells → IsBuilt l net to numbers → IsNetlist net → AllPairs ◌≢◌ numbers → ((k : ℕ) → k < length l.cells → IsPlaced to k)
-    → (b : ℕ) → b < length numbers → (box_at net.boxes b).outs ≡ map (place_of to) (box_at l.boxes (slice_index numbers b)).outs
+    → (b : ℕ) → b < length numbers → (box_at net.boxes b).outs ≡ map (given_place to) (box_at l.boxes (slice_index numbers b)).outs
 outs_moved l net to numbers loose whole built kept apart all b h =
     let d : ℕ = slice_index numbers b in
     let old : List ℕ = (box_at l.boxes d).outs in
     let new : List ℕ = (box_at net.boxes b).outs in
-    let pin : (p : ℕ) → p < length old → IsPinAt net.boxes b p (place_of to (slice_index old p)) = λ p g. (
+    let pin : (p : ℕ) → p < length old → IsPinAt net.boxes b p (given_place to (slice_index old p)) = λ p g. (
     let k : ℕ = slice_index old p in
     let is = loose.driven d p k (g, refl) in
     let at = all k is.0 in
-    let m : IsMoved (place_of to) numbers (BoxOut d p) (cell_at net.cells at.0) = subst (λ c. IsMoved (place_of to) numbers c (cell_at net.cells at.0)) is.1 (built.moved k at.0 at.1 (subst IsKept (sym is.1) tt)) in
+    let m : IsMoved (given_place to) numbers (BoxOut d p) (cell_at net.cells at.0) = subst (λ c. IsMoved (given_place to) numbers c (cell_at net.cells at.0)) is.1 (built.moved k at.0 at.1 (subst IsKept (sym is.1) tt)) in
     let same : m.0 ≡ b = no_two numbers m.0 b apart m.1 h m.2 in
     let cell_is : cell_at net.cells at.0 ≡ cell.BoxOut b p = m.3 ∙ ap (λ j. cell.BoxOut j p) same in
     subst (IsPinAt net.boxes b p) (sym (place_of-at to k at.0 at.1)) (kept.listed at.0 b p (built.there k at.0 at.1) cell_is)) in
     let back : (p : ℕ) → p < length new → p < length old = λ p g. (
     let is = kept.driven b p (slice_index new p) (g, refl) in
     let source = built.all (slice_index new p) is.0 in
-    let m = subst (IsMoved (place_of to) numbers (loose_at l source.0)) is.1 (built.moved source.0 (slice_index new p) source.1 source.2) in
-    (loose.listed source.0 d p (subst (λ j. source.0 < j) whole (at_within to source.0 (slice_index new p) source.1)) (pin_moved (place_of to) numbers (loose_at l source.0) b p m)).0) in
-    let len : length new ≡ length (map (place_of to) old) = omega (arith, le_from_below (length old) (length new) (λ p g. (pin p g).0), le_from_below (length new) (length old) back, length-map old (place_of to)) in
-    ext_get_or 0 new (map (place_of to) old) len (λ p g. let low = back p g in (pin p low).1 ∙ sym (get_or-map (place_of to) old p 0 0 low))
+    let m = subst (IsMoved (given_place to) numbers (loose_at l source.0)) is.1 (built.moved source.0 (slice_index new p) source.1 source.2) in
+    (loose.listed source.0 d p (subst (λ j. source.0 < j) whole (at_within to source.0 (slice_index new p) source.1)) (pin_moved (given_place to) numbers (loose_at l source.0) b p m)).0) in
+    let len : length new ≡ length (map (given_place to) old) = omega (arith, le_from_below (length old) (length new) (λ p g. (pin p g).0), le_from_below (length new) (length old) back, length-map old (given_place to)) in
+    ext_get_or 0 new (map (given_place to) old) len (λ p g. let low = back p g in (pin p low).1 ∙ sym (get_or-map (given_place to) old p 0 0 low))
 
 pins_are : (q : Pins) (ins outs : List ℕ) → q.ins ≡ ins → q.outs ≡ outs → q ≡ record { ins = ins; outs = outs }
 pins_are q ins outs e f = rw (sym e, sym f) refl
 
-pub IsOrderOf-from : (l : LooseList) (net : Netlist) (to : List (Option ℕ)) (numbers : List ℕ) (numbered : List Bool) (waiting : List (List Waiter)) → IsPlacingBy l net to numbers numbered waiting [] [] [] [] → IsNetlist net
-    → ((k : ℕ) → k < length l.cells → IsPlaced to k) → IsOrderOf l (record net { outs = net.outs ++ map (place_of to) l.outs }) numbers
-IsOrderOf-from l net to numbers numbered waiting s kept all =
+-- where each cell has its place and each box its number, the cells are in order
+pub IsOrderOf-whole : (l : LooseList) (net : Netlist) (to : List (Option ℕ)) (numbers : List ℕ) → IsLoose l → IsBegun l to numbers → IsBuilt l net to numbers → IsNetlist net
+    → ((k : ℕ) → k < length l.cells → IsPlaced to k) → ((b : ℕ) → b < length l.boxes → Contains numbers b) → IsOrderOf l (record net { outs = net.outs ++ map (given_place to) l.outs }) numbers
+IsOrderOf-whole l net to numbers loose begun built kept all numbered =
     let n : ℕ = length l.cells in
-    let place : (k : ℕ) (h : k < n) → place_of to k ≡ (all k h).0 = λ k h. place_of-at to k (all k h).0 (all k h).1 in
-    let count : length numbers ≡ length l.boxes = omega (arith, length-le_from_apart numbers (length l.boxes) s.begun.apart s.begun.there, le-length_from_all numbers (length l.boxes) (all_numbered l net to numbers numbered waiting s all)) in
-    let there : (b : ℕ) → b < length l.boxes → slice_index numbers b < length l.boxes = λ b h. s.begun.there (slice_index numbers b) (Contains-get_or numbers b 0 (omega (arith, h, count))) in
+    let place : (k : ℕ) (h : k < n) → given_place to k ≡ (all k h).0 = λ k h. place_of-at to k (all k h).0 (all k h).1 in
+    let count : length numbers ≡ length l.boxes = omega (arith, length-le_from_apart numbers (length l.boxes) begun.apart begun.there, le-length_from_all numbers (length l.boxes) numbered) in
+    let there : (b : ℕ) → b < length l.boxes → slice_index numbers b < length l.boxes = λ b h. begun.there (slice_index numbers b) (Contains-get_or numbers b 0 (omega (arith, h, count))) in
     record {
-      to = place_of to;
-      inputs = s.built.inputs;
-      front = λ k h. place_of-at to k k (s.begun.front k h);
-      there = λ k h. subst (λ j. j < length net.cells) (sym (place k h)) (s.built.there k (all k h).0 (all k h).1);
-      moved = λ k h keep. subst (λ j. IsMoved (place_of to) numbers (loose_at l k) (cell_at net.cells j)) (sym (place k h)) (s.built.moved k (all k h).0 (all k h).1 keep);
-      apart = λ k m h g keep keep' e. s.built.apart k m (all k h).0 (all k h).1 (subst (IsAt to m) (sym (place m g) ∙ sym e ∙ place k h) (all m g).1) keep keep';
-      all = λ at h. (let source = s.built.all at h in (source.0, subst (λ j. source.0 < j) s.begun.whole (at_within to source.0 at source.1), source.2, place_of-at to source.0 at source.1));
-      copies = λ k p h is. place k h ∙ sym (place_of-at to p (all k h).0 (s.begun.copies k p (all k h).0 (all k h).1 is));
-      sources = λ k h. s.begun.sources k (all k h).0 (all k h).1;
-      outs = ap (λ xs. xs ++ map (place_of to) l.outs) s.built.outs;
-      box_count = s.built.box_count ∙ count;
+      to = given_place to;
+      inputs = built.inputs;
+      front = λ k h. place_of-at to k k (begun.front k h);
+      there = λ k h. subst (λ j. j < length net.cells) (sym (place k h)) (built.there k (all k h).0 (all k h).1);
+      moved = λ k h keep. subst (λ j. IsMoved (given_place to) numbers (loose_at l k) (cell_at net.cells j)) (sym (place k h)) (built.moved k (all k h).0 (all k h).1 keep);
+      apart = λ k m h g keep keep' e. built.apart k m (all k h).0 (all k h).1 (subst (IsAt to m) (sym (place m g) ∙ sym e ∙ place k h) (all m g).1) keep keep';
+      all = λ at h. (let source = built.all at h in (source.0, subst (λ j. source.0 < j) begun.whole (at_within to source.0 at source.1), source.2, place_of-at to source.0 at source.1));
+      copies = λ k p h is. place k h ∙ sym (place_of-at to p (all k h).0 (begun.copies k p (all k h).0 (all k h).1 is));
+      sources = λ k h. begun.sources k (all k h).0 (all k h).1;
+      outs = ap (λ xs. xs ++ map (given_place to) l.outs) built.outs;
+      box_count = built.box_count ∙ count;
       number_count = count;
-      numbers_apart = s.begun.apart;
-      boxes = λ b h. (there b h, pins_are (box_at net.boxes b) _ _ (s.built.ins b (omega (arith, h, count))) (outs_moved l net to numbers s.list s.begun.whole s.built kept s.begun.apart all b (omega (arith, h, count))));
-      ready = λ b h. s.begun.ready b (omega (arith, h, count));
-      first = λ b c h g new is. s.begun.first b c (omega (arith, h, count)) g new is
-          (s.begun.depth, λ pin has. let p = all pin (All-contains (λ j. j < n) _ pin (s.list.pins_there c) has) in s.begun.ends pin p.0 p.1);
+      numbers_apart = begun.apart;
+      boxes = λ b h. (there b h, pins_are (box_at net.boxes b) _ _ (built.ins b (omega (arith, h, count))) (outs_moved l net to numbers loose begun.whole built kept begun.apart all b (omega (arith, h, count))));
+      ready = λ b h. begun.ready b (omega (arith, h, count));
+      first = λ b c h g new is. begun.first b c (omega (arith, h, count)) g new is
+          (begun.depth, λ pin has. let p = all pin (All-contains (λ j. j < n) _ pin (loose.pins_there c) has) in begun.ends pin p.0 p.1);
     }
+
+pub IsOrderOf-from : (l : LooseList) (net : Netlist) (to : List (Option ℕ)) (numbers : List ℕ) (numbered : List Bool) (waiting : List (List Waiter)) → IsPlacingBy l net to numbers numbered waiting [] [] [] [] → IsNetlist net
+    → ((k : ℕ) → k < length l.cells → IsPlaced to k) → IsOrderOf l (record net { outs = net.outs ++ map (given_place to) l.outs }) numbers
+IsOrderOf-from l net to numbers numbered waiting s kept all = IsOrderOf-whole l net to numbers s.list s.begun s.built kept all (all_numbered l net to numbers numbered waiting s all)
 
 -- ---- how it begins
 
@@ -211,7 +216,7 @@ at_first n to first free k place at = elim (cases_lt k n) [
   | inr past ↦ at_open to k place at (free k past)
 ]
 
-IsBegun-first : (l : LooseList) (to : List (Option ℕ)) → IsLoose l → length to ≡ length l.cells → ((k : ℕ) → k < l.inputs + 2 → IsAt to k k) → ((k : ℕ) → l.inputs + 2 ≤ k → IsOpen to k) → IsBegun l to []
+pub IsBegun-first : (l : LooseList) (to : List (Option ℕ)) → IsLoose l → length to ≡ length l.cells → ((k : ℕ) → k < l.inputs + 2 → IsAt to k k) → ((k : ℕ) → l.inputs + 2 ≤ k → IsOpen to k) → IsBegun l to []
 IsBegun-first l to loose whole first free =
     let f : (k place : ℕ) → IsAt to k place → IsFirst (loose_at l k) (cell_at (first_cells l.inputs) k) = λ k place at. first_at l loose k (at_first (l.inputs + 2) to first free k place at).0 in
     record {
@@ -230,7 +235,7 @@ IsBegun-first l to loose whole first free =
       first = λ b c h. absurd (omega (arith, h));
     }
 
-IsBuilt-first : (l : LooseList) (to : List (Option ℕ)) → IsLoose l → ((k : ℕ) → k < l.inputs + 2 → IsAt to k k) → ((k : ℕ) → l.inputs + 2 ≤ k → IsOpen to k) → l.inputs + 2 + open_count to ≡ length l.cells
+pub IsBuilt-first : (l : LooseList) (to : List (Option ℕ)) → IsLoose l → ((k : ℕ) → k < l.inputs + 2 → IsAt to k k) → ((k : ℕ) → l.inputs + 2 ≤ k → IsOpen to k) → l.inputs + 2 + open_count to ≡ length l.cells
     → IsBuilt l (record { inputs = l.inputs; cells = first_cells l.inputs; boxes = []; outs = [] }) to []
 IsBuilt-first l to loose first free count =
     let n : ℕ = l.inputs + 2 in
@@ -240,7 +245,7 @@ IsBuilt-first l to loose first free count =
       outs = refl;
       room = omega (arith, len, count);
       there = λ k place at. (let a = at_first n to first free k place at in omega (arith, a.0, a.1, len));
-      moved = λ k place at keep. (let a = at_first n to first free k place at in subst (λ j. IsMoved (place_of to) [] (loose_at l k) (cell_at (first_cells l.inputs) j)) (sym a.1) (first_moved (place_of to) [] (loose_at l k) _ (first_at l loose k a.0)));
+      moved = λ k place at keep. (let a = at_first n to first free k place at in subst (λ j. IsMoved (given_place to) [] (loose_at l k) (cell_at (first_cells l.inputs) j)) (sym a.1) (first_moved (given_place to) [] (loose_at l k) _ (first_at l loose k a.0)));
       apart = λ k m place at other keep keep'. sym (at_first n to first free k place at).1 ∙ (at_first n to first free m place other).1;
       all = λ place h. (let low : place < n = omega (arith, h, len) in (place, first place low, first_kept (loose_at l place) _ (first_at l loose place low)));
       box_count = refl;

@@ -11,7 +11,7 @@ use Rattle.bb_net.specs.declared.loose.LooseCell.TheVariants.{Copy, BoxOut}
 use Rattle.bb_net.specs.Netlists.{box_at}
 use Rattle.bb_net.specs.Loose.{LooseList, loose_at, operands, Reaches}
 use Rattle.bb_net.specs.Orders.{IsSource, IsReady}
-use Rattle.bb_net.specs.Placings.{IsAt, IsPlaced, IsOpen, place_of, open_count, EndsWithin, InputsEnd, IsBegun}
+use Rattle.bb_net.specs.Placings.{IsAt, IsPlaced, IsOpen, given_place, open_count, EndsWithin, InputsEnd, IsBegun}
 
 option_cases : (o : Option ℕ) → ((p : ℕ) × (o ≡ Some p)) ⊎ (o ≡ None)
 option_cases (Some p) = inl (p, refl)
@@ -26,7 +26,7 @@ at_unique to k p q a b = same_Some p q (sym a ∙ b)
 pub at_open : {P : Type 0} (to : List (Option ℕ)) (k p : ℕ) → IsAt to k p → IsOpen to k → P
 at_open to k p a o = absurd (none-some p (sym o ∙ a))
 
-pub place_of-at : (to : List (Option ℕ)) (k p : ℕ) → IsAt to k p → place_of to k ≡ p
+pub place_of-at : (to : List (Option ℕ)) (k p : ℕ) → IsAt to k p → given_place to k ≡ p
 place_of-at to k p a = ap (λ o. unwrap_or o 0) a
 
 pub at_within : (to : List (Option ℕ)) (k p : ℕ) → IsAt to k p → k < length to
@@ -63,7 +63,7 @@ open_old to k q m lt o = elim (cases_eq m k) [
   | inr ne ↦ sym (get_or-set_other to k m (Some q) None ne) ∙ o
 ]
 
-pub place_of-old : (to : List (Option ℕ)) (k q m : ℕ) → IsOpen to k → IsPlaced to m → place_of to m ≡ place_of (set to k (Some q)) m
+pub place_of-old : (to : List (Option ℕ)) (k q m : ℕ) → IsOpen to k → IsPlaced to m → given_place to m ≡ given_place (set to k (Some q)) m
 place_of-old to k q m free p = place_of-at to m p.0 p.1 ∙ sym (place_of-at (set to k (Some q)) m p.0 (at_old to k q m p.0 free p.1))
 
 pub open_count-set : (to : List (Option ℕ)) (k q : ℕ) → k < length to → IsOpen to k → open_count (set to k (Some q)) + 1 ≡ open_count to

@@ -13,13 +13,13 @@ use Rattle.bb_net.specs.Netlists.{Netlist, box_at, with_cell, with_box}
 use Rattle.bb_net.specs.Values.{bit_of}
 use Rattle.bb_net.specs.Loose.{LooseList, loose_at, operands, Reaches}
 use Rattle.bb_net.specs.Orders.{IsKept, IsMoved, IsReady}
-use Rattle.bb_net.specs.Placings.{IsAt, IsPlaced, IsOpen, place_of, EndsWithin, InputsEnd, boxes_of, IsPlacingBy}
+use Rattle.bb_net.specs.Placings.{IsAt, IsPlaced, IsOpen, given_place, EndsWithin, InputsEnd, boxes_of, IsPlacingBy}
 use Rattle.bb_net.proofs.PlaceLists.{Contains-none, Contains-one, Reaches-push}
 use Rattle.bb_net.proofs.PlacedCells.{placed_or_open, at_open, at_new, placed_old, IsBegun-more, IsBegun-box}
 use Rattle.bb_net.proofs.BuiltCells.{IsBuilt-more, IsBuilt-copy, IsBuilt-box}
 use Rattle.bb_net.proofs.Queues.{IsWaiting-place, IsWaiting-number, Waiter-none}
 
-late_less : (to : List (Option ℕ)) (k q : ℕ) (late rest : List ℕ) → k < length to → IsOpen to k → ((m : ℕ) → Contains late m → (k ≡ m) ⊎ Contains rest m) → (m : ℕ) → IsPlaced to m ⊎ Contains late m → IsPlaced (set to k (Some q)) m ⊎ Contains rest m
+pub late_less : (to : List (Option ℕ)) (k q : ℕ) (late rest : List ℕ) → k < length to → IsOpen to k → ((m : ℕ) → Contains late m → (k ≡ m) ⊎ Contains rest m) → (m : ℕ) → IsPlaced to m ⊎ Contains late m → IsPlaced (set to k (Some q)) m ⊎ Contains rest m
 late_less to k q late rest lt free less m h = elim h [
   | inl p ↦ inl (placed_old to k q m free p)
   | inr is ↦ elim (less m is) [ inl e ↦ inl (q, subst (λ j. IsAt (set to k (Some q)) j q) e (at_new to k q lt)) | inr r ↦ inr r ]
@@ -28,7 +28,7 @@ late_less to k q late rest lt free less m h = elim h [
 -- a cell is put into the netlist
 pub IsPlacing-put : (l : LooseList) (net : Netlist) (to : List (Option ℕ)) (numbers : List ℕ) (numbered : List Bool) (waiting : List (List Waiter)) (fresh : List ℕ) (ready : List (Reverse ℕ)) (woken : List Waiter) (late rest : List ℕ) (k : ℕ) (c : Cell)
     → IsPlacingBy l net to numbers numbered waiting fresh ready woken late → k < length l.cells → IsOpen to k → IsKept (loose_at l k)
-    → ((a : ℕ) → Contains (operands l.boxes (loose_at l k)) a → IsPlaced to a) → IsMoved (place_of to) numbers (loose_at l k) c → ((b p : ℕ) → loose_at l k ≡ BoxOut b p → Contains numbers b)
+    → ((a : ℕ) → Contains (operands l.boxes (loose_at l k)) a → IsPlaced to a) → IsMoved (given_place to) numbers (loose_at l k) c → ((b p : ℕ) → loose_at l k ≡ BoxOut b p → Contains numbers b)
     → ((m : ℕ) → Contains late m → (k ≡ m) ⊎ Contains rest m)
     → IsPlacingBy l (with_cell net c) (set to k (Some (length net.cells))) numbers numbered waiting (fresh ++ k ∷ []) ready woken rest
 IsPlacing-put l net to numbers numbered waiting fresh ready woken late rest k c old lt free keep reads moved output less =
@@ -116,7 +116,7 @@ ready_known l net to numbers numbered waiting ready c s lt new is end = elim (s.
 -- the least of the boxes that are known to be ready gets its number
 pub IsPlacing-number : (l : LooseList) (net : Netlist) (to : List (Option ℕ)) (numbers : List ℕ) (numbered : List Bool) (waiting : List (List Waiter)) (ready : List (Reverse ℕ)) (b : ℕ)
     → IsPlacingBy l net to numbers numbered waiting [] ready [] [] → bit_of numbered b ≡ false → Contains (boxes_of ready) b → All (λ c. b ≤ c) (boxes_of ready)
-    → IsPlacingBy l (with_box net (map (place_of to) (box_at l.boxes b).ins)) to (numbers ++ b ∷ []) (set numbered b true) waiting [] ready [] (box_at l.boxes b).outs
+    → IsPlacingBy l (with_box net (map (given_place to) (box_at l.boxes b).ins)) to (numbers ++ b ∷ []) (set numbered b true) waiting [] ready [] (box_at l.boxes b).outs
 IsPlacing-number l net to numbers numbered waiting ready b s free known least =
     let lt : b < length l.boxes = s.queue.ready_there b known in
     let new : Contains numbers b → ⊥ = λ has. both_ways (bit_of numbered b) free ((s.told b lt).1 has) in

@@ -86,3 +86,7 @@ OrderKeepsValues = (l : LooseList) (net : Netlist) (numbers : List ℕ) → IsLo
 abbrev pub OrderHasNoWalk : Type 0
 OrderHasNoWalk = (l : LooseList) (net : Netlist) (numbers : List ℕ) → IsLoose l → IsNetlist net → IsOrderOf l net numbers
     → (k : ℕ) → IsOnClosedWalk l k → ⊥
+
+-- a list without a closed walk has an order
+abbrev pub OrderExists : Type 0
+OrderExists = (l : LooseList) → IsLoose l → ((k : ℕ) → IsOnClosedWalk l k → ⊥) → (net : Netlist) × (numbers : List ℕ) × IsNetlist net × IsOrderOf l net numbers

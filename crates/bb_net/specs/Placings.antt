@@ -30,8 +30,8 @@ abbrev pub IsOpen : List (Option ℕ) → ℕ → Type 0
 IsOpen to k = slice_index_or to k None ≡ None
 
 -- its place
-abbrev pub place_of : List (Option ℕ) → ℕ → ℕ
-place_of to k = unwrap_or (slice_index_or to k None) 0
+abbrev pub given_place : List (Option ℕ) → ℕ → ℕ
+given_place to k = unwrap_or (slice_index_or to k None) 0
 
 -- how many cells have no place yet
 abbrev pub open_count : List (Option ℕ) → ℕ
@@ -77,12 +77,12 @@ pub record IsBuilt (l : LooseList) (net : Netlist) (to : List (Option ℕ)) (num
   pub room : length net.cells + open_count to ≤ length l.cells
   pub there : (k place : ℕ) → IsAt to k place → place < length net.cells
   -- the cells but the copies stand there once each, moved, and no others do
-  pub moved : (k place : ℕ) → IsAt to k place → IsKept (loose_at l k) → IsMoved (place_of to) numbers (loose_at l k) (cell_at net.cells place)
+  pub moved : (k place : ℕ) → IsAt to k place → IsKept (loose_at l k) → IsMoved (given_place to) numbers (loose_at l k) (cell_at net.cells place)
   pub apart : (k m place : ℕ) → IsAt to k place → IsAt to m place → IsKept (loose_at l k) → IsKept (loose_at l m) → k ≡ m
   pub all : (place : ℕ) → place < length net.cells → (k : ℕ) × IsAt to k place × IsKept (loose_at l k)
   -- the boxes have their input pins, moved; their output pins are listed as their cells are added
   pub box_count : length net.boxes ≡ length numbers
-  pub ins : (b : ℕ) → b < length numbers → (box_at net.boxes b).ins ≡ map (place_of to) (box_at l.boxes (slice_index numbers b)).ins
+  pub ins : (b : ℕ) → b < length numbers → (box_at net.boxes b).ins ≡ map (given_place to) (box_at l.boxes (slice_index numbers b)).ins
 
 -- the boxes of a heap of boxes of which the least comes first
 abbrev pub boxes_of : List (Reverse ℕ) → List ℕ
@@ -157,7 +157,7 @@ pub record IsLookedAt (l : LooseList) (old new : Placing) (w : Waiter) : Type 0 
 
 -- what becomes of a cell: it is moved, it stands where the cell stands that it copies, or it comes with its box
 abbrev pub IsResolved : List (Option ℕ) → LooseCell → Moved → Type 0
-IsResolved to c (what.New d) = IsKept c × (IsOutput c → ⊥) × ((a : ℕ) → Contains (operands [] c) a → IsPlaced to a) × ((numbers : List ℕ) → IsMoved (place_of to) numbers c d)
+IsResolved to c (what.New d) = IsKept c × (IsOutput c → ⊥) × ((a : ℕ) → Contains (operands [] c) a → IsPlaced to a) × ((numbers : List ℕ) → IsMoved (given_place to) numbers c d)
 IsResolved to c (what.Same place) = (p : ℕ) × (c ≡ Copy p) × IsAt to p place
 IsResolved to c what.WithBox = IsOutput c
 

@@ -45,3 +45,8 @@ abbrev pub RearrangedKeepsValues : Type 0
 RearrangedKeepsValues = (numbers picks : List ℕ) (old new : Netlist) → IsNetlist old → IsNetlist new → IsRearranged numbers picks old new
     → (x : List Bool) (box : ℕ → ℕ → List Bool → Bool) (k : ℕ) → k < length old.cells
     → bit_of (value_of new x box) (new_place numbers k) ≡ bit_of (value_of old (map (bit_of x) numbers) box) k
+
+-- a netlist can be rearranged by numbers of its inputs, and its outputs picked
+abbrev pub RearrangedNetsExist : Type 0
+RearrangedNetsExist = (net : Netlist) (numbers picks : List ℕ) → IsNetlist net → length numbers ≡ net.inputs → All (λ n. n < net.inputs) numbers → All (λ j. j < length net.outs) picks
+    → (new : Netlist) × IsNetlist new × IsRearranged numbers picks net new

@@ -2,11 +2,12 @@
 //! function here has laws as its contract and does nothing.
 
 ghost use Rattle.std.specs.Prelude.{◌≡◌, ◌<◌, ◌≤◌, ◌^◌, ◌⊎◌, ℕ, Bool, List, length, All};
+ghost use Rattle.bb_net.specs.Values.{flat};
 ghost use Rattle.bb_bits.specs.Numbers.{number_of, bits_of};
 ghost use Rattle.bb_bits.specs.RowLaws.{RowsHaveShape, BitsAreChosen, RowsHaveTable};
 ghost use Rattle.bb_net.specs.Netlists.{Netlist, IsNetlist};
-ghost use Rattle.bb_net.specs.Agreement.{IsVector};
-ghost use Rattle.bb_net.specs.Conditions.{KnownWrongAmong, MayBeRightAmong, IsFirstHit, KnownWrongSomewhere, MayBeRightEverywhere, OneAlwaysWrong, EachSometimesRight, SomeAlwaysWrong, AllSometimesRight, SomeChoicesSuit, NoChoicesSuit, SomeTablesAgree, NoTablesAgree};
+ghost use Rattle.bb_net.specs.Agreement.{IsVector, AreBoxOutputs, IsRight, AllRight};
+ghost use Rattle.bb_net.specs.Conditions.{IsKnownWrong, MayBeRight, IsAlwaysWrong, HasAlwaysWrong, PinBits, Suit, KnownWrongAmong, MayBeRightAmong, IsFirstHit, KnownWrongSomewhere, MayBeRightEverywhere, OneAlwaysWrong, EachSometimesRight, SomeAlwaysWrong, AllSometimesRight, SomeChoicesSuit, NoChoicesSuit, SomeTablesAgree, NoTablesAgree};
 
 use bb_bits::{
     number_is_below, number_spelled, number_spelled_once, rows_are_chosen, rows_are_tables,
@@ -46,6 +47,14 @@ pub fn conditions_hold_or_not()
     ensures some { (spec imp : Netlist) → SomeAlwaysWrong spec imp ⊎ AllSometimesRight spec imp }
     ensures choices { (spec imp : Netlist) → NoChoicesSuit spec imp ⊎ SomeChoicesSuit spec imp }
     ensures tables { (spec imp : Netlist) → NoTablesAgree spec imp ⊎ SomeTablesAgree spec imp }
+{}
+
+/// At one vector each condition holds, or what stands beside it; and bits at the pins suit, or do not.
+pub fn vectors_hold_or_not()
+    ensures known { (spec imp : Netlist) (x : List Bool) (j : ℕ) → IsKnownWrong spec imp x j ⊎ MayBeRight spec imp x j }
+    ensures one { (spec imp : Netlist) (x : List Bool) (j : ℕ) → IsAlwaysWrong spec imp x j ⊎ ((z : List Bool) × AreBoxOutputs imp z × IsRight spec imp x (flat imp x z) j) }
+    ensures some { (spec imp : Netlist) (x : List Bool) → HasAlwaysWrong spec imp x ⊎ ((z : List Bool) × AreBoxOutputs imp z × AllRight spec imp x (flat imp x z)) }
+    ensures suit { (spec imp : Netlist) (chosen : List PinBits) → Suit spec imp chosen ⊎ (Suit spec imp chosen → ⊥) }
 {}
 
 // The laws of tables and of the numbers that bits spell.

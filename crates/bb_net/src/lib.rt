@@ -23,13 +23,15 @@ mod value;
 mod walks;
 
 pub use cell::Cell;
-pub use conditions::{choices_are_tables, conditions_hold_or_not, conditions_weaken, hit_or_none};
+pub use conditions::{
+    choices_are_tables, conditions_hold_or_not, conditions_weaken, hit_or_none, vectors_hold_or_not,
+};
 pub use flat::{Flat, FlatParts, Reg};
 pub use loose::{Loose, LooseCell};
 pub use net::{BoxPins, Net};
-pub use ordering::{NetFault, Ordered, order, order_has_no_walk, order_keeps_values};
+pub use ordering::{NetFault, Ordered, order, order_exists, order_has_no_walk, order_keeps_values};
 pub use pair::{BoxName, OutName, Pair};
-pub use rearranging::rearranged_keeps_values;
+pub use rearranging::{rearranged_keeps_values, rearranged_nets_exist};
 pub use tern::{known_is_value, known_without_boxes, tern_exists, tern_is_unique};
 pub use value::{value_exists, value_goes_by_boxes, value_is_unique};
 pub use walks::dependences;

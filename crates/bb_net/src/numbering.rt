@@ -4,7 +4,7 @@ ghost use Rattle.std.specs.Prelude.{◌≡◌, ◌+◌, ◌<◌, ◌≤◌, ◌�
 ghost use Rattle.std.specs.BinaryHeap.{heap_items};
 ghost use Rattle.bb_net.specs.Values.{bit_of};
 ghost use Rattle.bb_net.specs.Netlists.{box_at};
-ghost use Rattle.bb_net.specs.Placings.{IsOpen, place_of, boxes_of, IsLeastFirst, IsPlacing, IsComing};
+ghost use Rattle.bb_net.specs.Placings.{IsOpen, given_place, boxes_of, IsLeastFirst, IsPlacing, IsComing};
 
 use crate::advancing::settle;
 use crate::placing::{Placing, put};
@@ -41,7 +41,7 @@ pub(crate) fn moved_places(
     to: &[Option<u32>],
 ) -> Result<Vec<u32>, NoMemory>
     requires there { All (λ k. k < length to.now) places.now }
-    ensures ok { IfOk result (λ moved. moved.items ≡ map (place_of to.now) places.now) }
+    ensures ok { IfOk result (λ moved. moved.items ≡ map (given_place to.now) places.now) }
 {
     let mut moved = Vec::with_capacity(alloc, places.len())?;
     for k in places {

@@ -3,9 +3,9 @@
 ghost use Rattle.std.specs.Prelude.{◌≡◌, ◌<◌, ◌++◌, [], ℕ, All, length, map, IfOk, IfErr, IfSome, IfNone, OnOk};
 ghost use Rattle.std.specs.BinaryHeap.{heap_items};
 ghost use Rattle.bb_net.specs.Loose.{IsLoose};
-ghost use Rattle.bb_net.specs.Orders.{IsOrderOf, OrderKeepsValues, OrderHasNoWalk};
+ghost use Rattle.bb_net.specs.Orders.{IsOrderOf, OrderKeepsValues, OrderHasNoWalk, OrderExists};
 ghost use Rattle.bb_net.specs.NetFaults.{IsFaultOf};
-ghost use Rattle.bb_net.specs.Placings.{IsAt, IsOpen, IsPlaced, IsPlacing, place_of};
+ghost use Rattle.bb_net.specs.Placings.{IsAt, IsOpen, IsPlaced, IsPlacing, given_place};
 
 use crate::advancing::look_at_all;
 use crate::beginning::{begin, everyone};
@@ -74,7 +74,7 @@ fn add_outs(net: &mut Net, outs: &[u32], to: &[Option<u32>]) -> Result<(), NoMem
     requires there { All (λ k. k < length to.now) outs.now }
     requires placed { (k place : ℕ) → IsAt to.now k place → place < length net.old.cells }
     requires whole { (k : ℕ) → k < length to.now → IsPlaced to.now k }
-    ensures ok { OnOk result (net.new ≡ record net.old { outs = net.old.outs ++ map (place_of to.now) outs.now }) }
+    ensures ok { OnOk result (net.new ≡ record net.old { outs = net.old.outs ++ map (given_place to.now) outs.now }) }
 {
     for k in outs {
         net.add_out(to[*k as usize].unwrap_or(0))?;
@@ -131,4 +131,9 @@ pub fn order_keeps_values()
 /// A list that can be ordered has no closed walk of dependence.
 pub fn order_has_no_walk()
     ensures { OrderHasNoWalk }
+{}
+
+/// A list without a closed walk of dependence can be ordered.
+pub fn order_exists()
+    ensures { OrderExists }
 {}

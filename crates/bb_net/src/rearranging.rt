@@ -3,7 +3,7 @@
 ghost use Rattle.std.specs.Prelude.{◌≡◌, ◌+◌, ◌<◌, ◌≤◌, ◌^◌, ◌++◌, All, length, map, take, drop, slice_index, IfOk};
 ghost use Rattle.bb_net.specs.Netlists.{Netlist};
 ghost use Rattle.bb_net.specs.Orders.{moved_pins};
-ghost use Rattle.bb_net.specs.Rearrangements.{new_input, new_place, moved_cell, IsRearranged, RearrangedKeepsValues};
+ghost use Rattle.bb_net.specs.Rearrangements.{new_input, new_place, moved_cell, IsRearranged, RearrangedKeepsValues, RearrangedNetsExist};
 
 use crate::{BoxPins, Cell, Net};
 use bb_bits::NoMemory;
@@ -140,4 +140,9 @@ impl Net {
 /// In a rearranged netlist a cell has the value that it had.
 pub fn rearranged_keeps_values()
     ensures { RearrangedKeepsValues }
+{}
+
+/// A netlist can be rearranged by numbers of its inputs, and its outputs picked.
+pub fn rearranged_nets_exist()
+    ensures { RearrangedNetsExist }
 {}

@@ -5,7 +5,7 @@ use Rattle.std.proofs.lemmas.Bool.Decides.{nat_tests}
 use Rattle.bb_ast.specs.declared.expr.Op.{Op}
 use Rattle.bb_ast.specs.declared.module.Port.{Port}
 use Rattle.bb_ast.specs.declared.module.PortKind.{PortKind}
-use Rattle.bb_ast.specs.Syntax.{Expression, Net, Bit, Part, Concat, Repeat, operands, arms, parts, Order, Named, PlainBody, Ports, Nets, Regs, Supply, Assign, Gates, Calls, Always, PlainItem, PlainHead, PlainModule}
+use Rattle.bb_ast.specs.Syntax.{Expression, Net, Bit, Part, Concat, Repeat, operands, arms, listed_parts, Order, Named, PlainBody, Ports, Nets, Regs, Supply, Assign, Gates, Calls, Always, PlainItem, PlainHead, PlainModule}
 use Rattle.bb_ast.specs.Formed.{IsSmall, IsFormedExpression, AreFormedOperands, AreFormedArms, AreFormedParts, SomeEach, IsFormedRange, IsFormedPort, IsFormedPair, IsFormedAssignment, IsFormedGate, IsFormedConns, IsFormedCall, IsFormedBody, IsFormedHead, IsFormed, IsNetOrBit}
 use Rattle.bb_ast.specs.Assignable.{is_assignable}
 use Rattle.bb_bits.specs.Names.{IsPrintable}
@@ -72,15 +72,15 @@ name_forms ts name rest p h = by ts (Identifier name ∷ rest) p h
 
 -- expressions
 
-parts_formed : (xs : List Expression) → AllByRecursion IsFormedExpression xs → AreFormedParts (parts xs)
+parts_formed : (xs : List Expression) → AllByRecursion IsFormedExpression xs → AreFormedParts (listed_parts xs)
 parts_formed [] h = tt
 parts_formed (x ∷ xs) h = (h.0, parts_formed xs h.1)
 
-concat_formed : (xs : List Expression) → SomeEach IsFormedExpression xs → IsFormedExpression (Concat (parts xs))
+concat_formed : (xs : List Expression) → SomeEach IsFormedExpression xs → IsFormedExpression (Concat (listed_parts xs))
 concat_formed [] h = absurd (omega (arith, h.0))
 concat_formed (x ∷ xs) h = (h.1.0, parts_formed xs h.1.1)
 
-repeat_formed : (k : ℕ) (xs : List Expression) → IsSmall k → SomeEach IsFormedExpression xs → IsFormedExpression (Repeat k (parts xs))
+repeat_formed : (k : ℕ) (xs : List Expression) → IsSmall k → SomeEach IsFormedExpression xs → IsFormedExpression (Repeat k (listed_parts xs))
 repeat_formed k [] s h = absurd (omega (arith, h.0))
 repeat_formed k (x ∷ xs) s h = (s, h.1.0, parts_formed xs h.1.1)
 
@@ -185,7 +185,7 @@ lefts_formed : (xs : List Expression) → AllByRecursion IsFormedLeft xs → All
 lefts_formed [] h = tt
 lefts_formed (x ∷ xs) h = (h.0.0, lefts_formed xs h.1)
 
-lefts_assignable : (xs : List Expression) → AllByRecursion IsFormedLeft xs → is_assignable (Concat (parts xs)) ≡ true
+lefts_assignable : (xs : List Expression) → AllByRecursion IsFormedLeft xs → is_assignable (Concat (listed_parts xs)) ≡ true
 lefts_assignable [] h = refl
 lefts_assignable (x ∷ xs) h = rw h.0.1 (lefts_assignable xs h.1)
 

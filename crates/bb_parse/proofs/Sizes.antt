@@ -6,7 +6,7 @@ use Rattle.bb_ast.specs.declared.expr.Op.{Op}
 use Rattle.bb_ast.specs.declared.module.Port.{Port}
 use Rattle.bb_ast.specs.declared.module.PortKind.{PortKind}
 use Rattle.bb_ast.specs.declared.module.Range.{Range}
-use Rattle.bb_ast.specs.Syntax.{Expression, Net, Bit, Part, operands, arms, parts}
+use Rattle.bb_ast.specs.Syntax.{Expression, Net, Bit, Part, operands, arms, listed_parts}
 use Rattle.bb_ast.specs.Syntax.{PlainConns, Order, Named, PlainBody, Ports, Nets, Regs, Supply, Assign, Gates, Calls, Always, PlainItem, PlainHead, PlainModule}
 use Rattle.bb_lex.specs.declared.mark.Mark.TheVariants.{Query, Colon}
 use Rattle.bb_lex.specs.declared.token.Token.{Token}
@@ -67,7 +67,7 @@ optional_shortens is s ts (Some x) rest p = s ts x rest p
 
 -- expressions
 
-parts_sum : (xs : List Expression) → parts_size (parts xs) ≡ sum_by expression_size xs
+parts_sum : (xs : List Expression) → parts_size (listed_parts xs) ≡ sum_by expression_size xs
 parts_sum [] = omega arith
 parts_sum (x ∷ xs) = omega (arith, parts_sum xs, sum_by-cons expression_size x xs)
 

@@ -5,7 +5,7 @@
 use Rattle.std.specs.Prelude.{◌≡◌, ◌⊎◌, ℕ, zero, suc, List, [], ◌∷◌, Option, Some, None, Bool}
 use Rattle.bb_ast.specs.declared.expr.Op.{Op}
 use Rattle.bb_ast.specs.declared.expr.Op.TheVariants as ops
-use Rattle.bb_ast.specs.Syntax.{Expression, Net, Bit, Part, Sized, Plain, Not, Chain, Cond, Concat, Repeat, operands, arms, parts}
+use Rattle.bb_ast.specs.Syntax.{Expression, Net, Bit, Part, Sized, Plain, Not, Chain, Cond, Concat, Repeat, operands, arms, listed_parts}
 use Rattle.bb_lex.specs.declared.mark.Mark.{Mark}
 use Rattle.bb_lex.specs.declared.mark.Mark.TheVariants.{LeftRound, RightRound, LeftSquare, RightSquare, LeftBrace, RightBrace, Colon, Amp, Bar, Caret, Tilde, Query, TildeCaret, CaretTilde}
 use Rattle.bb_parse.specs.declared.level.Level.{Level}
@@ -25,10 +25,10 @@ pub data IsPrimary (inner : Rule Expression) (ts : List Symbol) (e : Expression)
   sized : (bits : List Bool) → ts ≡ SizedNumber bits ∷ rest → e ≡ Sized bits → IsPrimary inner ts e rest
   plain : (n : ℕ) → ts ≡ PlainNumber n ∷ rest → e ≡ Plain n → IsPrimary inner ts e rest
   round : (a : List Symbol) → ts ≡ Sign LeftRound ∷ a → inner a e (Sign RightRound ∷ rest) → IsPrimary inner ts e rest
-  concat : (all : List Expression) (a : List Symbol) → ts ≡ Sign LeftBrace ∷ a → IsList inner a all (Sign RightBrace ∷ rest) → e ≡ Concat (parts all)
+  concat : (all : List Expression) (a : List Symbol) → ts ≡ Sign LeftBrace ∷ a → IsList inner a all (Sign RightBrace ∷ rest) → e ≡ Concat (listed_parts all)
       → IsPrimary inner ts e rest
   repeat : (k : ℕ) (all : List Expression) (a : List Symbol) → ts ≡ Sign LeftBrace ∷ PlainNumber k ∷ Sign LeftBrace ∷ a
-      → IsList inner a all (Sign RightBrace ∷ Sign RightBrace ∷ rest) → e ≡ Repeat k (parts all) → IsPrimary inner ts e rest
+      → IsList inner a all (Sign RightBrace ∷ Sign RightBrace ∷ rest) → e ≡ Repeat k (listed_parts all) → IsPrimary inner ts e rest
 
 -- so many signs ~
 abbrev pub IsSigns : ℕ → List Symbol → List Symbol → Type 0
@@ -94,4 +94,4 @@ IsExpr (suc n) ts e rest = (xs : List (Expression × Expression)) × (last : Exp
 -- what may be assigned: a net, some bits of one, or such parts side by side
 abbrev pub IsLval : ℕ → Rule Expression
 IsLval zero ts e rest = ⊥
-IsLval (suc n) ts e rest = IsSelect ts e rest ⊎ ((all : List Expression) × (a : List Symbol) × (ts ≡ Sign LeftBrace ∷ a) × IsList (IsLval n) a all (Sign RightBrace ∷ rest) × (e ≡ Concat (parts all)))
+IsLval (suc n) ts e rest = IsSelect ts e rest ⊎ ((all : List Expression) × (a : List Symbol) × (ts ≡ Sign LeftBrace ∷ a) × IsList (IsLval n) a all (Sign RightBrace ∷ rest) × (e ≡ Concat (listed_parts all)))

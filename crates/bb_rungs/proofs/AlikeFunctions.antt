@@ -7,7 +7,7 @@ use Rattle.bb_bits.specs.Bits.{xor}
 use Rattle.bb_bits.specs.Truth.{Truth}
 use Rattle.bb_net.specs.Netlists.{Netlist}
 use Rattle.bb_net.specs.Values.{bit_of, flat, output_pins}
-use Rattle.bb_sym.specs.Functions.{variable_count, inputs_first, is_wrong, plain_functions, for_all_pins, wrong_for_all_pins, local_functions, some_wrong, first_some_wrong, output_functions}
+use Rattle.bb_sym.specs.Functions.{inputs_and_pins, inputs_first, is_wrong, plain_functions, for_all_pins, wrong_for_all_pins, local_functions, some_wrong, first_some_wrong, output_functions}
 use Rattle.bb_sym.specs.Plain.{Function, Reading, table, tables, variables, places, outputs, one_of, first_of, without_pins, cell_bit, is_wrong_at, plain_functions_at, block_functions}
 use Rattle.bb_rungs.proofs.AlikeBits.{ShareBits}
 use Rattle.bb_rungs.proofs.AlikeBoxes.{output_pins_alike}
@@ -73,7 +73,7 @@ module _ (r s : Reading) (read : AreReadAlike r s) where
 
 -- with the inputs first
 module _ (fix : FunctionsFixTables) (spec imp other_spec other_imp : Netlist) (share : ShareAll spec imp other_spec other_imp) where
-  count_alike : variable_count imp ≡ variable_count other_imp
+  count_alike : inputs_and_pins imp ≡ inputs_and_pins other_imp
   count_alike = ap₂ (λ (n m : ℕ). n + m) share.imp.inputs (output_pins_alike imp.boxes other_imp.boxes share.imp.boxes)
 
   first_alike : AreReadAlike (inputs_first imp) (inputs_first other_imp)
@@ -84,13 +84,13 @@ module _ (fix : FunctionsFixTables) (spec imp other_spec other_imp : Netlist) (s
       ap₂ (λ (n m : ℕ). block_functions ◌&&◌ n m t) share.imp.inputs (output_pins_alike imp.boxes other_imp.boxes share.imp.boxes)
       ∙ ap (λ (w : Truth). block_functions ◌&&◌ other_imp.inputs (output_pins other_imp.boxes) w) e
 
-  table_alike : (f g : Function) → ((x : List Bool) → f x ≡ g x) → table (variable_count imp) f ≡ table (variable_count other_imp) g
-  table_alike f g same = table_same fix (variable_count imp) (variable_count other_imp) count_alike f g same
+  table_alike : (f g : Function) → ((x : List Bool) → f x ≡ g x) → table (inputs_and_pins imp) f ≡ table (inputs_and_pins other_imp) g
+  table_alike f g same = table_same fix (inputs_and_pins imp) (inputs_and_pins other_imp) count_alike f g same
 
   plain_alike : AreAmong (plain_functions spec imp) (plain_functions other_spec other_imp)
-  plain_alike = plain_among (inputs_first imp) (inputs_first other_imp) first_alike spec imp other_spec other_imp share fix (variable_count imp) (variable_count other_imp) count_alike
+  plain_alike = plain_among (inputs_first imp) (inputs_first other_imp) first_alike spec imp other_spec other_imp share fix (inputs_and_pins imp) (inputs_and_pins other_imp) count_alike
 
-  wrong_table_alike : (j : ℕ) → j < length imp.outs → table (variable_count imp) (is_wrong spec imp j) ≡ table (variable_count other_imp) (is_wrong other_spec other_imp j)
+  wrong_table_alike : (j : ℕ) → j < length imp.outs → table (inputs_and_pins imp) (is_wrong spec imp j) ≡ table (inputs_and_pins other_imp) (is_wrong other_spec other_imp j)
   wrong_table_alike j l = table_alike (is_wrong spec imp j) (is_wrong other_spec other_imp j) (wrong_alike (inputs_first imp) (inputs_first other_imp) first_alike spec imp other_spec other_imp share j l)
 
   pub local_among : AreAmong (local_functions spec imp) (local_functions other_spec other_imp)
@@ -102,13 +102,13 @@ module _ (fix : FunctionsFixTables) (spec imp other_spec other_imp : Netlist) (s
       (λ j l. (j, omega (arith, l, share.imp.outputs), ap₂ (λ (t : Truth) (ts : List Truth). t ∷ ts) (wrong_table_alike j l) (pins_quantified_alike _ _ (wrong_table_alike j l)))))
 
   -- tables of as many variables
-  same_count : (fs : List Function) → tables (variable_count imp) fs ≡ tables (variable_count other_imp) fs
+  same_count : (fs : List Function) → tables (inputs_and_pins imp) fs ≡ tables (inputs_and_pins other_imp) fs
   same_count fs = ap (λ (n : ℕ). tables n fs) count_alike
 
   pub output_among : AreAmong (output_functions spec imp) (output_functions other_spec other_imp)
   output_among =
-      let n = variable_count imp in
-      let m = variable_count other_imp in
+      let n = inputs_and_pins imp in
+      let m = inputs_and_pins other_imp in
       let wrong = wrong_tables_among (inputs_first imp) (inputs_first other_imp) first_alike spec imp other_spec other_imp share fix n in
       let first = first_tables_among (inputs_first imp) (inputs_first other_imp) first_alike spec imp other_spec other_imp share fix n in
       let some = some_wrong_alike (inputs_first imp) (inputs_first other_imp) first_alike spec imp other_spec other_imp share in

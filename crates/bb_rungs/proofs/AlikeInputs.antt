@@ -9,7 +9,7 @@ use Rattle.bb_net.specs.Netlists.{Netlist}
 use Rattle.bb_net.specs.Pairs.{pin_count}
 use Rattle.bb_net.specs.Values.{bit_of}
 use Rattle.bb_sym.specs.Plain.{Function, table, tables, outputs, one_of, first_of, plain_functions_at, block_functions}
-use Rattle.bb_input.specs.InputFunctions.{variable_count, boxes_first, in_places, in_pins, is_missed, is_wrong, has_wrong, leads, refutes, refuted, boxes_functions, wrong_functions, missed_functions, quantified_functions, input_functions}
+use Rattle.bb_input.specs.InputFunctions.{pins_and_inputs, boxes_first, in_places, in_pins, is_missed, is_wrong_output, has_wrong, leads, refutes, refuted, boxes_functions, wrong_functions, missed_functions, quantified_functions, input_functions}
 use Rattle.bb_rungs.proofs.AlikeBoxes.{boxes_functions_alike, in_places_alike, pin_bits_alike, pin_count_alike}
 use Rattle.bb_rungs.proofs.AlikeFunctions.{AreReadAlike, ShareAll, cell_bit_alike, plain_among, wrong_tables_among, first_tables_among, some_wrong_alike}
 use Rattle.bb_rungs.proofs.AlikeTables.{FunctionsFixTables, AreAmong, among_same, among_append, among_tables, one_of_same, table_same}
@@ -18,7 +18,7 @@ module _ (fix : FunctionsFixTables) (spec imp other_spec other_imp : Netlist) (s
   pins_alike : pin_count imp.boxes ≡ pin_count other_imp.boxes
   pins_alike = pin_count_alike imp.boxes other_imp.boxes share.imp.boxes
 
-  count_alike : variable_count imp ≡ variable_count other_imp
+  count_alike : pins_and_inputs imp ≡ pins_and_inputs other_imp
   count_alike = ap₂ (λ (n m : ℕ). n + m) pins_alike share.imp.inputs
 
   read_alike : AreReadAlike (boxes_first imp) (boxes_first other_imp)
@@ -47,20 +47,20 @@ module _ (fix : FunctionsFixTables) (spec imp other_spec other_imp : Netlist) (s
   refutes_alike : (x : List Bool) → refutes spec imp x ≡ refutes other_spec other_imp x
   refutes_alike x = ap₂ (λ (b c : Bool). b && c) (wrong_somewhere_alike x) (leads_alike x)
 
-  table_alike : (f g : Function) → ((x : List Bool) → f x ≡ g x) → table (variable_count imp) f ≡ table (variable_count other_imp) g
-  table_alike f g same = table_same fix (variable_count imp) (variable_count other_imp) count_alike f g same
+  table_alike : (f g : Function) → ((x : List Bool) → f x ≡ g x) → table (pins_and_inputs imp) f ≡ table (pins_and_inputs other_imp) g
+  table_alike f g same = table_same fix (pins_and_inputs imp) (pins_and_inputs other_imp) count_alike f g same
 
   -- tables of as many variables
-  with_count : (fs gs : List Function) → AreAmong (tables (variable_count imp) fs) (tables (variable_count imp) gs) → AreAmong (tables (variable_count imp) fs) (tables (variable_count other_imp) gs)
-  with_count fs gs h = subst (λ n. AreAmong (tables (variable_count imp) fs) (tables n gs)) count_alike h
+  with_count : (fs gs : List Function) → AreAmong (tables (pins_and_inputs imp) fs) (tables (pins_and_inputs imp) gs) → AreAmong (tables (pins_and_inputs imp) fs) (tables (pins_and_inputs other_imp) gs)
+  with_count fs gs h = subst (λ n. AreAmong (tables (pins_and_inputs imp) fs) (tables n gs)) count_alike h
 
   wrong_among : AreAmong (wrong_functions spec imp) (wrong_functions other_spec other_imp)
   wrong_among =
       among_append _ _ _ _
-      (with_count (map (is_wrong spec imp) (outputs imp)) (map (is_wrong other_spec other_imp) (outputs other_imp))
-      (wrong_tables_among (boxes_first imp) (boxes_first other_imp) read_alike spec imp other_spec other_imp share fix (variable_count imp)))
-      (with_count (map (first_of (is_wrong spec imp)) (outputs imp)) (map (first_of (is_wrong other_spec other_imp)) (outputs other_imp))
-      (first_tables_among (boxes_first imp) (boxes_first other_imp) read_alike spec imp other_spec other_imp share fix (variable_count imp)))
+      (with_count (map (is_wrong_output spec imp) (outputs imp)) (map (is_wrong_output other_spec other_imp) (outputs other_imp))
+      (wrong_tables_among (boxes_first imp) (boxes_first other_imp) read_alike spec imp other_spec other_imp share fix (pins_and_inputs imp)))
+      (with_count (map (first_of (is_wrong_output spec imp)) (outputs imp)) (map (first_of (is_wrong_output other_spec other_imp)) (outputs other_imp))
+      (first_tables_among (boxes_first imp) (boxes_first other_imp) read_alike spec imp other_spec other_imp share fix (pins_and_inputs imp)))
 
   missed_among : AreAmong (missed_functions imp) (missed_functions other_imp)
   missed_among =
@@ -68,34 +68,34 @@ module _ (fix : FunctionsFixTables) (spec imp other_spec other_imp : Netlist) (s
       let m = length (in_places other_imp.boxes) in
       among_append _ _ _ _
       (with_count (map (is_missed imp) (in_pins imp)) (map (is_missed other_imp) (in_pins other_imp))
-      (among_tables fix (variable_count imp) (is_missed imp) (is_missed other_imp) n m (λ i l. (i, omega (arith, l, in_count_alike), missed_alike i l))))
+      (among_tables fix (pins_and_inputs imp) (is_missed imp) (is_missed other_imp) n m (λ i l. (i, omega (arith, l, in_count_alike), missed_alike i l))))
       (with_count (map (first_of (is_missed imp)) (in_pins imp)) (map (first_of (is_missed other_imp)) (in_pins other_imp))
-      (among_tables fix (variable_count imp) (first_of (is_missed imp)) (first_of (is_missed other_imp)) n m
+      (among_tables fix (pins_and_inputs imp) (first_of (is_missed imp)) (first_of (is_missed other_imp)) n m
       (λ i l. (i, omega (arith, l, in_count_alike), λ x. one_of_same (is_missed imp) (is_missed other_imp) (i + 1) x (λ j h. missed_alike j (omega (arith, h, l)) x)))))
 
-  refutes_table_alike : table (variable_count imp) (refutes spec imp) ≡ table (variable_count other_imp) (refutes other_spec other_imp)
+  refutes_table_alike : table (pins_and_inputs imp) (refutes spec imp) ≡ table (pins_and_inputs other_imp) (refutes other_spec other_imp)
   refutes_table_alike = table_alike (refutes spec imp) (refutes other_spec other_imp) refutes_alike
 
   refuted_alike : refuted spec imp ≡ refuted other_spec other_imp
   refuted_alike =
-      ap₂ (λ (n m : ℕ). quantified_block ◌||◌ n m (table (variable_count imp) (refutes spec imp))) pins_alike share.imp.inputs
+      ap₂ (λ (n m : ℕ). quantified_block ◌||◌ n m (table (pins_and_inputs imp) (refutes spec imp))) pins_alike share.imp.inputs
       ∙ ap (λ (t : Truth). quantified_block ◌||◌ (pin_count other_imp.boxes) other_imp.inputs t) refutes_table_alike
 
   quantified_alike : quantified_functions spec imp ≡ quantified_functions other_spec other_imp
   quantified_alike =
       ap₂ (λ (ts us : List Truth). ts ++ us)
-      (ap₂ (λ (n m : ℕ). block_functions ◌||◌ n m (table (variable_count imp) (refutes spec imp))) pins_alike share.imp.inputs
+      (ap₂ (λ (n m : ℕ). block_functions ◌||◌ n m (table (pins_and_inputs imp) (refutes spec imp))) pins_alike share.imp.inputs
       ∙ ap (λ (t : Truth). block_functions ◌||◌ (pin_count other_imp.boxes) other_imp.inputs t) refutes_table_alike)
       (boxes_functions_alike imp.boxes other_imp.boxes share.imp.boxes 0 (refuted spec imp) ∙ ap (λ (t : Truth). boxes_functions 0 other_imp.boxes t) refuted_alike)
 
-  both_alike : tables (variable_count imp) (leads imp ∷ refutes spec imp ∷ []) ≡ tables (variable_count other_imp) (leads other_imp ∷ refutes other_spec other_imp ∷ [])
+  both_alike : tables (pins_and_inputs imp) (leads imp ∷ refutes spec imp ∷ []) ≡ tables (pins_and_inputs other_imp) (leads other_imp ∷ refutes other_spec other_imp ∷ [])
   both_alike = ap₂ (λ (t u : Truth). t ∷ u ∷ []) (table_alike (leads imp) (leads other_imp) leads_alike) refutes_table_alike
 
   pub input_among : AreAmong (input_functions spec imp) (input_functions other_spec other_imp)
   input_among =
-      among_append (plain_functions_at (variable_count imp) (boxes_first imp) spec imp) (plain_functions_at (variable_count other_imp) (boxes_first other_imp) other_spec other_imp) _ _
-      (plain_among (boxes_first imp) (boxes_first other_imp) read_alike spec imp other_spec other_imp share fix (variable_count imp) (variable_count other_imp) count_alike)
+      among_append (plain_functions_at (pins_and_inputs imp) (boxes_first imp) spec imp) (plain_functions_at (pins_and_inputs other_imp) (boxes_first other_imp) other_spec other_imp) _ _
+      (plain_among (boxes_first imp) (boxes_first other_imp) read_alike spec imp other_spec other_imp share fix (pins_and_inputs imp) (pins_and_inputs other_imp) count_alike)
       (among_append (wrong_functions spec imp) (wrong_functions other_spec other_imp) _ _ wrong_among
       (among_append (missed_functions imp) (missed_functions other_imp) _ _ missed_among
-      (among_append (tables (variable_count imp) (leads imp ∷ refutes spec imp ∷ [])) (tables (variable_count other_imp) (leads other_imp ∷ refutes other_spec other_imp ∷ [])) _ _
+      (among_append (tables (pins_and_inputs imp) (leads imp ∷ refutes spec imp ∷ [])) (tables (pins_and_inputs other_imp) (leads other_imp ∷ refutes other_spec other_imp ∷ [])) _ _
       (among_same _ _ both_alike) (among_same (quantified_functions spec imp) (quantified_functions other_spec other_imp) quantified_alike))))

@@ -22,3 +22,4 @@ pub mod RepairLaw
 pub mod StayLaw
 pub mod TableTexts
 pub mod ToldLaw
+pub mod SomeClimbs

@@ -14,7 +14,7 @@ use Rattle.bb_net.specs.Values.{table_at, FitBoxes}
 use Rattle.bb_rungs.specs.Laws.{LinesFixTables, TextsFixTables}
 use Rattle.bb_rungs.specs.declared.verdict.Verdict.TheVariants as verdicts
 use Rattle.bb_rungs.specs.Reports.{rung_line, verdict_line}
-use Rattle.bb_rungs.specs.TableLines.{bit_text, pin_bits, table_line, pin_text, box_lines, table_lines}
+use Rattle.bb_rungs.specs.TableLines.{bit_text, pin_column, table_line, pin_text, box_lines, table_lines}
 
 abbrev first_byte : List ℕ → ℕ
 first_byte [] = 0
@@ -59,9 +59,9 @@ same_bits (x ∷ xs) (y ∷ ys) long same =
 -- the bits at the output pins fix the bits of a row after row
 module _ (box : BoxTexts) (t u : TableBits) (inputs : t.inputs ≡ u.inputs) where
   abbrev pin_line : TableBits → ℕ → List ℕ
-  pin_line v pin = table_line box.path (pin_text box pin) (pin_bits v pin)
+  pin_line v pin = table_line box.path (pin_text box pin) (pin_column v pin)
 
-  long_bits : (v w : TableBits) (pin : ℕ) → v.inputs ≡ w.inputs → length (pin_bits v pin) ≡ length (pin_bits w pin)
+  long_bits : (v w : TableBits) (pin : ℕ) → v.inputs ≡ w.inputs → length (pin_column v pin) ≡ length (pin_column w pin)
   long_bits v w pin e = length-map-range_with_len (λ row. table_bit v row pin) 0 (2 ^ v.inputs) ∙ ap (λ n. 2 ^ n) e ∙ sym (length-map-range_with_len (λ row. table_bit w row pin) 0 (2 ^ w.inputs))
 
   -- what stands before the bits, and the bits
@@ -69,12 +69,12 @@ module _ (box : BoxTexts) (t u : TableBits) (inputs : t.inputs ≡ u.inputs) whe
   front pin = codes "table " ++ box.path ++ codes " " ++ pin_text box pin ++ codes " "
 
   abbrev text : TableBits → ℕ → List ℕ
-  text v pin = flat_map bit_text (pin_bits v pin)
+  text v pin = flat_map bit_text (pin_column v pin)
 
   long_text : (pin : ℕ) → length (front pin ++ text t pin) ≡ length (front pin ++ text u pin)
   long_text pin =
       length-append (front pin) (text t pin)
-      ∙ ap (λ n. length (front pin) + n) (bytes (pin_bits t pin) ∙ long_bits t u pin inputs ∙ sym (bytes (pin_bits u pin)))
+      ∙ ap (λ n. length (front pin) + n) (bytes (pin_column t pin) ∙ long_bits t u pin inputs ∙ sym (bytes (pin_column u pin)))
       ∙ sym (length-append (front pin) (text u pin))
 
   long_line : (pin : ℕ) → length (pin_line t pin) ≡ length (pin_line u pin)
@@ -86,15 +86,15 @@ module _ (box : BoxTexts) (t u : TableBits) (inputs : t.inputs ≡ u.inputs) whe
   long_pins k (suc n) =
       length-append (pin_line t k) (flat_map (pin_line t) (range_with_len (k + 1) n)) ∙ omega (arith, long_line k, long_pins (k + 1) n, length-append (pin_line u k) (flat_map (pin_line u) (range_with_len (k + 1) n)))
 
-  same_line : (pin : ℕ) (b d : List ℕ) → pin_line t pin ++ b ≡ pin_line u pin ++ d → (pin_bits t pin ≡ pin_bits u pin) × (b ≡ d)
+  same_line : (pin : ℕ) (b d : List ℕ) → pin_line t pin ++ b ≡ pin_line u pin ++ d → (pin_column t pin ≡ pin_column u pin) × (b ≡ d)
   same_line pin b d same =
       let parts = same_fronts (pin_line t pin) b (pin_line u pin) d (long_line pin) same in
       let inner = same_fronts (front pin ++ text t pin) (codes "\n") (front pin ++ text u pin) (codes "\n") (long_text pin) parts.0 in
-      (same_bits (pin_bits t pin) (pin_bits u pin) (long_bits t u pin inputs) (append_cancel_left (front pin) (text t pin) (text u pin) inner.0), parts.1)
+      (same_bits (pin_column t pin) (pin_column u pin) (long_bits t u pin inputs) (append_cancel_left (front pin) (text t pin) (text u pin) inner.0), parts.1)
 
   -- lines from a pin on
   same_lines : (k n : ℕ) (b d : List ℕ) → flat_map (pin_line t) (range_with_len k n) ++ b ≡ flat_map (pin_line u) (range_with_len k n) ++ d
-      → ((pin : ℕ) → k ≤ pin → pin < k + n → pin_bits t pin ≡ pin_bits u pin) × (b ≡ d)
+      → ((pin : ℕ) → k ≤ pin → pin < k + n → pin_column t pin ≡ pin_column u pin) × (b ≡ d)
   same_lines k zero b d same = ((λ pin from within. absurd (omega (arith, from, within))), same)
   same_lines k (suc n) b d same =
       let tl = flat_map (pin_line t) (range_with_len (k + 1) n) in
@@ -103,13 +103,13 @@ module _ (box : BoxTexts) (t u : TableBits) (inputs : t.inputs ≡ u.inputs) whe
       let rest = same_lines (k + 1) n b d here.1 in (
         (λ pin from within. elim (cases_lt k pin) [
           | inl above ↦ rest.0 pin (omega (arith, above)) (omega (arith, within))
-          | inr not_above ↦ subst (λ q. pin_bits t q ≡ pin_bits u q) (omega (arith, from, not_above)) here.0
+          | inr not_above ↦ subst (λ q. pin_column t q ≡ pin_column u q) (omega (arith, from, not_above)) here.0
         ]),
         rest.1,
       )
 
 -- a bit of the rows is one at an output pin
-bit_at_pin : (t : TableBits) (pin row : ℕ) → row < 2 ^ t.inputs → get_or (pin_bits t pin) row false ≡ table_bit t row pin
+bit_at_pin : (t : TableBits) (pin row : ℕ) → row < 2 ^ t.inputs → get_or (pin_column t pin) row false ≡ table_bit t row pin
 bit_at_pin t pin row within = get_or-map-range_with_len (λ r. table_bit t r pin) 0 (2 ^ t.inputs) row row false within (omega arith)
 
 positive : (m n i : ℕ) → i < m * n → 0 < m
@@ -129,7 +129,7 @@ parts inputs outputs rows = record { inputs = inputs; outputs = outputs; rows = 
 
 -- tables with the same bits at each output pin
 same_table : (t u : TableBits) → t.inputs ≡ u.inputs → t.outputs ≡ u.outputs → HasAllBits t → HasAllBits u
-    → ((pin : ℕ) → pin < t.outputs → pin_bits t pin ≡ pin_bits u pin) → t ≡ u
+    → ((pin : ℕ) → pin < t.outputs → pin_column t pin ≡ pin_column u pin) → t ≡ u
 same_table t u inputs outputs t_whole u_whole pins = by_rows t u inputs outputs (ext_get_or false t.rows u.rows (t_whole ∙ ap (λ n. n * 2 ^ t.inputs) outputs ∙ ap (λ n. u.outputs * 2 ^ n) inputs ∙ sym u_whole) each)
   where
     by_rows : (t u : TableBits) → t.inputs ≡ u.inputs → t.outputs ≡ u.outputs → t.rows ≡ u.rows → t ≡ u
@@ -164,7 +164,7 @@ same_tables (x ∷ texts) (q ∷ boxes) (t ∷ tables) [] named count other alik
 same_tables (x ∷ texts) (q ∷ boxes) (t ∷ tables) (u ∷ others) named count other alike same =
     let here = alike 0 (omega arith) in
     let parts = same_lines x t u here.inputs 0 (length x.outs) (table_lines texts tables) (table_lines texts others) same in
-    let pins : (pin : ℕ) → pin < t.outputs → pin_bits t pin ≡ pin_bits u pin = λ pin within. parts.0 pin (omega arith) (omega (arith, within, here.pins, named.0.outs)) in
+    let pins : (pin : ℕ) → pin < t.outputs → pin_column t pin ≡ pin_column u pin = λ pin within. parts.0 pin (omega arith) (omega (arith, within, here.pins, named.0.outs)) in
     ap (λ v. v ∷ tables) (same_table t u here.inputs here.outputs here.whole here.other_whole pins)
     ∙ ap (λ vs. u ∷ vs) (same_tables texts boxes tables others named.1 (omega (arith, count)) (omega (arith, other)) (λ b within. alike (suc b) (omega (arith, within))) parts.1)
 

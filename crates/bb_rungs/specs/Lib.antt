@@ -4,4 +4,5 @@ pub mod LeftOpen
 pub mod Reports
 pub mod Rungs
 pub mod ShownVectors
+pub mod SomeClimbs
 pub mod TableLines

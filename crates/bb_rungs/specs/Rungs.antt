@@ -26,7 +26,7 @@ use Rattle.bb_input.specs.declared.InputAnswer.TheVariants as choices
 use Rattle.bb_sym.specs.declared.fault.RungFault.{RungFault}
 use Rattle.bb_sym.specs.declared.fault.RungFault.TheVariants as faults
 use Rattle.bb_sym.specs.declared.found.Found.{Found}
-use Rattle.bb_sym.specs.Finds.{IsLeastVector, IsFirstFound, IsSometimesRight}
+use Rattle.bb_sym.specs.Finds.{FindsOutput, FindsVector, IsSometimesRight}
 use Rattle.bb_sym.specs.Functions.{symbolic_functions, local_functions, output_functions}
 use Rattle.bb_rungs.specs.declared.line.Evidence.{Evidence}
 use Rattle.bb_rungs.specs.declared.line.Evidence.TheVariants.{Vector, NoChoices, Refutation}
@@ -68,16 +68,12 @@ pub record TellTables (p : NetPair) (tables : List TableBits) : Type 0 where
 
 abbrev pub EvidenceTells : NetPair → Evidence → Type 0
 EvidenceTells p (Vector found) = Tells p found
-EvidenceTells p NoChoices = Unit {0}
-EvidenceTells p (Refutation proof) = Unit {0}
+EvidenceTells p _ = Unit {0}
 
 abbrev pub SaidTells : NetPair → Said → Type 0
 SaidTells p (Error evidence) = EvidenceTells p evidence
-SaidTells p Nothing = Unit {0}
 SaidTells p (Repair tables) = TellTables p tables.items
-SaidTells p Nodes = Unit {0}
-SaidTells p Clauses = Unit {0}
-SaidTells p Wide = Unit {0}
+SaidTells p _ = Unit {0}
 
 -- functions have more beads than a check may hold
 abbrev pub AreTooMany : Options → List Truth → Type 0
@@ -99,11 +95,11 @@ pub data MayHit (p : NetPair) (o : Options) (said : Said) : Type 0 where
 
 -- the first output that is wrong so, and the least vector for it
 abbrev pub IsFirstOf : NetPair → (List Bool → ℕ → Type 0) → (List Bool → ℕ → Type 0) → Found → Type 0
-IsFirstOf p P N found = (j : ℕ) × (found.output ≡ Some j) × IsFirstFound p.imp P N found.input.items j
+IsFirstOf p P N = FindsOutput p.imp P N
 
 -- the least vector at which all outputs are never right together
 abbrev pub IsLeastOf : NetPair → Found → Type 0
-IsLeastOf p found = (found.output ≡ None) × IsLeastVector p.imp (HasAlwaysWrong p.spec p.imp) found.input.items
+IsLeastOf p = FindsVector p.imp (HasAlwaysWrong p.spec p.imp)
 
 -- what the check by choices of the boxes may say: with one box, or none, it finds tables, unless they have too many bits
 pub data MayChoose (p : NetPair) (o : Options) (said : Said) : Type 0 where
@@ -126,22 +122,14 @@ MaySay p o Expand said = MayExpand p o said
 
 abbrev pub says_error : Said → Bool
 says_error (Error evidence) = true
-says_error Nothing = false
-says_error (Repair tables) = false
-says_error Nodes = false
-says_error Clauses = false
-says_error Wide = false
+says_error _ = false
 
 abbrev pub is_error : Line → Bool
 is_error line = says_error line.said
 
 abbrev pub says_repair : Said → Bool
-says_repair (Error evidence) = false
-says_repair Nothing = false
 says_repair (Repair tables) = true
-says_repair Nodes = false
-says_repair Clauses = false
-says_repair Wide = false
+says_repair _ = false
 
 abbrev pub is_repair : Line → Bool
 is_repair line = says_repair line.said

@@ -9,8 +9,8 @@ abbrev pub bit_text : Bool → List ℕ
 bit_text b = if b then codes "1" else codes "0"
 
 -- what a table gives at an output pin, row by row
-abbrev pub pin_bits : TableBits → ℕ → List Bool
-pin_bits t pin = map (λ row. table_bit t row pin) (range_with_len 0 (2 ^ t.inputs))
+abbrev pub pin_column : TableBits → ℕ → List Bool
+pin_column t pin = map (λ row. table_bit t row pin) (range_with_len 0 (2 ^ t.inputs))
 
 abbrev pub table_line : List ℕ → List ℕ → List Bool → List ℕ
 table_line path pin bits = codes "table " ++ path ++ codes " " ++ pin ++ codes " " ++ flat_map bit_text bits ++ codes "\n"
@@ -21,7 +21,7 @@ pin_text box pin = slice_index_or box.outs pin []
 
 -- the lines of a box, one for each of its output pins
 abbrev pub box_lines : BoxTexts × TableBits → List ℕ
-box_lines b = flat_map (λ pin. table_line b.0.path (pin_text b.0 pin) (pin_bits b.1 pin)) (range_with_len 0 (length b.0.outs))
+box_lines b = flat_map (λ pin. table_line b.0.path (pin_text b.0 pin) (pin_column b.1 pin)) (range_with_len 0 (length b.0.outs))
 
 abbrev pub table_lines : List BoxTexts → List TableBits → List ℕ
 table_lines boxes tables = flat_map box_lines (zip boxes tables)

@@ -1,10 +1,13 @@
 //! Laws of what checks say. Each function has a law as its contract and does nothing.
 
 ghost use Rattle.bb_rungs.specs.Laws.{ErrorsExcludeTables, RepairsAgree, LinesFixTables, TextsFixTables, ClimbsAreTold, ClimbsLeaveOpen, LeftOpenIsTold, DecidersDecide, ErrorsStay, ClimbsSayAlike};
+ghost use Rattle.bb_rungs.specs.SomeClimbs.{ClimbsExist};
 ghost use Rattle.bb_rungs.specs.ShownVectors.{FoundVectorsAreMistakes, InputLinesFixVectors};
 
 use crate::alike_laws::alike_climbs_say_alike;
-use bb_net::{conditions_weaken, known_is_value};
+use bb_bits::truth;
+use bb_net::{conditions_weaken, hit_or_none, known_is_value};
+use bb_sym::laws::findings_exist;
 use bb_tern::laws::patterns_are_vectors;
 
 /// Where a check says that there is an error, no tables agree.
@@ -78,4 +81,16 @@ pub fn climbs_say_alike()
     ensures { ClimbsSayAlike }
 {
     alike_climbs_say_alike();
+}
+
+/// Each check that is asked for has something to say of a pair, and so a pair has lines of all of them.
+pub fn climbs_exist()
+    ensures { ClimbsExist }
+{
+    truth::sizes();
+    patterns_are_vectors();
+    hit_or_none();
+    findings_exist();
+    bb_input::answers_exist();
+    bb_expand::answers_exist();
 }

@@ -18,9 +18,9 @@ pub use alike_laws::{
 pub use bb_options::{Options, Rung};
 pub use climbing::climb;
 pub use laws::{
-    climbs_are_told, climbs_leave_open, climbs_say_alike, deciders_decide, errors_exclude_tables,
-    errors_stay, found_vectors_are_mistakes, input_lines_fix_vectors, left_open_is_told,
-    lines_fix_tables, repairs_agree, texts_fix_tables,
+    climbs_are_told, climbs_exist, climbs_leave_open, climbs_say_alike, deciders_decide,
+    errors_exclude_tables, errors_stay, found_vectors_are_mistakes, input_lines_fix_vectors,
+    left_open_is_told, lines_fix_tables, repairs_agree, texts_fix_tables,
 };
 pub use line::{Evidence, Line, Proof, Said};
 pub use reporting::report;

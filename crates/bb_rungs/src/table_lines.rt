@@ -5,7 +5,7 @@ ghost use Rattle.std.specs.List.{flat_map};
 ghost use Rattle.bb_bits.specs.Tables.{IsTable};
 ghost use Rattle.bb_net.specs.Values.{table_at};
 ghost use Rattle.bb_rungs.specs.Rungs.{texts_at};
-ghost use Rattle.bb_rungs.specs.TableLines.{bit_text, pin_bits, table_line, pin_text, box_lines, table_lines};
+ghost use Rattle.bb_rungs.specs.TableLines.{bit_text, pin_column, table_line, pin_text, box_lines, table_lines};
 
 use crate::bits::push_bit;
 use bb_bits::{Name, NoMemory, Table, tables_have_few_inputs};
@@ -14,7 +14,7 @@ use bb_net::BoxName;
 // Appends what a table gives at an output pin, row by row.
 fn push_rows(text: &mut Vec<u8>, table: &Table, pin: u32) -> Result<(), NoMemory>
     requires pin { pin < table.now.outputs }
-    ensures text { OnOk result (text.new.items ≡ text.old.items ++ flat_map bit_text (pin_bits table.now pin)) }
+    ensures text { OnOk result (text.new.items ≡ text.old.items ++ flat_map bit_text (pin_column table.now pin)) }
 {
     tables_have_few_inputs();
     let rows = 1u32 << table.inputs();
@@ -33,7 +33,7 @@ fn push_pin(
     pin: u32,
 ) -> Result<(), NoMemory>
     requires pin { pin < table.now.outputs }
-    ensures text { OnOk result (text.new.items ≡ text.old.items ++ table_line path.now name.now (pin_bits table.now pin)) }
+    ensures text { OnOk result (text.new.items ≡ text.old.items ++ table_line path.now name.now (pin_column table.now pin)) }
 {
     text.extend_from_slice(b"table ")?;
     text.extend_from_slice(path.bytes())?;

@@ -11,7 +11,7 @@ use Rattle.bb_net.specs.Ternary.{tern_of, tern}
 use Rattle.bb_net.specs.Conditions.{MayBeRight}
 use Rattle.bb_net.specs.Agreement.{IsOutput}
 use Rattle.bb_tern.specs.declared.lanes.Known.{Known}
-use Rattle.bb_tern.specs.Lanes.{lane, AreBitsOf, is_wrong, wrong_at, TellsAll, FindsFirst, pattern_at, AreFilled, IsHitAt}
+use Rattle.bb_tern.specs.Lanes.{lane, AreBitsOf, is_known_wrong, wrong_at, TellsAll, FindsFirst, pattern_at, AreFilled, IsHitAt}
 use Rattle.bb_tern.proofs.LaneLemmas.{lane_zero}
 
 -- without bits for the boxes a box output is 0
@@ -28,14 +28,14 @@ plain_gate boxes x value (cells.BoxOut b p) = refl
 pub bits_of_cells : (net : Netlist) (x : List Bool) → IsValue net x (free_bit net.boxes []) (value_of net x (free_bit net.boxes [])) → AreBitsOf net.cells x (bit_of (flat net x []))
 bits_of_cells net x value place inside = value.each place inside ∙ plain_gate net.boxes x (bit_of (flat net x [])) (cell_at net.cells place)
 
-right : (wanted : Bool) (value : Option Bool) → is_wrong wanted value ≡ false → IfSome value (λ bit. wanted ≡ bit)
+right : (wanted : Bool) (value : Option Bool) → is_known_wrong wanted value ≡ false → IfSome value (λ bit. wanted ≡ bit)
 right wanted None e = tt
 right true (Some true) e = refl
 right false (Some false) e = refl
 right true (Some false) e = absurd (true≢false e)
 right false (Some true) e = absurd (true≢false e)
 
-wrong : (wanted : Bool) (value : Option Bool) → is_wrong wanted value ≡ true → (bit : Bool) × (value ≡ Some bit) × (wanted ≢ bit)
+wrong : (wanted : Bool) (value : Option Bool) → is_known_wrong wanted value ≡ true → (bit : Bool) × (value ≡ Some bit) × (wanted ≢ bit)
 wrong wanted None e = absurd (true≢false (sym e))
 wrong true (Some true) e = absurd (true≢false (sym e))
 wrong false (Some false) e = absurd (true≢false (sym e))

@@ -61,13 +61,13 @@ abbrev pub pattern_at : List (List Bool) → ℕ → List Bool
 pattern_at patterns k = slice_index_or patterns k []
 
 -- a value is known and is not the bit that is wanted
-abbrev pub is_wrong : Bool → Option Bool → Bool
-is_wrong wanted None = false
-is_wrong wanted (Some b) = xor wanted b
+abbrev pub is_known_wrong : Bool → Option Bool → Bool
+is_known_wrong wanted None = false
+is_known_wrong wanted (Some b) = xor wanted b
 
 -- so at an output, by the bits of the specification's cells and the values of the implementation's
 abbrev pub wrong_at : (ℕ → Bool) → (ℕ → Option Bool) → List ℕ → List ℕ → ℕ → Bool
-wrong_at bit value spec_outs imp_outs j = is_wrong (bit (slice_index spec_outs j)) (value (slice_index imp_outs j))
+wrong_at bit value spec_outs imp_outs j = is_known_wrong (bit (slice_index spec_outs j)) (value (slice_index imp_outs j))
 
 -- pattern k is the first at which some output is known and wrong, and j the first such output there
 pub record IsHitAt (spec imp : Netlist) (patterns : List (List Bool)) (k j : ℕ) : Type 0 where

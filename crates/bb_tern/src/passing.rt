@@ -2,7 +2,7 @@
 
 ghost use Rattle.std.specs.Prelude.{◌≡◌, ◌<◌, ◌≤◌, ℕ, Bool, true, false, [], Option, length, map, vec_items, All, IfSome, IfNone};
 ghost use Rattle.bb_net.specs.Netlists.{ReadsBefore, cell_at};
-ghost use Rattle.bb_tern.specs.Lanes.{lane, Holds, AreWords, AreKnowns, is_wrong, TellsAll, FindsFirst, HasRoom, AreFilled, IsHitAt, NoneIsHit};
+ghost use Rattle.bb_tern.specs.Lanes.{lane, Holds, AreWords, AreKnowns, is_known_wrong, TellsAll, FindsFirst, HasRoom, AreFilled, IsHitAt, NoneIsHit};
 
 use crate::lanes::{Known, and_word, cell_known, cell_word, not_word, or_word};
 use crate::packing::pack;
@@ -34,7 +34,7 @@ fn write_knowns(cells: &[Cell], ins: &[u64], out: &mut [Known])
 
 // The lanes in which a value is known and is not the bit that is wanted.
 fn wrong_word(wanted: u64, known: Known) -> u64
-    ensures { (k : ℕ) (bit : Bool) (value : Option Bool) → k < 64 → lane wanted k ≡ bit → Holds known k value → lane result k ≡ is_wrong bit value }
+    ensures { (k : ℕ) (bit : Bool) (value : Option Bool) → k < 64 → lane wanted k ≡ bit → Holds known k value → lane result k ≡ is_known_wrong bit value }
 {
     let wrong_one = and_word(known.one, not_word(wanted));
     or_word(wrong_one, and_word(known.zero, wanted))

@@ -1,7 +1,7 @@
 -- No clause of a public call rests on this file. Reading expressions from the left, on lists.
 use Rattle.std.specs.Prelude.{ℕ, zero, suc, ◌+◌, Bool, false, List, [], ◌∷◌, ◌++◌, Option, Some, None, length, if◌then◌else◌}
 use Rattle.bb_ast.specs.declared.expr.Op.{Op}
-use Rattle.bb_ast.specs.Syntax.{Expression, Net, Bit, Part, Sized, Plain, Concat, Repeat, parts}
+use Rattle.bb_ast.specs.Syntax.{Expression, Net, Bit, Part, Sized, Plain, Concat, Repeat, listed_parts}
 use Rattle.bb_lex.specs.declared.mark.Mark.{Mark}
 use Rattle.bb_lex.specs.declared.mark.Mark.TheVariants.{LeftRound, RightRound, LeftSquare, RightSquare, LeftBrace, RightBrace, Colon, Tilde, Query}
 use Rattle.bb_lex.specs.declared.token.Kind.{Kind}
@@ -34,8 +34,8 @@ begins_repeat (Sign m ∷ ts) = false
 -- behind {
 unfoldable pub read_braces : (List Symbol → Read Expression) → List Symbol → Read Expression
 read_braces inner ts =
-    if begins_repeat ts then read_plain ts >>= (λ k. read_list inner (behind k.1) >>= (λ es. read_mark RightBrace es.1 >>= (λ u. read_mark RightBrace u.1 >>= (λ v. Some (Repeat k.0 (parts es.0), v.1)))))
-    else read_list inner ts >>= (λ es. read_mark RightBrace es.1 >>= (λ u. Some (Concat (parts es.0), u.1)))
+    if begins_repeat ts then read_plain ts >>= (λ k. read_list inner (behind k.1) >>= (λ es. read_mark RightBrace es.1 >>= (λ u. read_mark RightBrace u.1 >>= (λ v. Some (Repeat k.0 (listed_parts es.0), v.1)))))
+    else read_list inner ts >>= (λ es. read_mark RightBrace es.1 >>= (λ u. Some (Concat (listed_parts es.0), u.1)))
 
 unfoldable pub read_round : (List Symbol → Read Expression) → List Symbol → Read Expression
 read_round inner ts = inner ts >>= (λ e. read_mark RightRound e.1 >>= (λ u. Some (e.0, u.1)))
@@ -132,7 +132,7 @@ read_expr (suc n) ts = read_conditional (read_expr n) ts
 
 -- behind {, what may be assigned
 unfoldable pub read_lvals : (List Symbol → Read Expression) → List Symbol → Read Expression
-read_lvals inner ts = read_list inner ts >>= (λ es. read_mark RightBrace es.1 >>= (λ u. Some (Concat (parts es.0), u.1)))
+read_lvals inner ts = read_list inner ts >>= (λ es. read_mark RightBrace es.1 >>= (λ u. Some (Concat (listed_parts es.0), u.1)))
 
 unfoldable pub read_lval : ℕ → List Symbol → Read Expression
 read_lval zero ts = None

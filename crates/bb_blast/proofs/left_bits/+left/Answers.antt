@@ -5,7 +5,7 @@ use Rattle.std.specs.Result.{OnOk}
 use Rattle.std.proofs.lemmas.List.{take_all}
 use Rattle.std.proofs.lemmas.Result.{on_ok_weaker}
 use Rattle.bb_ast.specs.declared.expr.Expr.{the_lemmas}
-use Rattle.bb_ast.specs.Syntax.{Expression, Concat, parts}
+use Rattle.bb_ast.specs.Syntax.{Expression, Concat, listed_parts}
 use Rattle.bb_ast.specs.Views.{expression}
 use Rattle.bb_names.specs.Checked.{module_facts, syntax}
 use Rattle.bb_names.specs.Declarations.{range_of}
@@ -67,7 +67,7 @@ add_left-returns-in-Concat t c =
     λ before are. subst (λ (e : Expression). OnOk c.add_lefts.result (AreBitsIn m c.add_lefts.new.numbers.items (λ s. before s ++ written_bits s e)))
     (sym (expression-concat c.args.expr.now c.in-Concat.all c.in-Concat.is))
     (on_ok_weaker c.add_lefts.result
-    (bits_same m c.add_lefts.new.numbers.items (λ s. before s ++ flat_map (written_bits s) (map expression c.deref.result.now)) (λ s. before s ++ written_bits s (Concat (parts all)))
+    (bits_same m c.add_lefts.new.numbers.items (λ s. before s ++ flat_map (written_bits s) (map expression c.deref.result.now)) (λ s. before s ++ written_bits s (Concat (listed_parts all)))
     (λ s. ap (λ l. before s ++ flat_map (written_bits s) (map expression l)) c.deref.ensures.value ∙ ap (λ l. before s ++ l) (sym (written-concat s all))))
     (c.add_lefts.ensures before are))
 

@@ -65,7 +65,7 @@ of-requires c =
     let named = c.in_ok-boxes.ensures.names d given.1 boxed ∙ ap (map (λ b. box_texts d (box_number d b))) c.deref-2.ensures.value in
     record {
       flat = is_flat c.laws_of_designs.ensures text d g given.1 a.list a.ordered.net a.ordered.boxes.items given.2 (c.in_ok-boxed.ensures.apart d given.1) (c.in_ok-texts.ensures.apart d given.1) (c.in_ok-ports.ensures.apart d given.1)
-          c.in_ok-ports.ports.ins.items c.in_ok-regs.regs.items c.in_ok-ports.ports.outs.items c.in_ok-boxes.boxes.items (c.in_ok-ports.ensures.ins d given.1) regs (c.in_ok-ports.ensures.outs d given.1) named c.standing_nets_are_flat.ensures;
+          c.in_ok-ports.ports.ins.items c.in_ok-regs.regs.items c.in_ok-ports.ports.outs.items c.in_ok-boxes.boxes.items (c.in_ok-ports.ensures.ins d given.1) regs (c.in_ok-ports.ensures.outs d given.1) named c.standing_nets_are_flat.ensures c.standing_nets_are_printable.ensures;
     }
 
 pub returns-clause-stands : goal.returns-clause-stands

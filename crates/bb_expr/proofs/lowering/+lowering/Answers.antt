@@ -4,7 +4,7 @@ use Rattle.std.specs.Prelude.{◌*◌, sum_by, IfOk}
 use Rattle.std.proofs.lemmas.List.{at_drop_all, take_all, map_more}
 use Rattle.std.proofs.lemmas.List.Sums.{sum-map}
 use Rattle.std.proofs.lemmas.Result.{IfOk-weaker}
-use Rattle.bb_ast.specs.Syntax.{Sized, Not, Chain, Cond, Concat, Repeat, operands, arms, parts}
+use Rattle.bb_ast.specs.Syntax.{Sized, Not, Chain, Cond, Concat, Repeat, operands, arms, listed_parts}
 use Rattle.bb_ast.specs.Views.{expression, operand_view, arm_view}
 use Rattle.bb_ast.specs.declared.expr.Expr.{the_lemmas}
 use Rattle.bb_bits.specs.Numbers.{bits_of}
@@ -516,7 +516,7 @@ lower_at-side_by_side-requires t c =
     let m = module_facts c.args.scope.now in
     let xs = map expression c.deref-in-Concat.result.now in
     let n = length c.args.steps.now.items in
-    let view : expression c.args.expr.now ≡ Concat (parts xs) = expression-concat c.args.expr.now c.in-Concat.all c.in-Concat.is ∙ ap (λ ys. Concat (parts (map expression ys))) (sym c.deref-in-Concat.ensures.value) in
+    let view : expression c.args.expr.now ≡ Concat (listed_parts xs) = expression-concat c.args.expr.now c.in-Concat.all c.in-Concat.is ∙ ap (λ ys. Concat (listed_parts (map expression ys))) (sym c.deref-in-Concat.ensures.value) in
     let whole = subst (λ e. IsAsked m e c.args.width n) view (record { fit = c.requires.fit; own = c.requires.own; room = c.requires.room }) in
     let asked = asked-concat m xs c.args.width n whole in
     (search (rules, the_lemmas), (fit-parts m xs whole.fit, (omega (arith, asked.0, sum-map (own_width (ranges_in m)) xs, c.requires.width), omega (arith, asked.0, asked.1))))
@@ -526,7 +526,7 @@ lower_at-extended-requires t c =
     let m = module_facts c.args.scope.now in
     let xs = map expression c.deref-in-Concat.result.now in
     let n = length c.args.steps.now.items in
-    let view : expression c.args.expr.now ≡ Concat (parts xs) = expression-concat c.args.expr.now c.in-Concat.all c.in-Concat.is ∙ ap (λ ys. Concat (parts (map expression ys))) (sym c.deref-in-Concat.ensures.value) in
+    let view : expression c.args.expr.now ≡ Concat (listed_parts xs) = expression-concat c.args.expr.now c.in-Concat.all c.in-Concat.is ∙ ap (λ ys. Concat (listed_parts (map expression ys))) (sym c.deref-in-Concat.ensures.value) in
     let whole = subst (λ e. IsAsked m e c.args.width n) view (record { fit = c.requires.fit; own = c.requires.own; room = c.requires.room }) in
     let asked = asked-concat m xs c.args.width n whole in
     let few = parts-few c.args.scope.now.nets.items (ranges_in m) xs c.args.steps.now.items c.side_by_side.new.steps.items c.in_ok-bits-in-Concat.bits.items c.in_ok-bits-in-Concat.ensures in
@@ -538,7 +538,7 @@ lower_at-returns-in_ok-bits-in-Concat t c =
     let nets = c.args.scope.now.nets.items in
     let xs = map expression c.deref-in-Concat.result.now in
     let old = c.args.steps.now.items in
-    let view : expression c.args.expr.now ≡ Concat (parts xs) = expression-concat c.args.expr.now c.in-Concat.all c.in-Concat.is ∙ ap (λ ys. Concat (parts (map expression ys))) (sym c.deref-in-Concat.ensures.value) in
+    let view : expression c.args.expr.now ≡ Concat (listed_parts xs) = expression-concat c.args.expr.now c.in-Concat.all c.in-Concat.is ∙ ap (λ ys. Concat (listed_parts (map expression ys))) (sym c.deref-in-Concat.ensures.value) in
     IfOk-weaker c.extended.result _ _
     (λ bits h. subst (λ x. Adds nets (made ranges x c.args.width) old c.extended.new.steps.items bits.items) (sym view) (concat-made nets ranges xs c.args.width old c.extended.new.steps.items bits.items h))
     (c.extended.ensures nets (beside ranges xs) old (subst (Adds nets (beside ranges xs) old c.side_by_side.new.steps.items) (sym c.deref-in-Concat-2.ensures.value) c.in_ok-bits-in-Concat.ensures))
@@ -549,7 +549,7 @@ lower_at-side_by_side-requires-in-Repeat t c =
     let k = c.in-Repeat.count in
     let xs = map expression c.deref-in-Repeat.result.now in
     let n = length c.args.steps.now.items in
-    let view : expression c.args.expr.now ≡ Repeat k (parts xs) = expression-repeat c.args.expr.now k c.in-Repeat.all c.in-Repeat.is ∙ ap (λ ys. Repeat k (parts (map expression ys))) (sym c.deref-in-Repeat.ensures.value) in
+    let view : expression c.args.expr.now ≡ Repeat k (listed_parts xs) = expression-repeat c.args.expr.now k c.in-Repeat.all c.in-Repeat.is ∙ ap (λ ys. Repeat k (listed_parts (map expression ys))) (sym c.deref-in-Repeat.ensures.value) in
     let whole = subst (λ e. IsAsked m e c.args.width n) view (record { fit = c.requires.fit; own = c.requires.own; room = c.requires.room }) in
     let asked = asked-repeat m k xs c.args.width n whole in
     (search (rules, the_lemmas), (fit-copied m k xs whole.fit, (omega (arith, asked.0, sum-map (own_width (ranges_in m)) xs, c.requires.width), omega (arith, asked.0, asked.1))))
@@ -560,7 +560,7 @@ lower_at-copied-requires t c =
     let k = c.in-Repeat.count in
     let xs = map expression c.deref-in-Repeat.result.now in
     let n = length c.args.steps.now.items in
-    let view : expression c.args.expr.now ≡ Repeat k (parts xs) = expression-repeat c.args.expr.now k c.in-Repeat.all c.in-Repeat.is ∙ ap (λ ys. Repeat k (parts (map expression ys))) (sym c.deref-in-Repeat.ensures.value) in
+    let view : expression c.args.expr.now ≡ Repeat k (listed_parts xs) = expression-repeat c.args.expr.now k c.in-Repeat.all c.in-Repeat.is ∙ ap (λ ys. Repeat k (listed_parts (map expression ys))) (sym c.deref-in-Repeat.ensures.value) in
     let whole = subst (λ e. IsAsked m e c.args.width n) view (record { fit = c.requires.fit; own = c.requires.own; room = c.requires.room }) in
     let few = parts-few c.args.scope.now.nets.items (ranges_in m) xs c.args.steps.now.items c.side_by_side-in-Repeat.new.steps.items c.in_ok-bits-in-Repeat.bits.items c.in_ok-bits-in-Repeat.ensures in
     omega (arith, (asked-repeat m k xs c.args.width n whole).3, ap (λ s. k * s) (ap length c.deref-in-Repeat-2.ensures.value ∙ few.0), c.requires.width)
@@ -571,7 +571,7 @@ lower_at-extended-requires-in-Repeat t c =
     let k = c.in-Repeat.count in
     let xs = map expression c.deref-in-Repeat.result.now in
     let n = length c.args.steps.now.items in
-    let view : expression c.args.expr.now ≡ Repeat k (parts xs) = expression-repeat c.args.expr.now k c.in-Repeat.all c.in-Repeat.is ∙ ap (λ ys. Repeat k (parts (map expression ys))) (sym c.deref-in-Repeat.ensures.value) in
+    let view : expression c.args.expr.now ≡ Repeat k (listed_parts xs) = expression-repeat c.args.expr.now k c.in-Repeat.all c.in-Repeat.is ∙ ap (λ ys. Repeat k (listed_parts (map expression ys))) (sym c.deref-in-Repeat.ensures.value) in
     let whole = subst (λ e. IsAsked m e c.args.width n) view (record { fit = c.requires.fit; own = c.requires.own; room = c.requires.room }) in
     let asked = asked-repeat m k xs c.args.width n whole in
     let few = parts-few c.args.scope.now.nets.items (ranges_in m) xs c.args.steps.now.items c.side_by_side-in-Repeat.new.steps.items c.in_ok-bits-in-Repeat.bits.items c.in_ok-bits-in-Repeat.ensures in
@@ -586,7 +586,7 @@ lower_at-returns-in_ok-copies-in-Repeat t c =
     let k = c.in-Repeat.count in
     let xs = map expression c.deref-in-Repeat.result.now in
     let old = c.args.steps.now.items in
-    let view : expression c.args.expr.now ≡ Repeat k (parts xs) = expression-repeat c.args.expr.now k c.in-Repeat.all c.in-Repeat.is ∙ ap (λ ys. Repeat k (parts (map expression ys))) (sym c.deref-in-Repeat.ensures.value) in
+    let view : expression c.args.expr.now ≡ Repeat k (listed_parts xs) = expression-repeat c.args.expr.now k c.in-Repeat.all c.in-Repeat.is ∙ ap (λ ys. Repeat k (listed_parts (map expression ys))) (sym c.deref-in-Repeat.ensures.value) in
     let whole = subst (λ e. IsAsked m e c.args.width (length old)) view (record { fit = c.requires.fit; own = c.requires.own; room = c.requires.room }) in
     let some = (asked-repeat m k xs c.args.width (length old) whole).2 in
     let places = c.deref-in-Repeat-3.ensures.value ∙ c.in_ok-copies-in-Repeat.ensures ∙ ap (copies k) c.deref-in-Repeat-2.ensures.value in

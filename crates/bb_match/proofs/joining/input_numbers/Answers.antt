@@ -1,7 +1,7 @@
 use Rattle.std.proofs.Common.{◌≡◌, ◌+◌, ◌++◌, map, length, ◌∙◌, arith}
 use Rattle.bb_net.specs.CutPoints.{cut_inputs}
 use Rattle.bb_match.specs.Pairing.{Picks}
-use Rattle.bb_match.specs.Places.{place_of}
+use Rattle.bb_match.specs.Places.{text_place}
 use Rattle.bb_match.proofs.CheckLemmas.{if_ok_weaker}
 use Rattle.bb_match.proofs.PairLemmas.{ins_fit, ins_places_fit, states_places_fit, numbers_made}
 use Rattle.bb_match.proofs.joining.input_numbers.Goals as goal
@@ -22,7 +22,7 @@ returns c =
     let ins = c.args.of_spec.now.ins.entries in
     let regs = c.args.of_spec.now.regs.entries in
     record {
-      numbers = if_ok_weaker c.places_behind.result (λ numbers. numbers.items ≡ map (λ text. 0 + place_of ins text) c.ins.result.now ++ map (λ text. length c.ins-ins.result.now + place_of regs text) c.deref.result.now)
+      numbers = if_ok_weaker c.places_behind.result (λ numbers. numbers.items ≡ map (λ text. 0 + text_place ins text) c.ins.result.now ++ map (λ text. length c.ins-ins.result.now + text_place regs text) c.deref.result.now)
           (λ numbers. Picks (cut_inputs spec) numbers.items (cut_inputs imp))
           (λ numbers made. numbers_made spec imp ins regs c.ins-ins.result.now c.ins.result.now c.deref.result.now numbers.items c.requires.of_spec.ins c.requires.of_spec.regs c.requires.fit c.ins-ins.ensures.ins c.ins.ensures.ins
           (c.deref.ensures.value ∙ c.requires.of_imp.texts) made) c.places_behind.ensures.places;

@@ -1,5 +1,4 @@
-use Rattle.bb_match.proofs.PairExists.{fitting_have_pair}
 use Rattle.bb_match.proofs.laws.fitting_have_pair.Goals as goal
 
 pub returns : goal.returns
-returns c = fitting_have_pair
+returns c = λ spec imp flat_spec flat_imp fit. (let kept = c.fitting_have_kept_pair.ensures spec imp flat_spec flat_imp fit in (kept.0, kept.2))

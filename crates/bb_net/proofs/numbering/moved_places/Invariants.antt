@@ -1,6 +1,6 @@
 use Rattle.std.proofs.Common.{◌≡◌, map, take}
-use Rattle.bb_net.specs.Placings.{place_of}
+use Rattle.bb_net.specs.Placings.{given_place}
 use Rattle.bb_net.proofs.numbering.moved_places.Given as goal
 
 abbrev pub invariant-loop-k : goal.invariant-loop-k
-invariant-loop-k l = l.moved.items ≡ map (place_of l.to) (take l.k-index l.places)
+invariant-loop-k l = l.moved.items ≡ map (given_place l.to) (take l.k-index l.places)

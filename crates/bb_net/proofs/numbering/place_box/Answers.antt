@@ -2,7 +2,7 @@ use Rattle.std.proofs.Common.{◌≡◌, ◌<◌, [], length, map, sym, ap, subs
 use Rattle.std.specs.Prelude.{All}
 use Rattle.std.specs.BinaryHeap.{heap_items}
 use Rattle.bb_net.specs.Netlists.{Pins, box_at, with_box}
-use Rattle.bb_net.specs.Placings.{place_of, IsPlacingBy}
+use Rattle.bb_net.specs.Placings.{given_place, IsPlacingBy}
 use Rattle.bb_net.proofs.PlacingSteps.{IsPlacing-number}
 use Rattle.bb_net.proofs.BoxSteps.{box_room, ins_there, IsComing-first}
 use Rattle.bb_net.proofs.numbering.place_box.Goals as goal
@@ -23,7 +23,7 @@ add_box-requires-clause-there c =
     let l = c.args.loose.now in
     let s = c.args.s.now in
     let ins : c.ins.result.now ≡ (box_at l.boxes c.args.b).ins = c.ins.ensures.ins ∙ ap (λ (q : Pins). q.ins) c.pins.ensures.pins in
-    let moved : c.in_ok-ins.ins.items ≡ map (place_of s.to.items) (box_at l.boxes c.args.b).ins = c.in_ok-ins.ensures.ok ∙ ap (λ xs. map (place_of xs) c.ins.result.now) c.deref.ensures.value ∙ ap (map (place_of s.to.items)) ins in
+    let moved : c.in_ok-ins.ins.items ≡ map (given_place s.to.items) (box_at l.boxes c.args.b).ins = c.in_ok-ins.ensures.ok ∙ ap (λ xs. map (given_place xs) c.ins.result.now) c.deref.ensures.value ∙ ap (map (given_place s.to.items)) ins in
     subst (All (λ place. place < length s.net.cells)) (sym moved)
     (ins_there l s.net s.to.items s.numbers.items (box_at l.boxes c.args.b).ins c.requires.placing.built (λ pin has. c.requires.placing.queue.ready_pins c.args.b pin c.requires.ready has))
 
@@ -36,8 +36,8 @@ place_outputs-requires-clause-placing c =
     let s = c.args.s.now in
     let p = subst (λ xs. IsPlacingBy l s.net s.to.items s.numbers.items s.numbered.items s.waiting.items xs (heap_items s.ready) [] []) c.requires.settled c.requires.placing in
     let ins : c.ins.result.now ≡ (box_at l.boxes c.args.b).ins = c.ins.ensures.ins ∙ ap (λ (q : Pins). q.ins) c.pins.ensures.pins in
-    let moved : c.in_ok-ins.ins.items ≡ map (place_of s.to.items) (box_at l.boxes c.args.b).ins = c.in_ok-ins.ensures.ok ∙ ap (λ xs. map (place_of xs) c.ins.result.now) c.deref.ensures.value ∙ ap (map (place_of s.to.items)) ins in
-    let net : c.add_box.new.self ≡ with_box s.net (map (place_of s.to.items) (box_at l.boxes c.args.b).ins) = c.in_ok-number.ensures.ok ∙ ap (with_box s.net) moved in
+    let moved : c.in_ok-ins.ins.items ≡ map (given_place s.to.items) (box_at l.boxes c.args.b).ins = c.in_ok-ins.ensures.ok ∙ ap (λ xs. map (given_place xs) c.ins.result.now) c.deref.ensures.value ∙ ap (map (given_place s.to.items)) ins in
+    let net : c.add_box.new.self ≡ with_box s.net (map (given_place s.to.items) (box_at l.boxes c.args.b).ins) = c.in_ok-number.ensures.ok ∙ ap (with_box s.net) moved in
     rw (net, c.in_ok-push.ensures.items, c.requires.settled)
     (IsPlacing-number l s.net s.to.items s.numbers.items s.numbered.items s.waiting.items (heap_items s.ready) c.args.b p c.requires.new c.requires.ready c.requires.least)
 

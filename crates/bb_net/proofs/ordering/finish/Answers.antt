@@ -1,7 +1,7 @@
 use Rattle.std.proofs.Common.{◌≡◌, ◌∙◌, ◌++◌, [], map, length, sym, ap, subst, arith}
 use Rattle.std.specs.BinaryHeap.{heap_items}
 use Rattle.bb_net.specs.Orders.{IsOrderOf}
-use Rattle.bb_net.specs.Placings.{IsPlaced, IsPlacingBy, place_of}
+use Rattle.bb_net.specs.Placings.{IsPlaced, IsPlacingBy, given_place}
 use Rattle.bb_net.proofs.OrderedLists.{IsOrderOf-from}
 use Rattle.bb_net.proofs.ordering.finish.Goals as goal
 
@@ -17,6 +17,6 @@ returns c =
     let p = subst (λ xs. IsPlacingBy l s.net s.to.items s.numbers.items s.numbered.items s.waiting.items xs (heap_items s.ready) [] []) c.requires.settled c.requires.placing in
     let q = subst (λ xs. IsPlacingBy l s.net s.to.items s.numbers.items s.numbered.items s.waiting.items [] xs [] []) c.requires.none_ready p in
     let o = IsOrderOf-from l s.net s.to.items s.numbers.items s.numbered.items s.waiting.items q c.keeps_its_order.ensures c.requires.whole in
-    let net : c.add_outs.new.net ≡ record s.net { outs = s.net.outs ++ map (place_of s.to.items) l.outs } =
-    c.in_ok-add_outs.ensures.ok ∙ ap (λ xs. record s.net { outs = s.net.outs ++ map (place_of xs) c.output_places.result.now }) c.deref.ensures.value ∙ ap (λ xs. record s.net { outs = s.net.outs ++ map (place_of s.to.items) xs }) c.output_places.ensures.outs in
+    let net : c.add_outs.new.net ≡ record s.net { outs = s.net.outs ++ map (given_place s.to.items) l.outs } =
+    c.in_ok-add_outs.ensures.ok ∙ ap (λ xs. record s.net { outs = s.net.outs ++ map (given_place xs) c.output_places.result.now }) c.deref.ensures.value ∙ ap (λ xs. record s.net { outs = s.net.outs ++ map (given_place s.to.items) xs }) c.output_places.ensures.outs in
     record { ok = subst (λ m. IsOrderOf l m s.numbers.items) (sym net) o }

@@ -1,0 +1,5 @@
+use Rattle.bb_match.proofs.PairExists.{fitting_have_kept_pair}
+use Rattle.bb_match.proofs.laws.fitting_have_kept_pair.Goals as goal
+
+pub returns : goal.returns
+returns c = fitting_have_kept_pair c.rearranged_nets_exist.ensures
