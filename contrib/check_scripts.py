@@ -16,6 +16,10 @@ FILLED_REPORT = "rung expand repair\n" + "".join(
     for path in ("u1.v", "u1.v2", "u2.v", "u2.v2", "u3.v", "u3.v2")) + "verdict repairable\n"
 
 
+# Rows with equal outputs: all whose first pin is 1, and two others.
+JOINED = "module t(a, y); input [2:0] a; output [1:0] y; bx u(a, y); endmodule\nmodule bx(i, o); input [2:0] i; output [1:0] o; endmodule\n"
+JOINED_REPORT = "rung input repair\ntable u o[1] 01010000\ntable u o[0] 00001111\nverdict repairable\n"
+
 # Names that have to be escaped, and ranges in both directions.
 ESCAPED = r"""module \top.x (\a[0] , b, \y+z );
   input \a[0] ; input [0:2] b; output [1:0] \y+z ;
@@ -44,7 +48,7 @@ def repaired(report, implementation, spec, folder, style):
     done = run(["iverilog", "-o", os.devnull, filled])
     if done.status:
         return False, done
-    if style == "case":
+    if style != "assign":
         done = run([script("gates"), filled, "-o", filled])
         if done.status:
             return False, done
@@ -65,9 +69,20 @@ def repairs(folder):
 
 def fill_part(tally, folder):
     for name, report, implementation, spec in list(repairs(folder)):
-        for style in ("case", "assign"):
+        for style in ("case", "casez", "assign"):
             right, done = repaired(report, implementation, spec, folder, style)
             tally.note(f"fill --style {style}: {name}", right, done.why())
+    done = run([script("fill"), "--style", "casez", "--only", write(folder, "joined", JOINED_REPORT), write(folder, "j.v", JOINED)])
+    tally.note("fill --style casez joins rows", done.status == 0 and done.out.count("3'b") == 3 and "3'b1??: o = 2'b01;" in done.out, done.why())
+    rtl = write(folder, "rtl.v", "module bx #(parameter W = 3 /* pins */)(input [W-1:0] i, output [1:0] o); endmodule\n")
+    done = run([script("fill"), "--only", "--rtl", rtl, os.path.join(folder, "joined"), os.path.join(folder, "j.v")])
+    tally.note("fill --rtl keeps parameters", done.status == 0 and "module bx #(parameter W = 3) (i, o);" in done.out, done.why())
+    several = write(folder, "values.v", JOINED.replace("bx u(a, y);", "bx u(a, y); bx_2 v(a[0], );") + "module bx_2(i, o); input i; output o; endmodule\n")
+    done = run([script("fill"), "--only", "--rtl", rtl, os.path.join(folder, "joined"), several])
+    tally.note("fill --rtl refuses several values of parameters", is_told(done, "fill") and "several values" in done.err, done.why())
+    done = run([script("fill"), "--only", os.path.join(folder, "several"), os.path.join(folder, "k.v")])
+    tally.note("fill --only tells that one module got several contents", done.status == 0 and "fill: warning: instances of bx" in done.err
+               and len(done.err.splitlines()) == 1, done.why())
     other = run([script("fill"), os.path.join(folder, "several"), example("carry", "impl.v")])
     tally.note("fill refuses the report of another implementation", is_told(other, "fill"), other.why())
 

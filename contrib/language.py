@@ -1,9 +1,9 @@
 """What the scripts of this folder know of the language that bbeq reads (docs/LANGUAGE.md): its tokens, its modules with their
 nets, gates and instances, and how a name is written. It takes every text that bbeq takes, and some that bbeq refuses: whether
 a text is right is for bbeq to say."""
-import argparse
 import re
-import sys
+
+from scripts import Fault
 
 RESERVED = frozenset("""always and assign automatic begin buf bufif0 bufif1 case casex casez cell cmos config deassign default
 defparam design disable edge else end endcase endconfig endfunction endgenerate endmodule endprimitive endspecify endtable endtask
@@ -15,33 +15,6 @@ table task time tran tranif0 tranif1 tri tri0 tri1 triand trior trireg unsigned 
 wor xnor xor""".split())
 GATES = frozenset("and nand or nor xor xnor buf not".split())
 DIRECTIVES = ("`timescale", "`celldefine", "`endcelldefine")
-
-
-class Fault(Exception):
-    """A text or a report that a script cannot work with; the message is one line."""
-
-
-class Words(argparse.ArgumentParser):
-    """The words of a script; wrong ones are told in one line."""
-
-    def error(self, message):
-        print(f"{self.prog}: {message} ({self.prog} --help lists the words)", file=sys.stderr)
-        sys.exit(1)
-
-
-def run_script(name, main):
-    """Runs a script; what it cannot work with is told on standard error, and the status is 1."""
-    try:
-        main()
-        sys.stdout.flush()
-    except BrokenPipeError:
-        sys.stderr.close()
-        sys.exit(1)
-    except (Fault, OSError) as fault:
-        text = f"{fault.filename}: {fault.strerror}" if isinstance(fault, OSError) else str(fault)
-        for line in text.splitlines():
-            print(f"{name}: {line}", file=sys.stderr)
-        sys.exit(1)
 
 
 class Token:

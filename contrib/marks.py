@@ -1,5 +1,5 @@
-"""What `gates` writes into yosys' text of a design between two runs: undefined values as a net of their own, boxes as black, and the
-nets by which registers are known."""
+"""What `gates` writes into yosys' text of a design between two runs: undefined values as a net of their own, boxes as black, the
+nets by which registers are known, and what registers with an asynchronous set or reset store."""
 import os
 import re
 
@@ -65,6 +65,39 @@ def driven_nets(lines, ports):
         elif parts[:1] == ["end"]:
             kind = None
     return found
+
+
+MADE = "$auto$async2sync"  # The names of what async2sync makes begin so.
+
+
+def name_stored(folder):
+    """Gives the wires by which async2sync has a flip-flop store its bits the register's name with `.stored` behind it; the register's
+    own net is what is read of it, and that has the value of the set or reset while this is active."""
+    path = os.path.join(folder, "read.il")
+    with open(path, encoding="utf-8", errors="replace") as file:
+        modules = re.split(r"(?=^module )", file.read(), flags=re.MULTILINE)
+    with open(path, "w", encoding="utf-8") as file:
+        for module in modules:
+            reads, target = dict(made_cells(module)), {}
+            for wire in re.findall(rf"^  wire .*?({re.escape(MADE)}\S*)$", module, re.MULTILINE):
+                found = wire
+                while found in reads:
+                    found = reads[found]
+                if named := re.fullmatch(r"(\\\S+?)(?: (\[\d+(?::\d+)?\]))?", found):
+                    target[wire] = named.group(1) + (named.group(2) or "") + ".stored"
+                    own = re.search(rf"^  wire (.*?){re.escape(named.group(1))}$", module, re.MULTILINE)
+                    shape = re.findall(r"offset -?\d+ |upto ", own.group(1)) if own and not named.group(2) else []
+                    module = module.replace(f" {wire}\n", f" {''.join(shape)}{wire}\n", 1)
+            file.write(re.sub(rf"{re.escape(MADE)}\S*", lambda made: target.get(made.group(), made.group()), module))
+
+
+def made_cells(module):
+    """For each wire that a cell of async2sync reads, what that cell writes."""
+    for cell in re.findall(rf"^  cell \S+ {re.escape(MADE)}.*?^  end$", module, re.MULTILINE | re.DOTALL):
+        pins = dict(re.findall(r"^    connect \\(\S+) (.*)$", cell, re.MULTILINE))
+        for pin, value in pins.items():
+            if pin != "Y" and value.startswith("$auto"):
+                yield value, pins["Y"]
 
 
 def mark_modules(folder, boxes, ports):

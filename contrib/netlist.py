@@ -1,6 +1,6 @@
 """The netlist that yosys mapped for `gates`: who drives each bit, which bits are registers, and which name each bit goes by."""
-from language import Fault
 from marks import MARK
+from scripts import Fault
 from sources import place
 
 GATES = {"$_AND_": "and", "$_OR_": "or", "$_XOR_": "xor", "$_NAND_": "nand", "$_NOR_": "nor", "$_XNOR_": "xnor"}

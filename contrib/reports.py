@@ -1,7 +1,7 @@
 """What the scripts of this folder read from a report of bbeq (docs/REPORT.md): its lines, its tables and its vectors."""
 import sys
+from scripts import Fault
 
-from language import Fault
 
 OTHER = "the report is of other texts: run bbeq on these and give its report"
 
@@ -21,13 +21,20 @@ def read_report(path):
         raise Fault(f"{path}: the report is empty")
     if lines[0].startswith(("refused ", "unread ")):
         raise Fault(f"{path}: the run was refused, so there is nothing to show: {lines[0]}")
-    if not any(line.startswith("verdict ") for line in lines):
+    if not any(len(line.split()) == 2 and line.startswith("verdict ") for line in lines):
         raise Fault(f"{path}: the report has no verdict: give what bbeq printed, the whole of it")
     return lines
 
 
+def other_texts(lines):
+    """What to say where the tables of a report do not fit the texts that were given."""
+    if lines[0].startswith("make "):
+        return f"the report is of a made pair: give the texts that `made {lines[0][5:]}` writes"
+    return OTHER
+
+
 def verdict(lines):
-    return next(line.split()[1] for line in lines if line.startswith("verdict "))
+    return next(line.split()[1] for line in lines if line.startswith("verdict ") and len(line.split()) == 2)
 
 
 def tables(lines):
@@ -48,6 +55,8 @@ def vectors(lines):
     found, check, wrong = [], None, None
     for line in lines:
         words = line.split(" ")
+        if words[0] in ("rung", "output", "next") and (len(words) < 2 or not words[1]):
+            raise Fault(f"`{line[:60]}` names nothing")
         if words[0] == "rung":
             check, wrong = words[1], None
         elif words[0] in ("output", "next"):

@@ -2,21 +2,22 @@
 import json
 import os
 import re
+import shutil
 import subprocess
+from scripts import Fault
 
-from language import Fault
 
 UNKNOWN = "a line that yosys does not know"
-READ = """read_verilog -icells {options} {files}
+READ = """{reads}
 setattr -mod -unset blackbox =A:blackbox
 setattr -mod -unset whitebox =A:whitebox
 {parameters}
 {modules}
 hierarchy -check {top}
-write_rtlil {folder}/raw.il
+write_rtlil "{folder}/raw.il"
 proc -norom
 tribuf
-write_json {folder}/read.json
+write_json "{folder}/read.json"
 """
 # What gates tells itself with its line, or what changes nothing that is compared: words of a memory are registers in either case.
 TOLD_ELSEWHERE = ("Yosys has only limited support for tri-state", "Complex async reset", "Replacing memory")
@@ -27,13 +28,21 @@ def place(attributes, fallback=UNKNOWN):
     for source in attributes.get("src", "").split("|"):
         found = re.match(r"(.*):(\d+)(\.\d+.*)?$", source)
         if found and int(found.group(2)) and "/share/yosys/techmap" not in source:
-            return f"{found.group(1)}:{found.group(2)}"
+            return f"{told(found.group(1))}:{found.group(2)}"
     return fallback
 
 
 def natural(name):
     """A key that sorts names with numbers as a person would."""
     return [(1, int(part), "") if part.isdigit() else (0, 0, part) for part in re.split(r"(\d+)", name) if part]
+
+
+def error(text):
+    """An error of yosys; where a file of SystemVerilog is not read, what can be done."""
+    if not re.match(r".*\.sv:\d+: syntax error", text):
+        return text
+    version = re.match(r"Yosys (\S+)", subprocess.run(["yosys", "-V"], capture_output=True, text=True, check=False).stdout)
+    return f"{text}; yosys {version.group(1) if version else ''} does not read this of SystemVerilog: --sv2v has sv2v turn it into Verilog"
 
 
 def run_yosys(script, folder):
@@ -52,28 +61,107 @@ def run_yosys(script, folder):
             raise Fault(f"the top has no parameter {parameter.group(1)}")
         if done.returncode < 0:
             raise Fault(f"yosys was ended by signal {-done.returncode}, as where modules instantiate each other without end")
-        raise Fault(re.sub(r"\s*ERROR:\s*", " ", lines[0]).strip() if lines else f"yosys ended with {done.returncode}")
+        raise Fault(error(told(re.sub(r"\s*ERROR:\s*", " ", lines[0]).strip())) if lines else f"yosys ended with {done.returncode}")
     return done.stdout + done.stderr
 
 
-def quoted(path):
-    return '"' + path + '"'
+# The user's names of what stands in the folder of the script.
+NAMES = {}
+# A name in which yosys sees no pattern, quotation or option.
+PLAIN = re.compile(r"[A-Za-z0-9_.+][A-Za-z0-9_.+-]*")
+# So far below the folder that no path of a source leads out of it.
+INNER = os.path.join(*["inner"] * 16)
 
 
-def read_script(words, folder):
-    for path in words.files + words.cells:
-        if not os.path.isfile(path):
+def told(text):
+    """A text of yosys with the user's names in it."""
+    for own in sorted(NAMES, key=len, reverse=True):
+        text = text.replace(own, NAMES[own])
+    return text
+
+
+class Files:
+    """The sources and folders under names of the script's own making, since yosys expands patterns in the names that it is given, and
+    would read another file than the one named. A source is reached through a link to its folder, so that what it includes is found beside
+    it as ever; one whose own name yosys would not take, through a link of its own, with its folder as the first to look in."""
+
+    def __init__(self, words, folder):
+        NAMES.clear()
+        self.folder, self.count = folder, 0
+        os.makedirs(os.path.join(folder, INNER))
+        self.files = [self.stand_in(path) for path in words.files]
+        self.cells = [self.stand_in(path) for path in words.cells]
+        self.options = [f"-I{self.link_folder(path)}" for path in words.include]
+
+    def own(self, name):
+        self.count += 1
+        return os.path.join(self.folder, name.format(self.count))
+
+    def link_folder(self, path):
+        if path and not os.path.isdir(path):
+            raise Fault(f"{path}: there is no such folder")
+        own = self.own("folder{}")
+        os.symlink(os.path.abspath(path), own)
+        NAMES[own + "/"] = os.path.join(path, "")
+        return own
+
+    def stand_in(self, path):
+        """The name by which yosys reads a source, and the options that it needs."""
+        name = "standard input" if path == "-" else path
+        if path != "-" and os.path.isdir(path):
+            raise Fault(f"{path}: this is a folder, and a file is needed")
+        if path != "-" and not os.path.exists(path):
             raise Fault(f"{path}: there is no such file")
-        if '"' in path or "\n" in path:
-            raise Fault(f"{path}: yosys cannot take this file name")
-    options = ["-sv"] if any(path.endswith(".sv") for path in words.files + words.cells) else []
-    options += [f"-D{name}" for name in words.define] + [f"-I{name}" for name in words.include]
+        folder, base = os.path.split(path)
+        options = []
+        if path == "-" or not os.path.isfile(path):  # A pipe or a device is read once.
+            own = self.own(os.path.join(INNER, "source{}"))
+            with open(0 if path == "-" else path, "rb", closefd=path != "-") as source, open(own, "wb") as copy:
+                shutil.copyfileobj(source, copy)
+        elif PLAIN.fullmatch(base):
+            own = os.path.join(self.link_folder(folder), base)
+        else:
+            options.append(f"-I{self.link_folder(folder)}")
+            own = self.own(os.path.join(INNER, "source{}.sv" if path.endswith(".sv") else "source{}.v"))
+            os.symlink(os.path.abspath(path), own)
+        NAMES[own] = name
+        with open(own, "rb") as file:
+            front = file.read(4)
+        if not front:
+            raise Fault(f"{name}: the file is empty")
+        if front.startswith((b"\xef\xbb\xbf", b"\xff\xfe", b"\xfe\xff")):
+            raise Fault(f"{name}: it begins with a byte order mark, which is no Verilog; save it as plain text without one")
+        return own, options
+
+    def turned(self, options):
+        """All sources as one file of Verilog, which sv2v writes."""
+        if not shutil.which("sv2v"):
+            raise Fault("sv2v is not installed (it stands at github.com/zachjs/sv2v)")
+        both = self.files + self.cells
+        words = [*options, *[option for _, more in both for option in more], *[own for own, _ in both]]
+        done = subprocess.run(["sv2v", *words], capture_output=True, text=True, errors="replace", check=False)
+        if done.returncode:
+            raise Fault("sv2v: " + told((done.stderr.strip() or "no word").splitlines()[0]))
+        own = self.own("turned{}.v")
+        NAMES[own] = "what sv2v wrote"
+        with open(own, "w", encoding="utf-8") as file:
+            file.write(done.stdout)
+        self.files, self.cells = [(own, [])], []
+
+
+def read_script(words, files, folder):
+    options = [f"-D{name}" for name in words.define] + files.options
+    if words.sv2v:
+        files.turned(options)
+    elif any(path.endswith(".sv") for path in words.files + words.cells):
+        options.append("-sv")
     if words.top and not words.parameter:
         options.append("-defer")  # Other modules of a library are not looked at.
+    reads = [f'read_verilog -icells {" ".join(more + options)} "{own}"' for own, more in files.files + files.cells]
     parameters = [f"chparam -set {' '.join(setting.split('=', 1))} {words.top}" for setting in words.parameter]
-    return READ.format(options=" ".join(options), files=" ".join(map(quoted, words.files + words.cells)), folder=folder,
-                       parameters="\n".join(parameters), top=f"-top {words.top}" if words.top else "-auto-top",
-                       modules="" if words.top else f"write_rtlil {folder}/modules.il")
+    return READ.format(reads="\n".join(reads), folder=folder, parameters="\n".join(parameters),
+                       top=f"-top {words.top}" if words.top else "-auto-top",
+                       modules="" if words.top else f'write_rtlil "{folder}/modules.il"')
 
 
 def load(folder, name):
@@ -85,8 +173,11 @@ class Sources:
     """What yosys read: the modules that the top needs, the top's name, those that are cells, and the warnings, a line each."""
 
     def __init__(self, words, folder):
-        log = run_yosys(read_script(words, folder), folder)
+        files = Files(words, folder)
+        log = run_yosys(read_script(words, files, folder), folder)
         modules = load(folder, "read.json")
+        if not modules:
+            raise Fault(f"no module stands in {', '.join(words.files)}")
         self.top = find_top(modules)
         used = reachable(modules, self.top)
         if not words.top:
@@ -97,7 +188,7 @@ class Sources:
                             f"as in --top {self.top}")
         self.modules = {name: module for name, module in modules.items() if name in used}
         self.cells = {name for name, module in self.modules.items()
-                      if module["attributes"].get("src", "").rsplit(":", 1)[0] in words.cells}
+                      if module["attributes"].get("src", "").rsplit(":", 1)[0] in {own for own, _ in files.cells}}
         self.warnings = warnings(log, modules)
 
 
@@ -151,8 +242,8 @@ def warnings(log, modules):
     for line in log.splitlines():
         warned = re.match(r"(?:(.*):(\d+)(?:\.\d+\S*)?: )?Warning: (.*)$", line)
         if warned and not warned.group(3).startswith(TOLD_ELSEWHERE):
-            source = f"{warned.group(1)}:{warned.group(2)}: " if warned.group(1) else ""
-            found.append(warning(source, warned.group(3), modules))
+            source = f"{told(warned.group(1))}:{warned.group(2)}: " if warned.group(1) else ""
+            found.append(warning(source, told(warned.group(3)), modules))
     return sorted(set(found), key=natural)
 
 

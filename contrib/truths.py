@@ -3,7 +3,7 @@ that boxes may give, all contents. The checks are those of docs/REPORT.md, each 
 from functools import cached_property, reduce
 from itertools import product
 
-from language import Fault
+from scripts import Fault
 from values import Bit, Design, World, both, inverted
 
 MOST_INPUTS, MOST_PINS, MOST_CONTENTS = 12, 6, 16  # Bits of a vector, pins of one direction of a box, bits of all contents.

@@ -5,7 +5,8 @@ import sys
 from functools import reduce
 from typing import NamedTuple
 
-from language import Fault, bit_text
+from language import bit_text
+from scripts import Fault
 
 MOST_LEVELS = 64  # Of instances, the top counted.
 sys.setrecursionlimit(100_000)  # A bit is made by a call within that of each bit that reads it.

@@ -1,14 +1,21 @@
 """Writes the netlist of `gates` as text of bbeq's language."""
 import os
 
-from language import Fault, written
+from language import written
 from marks import MARK
 from netlist import EDGES, GATES
+from scripts import Fault
 from sources import UNKNOWN, natural, place
 
 
 def counted(number, noun, plural=None):
     return f"{number} {noun if number == 1 else plural or noun + 's'}"
+
+
+def shown(file):
+    """The name of a file in a comment of one line."""
+    name = "standard input" if file == "-" else os.path.basename(file)
+    return name.encode("utf-8", "backslashreplace").decode().encode("unicode_escape" if not name.isprintable() else "utf-8").decode()
 
 
 class Writer:
@@ -85,7 +92,8 @@ class Writer:
             raise Fault(f"{source}: a value is undefined (x) here{what}; --undef 0 or --undef 1 chooses a bit for it")
         name = self.net.describe(bit)
         source = place(self.net.nets[name]["attributes"], source)
-        raise Fault(f"{source}: {name} is read and has no driver; --undef 0 or --undef 1 chooses a bit for it")
+        raise Fault(f"{source}: {name} is read and has no driver; where it is still to be written, an empty module in its place is a box; "
+                    "else --undef 0 or --undef 1 chooses a bit for it")
 
     def target(self, bit):
         """A bit as it is written or read, once it is known to be driven."""
@@ -207,7 +215,7 @@ class Writer:
         body = self.body(module_names)
         count = ", ".join((counted(len(self.net.order), "gate"), counted(len(self.net.live_flops), "register bit"),
                            counted(len(self.net.boxes), "box", "boxes")))
-        yield f"// {self.net.name}, made by gates from {', '.join(os.path.basename(file) for file in files)}: {count}."
+        yield f"// {self.net.name}, made by gates from {', '.join(map(shown, files))}: {count}."
         yield f"module {written(self.net.name)}({', '.join(written(port) for port in self.net.ports)});"
         for line in [*self.declarations(), *body]:
             yield "  " + line
@@ -219,6 +227,17 @@ class Writer:
             for port, shape in ports.items():
                 yield f"  {shape['direction']} {self.port_range(shape)}{written(port)};"
             yield "endmodule"
+
+    def too_many(self, most):
+        """What is told where inputs, registers and pins of boxes are together more than bbeq takes: their numbers, the greatest first."""
+        inputs = sum(len(shape["bits"]) for shape in self.net.ports.values() if shape["direction"] == "input")
+        parts = [(len(bits), f"register {name}") for name, bits in self.registers.items()]
+        parts += [(len(self.net.inputs(cell)) + len(self.net.outputs(cell)), f"pins of box {key}") for key, cell in self.net.boxes.items()]
+        total = inputs + sum(count for count, _ in parts)
+        if total > most:
+            yield f"warning: inputs, registers and pins of boxes are {total} bits, and bbeq takes at most {most}: {inputs} of inputs"
+            for count, what in sorted(parts, key=lambda part: -part[0]):
+                yield f"warning: {counted(count, 'bit')}: {what}"
 
     def port_range(self, shape):
         width, offset = len(shape["bits"]), shape.get("offset", 0)
