@@ -1,13 +1,13 @@
 -- Pairs of the same designs are alike: their netlists are, and so they are rearranged in one way.
 use Rattle.std.proofs.Common.{◌≡◌, ◌++◌, map, sym, ap, ap₂, subst, ◌∙◌}
 use Rattle.bb_net.specs.Rearrangements.{IsRearranged}
-use Rattle.bb_alike.specs.Alike.{AreAlike}
+use Rattle.bb_alike.specs.Laws.Alike.{AreAlike}
 use Rattle.bb_alike.specs.Laws.{RearrangedStayAlike}
-use Rattle.bb_cells.specs.AlikeNets.{StandingNetsAreAlike}
+use Rattle.bb_cells.specs.Laws.AlikeNets.{StandingNetsAreAlike}
 use Rattle.bb_net.specs.Flats.{FlatNet}
-use Rattle.bb_cells.specs.NamingLaws.{AreNamedAlike, StandingNetsAreNamedAlike}
+use Rattle.bb_cells.specs.Laws.NamingLaws.{AreNamedAlike, StandingNetsAreNamedAlike}
 use Rattle.bb_net.specs.CutPoints.{TopInput, State, TopOutput, NextState, cut_inputs, cut_outputs}
-use Rattle.bb_agree.specs.AlikePairs.{PairsForDesignsAreAlike}
+use Rattle.bb_agree.specs.Laws.AlikePairs.{PairsForDesignsAreAlike}
 use Rattle.bb_match.specs.Pairing.{Picks, input_text, output_name}
 use Rattle.bb_match.specs.Laws.{FlatNetsHaveCutsApart}
 use Rattle.bb_lists.proofs.Picked.{same_places}

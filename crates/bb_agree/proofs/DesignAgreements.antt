@@ -16,12 +16,12 @@ use Rattle.bb_net.specs.Orders.{moved_pins}
 use Rattle.bb_net.specs.Pairs.{NetPair, BoxTexts, NamesPins}
 use Rattle.bb_net.specs.Rearrangements.{RearrangedKeepsValues, new_place}
 use Rattle.bb_net.specs.Values.{bit_of, flat, flat_with, free_bit, tabled_bit, FitBoxes, ValueGoesByBoxes}
-use Rattle.bb_cells.specs.ContentTables.{AreTablesOf, TablesGiveOutputs, ContentsHaveTables, TablesHaveContents}
+use Rattle.bb_cells.specs.Laws.ContentTables.{AreTablesOf, TablesGiveOutputs, ContentsHaveTables, TablesHaveContents}
 use Rattle.bb_net.specs.declared.flat.Reg.{Reg}
 use Rattle.bb_net.specs.Flats.{FlatNet, IsFlat}
 use Rattle.bb_design.specs.Hierarchy.{Design, boxes}
-use Rattle.bb_cells.specs.ListLaws.{StandingNetsGiveOutputs}
-use Rattle.bb_design.specs.Allowed.{IsAllowed}
+use Rattle.bb_cells.specs.Laws.ListLaws.{StandingNetsGiveOutputs}
+use Rattle.bb_design.specs.Inside.Allowed.{IsAllowed}
 use Rattle.bb_design.specs.Refusals.{BoxTexts as BoxCause}
 use Rattle.bb_cells.specs.Stands.{StandsFor}
 use Rattle.bb_design.specs.Worlds.{World, Vector, HasVector, IsWorld, FitDesign, outputs_in}

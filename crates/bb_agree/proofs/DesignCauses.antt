@@ -10,7 +10,7 @@ use Rattle.bb_match.specs.declared.fault.MatchFault.TheVariants as faults
 use Rattle.bb_match.specs.Laws.{CausesAreRanked}
 use Rattle.bb_match.specs.Refusals.{Cause, Box, SpecInput, SpecOutput, ImpInput, ImpOutput, SpecRegister, ImpRegister, SpecClock, ImpClock, Clocks, Pins, AreAmong, IsFirstMissing, IsMissing, fault_of, rank}
 use Rattle.bb_agree.specs.DesignFit.{DependsOnNone, HasClock, HasNoClock, IsClockedApart, IsFirstRegister, IsTold, IsAbsent}
-use Rattle.bb_agree.specs.DesignRefusals.{DesignRefusalsAreOne, NotFitAndRefused}
+use Rattle.bb_agree.specs.Laws.DesignRefusals.{DesignRefusalsAreOne, NotFitAndRefused}
 use Rattle.bb_lists.proofs.Firsts.{first_there, first_one}
 use Rattle.bb_lists.proofs.Members.{none_in_nil}
 use Rattle.bb_lists.proofs.Orders.{less_or_same}

@@ -4,7 +4,7 @@ use Rattle.std.specs.Prelude.{All}
 use Rattle.std.proofs.lemmas.Bool.{cases_lt}
 use Rattle.std.proofs.lemmas.List.Elements.{All-contains}
 use Rattle.bb_bits.specs.Closures.{Leads, One, More, IsFirst}
-use Rattle.bb_design.specs.Allowed.{IsAllowed}
+use Rattle.bb_design.specs.Inside.Allowed.{IsAllowed}
 use Rattle.bb_design.specs.Dependence.{dependences}
 use Rattle.bb_design.specs.Hierarchy.{Design, Scope, boxes}
 use Rattle.bb_design.specs.NetBits.{Bit, input_bits, output_bits, top_inputs, written_bits}
@@ -18,7 +18,7 @@ use Rattle.bb_match.specs.declared.fault.MatchFault.{MatchFault}
 use Rattle.bb_match.specs.Laws.{CausesAreRanked}
 use Rattle.bb_match.specs.Refusals.{Cause, Box, SpecInput, SpecOutput, ImpInput, ImpOutput, SpecRegister, ImpRegister, SpecClock, ImpClock, Clocks, Pins, AreAmong, IsFirstMissing, IsMissing, fault_of, most_pins, rank}
 use Rattle.bb_agree.specs.DesignFit.{DependsOnNone, HasClock, HasNoClock, HasOtherClock, IsClockedBy, IsClockedApart, AreClockedAlike, IsFirstRegister, IsTold, IsAbsent, DesignsFit, IsRefusalFor, input_and_pin_count}
-use Rattle.bb_agree.specs.DesignRefusals.{FitOrRefused}
+use Rattle.bb_agree.specs.Laws.DesignRefusals.{FitOrRefused}
 use Rattle.bb_lists.proofs.Deciding.{Decision, Decides, decide_number, decide_list, decide_both, decide_either, decide_same, decide_contains, decide_leads, first_or_none}
 use Rattle.bb_lists.proofs.Firsts.{first_there}
 use Rattle.bb_lists.proofs.Members.{all_from, contains_here, none_in_nil}

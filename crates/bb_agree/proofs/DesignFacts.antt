@@ -14,7 +14,7 @@ use Rattle.bb_net.specs.Flats.{FlatNet, AreNamed}
 use Rattle.bb_net.specs.Netlists.{Pins}
 use Rattle.bb_net.specs.Pairs.{BoxTexts, NamesPins, pin_count}
 use Rattle.bb_net.specs.declared.flat.Reg.{Reg}
-use Rattle.bb_design.specs.Allowed.{IsAllowed}
+use Rattle.bb_design.specs.Inside.Allowed.{IsAllowed}
 use Rattle.bb_design.specs.Hierarchy.{Design, Scope, boxes}
 use Rattle.bb_design.specs.NetBits.{Bit, input_bits, output_bits, top_inputs, written_bits}
 use Rattle.bb_design.specs.Reading.{copied_bits}
@@ -22,7 +22,7 @@ use Rattle.bb_design.specs.Refusals.{TwoDrivers, register_texts}
 use Rattle.bb_design.specs.Registers.{RegisterBit, registers, cut_bits}
 use Rattle.bb_design.specs.Texts.{bit_text, pin_text}
 use Rattle.bb_cells.specs.BoxOrders.{DependsOnBox, MayFollow, IsBoxOrder, StandingNetsHaveBoxOrders}
-use Rattle.bb_cells.specs.NamingLaws.{FollowedInputsAreOne, StandingNetsAreNamed}
+use Rattle.bb_cells.specs.Laws.NamingLaws.{FollowedInputsAreOne, StandingNetsAreNamed}
 use Rattle.bb_cells.specs.Stands.{StandsFor, IsRegister, IsClock, box_texts}
 use Rattle.bb_match.specs.Refusals as net
 use Rattle.bb_agree.specs.DesignFit.{DependsOnNone, HasClock, HasNoClock, IsClockedBy, input_and_pin_count}

@@ -9,20 +9,20 @@ use Rattle.bb_net.specs.CutPoints.{clock_text}
 use Rattle.bb_net.specs.Flats.{FlatNet}
 use Rattle.bb_net.specs.Pairs.{BoxTexts}
 use Rattle.bb_net.specs.declared.flat.Reg.{Reg}
-use Rattle.bb_design.specs.Allowed.{IsAllowed}
+use Rattle.bb_design.specs.Inside.Allowed.{IsAllowed}
 use Rattle.bb_design.specs.Hierarchy.{Design}
 use Rattle.bb_design.specs.NetBits.{Bit}
 use Rattle.bb_design.specs.Refusals.{register_texts}
 use Rattle.bb_design.specs.Registers.{RegisterBit, registers}
 use Rattle.bb_design.specs.Texts.{bit_text}
 use Rattle.bb_cells.specs.BoxOrders.{StandingNetsHaveBoxOrders}
-use Rattle.bb_cells.specs.NamingLaws.{FollowedInputsAreOne, StandingNetsAreNamed}
+use Rattle.bb_cells.specs.Laws.NamingLaws.{FollowedInputsAreOne, StandingNetsAreNamed}
 use Rattle.bb_cells.specs.Stands.{StandsFor, IsRegister, box_texts}
 use Rattle.bb_match.specs.declared.fault.MatchFault.{MatchFault}
 use Rattle.bb_match.specs.Refusals as net
 use Rattle.bb_match.specs.Refusals.{Cause, Box, SpecInput, SpecOutput, ImpInput, ImpOutput, SpecRegister, ImpRegister, SpecClock, ImpClock, Clocks, Pins, AreAmong, IsFirstMissing, rank}
 use Rattle.bb_agree.specs.DesignFit.{HasClock, HasNoClock, IsClockedBy, AreClockedAlike, IsClockedApart, IsFirstRegister, IsTold, IsAbsent, DesignsFit, IsRefusalFor, input_and_pin_count}
-use Rattle.bb_agree.specs.DesignRefusals.{AreNetsFor, AreTakenAlike, NetsAreTakenAsDesigns}
+use Rattle.bb_agree.specs.Laws.DesignRefusals.{AreNetsFor, AreTakenAlike, NetsAreTakenAsDesigns}
 use Rattle.bb_lists.proofs.Members.{all_from}
 use Rattle.bb_lists.proofs.Places.{some_same}
 use Rattle.bb_agree.proofs.DesignFacts.{reg_texts, clocked_from, has_clock, some_clock, no_clock, clockless, clock_one, boxless, no_boxes, first_box, box_first, pins_count}

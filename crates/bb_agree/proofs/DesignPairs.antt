@@ -6,10 +6,10 @@ use Rattle.bb_net.specs.Netlists.{Pins}
 use Rattle.bb_net.specs.Pairs.{BoxTexts, NamesPins}
 use Rattle.bb_net.specs.Values.{FitBoxes}
 use Rattle.bb_cells.specs.BoxOrders.{StandingNetsHaveBoxOrders}
-use Rattle.bb_cells.specs.ListLaws.{StandingNetsAreFlat, StandingNetsArePrintable, StandingNetsExist}
+use Rattle.bb_cells.specs.Laws.ListLaws.{StandingNetsAreFlat, StandingNetsArePrintable, StandingNetsExist}
 use Rattle.bb_match.specs.Laws.{FittingHavePair, FittingHaveKeptPair}
 use Rattle.bb_agree.specs.DesignAgreement.{IsTableOf, FittingTablesAreOfBoxes, PairsHaveBoxOrders}
-use Rattle.bb_agree.specs.DesignRefusals.{AreNetsFor, FittingDesignsHavePairs, NetsAreTakenAsDesigns, PairsStandExactlyForFitting}
+use Rattle.bb_agree.specs.Laws.DesignRefusals.{AreNetsFor, FittingDesignsHavePairs, NetsAreTakenAsDesigns, PairsStandExactlyForFitting}
 
 module _ (taken : NetsAreTakenAsDesigns) (have_pair : FittingHavePair) where
   pub pairs_stand_exactly_for_fitting : PairsStandExactlyForFitting

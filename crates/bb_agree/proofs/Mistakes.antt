@@ -12,9 +12,9 @@ use Rattle.bb_net.specs.Flats.{FlatNet}
 use Rattle.bb_net.specs.Netlists.{Pins, box_at}
 use Rattle.bb_net.specs.Pairs.{NetPair}
 use Rattle.bb_net.specs.Values.{flat_with, table_at, tabled_bit, FitBoxes}
-use Rattle.bb_cells.specs.ContentTables.{AreTablesOf}
+use Rattle.bb_cells.specs.Laws.ContentTables.{AreTablesOf}
 use Rattle.bb_cells.specs.Stands.{StandsFor}
-use Rattle.bb_design.specs.Allowed.{IsAllowed}
+use Rattle.bb_design.specs.Inside.Allowed.{IsAllowed}
 use Rattle.bb_design.specs.Hierarchy.{Design}
 use Rattle.bb_design.specs.Refusals.{BoxTexts}
 use Rattle.bb_design.specs.Worlds.{World, Vector, HasVector, IsWorld, FitDesign, outputs_in}

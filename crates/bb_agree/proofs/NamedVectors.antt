@@ -13,7 +13,7 @@ use Rattle.bb_net.specs.Values.{bit_of}
 use Rattle.bb_net.specs.declared.flat.Reg.{Reg}
 use Rattle.bb_net.specs.Flats.{FlatNet, IsFlat}
 use Rattle.bb_design.specs.Hierarchy.{Design}
-use Rattle.bb_cells.specs.ListLaws.{vector_bits}
+use Rattle.bb_cells.specs.Laws.ListLaws.{vector_bits}
 use Rattle.bb_design.specs.NetBits.{top_inputs, top_outputs}
 use Rattle.bb_design.specs.Registers.{RegisterBit, registers}
 use Rattle.bb_cells.specs.Stands.{IsRegister, StandsFor}

@@ -6,9 +6,9 @@ use Rattle.bb_bits.specs.Tables.{TableBits, rows_of}
 use Rattle.bb_net.specs.Agreement.{TablesAgree}
 use Rattle.bb_net.specs.Pairs.{NetPair, BoxTexts, NamesPins}
 use Rattle.bb_net.specs.Values.{table_at, FitBoxes}
-use Rattle.bb_cells.specs.ContentTables.{AreTablesOf}
+use Rattle.bb_cells.specs.Laws.ContentTables.{AreTablesOf}
 use Rattle.bb_design.specs.Hierarchy.{Design}
-use Rattle.bb_design.specs.Allowed.{IsAllowed}
+use Rattle.bb_design.specs.Inside.Allowed.{IsAllowed}
 use Rattle.bb_design.specs.Refusals.{BoxTexts as BoxCause}
 use Rattle.bb_design.specs.Worlds.{FitDesign}
 use Rattle.bb_agree.specs.DesignAgreement.{AreSpelled, ContentsAgree, IsPairFor, SpelledContentsAgree, TablesSpellContents}

@@ -9,10 +9,10 @@ use Rattle.bb_net.specs.Agreement.{TablesAgree}
 use Rattle.bb_net.specs.Conditions.{NoTablesAgree}
 use Rattle.bb_net.specs.Pairs.{NetPair, BoxTexts, IsPair}
 use Rattle.bb_net.specs.Values.{FitBoxes}
-use Rattle.bb_cells.specs.ContentTables.{AreTablesOf}
+use Rattle.bb_cells.specs.Laws.ContentTables.{AreTablesOf}
 use Rattle.bb_net.specs.Flats.{FlatNet, IsFlat}
 use Rattle.bb_design.specs.Hierarchy.{Design, Scope}
-use Rattle.bb_design.specs.Allowed.{IsAllowed}
+use Rattle.bb_design.specs.Inside.Allowed.{IsAllowed}
 use Rattle.bb_cells.specs.BoxOrders.{IsBoxOrder}
 use Rattle.bb_cells.specs.Stands.{StandsFor, box_texts}
 use Rattle.bb_design.specs.Worlds.{World, Vector, HasVector, IsWorld, FitDesign, outputs_in}

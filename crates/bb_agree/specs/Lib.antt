@@ -1,5 +1,4 @@
-pub mod AlikePairs
 pub mod DesignAgreement
 pub mod DesignFit
-pub mod DesignRefusals
 pub mod Mistakes
+pub mod Laws

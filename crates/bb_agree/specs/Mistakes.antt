@@ -8,7 +8,7 @@ use Rattle.bb_net.specs.Agreement.{IsVector, IsOutput}
 use Rattle.bb_net.specs.Conditions.{IsAlwaysWrong, HasAlwaysWrong}
 use Rattle.bb_net.specs.CutPoints.{CutInput, TopInput, State, CutOutput, TopOutput, NextState}
 use Rattle.bb_net.specs.Pairs.{NetPair}
-use Rattle.bb_design.specs.Allowed.{IsAllowed}
+use Rattle.bb_design.specs.Inside.Allowed.{IsAllowed}
 use Rattle.bb_design.specs.Hierarchy.{Design}
 use Rattle.bb_design.specs.Refusals.{input_texts, output_texts, register_texts}
 use Rattle.bb_design.specs.Worlds.{World, Vector, HasVector, IsWorld, FitDesign, outputs_in}

@@ -1,8 +1,8 @@
 //! Laws of what two texts have one of. Each function has a law as its contract and does nothing.
 
-ghost use Rattle.bb_agree.specs.AlikePairs.{PairsForDesignsAreAlike};
+ghost use Rattle.bb_agree.specs.Laws.AlikePairs.{PairsForDesignsAreAlike};
 ghost use Rattle.bb_agree.specs.DesignAgreement.{DesignsAgreeWithThemselves, FittingTablesAreOfBoxes, NoTablesNoContents, PairsHaveBoxOrders, SpelledContentsAgree, TablesAgreeAsContents, TablesSpellContents};
-ghost use Rattle.bb_agree.specs.DesignRefusals.{DesignRefusalsAreOne, FitOrRefused, FittingDesignsHavePairs, NetsAreTakenAsDesigns, NotFitAndRefused, PairsStandExactlyForFitting};
+ghost use Rattle.bb_agree.specs.Laws.DesignRefusals.{DesignRefusalsAreOne, FitOrRefused, FittingDesignsHavePairs, NetsAreTakenAsDesigns, NotFitAndRefused, PairsStandExactlyForFitting};
 ghost use Rattle.bb_agree.specs.Mistakes.{MistakesRefute, PairsAreNamed, WrongOutputsAreMistakes, WrongVectorsAreMistakes};
 
 use bb_alike::laws::rearranged_stay_alike;

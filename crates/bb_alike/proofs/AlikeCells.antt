@@ -9,8 +9,8 @@ use Rattle.std.proofs.Math.ListN as math
 use Rattle.bb_net.specs.Netlists.{Netlist, Pins, cell_at, box_at, IsOrdered, IsNetlist}
 use Rattle.bb_net.specs.Ternary.{tern, IsTern}
 use Rattle.bb_net.specs.Values.{bit_of, value_of, IsValue}
-use Rattle.bb_alike.specs.Alike.{AreAlike}
-use Rattle.bb_alike.specs.Formulas.{Formula, formula_at, cell_formulas, PinFormulas, pin_formulas}
+use Rattle.bb_alike.specs.Laws.Alike.{AreAlike}
+use Rattle.bb_alike.specs.Laws.Formulas.{Formula, formula_at, cell_formulas, PinFormulas, pin_formulas}
 use Rattle.bb_alike.specs.Laws.{AlikeIsMutual, AlikeNetsHaveCells, AlikeCellsHaveOneBit, AlikeCellsAreKnownAlike}
 use Rattle.bb_alike.proofs.FormulaLemmas.{formula_at-cell, front_formula, formula_at-front, inputs_below}
 use Rattle.bb_alike.proofs.FormulaValues.{formula_bit, pin_bit, value_formula, formula_bit-same, formula_tern, tern_formula}

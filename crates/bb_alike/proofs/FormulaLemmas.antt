@@ -7,7 +7,7 @@ use Rattle.std.proofs.lemmas.List.FromFn.{length-map-range_with_len, get_or-map-
 use Rattle.bb_net.specs.declared.cell.Cell.{Cell}
 use Rattle.bb_net.specs.declared.cell.Cell.TheVariants as cell
 use Rattle.bb_net.specs.Netlists.{Netlist, Pins, cell_at, first_cells, ReadsBefore, IsOrdered, IsNetlist}
-use Rattle.bb_alike.specs.Formulas.{Formula, Const, Not, And, Or, Xor, Mux, cell_formula, formula_within, formula_at}
+use Rattle.bb_alike.specs.Laws.Formulas.{Formula, Const, Not, And, Or, Xor, Mux, cell_formula, formula_within, formula_at}
 use Rattle.bb_alike.specs.Laws.{FormulasAreOfCells}
 
 -- a cell's formula depends on the formulas of what it reads alone

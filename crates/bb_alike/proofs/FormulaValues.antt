@@ -6,7 +6,7 @@ use Rattle.bb_net.specs.declared.cell.Cell.TheVariants as cell
 use Rattle.bb_net.specs.Netlists.{Netlist, Pins, cell_at, box_at, ReadsBefore, IsOrdered}
 use Rattle.bb_net.specs.Ternary.{not3, and3, or3, xor3, mux3, tern_of, gate3, IsTern}
 use Rattle.bb_net.specs.Values.{bit_of, xor, gate, IsValue}
-use Rattle.bb_alike.specs.Formulas.{Formula, Const, Input, Not, And, Or, Xor, Mux, BoxOut, cell_formula, formula_at}
+use Rattle.bb_alike.specs.Laws.Formulas.{Formula, Const, Input, Not, And, Or, Xor, Mux, BoxOut, cell_formula, formula_at}
 use Rattle.bb_alike.proofs.FormulaLemmas.{formula_at-cell}
 
 -- the bit of a formula, where pin gives that of an output pin of a box

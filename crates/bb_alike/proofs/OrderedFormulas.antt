@@ -8,8 +8,8 @@ use Rattle.bb_net.specs.declared.loose.LooseCell.TheVariants as loose
 use Rattle.bb_net.specs.Loose.{LooseList, IsLoose, loose_at, operands}
 use Rattle.bb_net.specs.Netlists.{Netlist, Pins, cell_at, ReadsBefore, IsNetlist}
 use Rattle.bb_net.specs.Orders.{IsKept, IsSource, IsMoved, IsOrderOf}
-use Rattle.bb_alike.specs.Formulas.{Formula, Not, And, Or, Xor, Mux, BoxOut, cell_formula, formula_at}
-use Rattle.bb_alike.specs.LooseFormulas.{IsFormulaOf, AreLooseFormulas, OrderKeepsFormulas}
+use Rattle.bb_alike.specs.Laws.Formulas.{Formula, Not, And, Or, Xor, Mux, BoxOut, cell_formula, formula_at}
+use Rattle.bb_alike.specs.Laws.LooseFormulas.{IsFormulaOf, AreLooseFormulas, OrderKeepsFormulas}
 use Rattle.bb_alike.proofs.FormulaLemmas.{formula_at-cell}
 
 copy_or_kept : (c : LooseCell) → ((p : ℕ) × (c ≡ loose.Copy p)) ⊎ IsKept c

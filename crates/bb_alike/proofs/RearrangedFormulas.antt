@@ -14,8 +14,8 @@ use Rattle.bb_net.specs.declared.cell.Cell.TheVariants as cell
 use Rattle.bb_net.specs.Netlists.{Netlist, Pins, cell_at, box_at, ReadsBefore, IsNetlist}
 use Rattle.bb_net.specs.Orders.{moved_pins}
 use Rattle.bb_net.specs.Rearrangements.{new_input, new_place, moved_cell, IsRearranged}
-use Rattle.bb_alike.specs.Alike.{AreAlike}
-use Rattle.bb_alike.specs.Formulas.{Formula, Const, Input, Not, And, Or, Xor, Mux, BoxOut, cell_formula, formula_at, cell_formulas, PinFormulas, pin_formulas}
+use Rattle.bb_alike.specs.Laws.Alike.{AreAlike}
+use Rattle.bb_alike.specs.Laws.Formulas.{Formula, Const, Input, Not, And, Or, Xor, Mux, BoxOut, cell_formula, formula_at, cell_formulas, PinFormulas, pin_formulas}
 use Rattle.bb_alike.specs.Laws.{FormulasAreOfCells}
 use Rattle.bb_alike.proofs.FormulaLemmas.{inputs_below}
 

@@ -1,11 +1,14 @@
 -- Laws of netlists that are alike.
+pub mod Alike
+pub mod Formulas
+pub mod LooseFormulas
 use Rattle.std.specs.Prelude.{◌≡◌, ℕ, ◌<◌, Bool, List, length}
 use Rattle.bb_net.specs.Netlists.{Netlist, cell_at, IsNetlist}
 use Rattle.bb_net.specs.Rearrangements.{IsRearranged}
 use Rattle.bb_net.specs.Ternary.{tern, tern_of}
 use Rattle.bb_net.specs.Values.{bit_of, value_of}
-use Rattle.bb_alike.specs.Alike.{AreAlike}
-use Rattle.bb_alike.specs.Formulas.{cell_formula, formula_at}
+use Rattle.bb_alike.specs.Laws.Alike.{AreAlike}
+use Rattle.bb_alike.specs.Laws.Formulas.{cell_formula, formula_at}
 
 -- a formula is that of its cell, by those of the cells that this one reads
 abbrev pub FormulasAreOfCells : Type 0

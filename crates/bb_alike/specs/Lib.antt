@@ -1,4 +1,1 @@
-pub mod Formulas
-pub mod Alike
-pub mod LooseFormulas
 pub mod Laws

@@ -1,7 +1,7 @@
 //! Laws of netlists that are alike. Each function has a law as its contract and does nothing.
 
 ghost use Rattle.bb_alike.specs.Laws.{FormulasAreOfCells, AlikeIsMutual, AlikeNetsHaveCells, AlikeCellsHaveOneBit, AlikeCellsAreKnownAlike, RearrangedStayAlike};
-ghost use Rattle.bb_alike.specs.LooseFormulas.{OrderKeepsFormulas};
+ghost use Rattle.bb_alike.specs.Laws.LooseFormulas.{OrderKeepsFormulas};
 
 use bb_net::{tern_exists, value_exists};
 

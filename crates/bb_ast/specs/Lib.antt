@@ -1,9 +1,7 @@
-pub mod Formed
-pub mod Sizes
 pub mod Syntax
-pub mod Views
 pub mod Folds
-pub mod FoldLaws
 pub mod Names
 pub mod Assignable
 pub mod Gates
+pub mod Inside
+pub mod Laws

@@ -38,7 +38,7 @@ pub enum Expr {
 impl Default for Expr {
     ghost use Rattle.std.specs.Prelude.{◌≡◌};
     ghost use Rattle.bb_ast.specs.Syntax.{Plain};
-    ghost use Rattle.bb_ast.specs.Views.{expression};
+    ghost use Rattle.bb_ast.specs.Inside.Views.{expression};
 
     ghost is_default = { λ e. expression e ≡ Plain 0 };
 

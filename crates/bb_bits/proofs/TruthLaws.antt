@@ -3,7 +3,7 @@ use Rattle.std.proofs.Common.{◌≡◌, ◌↔◌, ◌⊎◌, ℕ, ◌+◌, Boo
 use Rattle.bb_bits.specs.Truth.{Truth, IsTruthTable, truth_at, quantified_block, IsBeadOfAny}
 use Rattle.std.specs.Prelude.{Contains}
 use Rattle.std.proofs.lemmas.List.Elements.{All-contains}
-use Rattle.bb_bits.specs.TruthLaws.{TableLaws, QuantifierLaws, BeadLaws, SizeLaws}
+use Rattle.bb_bits.specs.Laws.TruthLaws.{TableLaws, QuantifierLaws, BeadLaws, SizeLaws}
 use Rattle.bb_bits.proofs.TruthBits.{length-truth_bits, table_of_bits, bits_fix_table}
 use Rattle.bb_bits.proofs.TruthPoints.{points_fix_table, IsTruthTable-lifted, IsTruthTable-constant, IsTruthTable-variable, IsTruthTable-combined, constant_at_point, variable_at_point, combined_at_point, lifted-suc, lifted_at_point, lifted_same, combined-lifted, variable-lifted}
 use Rattle.bb_bits.proofs.TruthQuantifiers.{IsTruthTable-quantified, quantified_at_point, quantified-earlier, quantified-here, quantified-lifted, block_every, block_some}

@@ -4,9 +4,8 @@ pub mod Contents
 pub mod Earlier
 pub mod Names
 pub mod Numbers
-pub mod Places
-pub mod RowLaws
 pub mod Tables
 pub mod Truth
-pub mod TruthLaws
 pub mod TruthSets
+pub mod Inside
+pub mod Laws

@@ -3,7 +3,7 @@
 ghost use Rattle.std.specs.Prelude.{◌≡◌, ℕ, ◌+◌, ◌*◌, ◌<◌, ◌≤◌, ◌^◌, Bool, List, length, take, drop, slice_set, IfOk, All};
 ghost use Rattle.bb_bits.specs.Numbers.{number_of};
 ghost use Rattle.bb_bits.specs.Tables.{TableBits, IsTable, row_of, table_bit, zero_table};
-ghost use Rattle.bb_bits.specs.RowLaws.{RowsHaveShape, RowsAreChosen, BitsAreChosen, RowsHaveTable, RowsFixTable};
+ghost use Rattle.bb_bits.specs.Laws.RowLaws.{RowsHaveShape, RowsAreChosen, BitsAreChosen, RowsHaveTable, RowsFixTable};
 
 use crate::NoMemory;
 use crate::number::number;

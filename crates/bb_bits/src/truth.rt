@@ -1,7 +1,7 @@
 //! Laws of truth tables and beads. The definitions stand in the specifications; each function here has laws as its contract
 //! and does nothing.
 
-ghost use Rattle.bb_bits.specs.TruthLaws.{TableLaws, QuantifierLaws, BeadLaws, SizeLaws};
+ghost use Rattle.bb_bits.specs.Laws.TruthLaws.{TableLaws, QuantifierLaws, BeadLaws, SizeLaws};
 
 /// Tables, their lists of bits, and their bits at points.
 #[tactic(auto, using(crate::proofs::TruthLaws::table_laws))]

@@ -9,25 +9,25 @@ use Rattle.bb_names.specs.Nets.{net_of, nets_of}
 use Rattle.bb_names.specs.Ranges.{range_width}
 use Rattle.bb_names.specs.Spots.{module_named}
 use Rattle.bb_expr.specs.declared.step.BitStep.TheVariants as steps
-use Rattle.bb_expr.specs.FitLaws.{NetNamesDiffer}
+use Rattle.bb_expr.specs.Laws.FitLaws.{NetNamesDiffer}
 use Rattle.bb_expr.specs.Lowered.{Reads, name_at}
 use Rattle.bb_blast.specs.declared.outline.Outline.{Outline}
 use Rattle.bb_blast.specs.declared.placed.Placed.{Placed}
 use Rattle.bb_design.specs.Hierarchy.{Instance, Design, Scope, instances, instances_of, path_to, scopes}
 use Rattle.bb_design.specs.NetBits.{Bit, same_bit, bits_of_net, scope_bits, net_order}
-use Rattle.bb_blast.specs.Counting.{capped, behind}
-use Rattle.bb_blast.specs.Listing.{Site, inner_first, site_of}
-use Rattle.bb_design.specs.Allowed.{IsBounded}
+use Rattle.bb_blast.specs.Inside.Counting.{capped, behind}
+use Rattle.bb_blast.specs.Inside.Listing.{Site, inner_first, site_of}
+use Rattle.bb_design.specs.Inside.Allowed.{IsBounded}
 use Rattle.bb_design.specs.Refusals.{most_bits}
-use Rattle.bb_blast.specs.Outlines.{IsOutline, net_start}
-use Rattle.bb_blast.specs.Placements.{ArePlaced, IsScopeAt, IsChildAt}
+use Rattle.bb_blast.specs.Inside.Outlines.{IsOutline, net_start}
+use Rattle.bb_blast.specs.Inside.Placements.{ArePlaced, IsScopeAt, IsChildAt}
 use Rattle.bb_bits.specs.Closures.{IsDistinct}
 use Rattle.bb_blast.proofs.CappedNumbers.{capped_small}
 use Rattle.bb_blast.proofs.NetNumbers.{got_run}
 use Rattle.bb_lists.proofs.Places.{got_flat}
 use Rattle.bb_lists.proofs.Zips.{zip_other}
 use Rattle.bb_lists.proofs.Members.{contains_here, contains_there}
-use Rattle.bb_design.specs.DesignLaws.{DesignLaws}
+use Rattle.bb_design.specs.Laws.DesignLaws.{DesignLaws}
 
 -- where a bit stands in a list
 unfoldable pub place_among : List Bit → Bit → ℕ

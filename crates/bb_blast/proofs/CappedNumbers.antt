@@ -3,7 +3,7 @@ use Rattle.std.proofs.Common.{◌≡◌, ℕ, zero, suc, ◌+◌, ◌-◌, ◌<�
 use Rattle.std.specs.Prelude.{min}
 use Rattle.std.specs.List.{range_with_len}
 use Rattle.std.proofs.lemmas.List.Elements.{All-head, All-tail}
-use Rattle.bb_blast.specs.Counting.{capped, behind}
+use Rattle.bb_blast.specs.Inside.Counting.{capped, behind}
 
 min_first : (m a b : ℕ) → min (min a m + b) m ≡ min (a + b) m
 min_first m a b = omega arith

@@ -6,7 +6,7 @@ use Rattle.std.specs.Option.{option_and_then}
 use Rattle.bb_ast.specs.declared.module.Dir.{Dir}
 use Rattle.bb_ast.specs.declared.module.Dir.TheVariants as dirs
 use Rattle.bb_ast.specs.Syntax.{Expression, PlainHead, PlainModule}
-use Rattle.bb_names.specs.Checked.{ModuleFacts, syntax}
+use Rattle.bb_names.specs.Inside.Checked.{ModuleFacts, syntax}
 use Rattle.bb_names.specs.Declarations.{range_of, port_direction}
 use Rattle.bb_names.specs.Faults.{is_input}
 use Rattle.bb_names.specs.Ranges.{range_width}
@@ -18,8 +18,8 @@ use Rattle.bb_design.specs.Contexts.{width_of}
 use Rattle.bb_design.specs.Constructs.{InputConnection, OutputConnection, connection}
 use Rattle.bb_design.specs.Hierarchy.{Instance}
 use Rattle.bb_design.specs.NetBits.{bits_named, written_bits}
-use Rattle.bb_blast.specs.Outlines.{AreBitsIn, IsMadeIn, IsPinIn}
-use Rattle.bb_blast.specs.Outlining.{module_in, IsCallAt, IsPartAt}
+use Rattle.bb_blast.specs.Inside.Outlines.{AreBitsIn, IsMadeIn, IsPinIn}
+use Rattle.bb_blast.specs.Inside.Outlining.{module_in, IsCallAt, IsPartAt}
 
 -- the port of that name and direction, as an instance sees it
 abbrev pub pin_of : PlainModule → List ℕ → Dir → Pin

@@ -3,15 +3,15 @@ use Rattle.std.proofs.Common.{◌≡◌, ℕ, zero, suc, ◌<◌, ◌==◌, Bool
 use Rattle.std.specs.Prelude.{slice_get, slice_set}
 use Rattle.std.specs.Option.{option_map_or}
 use Rattle.std.proofs.lemmas.List.{length-set}
-use Rattle.bb_expr.specs.FitLaws.{NetNamesDiffer}
+use Rattle.bb_expr.specs.Laws.FitLaws.{NetNamesDiffer}
 use Rattle.bb_design.specs.Hierarchy.{Design}
 use Rattle.bb_design.specs.NetBits.{Bit, same_bit, net_order}
-use Rattle.bb_blast.specs.Listing.{Sources, is_open, given_one, given_all, place_or_zero}
-use Rattle.bb_design.specs.Allowed.{IsBounded}
+use Rattle.bb_blast.specs.Inside.Listing.{Sources, is_open, given_one, given_all, place_or_zero}
+use Rattle.bb_design.specs.Inside.Allowed.{IsBounded}
 use Rattle.bb_cells.specs.Places.{Place, Constant, Numbering, Lowering, place_in}
 use Rattle.bb_blast.proofs.BitNumbers.{bit_number, told_apart}
 use Rattle.bb_blast.proofs.ListedParts.{pair}
-use Rattle.bb_design.specs.DesignLaws.{DesignLaws}
+use Rattle.bb_design.specs.Laws.DesignLaws.{DesignLaws}
 
 got-set : {A : Type 0} (xs : List A) (i : ℕ) (v : A) (x : A) → slice_get xs i ≡ Some x → slice_get (slice_set xs i v) i ≡ Some v
 got-set [] i v x e = absurd (grind (arith, e))

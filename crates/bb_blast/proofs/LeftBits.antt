@@ -11,20 +11,20 @@ use Rattle.bb_ast.specs.declared.expr.Expr.{Expr}
 use Rattle.bb_ast.specs.declared.expr.Expr as of
 use Rattle.bb_ast.specs.declared.expr.Expr.TheFolds.{fold_out-Expr}
 use Rattle.bb_ast.specs.declared.expr.Expr.TheVariants.{outs-Net, outs-Bit, outs-Part, outs-Concat}
-use Rattle.bb_ast.specs.FoldLaws.{sees_parts}
+use Rattle.bb_ast.specs.Laws.FoldLaws.{sees_parts}
 use Rattle.bb_ast.specs.Folds.{of_parts}
 use Rattle.bb_ast.specs.Syntax.{Expression, Net, Bit, Part, Concat, listed_parts, PlainModule}
-use Rattle.bb_ast.specs.Views.{layer, expression}
-use Rattle.bb_names.specs.Checked.{ModuleFacts, syntax, HasNets}
+use Rattle.bb_ast.specs.Inside.Views.{layer, expression}
+use Rattle.bb_names.specs.Inside.Checked.{ModuleFacts, syntax, HasNets}
 use Rattle.bb_names.specs.Nets.{nets_of}
 use Rattle.bb_names.specs.Ranges.{range_width}
-use Rattle.bb_expr.specs.Fit.{HasNet, IsFit, AreFit, ranges_in}
-use Rattle.bb_expr.specs.Standing.{gathering, expressions_in}
+use Rattle.bb_expr.specs.Inside.Fit.{HasNet, IsFit, AreFit, ranges_in}
+use Rattle.bb_expr.specs.Inside.Standing.{gathering, expressions_in}
 use Rattle.bb_design.specs.Hierarchy.{Scope}
 use Rattle.bb_design.specs.NetBits.{Bit as NetBit, bits_from, bits_of_net, assigned, written_bits}
-use Rattle.bb_blast.specs.Outlines.{AreBitsIn, net_start}
-use Rattle.bb_bits.specs.Places.{AreAt}
-use Rattle.bb_blast.specs.Outlining.{AreStarts}
+use Rattle.bb_blast.specs.Inside.Outlines.{AreBitsIn, net_start}
+use Rattle.bb_bits.specs.Inside.Places.{AreAt}
+use Rattle.bb_blast.specs.Inside.Outlining.{AreStarts}
 use Rattle.bb_blast.proofs.NetNumbers.{at_both, run_at, net_fits}
 
 module _ (m : ModuleFacts) (starts : List ℕ) (nets : HasNets m) (are : AreStarts m.nets starts) (n : List ℕ) (has : HasNet m n) (k : ℕ) (kept : lookup (same_name n) m.index ≡ Some k) where

@@ -15,9 +15,9 @@ use Rattle.bb_blast.specs.declared.placed.Placed.{Placed}
 use Rattle.bb_design.specs.Hierarchy.{Design, Scope}
 use Rattle.bb_design.specs.NetBits.{Bit}
 use Rattle.bb_design.specs.Constructs.{Construct, BoxContents}
-use Rattle.bb_blast.specs.Counting.{capped, behind}
-use Rattle.bb_blast.specs.Listing.{Sources, Site, Sheet, Terminals, given_one, given_all, constant_place, site_of, with_steps, with_terminals, with_part, with_parts, with_scope}
-use Rattle.bb_blast.specs.Outlines.{IsPartOf}
+use Rattle.bb_blast.specs.Inside.Counting.{capped, behind}
+use Rattle.bb_blast.specs.Inside.Listing.{Sources, Site, Sheet, Terminals, given_one, given_all, constant_place, site_of, with_steps, with_terminals, with_part, with_parts, with_scope}
+use Rattle.bb_blast.specs.Inside.Outlines.{IsPartOf}
 use Rattle.bb_cells.specs.Places.{Place, Constant, Input, NetBit, Step, Joined, Inverted, BoxPin, Numbering, Lowering, Steps, IsLoweringOf, AreSteps, given_at, data_at, places_at}
 use Rattle.bb_blast.proofs.BitNumbers.{bit_number, IsSiteOf}
 use Rattle.bb_blast.proofs.ListedConstructs.{HasInputs, part_puts}

@@ -12,9 +12,9 @@ use Rattle.bb_blast.specs.declared.outline.Outline.{Outline}
 use Rattle.bb_blast.specs.declared.placed.Placed.{Placed}
 use Rattle.bb_design.specs.Hierarchy.{Design, Scope, is_box}
 use Rattle.bb_design.specs.NetBits.{Bit, scope_bits, input_bits, output_bits}
-use Rattle.bb_blast.specs.Counting.{capped, behind}
-use Rattle.bb_blast.specs.Listing.{Boxed, given_one, given_all, in_row, with_pins, with_box}
-use Rattle.bb_bits.specs.Places.{AreAt}
+use Rattle.bb_blast.specs.Inside.Counting.{capped, behind}
+use Rattle.bb_blast.specs.Inside.Listing.{Boxed, given_one, given_all, in_row, with_pins, with_box}
+use Rattle.bb_bits.specs.Inside.Places.{AreAt}
 use Rattle.bb_cells.specs.Places.{Place, NetBit, BoxPin, Numbering, Lowering, given_by_box, box_places, pins_of}
 use Rattle.bb_blast.proofs.BitNumbers.{bit_number}
 use Rattle.bb_blast.proofs.CappedNumbers.{capped_first, capped_small, behind_first, behind_second}

@@ -20,9 +20,9 @@ use Rattle.bb_design.specs.NetBits.{Bit, scope_bits, bits_named, pin_bits, writt
 use Rattle.bb_design.specs.Contexts.{width_of, context_width}
 use Rattle.bb_bits.specs.Bits.{low_bits}
 use Rattle.bb_design.specs.Constructs.{Construct, Assignment, GateInstance, Register, SupplyNet, InputConnection, OutputConnection}
-use Rattle.bb_blast.specs.Counting.{behind}
-use Rattle.bb_blast.specs.Listing.{Site, Sheet, Terminals, given_all, constant_place, with_gate, with_terminals, with_part}
-use Rattle.bb_blast.specs.Outlines.{IsMadeIn, IsPinIn, IsPartOf}
+use Rattle.bb_blast.specs.Inside.Counting.{behind}
+use Rattle.bb_blast.specs.Inside.Listing.{Site, Sheet, Terminals, given_all, constant_place, with_gate, with_terminals, with_part}
+use Rattle.bb_blast.specs.Inside.Outlines.{IsMadeIn, IsPinIn, IsPartOf}
 use Rattle.bb_cells.specs.Places.{Constant, NetBit, Step, Numbering, Lowering, Steps, step_places, terminal_place, gate_place, joining_places, inverting_place, places_at, AreSteps}
 use Rattle.bb_blast.proofs.BitNumbers.{bit_number, IsSiteOf}
 use Rattle.bb_blast.proofs.ListedGates.{GateFits, gate_fits}

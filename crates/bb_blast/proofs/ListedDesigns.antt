@@ -8,7 +8,7 @@ use Rattle.std.proofs.lemmas.List.Sorted.{IsPermutation-refl}
 use Rattle.std.proofs.lemmas.List.Sums.{fold-append}
 use Rattle.std.proofs.lemmas.Slice.Zip.{AllZip-long}
 use Rattle.std.proofs.lemmas.Option.{slice_get_within}
-use Rattle.bb_expr.specs.FitLaws.{NetNamesDiffer}
+use Rattle.bb_expr.specs.Laws.FitLaws.{NetNamesDiffer}
 use Rattle.bb_net.specs.declared.loose.LooseCell.{LooseCell}
 use Rattle.bb_net.specs.declared.loose.LooseCell.TheVariants as cell
 use Rattle.bb_net.specs.Loose.{LooseList}
@@ -18,15 +18,15 @@ use Rattle.bb_blast.specs.declared.stored.Stored.{Stored}
 use Rattle.bb_design.specs.Hierarchy.{Design, Scope, root, boxes, instances, is_box, scopes}
 use Rattle.bb_design.specs.NetBits.{Bit, scope_bits, net_order, input_bits, output_bits, top_inputs, top_outputs}
 use Rattle.bb_design.specs.Constructs.{parts}
-use Rattle.bb_blast.specs.Counting.{capped, behind}
-use Rattle.bb_blast.specs.Listing.{Sources, Sheet, Boxed, given_one, given_all, place_or_zero, in_row, constant_place, bit_count, input_numbers, boxed_in, sheet_on, cells_before, outs_of, finished, first_sources, listed_on, listed}
-use Rattle.bb_design.specs.Allowed.{IsBounded}
+use Rattle.bb_blast.specs.Inside.Counting.{capped, behind}
+use Rattle.bb_blast.specs.Inside.Listing.{Sources, Sheet, Boxed, given_one, given_all, place_or_zero, in_row, constant_place, bit_count, input_numbers, boxed_in, sheet_on, cells_before, outs_of, finished, first_sources, listed_on, listed}
+use Rattle.bb_design.specs.Inside.Allowed.{IsBounded}
 use Rattle.bb_design.specs.Refusals.{most_bits, most_cells}
 use Rattle.bb_design.specs.Sizes.{cells_in as cells_in_design}
-use Rattle.bb_blast.specs.Outlines.{IsOutline}
-use Rattle.bb_blast.specs.Placements.{ArePlaced, AreOutlined, AreStored, IsStoredAt}
+use Rattle.bb_blast.specs.Inside.Outlines.{IsOutline}
+use Rattle.bb_blast.specs.Inside.Placements.{ArePlaced, AreOutlined, AreStored, IsStoredAt}
 use Rattle.bb_cells.specs.Places.{Place, Constant, Input, NetBit, BoxPin, Numbering, Lowering, IsLowering, given_at, given_by_box, given, data_at, data_places, place_in, box_places, places_at, front_places, operator_places, places, IsListOf}
-use Rattle.bb_cells.specs.ListLaws.{PlacesAreFew}
+use Rattle.bb_cells.specs.Laws.ListLaws.{PlacesAreFew}
 use Rattle.bb_design.specs.Registers.{RegisterBit, registers, cut_bits}
 use Rattle.bb_blast.proofs.BitNumbers.{bit_number, numbered, number_small, held_bits}
 use Rattle.bb_blast.proofs.CappedNumbers.{capped_small, behind_second, row_small}
@@ -41,7 +41,7 @@ use Rattle.bb_blast.proofs.ListedParts.{numbers_are, Puts, pair}
 use Rattle.bb_blast.proofs.ListedScopes.{has_inputs, blocks_are, boxes_are, counted}
 use Rattle.bb_blast.proofs.PlacesInRow.{Entry, AreInRow, both_rows, cells_in, rows_same, moved_row, row_of, same_zipped, cells_stand, map-same}
 use Rattle.bb_lists.proofs.Maps.{same_by_places, map-twice}
-use Rattle.bb_design.specs.DesignLaws.{DesignLaws}
+use Rattle.bb_design.specs.Laws.DesignLaws.{DesignLaws}
 
 -- sums of what a small design has
 below_both : (a b top n m : ℕ) → n ≤ a → m ≤ b → a + b < top → n + m < top

@@ -6,8 +6,8 @@ use Rattle.bb_ast.specs.declared.module.Gate.{Gate}
 use Rattle.bb_net.specs.declared.loose.LooseCell.{LooseCell}
 use Rattle.bb_net.specs.declared.loose.LooseCell.TheVariants as cell
 use Rattle.bb_design.specs.GateFunctions.{inverts}
-use Rattle.bb_blast.specs.Counting.{capped, behind}
-use Rattle.bb_blast.specs.Listing.{Joining, joined_to, joined, inverted}
+use Rattle.bb_blast.specs.Inside.Counting.{capped, behind}
+use Rattle.bb_blast.specs.Inside.Listing.{Joining, joined_to, joined, inverted}
 use Rattle.bb_cells.specs.Places.{Place, Joined, Inverted, Numbering, Lowering, joined_place, terminal_place, gate_place, join_cell, joining_places, inverting_place}
 use Rattle.bb_lists.proofs.Ranges.{length-range}
 use Rattle.bb_blast.proofs.PlacesInRow.{Entry, AreInRow, both_rows, no_row, one_row, cells_in}

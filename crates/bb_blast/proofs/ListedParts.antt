@@ -18,10 +18,10 @@ use Rattle.bb_design.specs.Hierarchy.{Design, Scope, path_to}
 use Rattle.bb_design.specs.NetBits.{Bit, scope_bits, pin_bits}
 use Rattle.bb_bits.specs.Bits.{low_bits}
 use Rattle.bb_design.specs.Constructs.{Construct}
-use Rattle.bb_blast.specs.Counting.{capped, behind}
-use Rattle.bb_blast.specs.Listing.{Site, Sheet, given_all, beside, all_given_by, constant_place, net_bit_place, with_steps, bit_places, with_terminals}
-use Rattle.bb_blast.specs.Outlines.{AreBitsIn, IsPinIn}
-use Rattle.bb_bits.specs.Places.{AreAt}
+use Rattle.bb_blast.specs.Inside.Counting.{capped, behind}
+use Rattle.bb_blast.specs.Inside.Listing.{Site, Sheet, given_all, beside, all_given_by, constant_place, net_bit_place, with_steps, bit_places, with_terminals}
+use Rattle.bb_blast.specs.Inside.Outlines.{AreBitsIn, IsPinIn}
+use Rattle.bb_bits.specs.Inside.Places.{AreAt}
 use Rattle.bb_cells.specs.Places.{Place, Constant, NetBit, Step, Joined, Inverted, Numbering, Lowering, Steps, IsLoweringOf, IsStepAt, AreSteps, step_places, step_cells, net_place, given_at, data_at, places_at}
 use Rattle.bb_lists.proofs.LowBits.{low-map}
 use Rattle.bb_blast.proofs.BitNumbers.{bit_number, IsSiteOf}

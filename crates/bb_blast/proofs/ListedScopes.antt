@@ -4,24 +4,24 @@ use Rattle.std.specs.Prelude.{slice_get}
 use Rattle.std.specs.List.{AllZip, fold}
 use Rattle.std.specs.Option.{option_map_or}
 use Rattle.bb_names.specs.Nets.{nets_of}
-use Rattle.bb_expr.specs.FitLaws.{NetNamesDiffer}
+use Rattle.bb_expr.specs.Laws.FitLaws.{NetNamesDiffer}
 use Rattle.bb_blast.specs.declared.outline.Outline.{Outline}
 use Rattle.bb_blast.specs.declared.placed.Placed.{Placed}
 use Rattle.bb_design.specs.Hierarchy.{Design, Scope, scopes}
 use Rattle.bb_design.specs.NetBits.{Bit, scope_bits, net_order}
 use Rattle.bb_design.specs.Constructs.{Construct, GateInstance, BoxContents, body_constructs, constructs_at, parts}
-use Rattle.bb_blast.specs.Counting.{behind}
-use Rattle.bb_blast.specs.Listing.{bit_count, site_of}
-use Rattle.bb_design.specs.Allowed.{IsBounded}
-use Rattle.bb_blast.specs.Outlines.{IsOutline, IsPartOf}
-use Rattle.bb_blast.specs.Placements.{ArePlaced, AreOutlined, IsScopeAt}
+use Rattle.bb_blast.specs.Inside.Counting.{behind}
+use Rattle.bb_blast.specs.Inside.Listing.{bit_count, site_of}
+use Rattle.bb_design.specs.Inside.Allowed.{IsBounded}
+use Rattle.bb_blast.specs.Inside.Outlines.{IsOutline, IsPartOf}
+use Rattle.bb_blast.specs.Inside.Placements.{ArePlaced, AreOutlined, IsScopeAt}
 use Rattle.bb_cells.specs.Places.{NetBit, Numbering, Lowering}
 use Rattle.bb_blast.proofs.BitNumbers.{bit_number, held_bits, site_is}
 use Rattle.bb_blast.proofs.ListedBlocks.{nowhere, blocks_in, blocks_of, IsBlockOf}
 use Rattle.bb_blast.proofs.ListedBoxes.{IsBoxedSo}
 use Rattle.bb_blast.proofs.ListedConstructs.{HasInputs}
 use Rattle.bb_lists.proofs.Zips.{zip_append}
-use Rattle.bb_design.specs.DesignLaws.{DesignLaws}
+use Rattle.bb_design.specs.Laws.DesignLaws.{DesignLaws}
 
 zip_flat : {A B C D : Type 0} (R : C → D → Type 0) (f : A → List C) (g : B → List D) (xs : List A) (ys : List B) → length xs ≡ length ys → ((i : ℕ) (x : A) (y : B) → slice_get xs i ≡ Some x → slice_get ys i ≡ Some y → AllZip R (f x) (g y))
     → AllZip R (flat_map f xs) (flat_map g ys)

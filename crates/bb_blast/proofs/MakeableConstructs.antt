@@ -6,33 +6,33 @@ use Rattle.std.specs.Option.{option_and_then}
 use Rattle.std.proofs.lemmas.Bool.Decides.{nat_tests}
 use Rattle.std.proofs.lemmas.List.Elements.{All-contains, All-take, All-drop, Contains-append_left, Contains-append_right}
 use Rattle.bb_ast.specs.declared.module.Range.{Range}
-use Rattle.bb_ast.specs.Formed.{IsFormed, IsNetOrBit}
+use Rattle.bb_ast.specs.Inside.Formed.{IsFormed, IsNetOrBit}
 use Rattle.bb_ast.specs.Gates.{output_count}
 use Rattle.bb_ast.specs.Syntax.{Expression, Net, Bit, Part, Sized, Plain, Not, Chain, Cond, Concat, Repeat, PlainConns, Order, Named, PlainAlways, PlainBody, Ports, Nets, Regs, Supply, Assign, Gates, Calls, Always, PlainItem, PlainModule}
 use Rattle.bb_names.specs.declared.net.NetKind.TheVariants.{Wire}
 use Rattle.bb_names.specs.declared.fault.NameFault.TheVariants as name_faults
-use Rattle.bb_names.specs.Checked.{ModuleFacts, syntax, IsChecked}
+use Rattle.bb_names.specs.Inside.Checked.{ModuleFacts, syntax, IsChecked}
 use Rattle.bb_names.specs.Declarations.{Declaration, declarations, declared_by, declared_by_head, net_declaration, supply_kind, range_of}
 use Rattle.bb_names.specs.Faults.{is_input, wrong_width, widest}
 use Rattle.bb_names.specs.Ranges.{range_width}
 use Rattle.bb_names.specs.Spots.{Pin, Spot, Declared, Clock, Read, Stored, declared_spots, item_spots, initial_spots, spots_in, module_named, pin_named, pin_at}
 use Rattle.bb_bits.specs.Earlier.{each_from}
-use Rattle.bb_expr.specs.Fit.{AreFit, IsFit}
-use Rattle.bb_expr.specs.FitLaws.{StandingIsFit}
-use Rattle.bb_expr.specs.Standing.{item_expressions, conns_expressions, StandsAt}
+use Rattle.bb_expr.specs.Inside.Fit.{AreFit, IsFit}
+use Rattle.bb_expr.specs.Laws.FitLaws.{StandingIsFit}
+use Rattle.bb_expr.specs.Inside.Standing.{item_expressions, conns_expressions, StandsAt}
 use Rattle.bb_design.specs.Constructs.{Construct, Assignment, Register, SupplyNet, InputConnection, OutputConnection, initial_construct, gate_construct, connection, connections, body_constructs}
 use Rattle.bb_design.specs.NetBits.{written_bits, Bit as NetBit}
-use Rattle.bb_blast.specs.Outlining.{module_in, scope_of, module_constructs, FitsAt, IsClockAt, Fits, IsMakeable, IsModest}
+use Rattle.bb_blast.specs.Inside.Outlining.{module_in, scope_of, module_constructs, FitsAt, IsClockAt, Fits, IsMakeable, IsModest}
 use Rattle.bb_lists.proofs.Places.{there_at, got-map}
 use Rattle.bb_lists.proofs.Members.{all_from, each_of, from_flat, from_map, contains-map, into_flat, contains_here, contains_there, contains_cases, none_in_nil, none_if}
 use Rattle.bb_blast.proofs.ModuleItems.{item_stands}
 use Rattle.bb_blast.proofs.ModulePlaces.{module-is, has_nets}
 use Rattle.bb_blast.proofs.RegisterItems.{HasClock, formed_clock}
 use Rattle.bb_blast.proofs.PortNets.{named_has}
-use Rattle.bb_design.specs.SoundSpots.{IsSoundSpot}
+use Rattle.bb_design.specs.Laws.SoundSpots.{IsSoundSpot}
 use Rattle.bb_lists.proofs.Numbered.{from_numbered}
 use Rattle.bb_lists.proofs.Ranges.{length-run}
-use Rattle.bb_design.specs.DesignLaws.{DesignLaws}
+use Rattle.bb_design.specs.Laws.DesignLaws.{DesignLaws}
 
 at_most : (a b : ℕ) → nat_lt a b ≡ false → b ≤ a
 at_most a b h = grind (arith, nat_tests, h)

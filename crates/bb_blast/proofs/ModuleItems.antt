@@ -5,10 +5,10 @@ use Rattle.std.specs.List.{flat_map, slice_index_or}
 use Rattle.std.proofs.lemmas.List.Folds.{length-flat_map-take}
 use Rattle.std.proofs.lemmas.Option.{slice_get_within, get_or_from_slice_get}
 use Rattle.bb_ast.specs.Syntax.{PlainItem, PlainModule}
-use Rattle.bb_names.specs.Checked.{ModuleFacts, syntax}
-use Rattle.bb_expr.specs.Standing.{expressions_in, item_expressions, StandsIn, StandsAt}
+use Rattle.bb_names.specs.Inside.Checked.{ModuleFacts, syntax}
+use Rattle.bb_expr.specs.Inside.Standing.{expressions_in, item_expressions, StandsIn, StandsAt}
 use Rattle.bb_design.specs.Hierarchy.{instances_in}
-use Rattle.bb_blast.specs.Outlining.{IsCallAt, AreCallsAt, module_in}
+use Rattle.bb_blast.specs.Inside.Outlining.{IsCallAt, AreCallsAt, module_in}
 use Rattle.bb_lists.proofs.Members.{all_from, into_flat, contains_here}
 use Rattle.bb_blast.proofs.ModulePlaces.{module-is}
 use Rattle.bb_lists.proofs.Places.{got_flat}

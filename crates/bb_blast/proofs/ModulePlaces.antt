@@ -4,24 +4,24 @@ use Rattle.std.specs.Prelude.{IsSomeAnd, max, slice_get}
 use Rattle.std.specs.Option.{option_and_then, option_map_or}
 use Rattle.std.proofs.lemmas.Option.{slice_get_within, get_or_from_slice_get}
 use Rattle.bb_ast.specs.Syntax.{Expression, PlainModule}
-use Rattle.bb_names.specs.Checked.{ModuleFacts, syntax, HasNets, IsChecked}
+use Rattle.bb_names.specs.Inside.Checked.{ModuleFacts, syntax, HasNets, IsChecked}
 use Rattle.bb_names.specs.Declarations.{range_of}
 use Rattle.bb_names.specs.Faults.{widest}
 use Rattle.bb_names.specs.Nets.{nets_of}
 use Rattle.bb_names.specs.Widths.{Ranges, own_width}
 use Rattle.bb_expr.specs.declared.step.Lowered.{Lowered}
 use Rattle.bb_expr.specs.Cells.{made, cell_count}
-use Rattle.bb_expr.specs.Fit.{AreFit}
-use Rattle.bb_expr.specs.FitLaws.{StandingIsFit}
+use Rattle.bb_expr.specs.Inside.Fit.{AreFit}
+use Rattle.bb_expr.specs.Laws.FitLaws.{StandingIsFit}
 use Rattle.bb_expr.specs.Laws.{CellsAreCounted}
 use Rattle.bb_expr.specs.Lowered.{IsLowered}
-use Rattle.bb_expr.specs.Standing.{StandsAt, nets_at, ranges_at}
+use Rattle.bb_expr.specs.Inside.Standing.{StandsAt, nets_at, ranges_at}
 use Rattle.bb_design.specs.Hierarchy.{Scope}
 use Rattle.bb_design.specs.NetBits.{Bit, scope_bits}
 use Rattle.bb_design.specs.Contexts.{width_of, context_width}
-use Rattle.bb_blast.specs.Outlines.{AreBitsIn, IsMadeIn}
-use Rattle.bb_bits.specs.Places.{AreAt}
-use Rattle.bb_blast.specs.Outlining.{module_in, scope_of}
+use Rattle.bb_blast.specs.Inside.Outlines.{AreBitsIn, IsMadeIn}
+use Rattle.bb_bits.specs.Inside.Places.{AreAt}
+use Rattle.bb_blast.specs.Inside.Outlining.{module_in, scope_of}
 use Rattle.bb_blast.proofs.LeftBits.{fit_here}
 
 pub some_and : {A : Type 0} (P : A → Type 0) (o : Option A) → IsSomeAnd o P → (x : A) × (o ≡ Some x) × P x

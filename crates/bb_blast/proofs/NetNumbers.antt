@@ -12,9 +12,9 @@ use Rattle.bb_names.specs.declared.net.NetInfo.{NetInfo}
 use Rattle.bb_names.specs.Ranges.{range_width}
 use Rattle.bb_design.specs.Hierarchy.{Path}
 use Rattle.bb_design.specs.NetBits.{Bit, bits_from, bits_of_net}
-use Rattle.bb_blast.specs.Outlines.{net_start}
-use Rattle.bb_bits.specs.Places.{AreAt}
-use Rattle.bb_blast.specs.Outlining.{AreStarts, bit_count}
+use Rattle.bb_blast.specs.Inside.Outlines.{net_start}
+use Rattle.bb_bits.specs.Inside.Places.{AreAt}
+use Rattle.bb_blast.specs.Inside.Outlining.{AreStarts, bit_count}
 use Rattle.bb_lists.proofs.Orders.{less_or_same}
 use Rattle.bb_lists.proofs.Places.{got_flat, got_left, got_right}
 

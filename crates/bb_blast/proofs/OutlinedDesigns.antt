@@ -7,9 +7,9 @@ use Rattle.std.proofs.lemmas.List.Folds.{length-flat_map-take}
 use Rattle.std.proofs.lemmas.List.Sums.{get_or-le-sum_by, sum_by-cons}
 use Rattle.std.proofs.lemmas.Option.{slice_get_within, get_or_from_slice_get, same_Some}
 use Rattle.std.proofs.lemmas.Slice.Zip.{AllZip-long}
-use Rattle.bb_ast.specs.Sizes.{call_size, item_size, module_size, source_size}
+use Rattle.bb_ast.specs.Inside.Sizes.{call_size, item_size, module_size, source_size}
 use Rattle.bb_ast.specs.Syntax.{Expression, PlainConns, PlainBody, Ports, Nets, Regs, Supply, Assign, Gates, Calls, Always, PlainItem, PlainModule}
-use Rattle.bb_names.specs.Checked.{ModuleFacts, syntax, IsChecked}
+use Rattle.bb_names.specs.Inside.Checked.{ModuleFacts, syntax, IsChecked}
 use Rattle.bb_names.specs.Declarations.{is_port}
 use Rattle.bb_names.specs.Nets.{nets_of, is_of_empty, is_empty}
 use Rattle.bb_names.specs.Spots.{module_named}
@@ -17,8 +17,8 @@ use Rattle.bb_blast.specs.declared.placed.Placed.{Placed}
 use Rattle.bb_design.specs.Constructs.{Construct, Assignment, GateInstance, Register, SupplyNet, InputConnection, OutputConnection, BoxContents, initial_construct, body_constructs, constructs_at, parts}
 use Rattle.bb_design.specs.Hierarchy.{Design, Scope, Instance, instance_of, instances_in, instances_of, scopes, path_to, is_top, is_box}
 use Rattle.bb_design.specs.NetBits.{scope_bits}
-use Rattle.bb_blast.specs.Outlining.{module_in, scope_of, module_constructs, bit_count, IsTargetAt, IsSited}
-use Rattle.bb_blast.specs.Placements.{IsScopeAt, IsPlacedAt, IsChildAt, ArePlaced}
+use Rattle.bb_blast.specs.Inside.Outlining.{module_in, scope_of, module_constructs, bit_count, IsTargetAt, IsSited}
+use Rattle.bb_blast.specs.Inside.Placements.{IsScopeAt, IsPlacedAt, IsChildAt, ArePlaced}
 use Rattle.bb_design.specs.Reading.{cells_at}
 use Rattle.bb_design.specs.Refusals.{IsSmall}
 use Rattle.bb_design.specs.Sizes.{cell_count_at, cells_in, bits_and_instances}

@@ -7,7 +7,7 @@ use Rattle.std.proofs.lemmas.List.FromFn.{get_or-range_with_len}
 use Rattle.bb_net.specs.declared.loose.LooseCell.{LooseCell}
 use Rattle.bb_net.specs.declared.loose.LooseCell.TheVariants as cell
 use Rattle.bb_net.specs.Loose.{LooseList, loose_at}
-use Rattle.bb_blast.specs.Counting.{capped, behind}
+use Rattle.bb_blast.specs.Inside.Counting.{capped, behind}
 use Rattle.bb_cells.specs.Places.{Place, Numbering}
 
 pub map-same : {A B : Type 0} (f g : A → B) → ((x : A) → f x ≡ g x) → (xs : List A) → map f xs ≡ map g xs

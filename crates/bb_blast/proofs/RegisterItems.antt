@@ -4,7 +4,7 @@ use Rattle.std.specs.List.{flat_map, list_all}
 use Rattle.bb_ast.specs.declared.module.Range.{Range}
 use Rattle.bb_ast.specs.Assignable.{assigning, is_assignable}
 use Rattle.bb_ast.specs.Folds.{of_parts}
-use Rattle.bb_ast.specs.Formed.{IsFormedExpression, IsFormedBody, IsFormed, IsNetOrBit}
+use Rattle.bb_ast.specs.Inside.Formed.{IsFormedExpression, IsFormedBody, IsFormed, IsNetOrBit}
 use Rattle.bb_ast.specs.Syntax.{Expression, Net, Bit, Part, Sized, Plain, Not, Chain, Cond, Concat, Repeat, no_part, part, PlainBody, Ports, Nets, Regs, Supply, Assign, Gates, Calls, Always, PlainItem, PlainModule}
 use Rattle.bb_names.specs.Declarations.{range_of}
 use Rattle.bb_names.specs.Ranges.{distance, range_width, place_of}
@@ -12,7 +12,7 @@ use Rattle.bb_design.specs.Hierarchy.{Scope}
 use Rattle.bb_design.specs.NetBits.{assigned, written_bits, Bit as NetBit}
 use Rattle.bb_lists.proofs.Members.{each_of}
 use Rattle.bb_lists.proofs.Ranges.{length-run}
-use Rattle.bb_blast.specs.ModuleLaws.{LeftHasBits, HasBits}
+use Rattle.bb_blast.specs.Laws.ModuleLaws.{LeftHasBits, HasBits}
 
 abbrev pub HasClock : PlainBody → Type 0
 HasClock (Always r) = IsNetOrBit r.clock

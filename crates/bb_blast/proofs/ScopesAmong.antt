@@ -19,13 +19,13 @@ use Rattle.bb_blast.specs.declared.placed.Placed.{Placed}
 use Rattle.bb_design.specs.Hierarchy.{Design, Scope, instances_of, root, scopes}
 use Rattle.bb_design.specs.Contexts.{width_of, context_width}
 use Rattle.bb_design.specs.Constructs.{Construct, Assignment, GateInstance, Register, SupplyNet, InputConnection, OutputConnection, BoxContents, body_constructs, constructs_at, parts}
-use Rattle.bb_blast.specs.Listing.{IsNetBelow, HasNetsBelow, IsInputAmong, IsPartAmong, IsScopeAmong}
-use Rattle.bb_design.specs.Allowed.{IsBounded}
-use Rattle.bb_blast.specs.Outlines.{IsMadeIn, IsPartOf, IsOutline}
-use Rattle.bb_blast.specs.Placements.{ArePlaced, AreOutlined, IsScopeAt, IsChildAt}
+use Rattle.bb_blast.specs.Inside.Listing.{IsNetBelow, HasNetsBelow, IsInputAmong, IsPartAmong, IsScopeAmong}
+use Rattle.bb_design.specs.Inside.Allowed.{IsBounded}
+use Rattle.bb_blast.specs.Inside.Outlines.{IsMadeIn, IsPartOf, IsOutline}
+use Rattle.bb_blast.specs.Inside.Placements.{ArePlaced, AreOutlined, IsScopeAt, IsChildAt}
 use Rattle.bb_lists.proofs.Places.{there_at}
 use Rattle.bb_lists.proofs.Members.{contains-map, into_flat, contains_here, contains_there}
-use Rattle.bb_design.specs.DesignLaws.{DesignLaws}
+use Rattle.bb_design.specs.Laws.DesignLaws.{DesignLaws}
 
 -- what holds of elements beside others
 all_zipped : {A B : Type 0} (R : A → B → Type 0) (P : A → Type 0) (xs : List A) (ys : List B) → AllZip R xs ys → ((x : A) (y : B) → Contains ys y → R x y → P x) → All P xs

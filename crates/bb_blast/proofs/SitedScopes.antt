@@ -7,11 +7,11 @@ use Rattle.std.proofs.lemmas.List.{length-map}
 use Rattle.std.proofs.lemmas.List.Elements.{All-from_recursion}
 use Rattle.std.proofs.lemmas.Option.{slice_get_within, get_or_from_slice_get, MatchOption-at_some}
 use Rattle.std.proofs.lemmas.Slice.Zip.{AllZip-long, AllZip-right}
-use Rattle.bb_names.specs.Checked.{ModuleFacts, syntax}
+use Rattle.bb_names.specs.Inside.Checked.{ModuleFacts, syntax}
 use Rattle.bb_names.specs.Spots.{module_named}
 use Rattle.bb_blast.specs.declared.placed.Placed.{Placed}
 use Rattle.bb_design.specs.Hierarchy.{Instance, instances_of}
-use Rattle.bb_blast.specs.Outlining.{module_in, module_number, IsStarted, AreCallsAt, IsTargetAt}
+use Rattle.bb_blast.specs.Inside.Outlining.{module_in, module_number, IsStarted, AreCallsAt, IsTargetAt}
 use Rattle.bb_lists.proofs.Places.{got-map}
 use Rattle.bb_blast.proofs.ModulePlaces.{some_and}
 

@@ -1,6 +1,2 @@
-pub mod Counting
-pub mod Listing
-pub mod ModuleLaws
-pub mod Outlines
-pub mod Outlining
-pub mod Placements
+pub mod Inside
+pub mod Laws

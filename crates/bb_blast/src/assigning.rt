@@ -3,11 +3,11 @@
 ghost use Rattle.std.specs.Prelude.{◌++◌, List, All, map, IfOk, OnOk};
 ghost use Rattle.std.specs.List.{AllZip, flat_map};
 ghost use Rattle.bb_ast.specs.Syntax.{Net};
-ghost use Rattle.bb_ast.specs.Views.{expression, always_view, arm_view, named_view};
+ghost use Rattle.bb_ast.specs.Inside.Views.{expression, always_view, arm_view, named_view};
 ghost use Rattle.bb_names.specs.Nets.{nets_of};
-ghost use Rattle.bb_expr.specs.Standing.{StandsAt};
+ghost use Rattle.bb_expr.specs.Inside.Standing.{StandsAt};
 ghost use Rattle.bb_design.specs.Constructs.{Construct, Assignment, Register, SupplyNet, initial_construct};
-ghost use Rattle.bb_blast.specs.Outlining.{AreStarts, IsMakeable, IsPartAt, module_in};
+ghost use Rattle.bb_blast.specs.Inside.Outlining.{AreStarts, IsMakeable, IsPartAt, module_in};
 
 use crate::expression_steps::{scope_at, steps_beside};
 use crate::left_bits::{left_bits, net_bits};

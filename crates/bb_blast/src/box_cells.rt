@@ -3,8 +3,8 @@
 ghost use Rattle.std.specs.Prelude.{◌<◌, All, ◌≡◌, ◌+◌, ◌^◌, ◌++◌, length, map, Some, IfOk, OnOk};
 ghost use Rattle.std.specs.List.{fold, range_with_len};
 ghost use Rattle.bb_net.specs.declared.loose.LooseCell.TheVariants as cell;
-ghost use Rattle.bb_blast.specs.Counting.{capped, behind};
-ghost use Rattle.bb_blast.specs.Listing.{boxed_view, with_pins, with_box};
+ghost use Rattle.bb_blast.specs.Inside.Counting.{capped, behind};
+ghost use Rattle.bb_blast.specs.Inside.Listing.{boxed_view, with_pins, with_box};
 
 use crate::outline::Outline;
 use crate::part_cells::outline_of;

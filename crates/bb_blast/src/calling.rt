@@ -3,12 +3,12 @@
 ghost use Rattle.std.specs.Prelude.{◌≡◌, ◌<◌, ◌+◌, ◌++◌, ◌^◌, ℕ, List, All, length, map, option_to_list, Some, IfOk, OnOk};
 ghost use Rattle.std.specs.List.{AllZip, flat_map};
 ghost use Rattle.bb_ast.specs.Syntax.{Order, Named};
-ghost use Rattle.bb_ast.specs.Views.{optional_view, named_view, conns_view, call_view};
-ghost use Rattle.bb_names.specs.Checked.{syntax};
+ghost use Rattle.bb_ast.specs.Inside.Views.{optional_view, named_view, conns_view, call_view};
+ghost use Rattle.bb_names.specs.Inside.Checked.{syntax};
 ghost use Rattle.bb_names.specs.Spots.{module_named, pin_at};
 ghost use Rattle.bb_design.specs.Constructs.{Construct, connection, connections};
 ghost use Rattle.bb_design.specs.Hierarchy.{Instance, instance_of};
-ghost use Rattle.bb_blast.specs.Outlining.{IsStarted, IsCallAt, AreCallsAt, IsMakeable, IsPartAt, module_in};
+ghost use Rattle.bb_blast.specs.Inside.Outlining.{IsStarted, IsCallAt, AreCallsAt, IsMakeable, IsPartAt, module_in};
 
 use crate::connecting::connected;
 use crate::expression_steps::scope_at;

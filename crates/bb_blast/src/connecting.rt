@@ -2,14 +2,14 @@
 
 ghost use Rattle.std.specs.Prelude.{◌≡◌, ◌<◌, ℕ, List, All, None, map, option_to_list, Some, IfOk, IfSome};
 ghost use Rattle.std.specs.List.{AllZip};
-ghost use Rattle.bb_ast.specs.Views.{optional_view};
-ghost use Rattle.bb_names.specs.Checked.{module_facts, syntax, HasNets};
+ghost use Rattle.bb_ast.specs.Inside.Views.{optional_view};
+ghost use Rattle.bb_names.specs.Inside.Checked.{module_facts, syntax, HasNets};
 ghost use Rattle.bb_names.specs.Declarations.{port_direction};
 ghost use Rattle.bb_names.specs.Spots.{pin_named};
-ghost use Rattle.bb_expr.specs.Fit.{HasNet};
+ghost use Rattle.bb_expr.specs.Inside.Fit.{HasNet};
 ghost use Rattle.bb_design.specs.Constructs.{connection, connections};
 ghost use Rattle.bb_design.specs.Hierarchy.{Instance};
-ghost use Rattle.bb_blast.specs.Outlining.{IsStarted, IsCallAt, IsMakeable, IsPartAt, module_in};
+ghost use Rattle.bb_blast.specs.Inside.Outlining.{IsStarted, IsCallAt, IsMakeable, IsPartAt, module_in};
 
 use crate::expression_steps::{scope_at, steps_alone};
 use crate::left_bits::{left_bits, net_bits};

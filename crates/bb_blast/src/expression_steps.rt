@@ -1,12 +1,12 @@
 //! The expressions of a module as steps on bits, at the widths that their contexts ask for.
 
 ghost use Rattle.std.specs.Prelude.{◌≡◌, ◌≤◌, ◌<◌, max, length, Some, slice_get, IfOk};
-ghost use Rattle.bb_ast.specs.Views.{expression};
-ghost use Rattle.bb_names.specs.Checked.{module_facts, syntax, HasNets, IsChecked};
-ghost use Rattle.bb_expr.specs.Standing.{StandsAt};
+ghost use Rattle.bb_ast.specs.Inside.Views.{expression};
+ghost use Rattle.bb_names.specs.Inside.Checked.{module_facts, syntax, HasNets, IsChecked};
+ghost use Rattle.bb_expr.specs.Inside.Standing.{StandsAt};
 ghost use Rattle.bb_design.specs.Contexts.{width_of, made_in};
-ghost use Rattle.bb_blast.specs.Outlines.{IsMadeIn};
-ghost use Rattle.bb_blast.specs.Outlining.{module_in, scope_of};
+ghost use Rattle.bb_blast.specs.Inside.Outlines.{IsMadeIn};
+ghost use Rattle.bb_blast.specs.Inside.Outlining.{module_in, scope_of};
 
 use bb_ast::Expr;
 use bb_bits::NoMemory;

@@ -5,7 +5,7 @@
 ghost use Rattle.std.specs.Prelude.{◌≡◌, ◌<◌, All, length, slice_index, IfOk, OnOk};
 ghost use Rattle.bb_design.specs.GateFunctions.{inverts};
 ghost use Rattle.bb_cells.specs.Places.{join_cell};
-ghost use Rattle.bb_blast.specs.Listing.{IsInputAmong, with_terminals, joined, inverted, with_gate};
+ghost use Rattle.bb_blast.specs.Inside.Listing.{IsInputAmong, with_terminals, joined, inverted, with_gate};
 
 use crate::sources::next_place;
 use crate::step_cells::{Spot, add_steps, number_at};

@@ -3,13 +3,13 @@
 ghost use Rattle.std.specs.Prelude.{◌≡◌, ◌≤◌, ◌<◌, ◌++◌, List, All, length, map, min, IfOk, OnOk};
 ghost use Rattle.std.specs.List.{AllZip};
 ghost use Rattle.bb_ast.specs.Gates.{output_count};
-ghost use Rattle.bb_ast.specs.Views.{expression, gate_view};
+ghost use Rattle.bb_ast.specs.Inside.Views.{expression, gate_view};
 ghost use Rattle.bb_names.specs.Nets.{nets_of};
-ghost use Rattle.bb_expr.specs.Standing.{StandsAt};
+ghost use Rattle.bb_expr.specs.Inside.Standing.{StandsAt};
 ghost use Rattle.bb_design.specs.Contexts.{width_of, made_in};
 ghost use Rattle.bb_design.specs.Constructs.{Construct, gate_construct};
-ghost use Rattle.bb_blast.specs.Outlines.{IsMadeIn};
-ghost use Rattle.bb_blast.specs.Outlining.{AreStarts, IsMakeable, IsPartAt, module_in, scope_of};
+ghost use Rattle.bb_blast.specs.Inside.Outlines.{IsMadeIn};
+ghost use Rattle.bb_blast.specs.Inside.Outlining.{AreStarts, IsMakeable, IsPartAt, module_in, scope_of};
 
 use crate::expression_steps::{scope_at, steps_alone};
 use crate::left_bits::lefts_bits;

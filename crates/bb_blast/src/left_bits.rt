@@ -4,14 +4,14 @@ ghost use Rattle.std.specs.Prelude.{◌≡◌, ◌≤◌, ◌+◌, ◌++◌, Lis
 ghost use Rattle.std.specs.List.{flat_map};
 ghost use Rattle.std.specs.Map.{lookup};
 ghost use Rattle.bb_bits.specs.Names.{same_name};
-ghost use Rattle.bb_ast.specs.Views.{expression};
-ghost use Rattle.bb_names.specs.Checked.{module_facts, syntax, HasNets};
+ghost use Rattle.bb_ast.specs.Inside.Views.{expression};
+ghost use Rattle.bb_names.specs.Inside.Checked.{module_facts, syntax, HasNets};
 ghost use Rattle.bb_names.specs.Ranges.{range_width, place_of, has_bits, distance};
-ghost use Rattle.bb_expr.specs.Fit.{HasNet, AreFit, ranges_in};
+ghost use Rattle.bb_expr.specs.Inside.Fit.{HasNet, AreFit, ranges_in};
 ghost use Rattle.bb_design.specs.Hierarchy.{Scope};
 ghost use Rattle.bb_design.specs.NetBits.{Bit, bits_from, bits_named, written_bits};
-ghost use Rattle.bb_blast.specs.Outlines.{AreBitsIn};
-ghost use Rattle.bb_blast.specs.Outlining.{AreStarts};
+ghost use Rattle.bb_blast.specs.Inside.Outlines.{AreBitsIn};
+ghost use Rattle.bb_blast.specs.Inside.Outlining.{AreStarts};
 
 use crate::net_starts::{add_run, range_width};
 use bb_ast::{Expr, Range};

@@ -6,11 +6,11 @@
 
 ghost use Rattle.std.specs.Prelude.{All, ◌≡◌, ◌<◌, None, length, replicate, IfOk};
 ghost use Rattle.std.specs.List.{fold};
-ghost use Rattle.bb_blast.specs.Counting.{capped};
-ghost use Rattle.bb_blast.specs.Listing.{IsScopeAmong, sheet_view, boxed_view, first_sources, input_numbers, bit_count, boxed_in, cells_before, outs_of, finished, with_scope, listed};
+ghost use Rattle.bb_blast.specs.Inside.Counting.{capped};
+ghost use Rattle.bb_blast.specs.Inside.Listing.{IsScopeAmong, sheet_view, boxed_view, first_sources, input_numbers, bit_count, boxed_in, cells_before, outs_of, finished, with_scope, listed};
 ghost use Rattle.bb_design.specs.Hierarchy.{Design};
-ghost use Rattle.bb_design.specs.Allowed.{IsBounded};
-ghost use Rattle.bb_blast.specs.Placements.{ArePlaced, AreOutlined, AreStored};
+ghost use Rattle.bb_design.specs.Inside.Allowed.{IsBounded};
+ghost use Rattle.bb_blast.specs.Inside.Placements.{ArePlaced, AreOutlined, AreStored};
 ghost use Rattle.bb_cells.specs.Places.{Lowering, IsLowering, IsListOf};
 ghost use Rattle.bb_design.specs.Refusals.{AreDrivenOnce};
 

@@ -2,12 +2,12 @@
 
 ghost use Rattle.std.specs.Prelude.{◌≡◌, ◌<◌, ◌++◌, ◌^◌, List, All, length, map, IfOk, OnOk};
 ghost use Rattle.std.specs.List.{AllZip};
-ghost use Rattle.bb_ast.specs.Views.{body_view};
-ghost use Rattle.bb_names.specs.Checked.{syntax};
-ghost use Rattle.bb_expr.specs.Standing.{StandsAt, item_expressions};
+ghost use Rattle.bb_ast.specs.Inside.Views.{body_view};
+ghost use Rattle.bb_names.specs.Inside.Checked.{syntax};
+ghost use Rattle.bb_expr.specs.Inside.Standing.{StandsAt, item_expressions};
 ghost use Rattle.bb_design.specs.Constructs.{Construct, body_constructs};
 ghost use Rattle.bb_design.specs.Hierarchy.{instances_in, instances_of};
-ghost use Rattle.bb_blast.specs.Outlining.{IsStarted, AreCallsAt, IsMakeable, IsPartAt, module_in, module_constructs};
+ghost use Rattle.bb_blast.specs.Inside.Outlining.{IsStarted, AreCallsAt, IsMakeable, IsPartAt, module_in, module_constructs};
 
 use crate::assigning::{add_all_declared, add_assignments, add_supplies, register};
 use crate::calling::add_calls;

@@ -5,8 +5,8 @@ ghost use Rattle.std.specs.List.{flat_map, range_with_len};
 ghost use Rattle.bb_names.specs.Ranges.{range_width};
 ghost use Rattle.bb_design.specs.Hierarchy.{Path};
 ghost use Rattle.bb_design.specs.NetBits.{bits_of_net};
-ghost use Rattle.bb_bits.specs.Places.{AreAt};
-ghost use Rattle.bb_blast.specs.Outlining.{AreStarts, bit_count, is_port_of};
+ghost use Rattle.bb_bits.specs.Inside.Places.{AreAt};
+ghost use Rattle.bb_blast.specs.Inside.Outlining.{AreStarts, bit_count, is_port_of};
 
 use bb_ast::{Dir, Range};
 use bb_bits::NoMemory;

@@ -4,13 +4,13 @@
 //! by one of these scopes, whose instances are scopes too.
 
 ghost use Rattle.std.specs.Prelude.{◌≡◌, ◌<◌, ◌≤◌, ◌^◌, ℕ, All, None, Some, replicate, length, map, slice_get, IfOk, IfSome, IsSomeAnd};
-ghost use Rattle.bb_names.specs.Checked.{syntax};
+ghost use Rattle.bb_names.specs.Inside.Checked.{syntax};
 ghost use Rattle.bb_names.specs.Nets.{nets_of};
 ghost use Rattle.bb_blast.specs.declared.placed.Placed.{Placed};
 ghost use Rattle.bb_design.specs.Hierarchy.{Design, instances_of};
-ghost use Rattle.bb_blast.specs.Outlines.{IsOutline};
-ghost use Rattle.bb_blast.specs.Outlining.{AreStarts, IsStarted, AreCallsAt, AreCopies, IsModest, IsSited, bit_count, module_in, module_number};
-ghost use Rattle.bb_blast.specs.Placements.{ArePlaced, AreOutlined};
+ghost use Rattle.bb_blast.specs.Inside.Outlines.{IsOutline};
+ghost use Rattle.bb_blast.specs.Inside.Outlining.{AreStarts, IsStarted, AreCallsAt, AreCopies, IsModest, IsSited, bit_count, module_in, module_number};
+ghost use Rattle.bb_blast.specs.Inside.Placements.{ArePlaced, AreOutlined};
 ghost use Rattle.bb_design.specs.Refusals.{IsSmall};
 
 use crate::expression_steps::scope_at;

@@ -4,7 +4,7 @@
 
 ghost use Rattle.std.specs.Prelude.{◌≡◌, ◌<◌, All, length, Some, slice_get, OnOk};
 ghost use Rattle.std.specs.List.{fold};
-ghost use Rattle.bb_blast.specs.Listing.{IsPartAmong, IsScopeAmong, sheet_view, with_part, inner_first, with_parts, with_scope};
+ghost use Rattle.bb_blast.specs.Inside.Listing.{IsPartAmong, IsScopeAmong, sheet_view, with_part, inner_first, with_parts, with_scope};
 
 use crate::outline::{Outline, Part};
 use crate::placed::Placed;

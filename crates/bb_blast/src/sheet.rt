@@ -2,8 +2,8 @@
 
 ghost use Rattle.std.specs.Prelude.{◌≡◌, All, length, map, OnOk};
 ghost use Rattle.bb_bits.specs.Bits.{low_bits};
-ghost use Rattle.bb_blast.specs.Counting.{behind};
-ghost use Rattle.bb_blast.specs.Listing.{HasNetsBelow, IsInputAmong, sheet_view, beside, bit_places, giving, giving_next, driven_by, with_expression, with_gate};
+ghost use Rattle.bb_blast.specs.Inside.Counting.{behind};
+ghost use Rattle.bb_blast.specs.Inside.Listing.{HasNetsBelow, IsInputAmong, sheet_view, beside, bit_places, giving, giving_next, driven_by, with_expression, with_gate};
 
 use crate::box_cells::add_moved;
 use crate::gate_cells::add_gate;

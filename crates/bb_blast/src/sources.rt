@@ -3,8 +3,8 @@
 //! A bit is given once, by its first driver. Places and bits are counted in 32 bits, which hold all of a design that is small.
 
 ghost use Rattle.std.specs.Prelude.{◌≡◌, length, slice_get};
-ghost use Rattle.bb_blast.specs.Counting.{capped, behind};
-ghost use Rattle.bb_blast.specs.Listing.{given_one, given_all, place_or_zero, beside, in_row, all_given_by};
+ghost use Rattle.bb_blast.specs.Inside.Counting.{capped, behind};
+ghost use Rattle.bb_blast.specs.Inside.Listing.{given_one, given_all, place_or_zero, beside, in_row, all_given_by};
 
 use bb_net::LooseCell;
 
@@ -16,7 +16,7 @@ pub(crate) struct Layout {
 }
 
 /// The number that stands so far behind another, or the largest of 32 bits where it would be larger.
-#[tactic(auto, unfolding(crate::specs::Counting::capped))]
+#[tactic(auto, unfolding(crate::specs::Inside::Counting::capped))]
 pub(crate) fn behind(number: u32, offset: u32) -> u32
     ensures number { result ≡ behind number offset }
 {
@@ -24,7 +24,7 @@ pub(crate) fn behind(number: u32, offset: u32) -> u32
 }
 
 /// How many these are, or the largest number of 32 bits where they are more.
-#[tactic(auto, unfolding(crate::specs::Counting::capped))]
+#[tactic(auto, unfolding(crate::specs::Inside::Counting::capped))]
 pub(crate) fn count_of<T>(items: &[T]) -> u32
     ensures count { result ≡ capped (length items.now) }
 {
@@ -32,7 +32,7 @@ pub(crate) fn count_of<T>(items: &[T]) -> u32
 }
 
 /// The place of the next cell, where the first of these stands at a place.
-#[tactic(auto, unfolding(crate::specs::Counting::capped))]
+#[tactic(auto, unfolding(crate::specs::Inside::Counting::capped))]
 pub(crate) fn next_place(start: u32, cells: &[LooseCell]) -> u32
     ensures place { result ≡ behind start (length cells.now) }
 {

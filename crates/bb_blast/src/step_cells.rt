@@ -4,7 +4,7 @@
 
 ghost use Rattle.std.specs.Prelude.{◌≡◌, ◌<◌, All, ◌++◌, length, map, slice_index, OnOk};
 ghost use Rattle.bb_cells.specs.Places.{step_cell};
-ghost use Rattle.bb_blast.specs.Listing.{IsNetBelow, HasNetsBelow, Numbered, constant_place, net_bit_place, step_number, with_step, with_steps, bit_places};
+ghost use Rattle.bb_blast.specs.Inside.Listing.{IsNetBelow, HasNetsBelow, Numbered, constant_place, net_bit_place, step_number, with_step, with_steps, bit_places};
 
 use crate::sources::{behind, next_place};
 use bb_bits::NoMemory;

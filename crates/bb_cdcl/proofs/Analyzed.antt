@@ -5,8 +5,8 @@ use Rattle.std.proofs.lemmas.Option.{get_or_from_slice_get, slice_get_within}
 use Rattle.bb_cnf.specs.declared.clauses.Lit.{Lit}
 use Rattle.bb_cnf.specs.Clauses.{Literals, same_literal}
 use Rattle.bb_cdcl.specs.declared.trail.Entry.{Entry}
-use Rattle.bb_cdcl.specs.Trails.{opposite, falsified}
-use Rattle.bb_cdcl.specs.Analysis.{AreFalsified, IsCovered, IsJump}
+use Rattle.bb_cdcl.specs.Inside.Trails.{opposite, falsified}
+use Rattle.bb_cdcl.specs.Inside.Analysis.{AreFalsified, IsCovered, IsJump}
 use Rattle.bb_cdcl.proofs.Literals.{no_clash, or_true, or_true_left, or_true_right, falsified-push, same_literal-is}
 
 -- the front with one more entry

@@ -6,7 +6,7 @@ use Rattle.std.proofs.lemmas.List.Sums.{sum_by-set}
 use Rattle.std.proofs.lemmas.Option.{slice_get-get_or}
 use Rattle.bb_cnf.specs.declared.clauses.Lit.{Lit}
 use Rattle.bb_cdcl.specs.declared.trail.Entry.{Entry}
-use Rattle.bb_cdcl.specs.Trails.{opposite, falsified, is_bit, is_false, unassigned, IsNew, AreNew, AreValues, HasRoom}
+use Rattle.bb_cdcl.specs.Inside.Trails.{opposite, falsified, is_bit, is_false, unassigned, IsNew, AreNew, AreValues, HasRoom}
 use Rattle.bb_cdcl.proofs.Literals.{no_clash, or_true_right, or_false, same_literal-itself, of_variable, other_variable, falsified-push, same_number}
 
 pub get_or_past : {A : Type 0} (xs : List A) (k : ℕ) (d : A) → length xs ≤ k → get_or xs k d ≡ d

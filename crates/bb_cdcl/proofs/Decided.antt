@@ -4,7 +4,7 @@ use Rattle.bb_cnf.specs.Clauses.{Formula}
 use Rattle.bb_cnf.specs.Laws.{SoundnessLaws}
 use Rattle.bb_cdcl.specs.declared.outcome.Outcome.{Outcome}
 use Rattle.bb_cdcl.specs.declared.outcome.Outcome.TheVariants as answers
-use Rattle.bb_cdcl.specs.Outcomes.{IfSat, IfUnsat, IsSat, HasModel}
+use Rattle.bb_cdcl.specs.Inside.Outcomes.{IfSat, IfUnsat, IsSat, HasModel}
 
 pub sat_exactly : SoundnessLaws → (f : Formula) (o : Outcome) → IfSat o f → IfUnsat o f → (IsSat o ↔ HasModel f)
 sat_exactly laws f (answers.Sat bits) sat unsat = (λ _. (bits.items, sat), λ _. tt)

@@ -12,11 +12,11 @@ use Rattle.bb_cdcl.specs.declared.analysis.Jump.{Jump}
 use Rattle.bb_cdcl.specs.declared.state.State.{State}
 use Rattle.bb_cdcl.specs.declared.trail.Entry.{Entry}
 use Rattle.bb_cdcl.specs.declared.trail.Trail.{Trail}
-use Rattle.bb_cnf.specs.PartialResolvent.{held, AreListed}
-use Rattle.bb_cdcl.specs.Trails.{opposite, AreNew, HaveReasons, IsReason, AreValues, HasRoom}
-use Rattle.bb_cdcl.specs.Analysis.{IsJump}
-use Rattle.bb_cdcl.specs.States.{all_clauses, IsDerived, IsReady, Grows, Leads, Learns, Advances, left_of}
-use Rattle.bb_cdcl.specs.Measure.{left}
+use Rattle.bb_cnf.specs.Inside.PartialResolvent.{held, AreListed}
+use Rattle.bb_cdcl.specs.Inside.Trails.{opposite, AreNew, HaveReasons, IsReason, AreValues, HasRoom}
+use Rattle.bb_cdcl.specs.Inside.Analysis.{IsJump}
+use Rattle.bb_cdcl.specs.Inside.States.{all_clauses, IsDerived, IsReady, Grows, Leads, Learns, Advances, left_of}
+use Rattle.bb_cdcl.specs.Inside.Measure.{left}
 use Rattle.bb_cdcl.proofs.Extended.{get_last, more_reasons, reasons_push, reasons_front, lists_of-push}
 
 derived_push : ChainLaws → (given all : List Literals) (steps : List Step) (step : Step) (c : Literals) → derived given steps ≡ Some all → made_by all step ≡ Some c

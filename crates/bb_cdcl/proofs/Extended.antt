@@ -8,7 +8,7 @@ use Rattle.smallvec.specs.SmallVec.{SmallVec}
 use Rattle.bb_cnf.specs.declared.clauses.Lit.{Lit}
 use Rattle.bb_cnf.specs.Clauses.{lists_of, same_literal}
 use Rattle.bb_cdcl.specs.declared.trail.Entry.{Entry}
-use Rattle.bb_cdcl.specs.Trails.{opposite, falsified, value_at, is_bit, IsNew, IsReason, AreNew, HaveReasons, AreValues}
+use Rattle.bb_cdcl.specs.Inside.Trails.{opposite, falsified, value_at, is_bit, IsNew, IsReason, AreNew, HaveReasons, AreValues}
 use Rattle.bb_cdcl.proofs.Literals.{no_clash, opposite_twice, same_literal-itself}
 use Rattle.bb_cdcl.proofs.Assigned.{false_in_range}
 

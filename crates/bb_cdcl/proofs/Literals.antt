@@ -5,7 +5,7 @@ use mathlib.Core.Bool.{beq}
 use Rattle.bb_cnf.specs.declared.clauses.Lit.{Lit}
 use Rattle.bb_cnf.specs.Clauses.{literals_of, same_literal}
 use Rattle.bb_cdcl.specs.declared.trail.Entry.{Entry}
-use Rattle.bb_cdcl.specs.Trails.{opposite, falsified}
+use Rattle.bb_cdcl.specs.Inside.Trails.{opposite, falsified}
 
 pub no_clash : {A : Type 0} → false ≡ true → A
 no_clash e = absurd (let clash : false ≡ true = e in cc)

@@ -1,7 +1,7 @@
 -- What is left shrinks.
 use Rattle.std.proofs.Common.{◌≡◌, ◌<◌, ◌≤◌, ℕ, zero, suc, Option, Some, None, List, [], ◌∷◌, ◌++◌, length, take, slice_get, ◌∙◌, ap, arith}
 use Rattle.bb_cdcl.specs.declared.trail.Entry.{Entry}
-use Rattle.bb_cdcl.specs.Measure.{power, left_by, left}
+use Rattle.bb_cdcl.specs.Inside.Measure.{power, left_by, left}
 
 power_some : (n : ℕ) → 0 < power n
 power_some zero = omega arith

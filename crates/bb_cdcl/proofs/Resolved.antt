@@ -6,10 +6,10 @@ use Rattle.bb_cnf.specs.declared.partial_resolvent.PartialResolvent.{PartialReso
 use Rattle.bb_cnf.specs.Clauses.{Literals, literals_of, same_literal, positive, negated}
 use Rattle.bb_cnf.specs.Chains.{resolvent, resolution, chain}
 use Rattle.bb_cnf.specs.Laws.{ChainLaws}
-use Rattle.bb_cnf.specs.PartialResolvent.{held, AreListed}
+use Rattle.bb_cnf.specs.Inside.PartialResolvent.{held, AreListed}
 use Rattle.bb_cdcl.specs.declared.trail.Entry.{Entry}
-use Rattle.bb_cdcl.specs.Trails.{opposite, falsified, IsNew, IsReason}
-use Rattle.bb_cdcl.specs.Analysis.{AreFalsified, IsResolved}
+use Rattle.bb_cdcl.specs.Inside.Trails.{opposite, falsified, IsNew, IsReason}
+use Rattle.bb_cdcl.specs.Inside.Analysis.{AreFalsified, IsResolved}
 use Rattle.bb_cdcl.proofs.Literals.{no_clash, and_true, or_true, falsified-push}
 
 -- a choice of two, of which one may be taken

@@ -5,8 +5,8 @@ use Rattle.bb_cnf.specs.declared.clauses.Lit.{Lit}
 use Rattle.bb_cnf.specs.Clauses.{Literals, literals_of, same_literal, positive, negated}
 use Rattle.bb_cnf.specs.Chains.{resolvent, resolution}
 use Rattle.bb_cdcl.specs.declared.trail.Entry.{Entry}
-use Rattle.bb_cdcl.specs.Trails.{opposite, falsified, IsNew, AreNew, IsReason}
-use Rattle.bb_cdcl.specs.Analysis.{IsCovered}
+use Rattle.bb_cdcl.specs.Inside.Trails.{opposite, falsified, IsNew, AreNew, IsReason}
+use Rattle.bb_cdcl.specs.Inside.Analysis.{IsCovered}
 use Rattle.bb_cdcl.proofs.Literals.{no_clash, and_true, or_true, or_true_left, or_true_right, opposite_twice, same_literal-is, same_literal-itself}
 use Rattle.bb_cdcl.proofs.Extended.{any_front}
 use Rattle.bb_cdcl.proofs.Analyzed.{falsified_more}

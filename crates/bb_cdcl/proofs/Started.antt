@@ -3,8 +3,8 @@ use Rattle.std.proofs.Common.{◌≡◌, ◌≤◌, ℕ, zero, suc, ◌-◌, Boo
 use Rattle.bb_cnf.specs.declared.clauses.Lit.{Lit}
 use Rattle.bb_cnf.specs.Clauses.{IsWithin}
 use Rattle.bb_cnf.specs.Truth.{literal_bit, assignment_of, Satisfies}
-use Rattle.bb_cdcl.specs.Trails.{opposite, value_at, is_bit, is_false}
-use Rattle.bb_cdcl.specs.Events.{IsSatisfied}
+use Rattle.bb_cdcl.specs.Inside.Trails.{opposite, value_at, is_bit, is_false}
+use Rattle.bb_cdcl.specs.Inside.Events.{IsSatisfied}
 use Rattle.bb_cdcl.proofs.Literals.{no_clash}
 
 bits_of_values : (values : List (Option Bool)) (k : ℕ) → get_or (map (λ o. unwrap_or o false) values) k false ≡ unwrap_or (get_or values k None) false

@@ -7,10 +7,10 @@ use Rattle.bb_cnf.specs.declared.partial_resolvent.PartialResolvent.{PartialReso
 use Rattle.bb_cnf.specs.Clauses.{Literals, literals_of, same_literal}
 use Rattle.bb_cnf.specs.Chains.{resolvent, resolution, chain, made_by}
 use Rattle.bb_cnf.specs.Laws.{ChainLaws}
-use Rattle.bb_cnf.specs.PartialResolvent.{held, AreListed}
+use Rattle.bb_cnf.specs.Inside.PartialResolvent.{held, AreListed}
 use Rattle.bb_cdcl.specs.declared.trail.Entry.{Entry}
-use Rattle.bb_cdcl.specs.Trails.{opposite, falsified}
-use Rattle.bb_cdcl.specs.Analysis.{IsCovered, IsJump, IsResolved}
+use Rattle.bb_cdcl.specs.Inside.Trails.{opposite, falsified}
+use Rattle.bb_cdcl.specs.Inside.Analysis.{IsCovered, IsJump, IsResolved}
 use Rattle.bb_cdcl.proofs.Literals.{or_false, or_true_left, opposite_twice, same_literal-itself, other_variable}
 use Rattle.bb_cdcl.proofs.Resolved.{both_true, own_resolvent, not_opposite, resolves}
 use Rattle.bb_cdcl.proofs.Shortened.{both_false, made_of}

@@ -4,9 +4,9 @@
 ghost use Rattle.std.specs.Prelude.{ℕ, ◌≡◌, ◌+◌, ◌<◌, false, true, length, take, slice_get, Some, None, IfOk, OnOk, IfSome, IfNone};
 ghost use Rattle.bb_cnf.specs.declared.clauses.Lit.{Lit as Literal};
 ghost use Rattle.bb_cnf.specs.Clauses.{Literals};
-ghost use Rattle.bb_cnf.specs.PartialResolvent.{held, AreListed};
-ghost use Rattle.bb_cdcl.specs.Trails.{falsified, AreNew, HaveReasons};
-ghost use Rattle.bb_cdcl.specs.Analysis.{AreFalsified, IsCovered, IsJump, IsResolved};
+ghost use Rattle.bb_cnf.specs.Inside.PartialResolvent.{held, AreListed};
+ghost use Rattle.bb_cdcl.specs.Inside.Trails.{falsified, AreNew, HaveReasons};
+ghost use Rattle.bb_cdcl.specs.Inside.Analysis.{AreFalsified, IsCovered, IsJump, IsResolved};
 
 use crate::NoMemory;
 use crate::guide::Guide;

@@ -2,7 +2,7 @@
 
 ghost use Rattle.std.specs.Prelude.{◌-◌, ◌<◌, length};
 ghost use Rattle.bb_cnf.specs.Clauses.{lists_of, IsWithin};
-ghost use Rattle.bb_cdcl.specs.Events.{Comes, IfQuiet};
+ghost use Rattle.bb_cdcl.specs.Inside.Events.{Comes, IfQuiet};
 
 use crate::examination::{Standing, examine};
 use bb_cnf::Lit;

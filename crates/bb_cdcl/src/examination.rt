@@ -1,8 +1,8 @@
 //! What a clause says under the values so far.
 
 ghost use Rattle.std.specs.Prelude.{◌≡◌, ℕ};
-ghost use Rattle.bb_cdcl.specs.Trails.{value_at, is_false, opposite};
-ghost use Rattle.bb_cdcl.specs.Events.{Stands};
+ghost use Rattle.bb_cdcl.specs.Inside.Trails.{value_at, is_false, opposite};
+ghost use Rattle.bb_cdcl.specs.Inside.Events.{Stands};
 
 use bb_cnf::Lit;
 

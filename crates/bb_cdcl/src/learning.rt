@@ -4,11 +4,11 @@ ghost use Rattle.std.specs.Prelude.{◌≡◌, false, Some, map, IfOk, OnOk, IfS
 ghost use Rattle.bb_cnf.specs.declared.clauses.Lit.{Lit as Literal};
 ghost use Rattle.bb_cnf.specs.Clauses.{literals_of, lists_of};
 ghost use Rattle.bb_cnf.specs.Chains.{made_by};
-ghost use Rattle.bb_cnf.specs.PartialResolvent.{held, AreListed};
-ghost use Rattle.bb_cdcl.specs.Trails.{AreNew, HaveReasons, AreValues};
-ghost use Rattle.bb_cdcl.specs.Analysis.{IsJump};
-ghost use Rattle.bb_cdcl.specs.Events.{IsConflict};
-ghost use Rattle.bb_cdcl.specs.States.{all_clauses, IsDerived, IsReady, Leads, Learns};
+ghost use Rattle.bb_cnf.specs.Inside.PartialResolvent.{held, AreListed};
+ghost use Rattle.bb_cdcl.specs.Inside.Trails.{AreNew, HaveReasons, AreValues};
+ghost use Rattle.bb_cdcl.specs.Inside.Analysis.{IsJump};
+ghost use Rattle.bb_cdcl.specs.Inside.Events.{IsConflict};
+ghost use Rattle.bb_cdcl.specs.Inside.States.{all_clauses, IsDerived, IsReady, Leads, Learns};
 
 use crate::NoMemory;
 use crate::analysis::{Jump, analyze};

@@ -2,7 +2,7 @@
 
 ghost use Rattle.std.specs.Prelude.{ℕ, ◌≡◌, ◌-◌, true, false, length, IfOk, IfSome, IfNone, List};
 ghost use Rattle.bb_cnf.specs.Clauses.{lists_of, IsWithin};
-ghost use Rattle.bb_cdcl.specs.States.{IsDerived, IsReady, Ends, Pauses};
+ghost use Rattle.bb_cdcl.specs.Inside.States.{IsDerived, IsReady, Ends, Pauses};
 
 use crate::NoMemory;
 use crate::state::{State, Turn};

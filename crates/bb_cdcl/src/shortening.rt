@@ -3,9 +3,9 @@
 
 ghost use Rattle.std.specs.Prelude.{◌<◌, length, OnOk};
 ghost use Rattle.bb_cnf.specs.Clauses.{Literals};
-ghost use Rattle.bb_cnf.specs.PartialResolvent.{held, AreListed};
-ghost use Rattle.bb_cdcl.specs.Trails.{AreNew, HaveReasons};
-ghost use Rattle.bb_cdcl.specs.Analysis.{IsCovered, IsResolved};
+ghost use Rattle.bb_cnf.specs.Inside.PartialResolvent.{held, AreListed};
+ghost use Rattle.bb_cdcl.specs.Inside.Trails.{AreNew, HaveReasons};
+ghost use Rattle.bb_cdcl.specs.Inside.Analysis.{IsCovered, IsResolved};
 
 use crate::NoMemory;
 use crate::analysis::entry_at;

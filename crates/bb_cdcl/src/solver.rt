@@ -2,7 +2,7 @@
 
 ghost use Rattle.std.specs.Prelude.{IfOk, ◌↔◌};
 ghost use Rattle.bb_cnf.specs.Clauses.{lists_of, IsWithin};
-ghost use Rattle.bb_cdcl.specs.Outcomes.{IfSat, IfUnsat, IsSat, HasModel, formula};
+ghost use Rattle.bb_cdcl.specs.Inside.Outcomes.{IfSat, IfUnsat, IsSat, HasModel, formula};
 
 use crate::search::search;
 use crate::start::{helpers, model, start};

@@ -4,8 +4,8 @@ ghost use Rattle.std.specs.Prelude.{ℕ, ◌≡◌, ◌+◌, ◌-◌, ◌<◌, �
 ghost use Rattle.bb_cnf.specs.Clauses.{IsWithin};
 ghost use Rattle.bb_cnf.specs.declared.clauses.Lit.{Lit as Literal};
 ghost use Rattle.bb_cnf.specs.Truth.{assignment_of, Satisfies};
-ghost use Rattle.bb_cdcl.specs.Events.{IsSatisfied};
-ghost use Rattle.bb_cdcl.specs.States.{IsDerived, IsReady};
+ghost use Rattle.bb_cdcl.specs.Inside.Events.{IsSatisfied};
+ghost use Rattle.bb_cdcl.specs.Inside.States.{IsDerived, IsReady};
 
 use crate::NoMemory;
 use crate::guide::Guide;

@@ -3,11 +3,11 @@
 ghost use Rattle.std.specs.Prelude.{◌≡◌, ◌-◌, ◌<◌, ◌++◌, ◌∷◌, [], false, Some, None, length, take, slice_get, IfOk, OnOk};
 ghost use Rattle.bb_cnf.specs.declared.clauses.Lit.{Lit as Literal};
 ghost use Rattle.bb_cnf.specs.Clauses.{Literals, literals_of};
-ghost use Rattle.bb_cnf.specs.PartialResolvent.{held, AreListed};
+ghost use Rattle.bb_cnf.specs.Inside.PartialResolvent.{held, AreListed};
 ghost use Rattle.bb_cdcl.specs.declared.trail.Entry.{Entry as TrailEntry};
-ghost use Rattle.bb_cdcl.specs.Trails.{value_at, opposite};
-ghost use Rattle.bb_cdcl.specs.Analysis.{IsJump};
-ghost use Rattle.bb_cdcl.specs.States.{IsReady, Advances};
+ghost use Rattle.bb_cdcl.specs.Inside.Trails.{value_at, opposite};
+ghost use Rattle.bb_cdcl.specs.Inside.Analysis.{IsJump};
+ghost use Rattle.bb_cdcl.specs.Inside.States.{IsReady, Advances};
 
 use crate::NoMemory;
 use crate::analysis::{Jump, entry_at};

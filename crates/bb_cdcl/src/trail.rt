@@ -1,7 +1,7 @@
 //! The trail of assigned literals, and the value of each variable.
 
 ghost use Rattle.std.specs.Prelude.{ℕ, ◌≡◌, ◌-◌, ◌<◌, ◌≤◌, ◌++◌, ◌∷◌, [], length, take, not, None, Some, OnOk, List};
-ghost use Rattle.bb_cdcl.specs.Trails.{value_at, AreNew, AreValues, HasRoom, opposite};
+ghost use Rattle.bb_cdcl.specs.Inside.Trails.{value_at, AreNew, AreValues, HasRoom, opposite};
 
 use crate::NoMemory;
 use crate::guide::Guide;

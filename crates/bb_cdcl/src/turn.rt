@@ -3,9 +3,9 @@
 ghost use Rattle.std.specs.Prelude.{◌≡◌, ◌-◌, ◌<◌, ◌≤◌, true, None, Some, length, IfOk, IfSome, List};
 ghost use Rattle.bb_cnf.specs.declared.clauses.Lit.{Lit as Literal};
 ghost use Rattle.bb_cnf.specs.Clauses.{lists_of, IsWithin};
-ghost use Rattle.bb_cdcl.specs.Trails.{value_at, IsReason};
-ghost use Rattle.bb_cdcl.specs.Events.{Comes, IfQuiet, IsConflict, IsFree};
-ghost use Rattle.bb_cdcl.specs.States.{all_clauses, IsDerived, IsReady, Turns};
+ghost use Rattle.bb_cdcl.specs.Inside.Trails.{value_at, IsReason};
+ghost use Rattle.bb_cdcl.specs.Inside.Events.{Comes, IfQuiet, IsConflict, IsFree};
+ghost use Rattle.bb_cdcl.specs.Inside.States.{all_clauses, IsDerived, IsReady, Turns};
 
 use crate::NoMemory;
 use crate::events::{Event, unsatisfied};

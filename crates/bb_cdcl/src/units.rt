@@ -6,10 +6,10 @@ ghost use Rattle.std.specs.Prelude.{◌≡◌, ◌<◌, ◌∷◌, [], ℕ, fals
 ghost use Rattle.bb_cnf.specs.declared.clauses.Lit.{Lit as Literal};
 ghost use Rattle.bb_cnf.specs.Clauses.{Literals, literals_of, lists_of};
 ghost use Rattle.bb_cnf.specs.Chains.{made_by};
-ghost use Rattle.bb_cnf.specs.PartialResolvent.{held, AreListed};
+ghost use Rattle.bb_cnf.specs.Inside.PartialResolvent.{held, AreListed};
 ghost use Rattle.bb_cdcl.specs.declared.trail.Entry.{Entry as TrailEntry};
-ghost use Rattle.bb_cdcl.specs.Analysis.{IsCovered, IsResolved};
-ghost use Rattle.bb_cdcl.specs.States.{IsDerived, Grows, Leads};
+ghost use Rattle.bb_cdcl.specs.Inside.Analysis.{IsCovered, IsResolved};
+ghost use Rattle.bb_cdcl.specs.Inside.States.{IsDerived, Grows, Leads};
 
 use crate::NoMemory;
 use crate::analysis::{Jump, entry_at};

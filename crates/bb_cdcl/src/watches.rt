@@ -1,7 +1,7 @@
 //! Two watched literals in each clause: a clause is looked at again when one of them becomes false. No answer depends
 //! on it that all such clauses are found.
 
-ghost use Rattle.bb_cdcl.specs.Events.{Comes};
+ghost use Rattle.bb_cdcl.specs.Inside.Events.{Comes};
 
 use crate::events::{Event, event_of};
 use crate::examination::value;

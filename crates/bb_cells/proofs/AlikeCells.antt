@@ -6,8 +6,8 @@ use Rattle.std.specs.List.Sorted.{IsPermutation}
 use Rattle.std.proofs.lemmas.List.{map-append}
 use Rattle.std.proofs.lemmas.List.Elements.{filter-append}
 use Rattle.std.proofs.lemmas.List.Sorted.{IsPermutation-refl, IsPermutation-sym, IsPermutation-trans, IsPermutation-append, IsPermutation-map}
-use Rattle.bb_alike.specs.Formulas.{Formula}
-use Rattle.bb_alike.specs.LooseFormulas.{AreLooseFormulas}
+use Rattle.bb_alike.specs.Laws.Formulas.{Formula}
+use Rattle.bb_alike.specs.Laws.LooseFormulas.{AreLooseFormulas}
 use Rattle.bb_ast.specs.declared.module.Gate.{Gate}
 use Rattle.bb_ast.specs.declared.module.Gate.TheVariants as gates
 use Rattle.bb_ast.specs.Syntax.{Expression, Plain}
@@ -30,7 +30,7 @@ use Rattle.bb_lists.proofs.Numbered.{numbered_at}
 use Rattle.bb_lists.proofs.Ranges.{from_range}
 use Rattle.bb_cells.proofs.ListedEntries.{Entry}
 use Rattle.bb_cells.proofs.ListedPlaces.{lowered_at}
-use Rattle.bb_design.specs.Wired.{IsWired}
+use Rattle.bb_design.specs.Laws.Wired.{IsWired}
 use Rattle.bb_cells.proofs.TermFormulas.{term_formula, formulas_in, step_formula}
 use Rattle.bb_lists.proofs.Members.{contains_here, contains_there}
 

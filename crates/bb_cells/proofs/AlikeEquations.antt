@@ -3,9 +3,9 @@ use Rattle.std.proofs.Common.{◌≡◌, ◌⊎◌, ℕ, zero, suc, ◌-◌, ◌
 use Rattle.std.specs.List.{enumerate_from}
 use Rattle.std.specs.Prelude.{IfSome}
 use Rattle.std.proofs.lemmas.List.Elements.{All-contains, Contains-get_or}
-use Rattle.bb_alike.specs.Formulas.{Formula}
-use Rattle.bb_alike.specs.Formulas as formula
-use Rattle.bb_alike.specs.LooseFormulas.{IsFormulaOf, AreLooseFormulas}
+use Rattle.bb_alike.specs.Laws.Formulas.{Formula}
+use Rattle.bb_alike.specs.Laws.Formulas as formula
+use Rattle.bb_alike.specs.Laws.LooseFormulas.{IsFormulaOf, AreLooseFormulas}
 use Rattle.bb_ast.specs.declared.module.Gate.{Gate}
 use Rattle.bb_ast.specs.declared.module.Gate.TheVariants as gates
 use Rattle.bb_ast.specs.Syntax.{Expression, Plain}
@@ -28,11 +28,11 @@ use Rattle.bb_lists.proofs.Numbered.{enumerated_from, numbered_at, from_numbered
 use Rattle.bb_cells.proofs.ListedEntries.{Entry, each_entry}
 use Rattle.bb_cells.proofs.ListedPlaces.{IsListed, Stands, lowered_at, reads_there, listed_cell, listed_below, listed_at, constant_listed, input_listed, net_listed, pin_listed, step_stands, joined_listed, inverted_listed}
 use Rattle.bb_cells.proofs.ListedSources.{terminal_there, net_bit_of_step, scope_there, given_holds, data_holds, found_holds}
-use Rattle.bb_design.specs.Wired.{IsWired}
+use Rattle.bb_design.specs.Laws.Wired.{IsWired}
 use Rattle.bb_cells.proofs.ListNumbers.{one_place_listed}
 use Rattle.bb_cells.proofs.AlikePlaces.{there, here, step_here, terminal_same, given_same, place_same}
 use Rattle.bb_cells.proofs.TermFormulas.{term_formula, formulas_in, term_next, equation}
-use Rattle.bb_design.specs.DesignLaws.{DesignLaws}
+use Rattle.bb_design.specs.Laws.DesignLaws.{DesignLaws}
 
 module _ (of_designs : DesignLaws) (d : Design) (one other : Lowering) (l m : LooseList) (list : IsListOf d one l) (more : IsListOf d other m) (lowered : IsLowering d one) (also : IsLowering d other) (wired : IsWired d)
     (numbers : List ℕ) (at : ℕ → Formula) (meets : AreLooseFormulas m numbers at) where

@@ -4,16 +4,16 @@ use Rattle.std.specs.List.{enumerate_from}
 use Rattle.std.specs.List.Sorted.{IsPermutation}
 use Rattle.std.proofs.lemmas.List.{map-append}
 use Rattle.std.proofs.lemmas.List.Sorted.{IsPermutation-sym, IsPermutation-trans, IsPermutation-map}
-use Rattle.bb_alike.specs.Formulas.{Formula, formula_at, cell_formulas, pin_formulas}
-use Rattle.bb_alike.specs.LooseFormulas.{AreLooseFormulas, OrderKeepsFormulas}
+use Rattle.bb_alike.specs.Laws.Formulas.{Formula, formula_at, cell_formulas, pin_formulas}
+use Rattle.bb_alike.specs.Laws.LooseFormulas.{AreLooseFormulas, OrderKeepsFormulas}
 use Rattle.bb_net.specs.declared.loose.LooseCell.{LooseCell}
 use Rattle.bb_net.specs.Netlists.{Pins, box_at}
 use Rattle.bb_net.specs.Orders.{moved_pins}
-use Rattle.bb_cells.specs.AlikeNets.{StandingNetsAreAlike}
+use Rattle.bb_cells.specs.Laws.AlikeNets.{StandingNetsAreAlike}
 use Rattle.bb_design.specs.Constructs.{parts}
 use Rattle.bb_net.specs.Flats.{FlatNet}
 use Rattle.bb_design.specs.Hierarchy.{Design, Scope, root, scopes, is_box, boxes}
-use Rattle.bb_design.specs.Allowed.{IsAllowed}
+use Rattle.bb_design.specs.Inside.Allowed.{IsAllowed}
 use Rattle.bb_design.specs.NetBits.{Bit, net_order, input_bits, output_bits, top_outputs, scope_bits}
 use Rattle.bb_cells.specs.Places.{Place, NetBit, BoxPin, data_at, data_places, place_in, operator_places, places, pins_of}
 use Rattle.bb_design.specs.Registers.{RegisterBit, registers}
@@ -30,10 +30,10 @@ use Rattle.bb_cells.proofs.KeptCells.{kept_operators, moved, one_to_one, kept_li
 use Rattle.bb_cells.proofs.ListedEntries.{Entry}
 use Rattle.bb_cells.proofs.ListedPlaces.{IsListed, listed_below, net_listed, pin_listed, box_is}
 use Rattle.bb_cells.proofs.ListedSources.{data_in}
-use Rattle.bb_design.specs.Wired.{IsWired}
+use Rattle.bb_design.specs.Laws.Wired.{IsWired}
 use Rattle.bb_lists.proofs.Maps.{map-twice, same_by_places}
 use Rattle.bb_cells.proofs.StandingNames.{box_order}
-use Rattle.bb_design.specs.DesignLaws.{DesignLaws}
+use Rattle.bb_design.specs.Laws.DesignLaws.{DesignLaws}
 
 module _ (of_designs : DesignLaws) (keeps : OrderKeepsFormulas) (d : Design) (f g : FlatNet) (allowed : IsAllowed d) (s : StandsFor d f) (t : StandsFor d g) where
   wires : IsWired d

@@ -3,8 +3,8 @@
 use Rattle.std.proofs.Common.{◌≡◌, ℕ, zero, suc, ◌-◌, ◌<◌, ◌≤◌, Bool, true, false, if◌then◌else◌, List, [], ◌∷◌, ◌++◌, map, flat_map, find, zip, drop, length, get_or, All, Contains, Some, refl, sym, ap, ◌∙◌, subst, arith}
 use Rattle.std.specs.List.{AllZip, enumerate_from}
 use Rattle.std.specs.Option.{option_map_or}
-use Rattle.bb_alike.specs.Formulas.{Formula}
-use Rattle.bb_alike.specs.LooseFormulas.{AreLooseFormulas}
+use Rattle.bb_alike.specs.Laws.Formulas.{Formula}
+use Rattle.bb_alike.specs.Laws.LooseFormulas.{AreLooseFormulas}
 use Rattle.bb_ast.specs.declared.module.Gate.{Gate}
 use Rattle.bb_ast.specs.Syntax.{Expression}
 use Rattle.bb_names.specs.Declarations.{range_of}
@@ -24,7 +24,7 @@ use Rattle.bb_lists.proofs.Numbered.{enumerated_from, from_numbered}
 use Rattle.bb_lists.proofs.Zips.{zip_append}
 use Rattle.bb_cells.proofs.ListedPlaces.{lowered_at}
 use Rattle.bb_cells.proofs.ListedSources.{terminal_there}
-use Rattle.bb_design.specs.Wired.{IsWired}
+use Rattle.bb_design.specs.Laws.Wired.{IsWired}
 use Rattle.bb_lists.proofs.Places.{only_one}
 use Rattle.bb_cells.proofs.TermFormulas.{term_formula, formulas_in, made_formulas, formula_of, expression_formulas}
 use Rattle.bb_lists.proofs.Members.{contains_here, contains_there}

@@ -10,8 +10,8 @@ use Rattle.bb_net.specs.Netlists.{Pins, box_at}
 use Rattle.bb_bits.specs.Closures.{Leads}
 use Rattle.bb_design.specs.Dependence.{dependences}
 use Rattle.bb_design.specs.Hierarchy.{Design, Scope, root, boxes, scopes, is_box}
-use Rattle.bb_design.specs.Allowed.{IsBounded}
-use Rattle.bb_cells.specs.NamingLaws.{BoxNeedsAreOne}
+use Rattle.bb_design.specs.Inside.Allowed.{IsBounded}
+use Rattle.bb_cells.specs.Laws.NamingLaws.{BoxNeedsAreOne}
 use Rattle.bb_design.specs.NetBits.{Bit, net_order, input_bits, output_bits, scope_bits}
 use Rattle.bb_cells.specs.Places.{Place, NetBit, BoxPin, Lowering, IsLowering, given, place_in, pins_of, IsListOf}
 use Rattle.bb_design.specs.Refusals.{AreDrivenOnce}
@@ -22,11 +22,11 @@ use Rattle.bb_cells.proofs.DependenceWalks.{leads_walk}
 use Rattle.bb_lists.proofs.Numbered.{numbered_at, length-enumerated, mapped_enumerated, from_numbered}
 use Rattle.bb_cells.proofs.GivenPins.{is_pin, no_pin, found_standing, found_first, first_found}
 use Rattle.bb_cells.proofs.ListedPlaces.{IsListed, listed_cell, listed_below, net_listed, pin_listed, box_is}
-use Rattle.bb_design.specs.Wired.{IsWired}
+use Rattle.bb_design.specs.Laws.Wired.{IsWired}
 use Rattle.bb_cells.proofs.ListNumbers.{one_place_listed}
 use Rattle.bb_cells.proofs.LoopPlaces.{Lower, Passes, pin_not_lower, walk_falls, walk_joined}
 use Rattle.bb_cells.proofs.WalkLoops.{claims}
-use Rattle.bb_design.specs.DesignLaws.{DesignLaws}
+use Rattle.bb_design.specs.Laws.DesignLaws.{DesignLaws}
 
 module _ (of_designs : DesignLaws) (d : Design) (lowering : Lowering) (l : LooseList) (list : IsListOf d lowering l) (lowered : IsLowering d lowering) (wired : IsWired d) where
   abbrev pub place : Bit → ℕ

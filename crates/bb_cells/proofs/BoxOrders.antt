@@ -8,17 +8,17 @@ use Rattle.std.proofs.lemmas.List.Elements.{All-contains, Contains-append_cases,
 use Rattle.bb_net.specs.declared.loose.LooseCell.TheVariants as cell
 use Rattle.bb_net.specs.Loose.{LooseList, Reaches, NeedsBox}
 use Rattle.bb_bits.specs.Closures.{Leads, IsFirst}
-use Rattle.bb_design.specs.Allowed.{IsBounded}
+use Rattle.bb_design.specs.Inside.Allowed.{IsBounded}
 use Rattle.bb_design.specs.Constructs.{BoxContents}
 use Rattle.bb_design.specs.Dependence.{dependences}
-use Rattle.bb_design.specs.DesignLaws.{DesignLaws}
+use Rattle.bb_design.specs.Laws.DesignLaws.{DesignLaws}
 use Rattle.bb_design.specs.Drivers.{Source, Free, MadeOf, Box, Drive, driven, drives, driven_bits}
 use Rattle.bb_design.specs.Hierarchy.{Design, Scope, root, boxes}
 use Rattle.bb_design.specs.NetBits.{Bit, same_bit, net_order, input_bits, output_bits}
 use Rattle.bb_design.specs.Refusals.{AreDrivenOnce, box_paths}
 use Rattle.bb_design.specs.Registers.{cut_bits}
 use Rattle.bb_design.specs.Texts.{path_text}
-use Rattle.bb_design.specs.Wired.{IsWired}
+use Rattle.bb_design.specs.Laws.Wired.{IsWired}
 use Rattle.bb_cells.specs.BoxOrders.{DependsOnBox}
 use Rattle.bb_cells.specs.Places.{Place, Constant, Input, NetBit, BoxPin, Lowering, IsLowering, given_at, given_by_box, given, place_in, IsListOf}
 use Rattle.bb_cells.specs.Stands.{box_number}

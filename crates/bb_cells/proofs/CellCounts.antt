@@ -23,8 +23,8 @@ use Rattle.bb_net.specs.declared.loose.LooseCell.TheVariants as cell
 use Rattle.bb_net.specs.Loose.{loose_at}
 use Rattle.bb_net.specs.Orders.{IsKept}
 use Rattle.bb_net.specs.Flats.{FlatNet}
-use Rattle.bb_cells.specs.ListLaws.{NetsAreNoLarger, PlacesAreFew}
-use Rattle.bb_design.specs.Allowed.{IsBounded}
+use Rattle.bb_cells.specs.Laws.ListLaws.{NetsAreNoLarger, PlacesAreFew}
+use Rattle.bb_design.specs.Inside.Allowed.{IsBounded}
 use Rattle.bb_cells.specs.Stands.{StandsFor}
 use Rattle.bb_design.specs.Hierarchy.{Design, Scope, boxes, scopes, is_box}
 use Rattle.bb_design.specs.NetBits.{Bit, net_order, output_bits}
@@ -41,11 +41,11 @@ use Rattle.bb_cells.proofs.ListFronts.{front-length}
 use Rattle.bb_cells.proofs.ListNumbers.{range_distinct}
 use Rattle.bb_cells.proofs.ListedEntries.{Entry}
 use Rattle.bb_cells.proofs.ListedPlaces.{lowered_at, listed_at, listed_cell}
-use Rattle.bb_design.specs.Wired.{IsWired}
+use Rattle.bb_design.specs.Laws.Wired.{IsWired}
 use Rattle.bb_cells.proofs.GateTerms.{input_term, terminals_are}
 use Rattle.bb_lists.proofs.Ranges.{from_range, length-range}
 use Rattle.bb_lists.proofs.Members.{contains-map, contains_here, contains_there, contains_cases, none_in_nil}
-use Rattle.bb_design.specs.DesignLaws.{DesignLaws}
+use Rattle.bb_design.specs.Laws.DesignLaws.{DesignLaws}
 
 -- it is no copy
 abbrev pub is_kept : LooseCell → Bool

@@ -12,12 +12,12 @@ use Rattle.bb_net.specs.declared.loose.LooseCell.TheVariants as cell
 use Rattle.bb_net.specs.Loose.{LooseList}
 use Rattle.bb_bits.specs.Closures.{Leads, One, More}
 use Rattle.bb_design.specs.Hierarchy.{Design, boxes}
-use Rattle.bb_design.specs.Allowed.{IsBounded}
+use Rattle.bb_design.specs.Inside.Allowed.{IsBounded}
 use Rattle.bb_design.specs.NetBits.{Bit, same_bit, net_order, top_inputs}
 use Rattle.bb_design.specs.Constructs.{parts}
 use Rattle.bb_design.specs.Drivers.{Free, Drive, driven, drives, driven_bits}
 use Rattle.bb_cells.specs.Places.{Place, Constant, Input, NetBit, Lowering, IsLowering, IsListOf, given_at, given_by_box, given, place_in, front_places}
-use Rattle.bb_cells.specs.ReadPlaces.{copy_steps, FollowsAt}
+use Rattle.bb_cells.specs.Inside.ReadPlaces.{copy_steps, FollowsAt}
 use Rattle.bb_design.specs.Refusals.{AreDrivenOnce}
 use Rattle.bb_design.specs.Registers.{RegisterBit, registers, cut_bits}
 use Rattle.bb_cells.specs.Stands.{IsClock}
@@ -29,7 +29,7 @@ use Rattle.bb_lists.proofs.Numbered.{numbered_at}
 use Rattle.bb_cells.proofs.GivenDrives.{top_driven}
 use Rattle.bb_lists.proofs.Members.{contains-map}
 use Rattle.bb_cells.proofs.ListedPlaces.{listed_cell, listed_below, net_listed}
-use Rattle.bb_design.specs.DesignLaws.{DesignLaws}
+use Rattle.bb_design.specs.Laws.DesignLaws.{DesignLaws}
 
 behind : {A : Type 0} (xs ys : List A) (i : ℕ) → slice_get (xs ++ ys) (length xs + i) ≡ slice_get ys i
 behind [] ys i = let zero_plus : 0 + i ≡ i = omega arith in ap (slice_get ys) zero_plus

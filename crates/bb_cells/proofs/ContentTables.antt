@@ -6,17 +6,17 @@ use Rattle.std.proofs.lemmas.List.Elements.{All-contains, Contains-get_or}
 use lib.Pointwise.{bytes_decides}
 use Rattle.bb_bits.specs.Contents.{Contents, HasShape, output_bit}
 use Rattle.bb_bits.specs.Names.{same_name}
-use Rattle.bb_bits.specs.RowLaws.{RowsHaveShape, BitsAreChosen, RowsHaveTable}
+use Rattle.bb_bits.specs.Laws.RowLaws.{RowsHaveShape, BitsAreChosen, RowsHaveTable}
 use Rattle.bb_bits.specs.Tables.{TableBits, HasAllBits, rows_of, zero_table}
 use Rattle.bb_net.specs.Netlists.{Pins, box_at}
 use Rattle.bb_net.specs.Orders.{moved_pins}
 use Rattle.bb_net.specs.Pairs.{BoxTexts}
 use Rattle.bb_net.specs.Values.{bit_of, value_of, table_at, tabled_bit, FitBoxes, ValueGoesByBoxes}
-use Rattle.bb_cells.specs.ContentTables.{AreTablesOf, TablesGiveValues, TablesGiveOutputs}
+use Rattle.bb_cells.specs.Laws.ContentTables.{AreTablesOf, TablesGiveValues, TablesGiveOutputs}
 use Rattle.bb_net.specs.Flats.{FlatNet}
 use Rattle.bb_design.specs.Hierarchy.{Design, Scope, root, boxes}
 use Rattle.bb_design.specs.NetBits.{Bit, input_bits, output_bits}
-use Rattle.bb_cells.specs.ListLaws.{vector_bits, path_of, given_by_paths, StandingNetsGiveOutputs}
+use Rattle.bb_cells.specs.Laws.ListLaws.{vector_bits, path_of, given_by_paths, StandingNetsGiveOutputs}
 use Rattle.bb_cells.specs.Places.{NetBit, BoxPin, pins_of}
 use Rattle.bb_design.specs.Refusals.{AreApart, box_paths}
 use Rattle.bb_cells.specs.Stands.{box_number, box_texts, StandsFor}

@@ -25,8 +25,8 @@ use Rattle.bb_design.specs.Contexts.{width_of, context_width, made_in}
 use Rattle.bb_bits.specs.Bits.{low_bits}
 use Rattle.bb_design.specs.Constructs.{Construct, Assignment, GateInstance, Register, SupplyNet, InputConnection, OutputConnection, BoxContents, parts}
 use Rattle.bb_design.specs.Reading.{bit_itself, copied, copied_bits, cells_at, operand_terms, read_at, read_beside, read_directly, IsRead}
-use Rattle.bb_cells.specs.ReadPlaces.{read_by, read_places, copy_steps, FollowsAt, IsReadPlace}
-use Rattle.bb_cells.specs.CopyLaws.{CopiesAreListed}
+use Rattle.bb_cells.specs.Inside.ReadPlaces.{read_by, read_places, copy_steps, FollowsAt, IsReadPlace}
+use Rattle.bb_cells.specs.Laws.CopyLaws.{CopiesAreListed}
 use Rattle.bb_cells.specs.Stands.{Follows}
 use Rattle.bb_cells.proofs.CopySteps.{copy_from, copies_one}
 use Rattle.std.proofs.lemmas.List.Sorted.{Contains-permutation, IsPermutation-sym}
@@ -45,11 +45,11 @@ use Rattle.bb_names.specs.Spots.{Pin}
 use Rattle.bb_cells.proofs.ListedEntries.{Entry, each_entry}
 use Rattle.bb_cells.proofs.ListedPlaces.{IsListed, Stands, lowered_at, reads_there, listed_at, listed_cell, constant_listed, input_listed, net_listed, pin_listed, step_stands, joined_listed, inverted_listed}
 use Rattle.bb_cells.proofs.ListedSources.{net_bit_of_step, scope_there, terminal_there}
-use Rattle.bb_design.specs.Wired.{IsWired}
+use Rattle.bb_design.specs.Laws.Wired.{IsWired}
 use Rattle.bb_cells.proofs.ListNumbers.{one_place_listed}
 use Rattle.bb_cells.proofs.GateTerms.{input_term, terminals_are}
-use Rattle.bb_cells.specs.CellLaws.{ReadPlacesAreReadBits}
-use Rattle.bb_design.specs.DesignLaws.{DesignLaws}
+use Rattle.bb_cells.specs.Laws.CellLaws.{ReadPlacesAreReadBits}
+use Rattle.bb_design.specs.Laws.DesignLaws.{DesignLaws}
 
 -- whether a place is neither that of a bit of a net nor that of an input
 abbrev pub is_plain : Place → Bool

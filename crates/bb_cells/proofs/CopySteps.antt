@@ -3,7 +3,7 @@ use Rattle.std.proofs.Common.{◌≡◌, ◌⊎◌, ℕ, ◌<◌, List, [], map,
 use Rattle.std.specs.List.{enumerate_from}
 use Rattle.bb_net.specs.declared.loose.LooseCell.{LooseCell}
 use Rattle.bb_net.specs.declared.loose.LooseCell.TheVariants.{Const, Input, Not, And, Or, Xor, Mux, BoxOut, Copy}
-use Rattle.bb_cells.specs.ReadPlaces.{copied_by, copy_steps}
+use Rattle.bb_cells.specs.Inside.ReadPlaces.{copied_by, copy_steps}
 use Rattle.bb_lists.proofs.Members.{from_flat, from_map, contains-map, into_flat, contains_here, contains_cases, none_in_nil}
 use Rattle.bb_lists.proofs.Numbered.{enumerated_from, numbered_at}
 

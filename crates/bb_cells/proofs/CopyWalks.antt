@@ -26,7 +26,7 @@ use Rattle.bb_design.specs.Laws.{BitsAreThere}
 use Rattle.bb_design.specs.NetBits.{Bit, same_bit, net_order, bits_named, pin_bits, output_bits, written_bits}
 use Rattle.bb_cells.specs.Places.{Place, Constant, Input, NetBit, Step, Joined, Inverted, BoxPin, lowered_in, Lowering, IsLowering, step_places, terminal_place, joined_place, gate_place, given_at, given_by_box, given, place_in, join_cell, IsListOf}
 use Rattle.bb_design.specs.Reading.{bit_itself, copied, copied_bits}
-use Rattle.bb_cells.specs.ReadPlaces.{copy_steps, FollowsAt}
+use Rattle.bb_cells.specs.Inside.ReadPlaces.{copy_steps, FollowsAt}
 use Rattle.bb_design.specs.Refusals.{AreDrivenOnce}
 use Rattle.bb_design.specs.Registers.{cut_bits}
 use Rattle.bb_cells.specs.Stands.{Follows}
@@ -36,11 +36,11 @@ use Rattle.bb_lists.proofs.Numbered.{enumerated_from, from_numbered}
 use Rattle.bb_cells.proofs.GivenDrives.{term_of, cut_driven, box_part, part_driven, whole_terms, low_terms, pin_terms, sides_meet, found}
 use Rattle.bb_cells.proofs.ListedPlaces.{IsListed, Stands, lowered_at, listed_cell, listed_below, net_listed, step_stands, joined_listed}
 use Rattle.bb_cells.proofs.ListedSources.{terminal_there}
-use Rattle.bb_design.specs.Wired.{IsWired}
+use Rattle.bb_design.specs.Laws.Wired.{IsWired}
 use Rattle.bb_cells.proofs.GateTerms.{input_term, terminals_are}
 use Rattle.bb_lists.proofs.Zips.{zip_parts}
 use Rattle.bb_lists.proofs.Apart.{one_by}
-use Rattle.bb_design.specs.DesignLaws.{DesignLaws}
+use Rattle.bb_design.specs.Laws.DesignLaws.{DesignLaws}
 
 -- only a bit of a net is a bit itself
 pub no_bit : (path : List (List ℕ)) (g : Gate) (t u : Term) (b : Bit) → Contains (bit_itself path (joins on_terms g t u)) b → Contains (bit_itself path t) b × (joins on_terms g t u ≡ t) × ((p q : ℕ) → join_cell g p q ≡ cell.Copy p)

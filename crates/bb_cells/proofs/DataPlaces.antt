@@ -15,7 +15,7 @@ use Rattle.bb_lists.proofs.Members.{from_flat, from_map, contains-map, into_flat
 use Rattle.bb_lists.proofs.Zips.{zip_parts}
 use Rattle.bb_lists.proofs.Apart.{apart_append, apart_right}
 use Rattle.bb_lists.proofs.Numbered.{from_numbered}
-use Rattle.bb_design.specs.DesignLaws.{DesignLaws}
+use Rattle.bb_design.specs.Laws.DesignLaws.{DesignLaws}
 
 module _ {A : Type 0} where
   apart_left : (xs ys : List A) → AllPairs ◌≢◌ (xs ++ ys) → AllPairs ◌≢◌ xs

@@ -19,7 +19,7 @@ use Rattle.bb_design.specs.Dependence.{bits_below, needed, dependences, IsOnLoop
 use Rattle.bb_design.specs.Drivers.{Free, MadeOf, Box, Drive, driven, driven_by, terminal_terms, drives_at, drives, driven_bits}
 use Rattle.bb_design.specs.GateFunctions.{on_terms, gate_gives}
 use Rattle.bb_design.specs.Laws.{BitsAreThere}
-use Rattle.bb_cells.specs.LoopLaws.{ListsWithoutWalks}
+use Rattle.bb_cells.specs.Laws.LoopLaws.{ListsWithoutWalks}
 use Rattle.bb_cells.specs.Places.{Place, Constant, Input, NetBit, Step, BoxPin, lowered_in, Lowering, IsLowering, step_places, gate_place, given_at, given_by_box, given, place_in, IsListOf}
 use Rattle.bb_design.specs.Refusals.{Cycle, IsAbsent, IsTold, AreDrivenOnce, IsAcyclic}
 use Rattle.bb_design.specs.Registers.{cut_bits}
@@ -27,11 +27,11 @@ use Rattle.bb_lists.proofs.Members.{from_flat, from_map, from_drop, contains-map
 use Rattle.bb_lists.proofs.Numbered.{enumerated_from, from_numbered}
 use Rattle.bb_cells.proofs.GivenDrives.{term_of, cut_driven, box_part, part_driven, whole_terms, low_terms, pin_terms, sides_meet, found}
 use Rattle.bb_cells.proofs.ListedPlaces.{lowered_at, listed_cell, listed_below, net_listed}
-use Rattle.bb_design.specs.Wired.{IsWired}
+use Rattle.bb_design.specs.Laws.Wired.{IsWired}
 use Rattle.bb_cells.proofs.ListWalks.{WalkTo, arrived, steps_walk, gate_walk, pin_walk}
 use Rattle.bb_lists.proofs.Zips.{zip_parts}
 use Rattle.bb_lists.proofs.Apart.{one_by}
-use Rattle.bb_design.specs.DesignLaws.{DesignLaws}
+use Rattle.bb_design.specs.Laws.DesignLaws.{DesignLaws}
 
 module _ (of_designs : DesignLaws) (d : Design) (lowering : Lowering) (l : LooseList) (list : IsListOf d lowering l) (lowered : IsLowering d lowering) (wired : IsWired d) where
   abbrev To : Place → Bit → Type 0

@@ -8,7 +8,7 @@ use Rattle.std.proofs.lemmas.Option.{slice_get-get_or}
 use Rattle.bb_net.specs.declared.loose.LooseCell.TheVariants as cell
 use Rattle.bb_net.specs.Loose.{LooseList, loose_at, operands, IsOnClosedWalk}
 use Rattle.bb_design.specs.Hierarchy.{Design}
-use Rattle.bb_cells.specs.LoopLaws.{LeastWalksAreFirstLoops}
+use Rattle.bb_cells.specs.Laws.LoopLaws.{LeastWalksAreFirstLoops}
 use Rattle.bb_design.specs.NetBits.{Bit, net_order}
 use Rattle.bb_cells.specs.Places.{Constant, Input, NetBit, Lowering, given, place_in, operator_places, IsListOf}
 use Rattle.bb_design.specs.Registers.{cut_bits}
@@ -20,7 +20,7 @@ use Rattle.bb_cells.proofs.ListedPlaces.{listed_cell}
 use Rattle.bb_cells.proofs.LoopPlaces.{closed_walk_passes}
 use Rattle.bb_cells.proofs.WalkLoops.{list_walks_are_loops}
 use Rattle.bb_lists.proofs.Ranges.{length-range}
-use Rattle.bb_design.specs.DesignLaws.{DesignLaws}
+use Rattle.bb_design.specs.Laws.DesignLaws.{DesignLaws}
 
 module _ (d : Design) (lowering : Lowering) (l : LooseList) (list : IsListOf d lowering l) where
   abbrev number_of : Entry → ℕ

@@ -13,7 +13,7 @@ use Rattle.bb_net.specs.Pairs.{BoxTexts, NamesPins}
 use Rattle.bb_net.specs.declared.flat.Reg.{Reg}
 use Rattle.bb_net.specs.Flats.{FlatNet, AreNamed, AreApart, ArePrintable, IsWithin, IsFlat}
 use Rattle.bb_design.specs.Hierarchy.{Design, root, instances, boxes, is_box}
-use Rattle.bb_design.specs.Allowed.{IsBounded}
+use Rattle.bb_design.specs.Inside.Allowed.{IsBounded}
 use Rattle.bb_design.specs.NetBits.{same_bit, net_order, scope_bits, top_inputs, top_outputs, input_bits, output_bits, bits_of_net}
 use Rattle.bb_cells.specs.Places.{NetBit, data_places}
 use Rattle.bb_design.specs.Refusals.{BoxTexts as BoxCause, RegisterTexts, PortTexts, IsSoundDesign, box_paths, register_texts}
@@ -23,7 +23,7 @@ use Rattle.bb_design.specs.Texts.{bit_text, path_text}
 use Rattle.bb_cells.proofs.CellCounts.{nets_are_no_larger}
 use Rattle.bb_cells.proofs.ContentTables.{one_place, none, number_of_box, box_of, list_count, text_count, text_is, path_is, pins_are, number_there}
 use Rattle.bb_lists.proofs.Zips.{zip_length}
-use Rattle.bb_design.specs.DesignLaws.{DesignLaws}
+use Rattle.bb_design.specs.Laws.DesignLaws.{DesignLaws}
 
 -- lists that go together place by place
 zip_from : {A B : Type 0} (R : A → B → Type 0) (xs : List A) (ys : List B) (a : A) (b : B) → length xs ≡ length ys → ((i : ℕ) → i < length xs → R (get_or xs i a) (get_or ys i b)) → AllZip R xs ys

@@ -14,7 +14,7 @@ use Rattle.bb_cells.specs.Places.{Lowering, IsLowering}
 use Rattle.bb_lists.proofs.Numbered.{from_numbered}
 use Rattle.bb_cells.proofs.ListedPlaces.{lowered_at}
 use Rattle.bb_cells.proofs.ListedSources.{terminal_there}
-use Rattle.bb_design.specs.Wired.{IsWired}
+use Rattle.bb_design.specs.Laws.Wired.{IsWired}
 use Rattle.bb_lists.proofs.Places.{only_one}
 
 module _ (d : Design) (lowering : Lowering) (lowered : IsLowering d lowering) (wired : IsWired d)

@@ -23,9 +23,9 @@ use Rattle.bb_lists.proofs.LowBits.{low-map}
 use Rattle.bb_lists.proofs.Members.{from_flat, from_map, contains-map, into_flat, contains_here, kept_from, from_find, from_filter_map}
 use Rattle.bb_lists.proofs.Zips.{zip_across}
 use Rattle.bb_cells.proofs.ListedPlaces.{lowered_at}
-use Rattle.bb_design.specs.Wired.{IsWired}
+use Rattle.bb_design.specs.Laws.Wired.{IsWired}
 use Rattle.bb_lists.proofs.Numbered.{numbered_there}
-use Rattle.bb_design.specs.DesignLaws.{DesignLaws}
+use Rattle.bb_design.specs.Laws.DesignLaws.{DesignLaws}
 
 -- what the place of a step or of a net's bit is made of in a scope
 abbrev pub term_of : Lowering → Scope → Place → Term

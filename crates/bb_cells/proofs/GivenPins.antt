@@ -14,7 +14,7 @@ use Rattle.bb_design.specs.Registers.{cut_bits}
 use Rattle.bb_lists.proofs.Members.{from_flat, from_map, from_drop, none_in_nil, from_find}
 use Rattle.bb_cells.proofs.ListedPlaces.{IsListed, constant_listed, net_listed}
 use Rattle.bb_cells.proofs.ListedSources.{step_source, given_holds, found_holds}
-use Rattle.bb_design.specs.Wired.{IsWired}
+use Rattle.bb_design.specs.Laws.Wired.{IsWired}
 use Rattle.bb_lists.proofs.Zips.{zip_parts}
 
 -- whether a place is that of a pin of a box

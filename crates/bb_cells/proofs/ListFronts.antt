@@ -11,7 +11,7 @@ use Rattle.bb_design.specs.Hierarchy.{Design}
 use Rattle.bb_design.specs.NetBits.{net_order}
 use Rattle.bb_design.specs.Registers.{cut_bits}
 use Rattle.bb_cells.specs.Places.{Place, Constant, Input, NetBit, Numbering, Lowering, IsListOf, place_in, given, front_places, operator_places, places}
-use Rattle.bb_cells.specs.ListLaws.{ListsBegin}
+use Rattle.bb_cells.specs.Laws.ListLaws.{ListsBegin}
 use Rattle.bb_lists.proofs.Members.{contains_here, contains_there}
 use Rattle.bb_lists.proofs.Ranges.{length-range}
 

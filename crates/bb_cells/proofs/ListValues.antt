@@ -25,7 +25,7 @@ use Rattle.bb_design.specs.Contexts.{width_of, made_in}
 use Rattle.bb_design.specs.Constructs.{Construct, GateInstance, parts}
 use Rattle.bb_design.specs.Drivers.{terminal_terms}
 use Rattle.bb_design.specs.GateFunctions.{on_bits, joins, joined, inverts, gate_gives}
-use Rattle.bb_cells.specs.ListLaws.{vector_bits, given_by_contents, world_at}
+use Rattle.bb_cells.specs.Laws.ListLaws.{vector_bits, given_by_contents, world_at}
 use Rattle.bb_cells.specs.Places.{Place, Constant, Input, NetBit, Step, Joined, Inverted, BoxPin, lowered_in, Lowering, IsLowering, step_places, terminal_place, joined_place, gate_place, given, place_in, join_cell, IsListOf}
 use Rattle.bb_design.specs.Registers.{cut_bits}
 use Rattle.bb_cells.specs.Stands.{box_number}
@@ -34,7 +34,7 @@ use Rattle.bb_design.specs.Worlds.{World, Vector, bits_in}
 use Rattle.bb_lists.proofs.Numbered.{enumerated_from, from_numbered}
 use Rattle.bb_cells.proofs.ListedPlaces.{IsListed, Stands, lowered_at, reads_there, listed_cell, listed_below, constant_listed, input_listed, net_listed, pin_listed, step_stands, joined_listed, inverted_listed, box_is}
 use Rattle.bb_cells.proofs.ListedSources.{terminal_there}
-use Rattle.bb_design.specs.Wired.{IsWired}
+use Rattle.bb_design.specs.Laws.Wired.{IsWired}
 use Rattle.bb_names.specs.Spots.{Pin}
 use Rattle.bb_lists.proofs.Places.{only_one}
 

@@ -28,7 +28,7 @@ use Rattle.bb_lists.proofs.Members.{contains-map, contains_here, contains_cases,
 use Rattle.bb_cells.proofs.ListedPlaces.{IsListed, Stands, lowered_at, reads_there, listed_cell, pin_listed, step_stands, joined_listed, inverted_listed, box_is}
 use Rattle.bb_cells.proofs.GateTerms.{input_term, terminals_are}
 use Rattle.bb_cells.proofs.ListedSources.{terminal_there}
-use Rattle.bb_design.specs.Wired.{IsWired}
+use Rattle.bb_design.specs.Laws.Wired.{IsWired}
 
 module _ (d : Design) (lowering : Lowering) (l : LooseList) (list : IsListOf d lowering l) (lowered : IsLowering d lowering) (wired : IsWired d) where
   -- some steps of the list lead from a place to that of a bit

@@ -15,10 +15,10 @@ use Rattle.bb_design.specs.Contexts.{width_of, context_width, made_in}
 use Rattle.bb_bits.specs.Bits.{low_bits}
 use Rattle.bb_design.specs.Constructs.{Construct, Assignment, GateInstance, Register, SupplyNet, InputConnection, OutputConnection, BoxContents, parts}
 use Rattle.bb_design.specs.Drivers.{Source, Free, MadeOf, Box, Drive, driven, driven_by, terminal_terms, drives_at, drives, driven_bits}
-use Rattle.bb_design.specs.DrivenWorlds.{Gives, IsGiven, IsDrivenWorld, ConstructsHoldBitByBit}
+use Rattle.bb_design.specs.Laws.DrivenWorlds.{Gives, IsGiven, IsDrivenWorld, ConstructsHoldBitByBit}
 use Rattle.bb_design.specs.GateFunctions.{on_terms, gate_gives}
 use Rattle.bb_design.specs.Laws.{BitsAreThere}
-use Rattle.bb_cells.specs.ListLaws.{vector_bits, given_by_contents, ListsGiveWorlds}
+use Rattle.bb_cells.specs.Laws.ListLaws.{vector_bits, given_by_contents, ListsGiveWorlds}
 use Rattle.bb_cells.specs.Places.{Place, Constant, Input, BoxPin, lowered_in, Lowering, IsLowering, step_places, gate_place, given_at, given_by_box, given, IsListOf}
 use Rattle.bb_design.specs.Refusals.{TwoDrivers, Cycle, AreDrivenOnce, IsAcyclic}
 use Rattle.bb_design.specs.Registers.{RegisterBit, registers, cut_bits}
@@ -30,10 +30,10 @@ use Rattle.bb_lists.proofs.Members.{all_from, from_flat, from_map, contains-map,
 use Rattle.bb_lists.proofs.Numbered.{enumerated_from, from_numbered}
 use Rattle.bb_lists.proofs.Zips.{zip_across}
 use Rattle.bb_cells.proofs.GivenDrives.{top_driven, state_driven, cut_driven, box_part, part_driven, found}
-use Rattle.bb_design.specs.Wired.{IsWired}
+use Rattle.bb_design.specs.Laws.Wired.{IsWired}
 use Rattle.bb_cells.proofs.ListValues.{at, world, constant_value, input_value, net_value, pin_value, expression_value, gate_value, pins_same}
 use Rattle.bb_lists.proofs.Apart.{apart_append, one_by}
-use Rattle.bb_design.specs.DesignLaws.{DesignLaws}
+use Rattle.bb_design.specs.Laws.DesignLaws.{DesignLaws}
 
 module _ (of_designs : DesignLaws) (d : Design) (lowering : Lowering) (l : LooseList) (list : IsListOf d lowering l) (lowered : IsLowering d lowering) (wired : IsWired d)
     (contents : Contents) (x : Vector) (bits : List Bool) (value : IsLooseValue l (vector_bits d x) (given_by_contents d contents) bits) where

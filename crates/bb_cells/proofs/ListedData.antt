@@ -12,17 +12,17 @@ use Rattle.bb_design.specs.NetBits.{Bit, same_bit, net_order, written_bits}
 use Rattle.bb_design.specs.Contexts.{width_of, context_width, value_in}
 use Rattle.bb_bits.specs.Bits.{low_bits}
 use Rattle.bb_design.specs.Constructs.{Construct, Assignment, GateInstance, Register, SupplyNet, InputConnection, OutputConnection, BoxContents, parts}
-use Rattle.bb_cells.specs.ListLaws.{vector_bits, given_by_contents}
+use Rattle.bb_cells.specs.Laws.ListLaws.{vector_bits, given_by_contents}
 use Rattle.bb_cells.specs.Places.{Place, Constant, Lowering, IsLowering, step_places, data_at, place_in, IsListOf}
 use Rattle.bb_design.specs.Registers.{RegisterBit, stored_at, stored, registers}
 use Rattle.bb_design.specs.Worlds.{World, Vector, next_bit}
 use Rattle.bb_lists.proofs.LowBits.{low-length}
-use Rattle.bb_design.specs.Wired.{IsWired}
+use Rattle.bb_design.specs.Laws.Wired.{IsWired}
 use Rattle.bb_cells.proofs.ListValues.{at}
 use Rattle.bb_cells.proofs.ListWorlds.{w, low_same}
 use Rattle.bb_lists.proofs.Members.{contains_here, contains_there, from_find, from_filter_map}
 use Rattle.bb_lists.proofs.Zips.{zip_append}
-use Rattle.bb_design.specs.DesignLaws.{DesignLaws}
+use Rattle.bb_design.specs.Laws.DesignLaws.{DesignLaws}
 
 module _ (of_designs : DesignLaws) (values : ValuesHaveWidth) (cells : MadeHasValue) (d : Design) (lowering : Lowering) (l : LooseList) (list : IsListOf d lowering l) (lowered : IsLowering d lowering) (wired : IsWired d)
     (contents : Contents) (x : Vector) (bits : List Bool) (value : IsLooseValue l (vector_bits d x) (given_by_contents d contents) bits) where

@@ -31,7 +31,7 @@ use Rattle.std.specs.Prelude.{IfSome, slice_get}
 use Rattle.std.proofs.lemmas.Option.{slice_get-get_or}
 use Rattle.bb_names.specs.declared.net.NetInfo.{NetInfo}
 use Rattle.bb_lists.proofs.Ranges.{range_there}
-use Rattle.bb_design.specs.Wired.{IsWired}
+use Rattle.bb_design.specs.Laws.Wired.{IsWired}
 
 -- a step reads bits of nets of the scope
 pub net_bit_of_step : (d : Design) (s : Scope) (n i : ℕ) → Contains (scopes d) s → Reads (nets_of s.source) 0 (steps.Net n i) → Contains (net_order d) (record { path = s.path; net = name_at (nets_of s.source) n; place = i })

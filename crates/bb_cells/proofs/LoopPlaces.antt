@@ -23,9 +23,9 @@ use Rattle.bb_cells.proofs.ListedEntries.{Entry, Part, Cases, each_entry}
 use Rattle.bb_lists.proofs.Numbered.{enumerated_from, from_numbered}
 use Rattle.bb_cells.proofs.ListedPlaces.{IsListed, lowered_at, reads_there, listed_cell, listed_at, listed_below, box_is, constant_listed, net_listed, joined_listed}
 use Rattle.bb_cells.proofs.ListedSources.{step_source, terminal_there}
-use Rattle.bb_design.specs.Wired.{IsWired}
+use Rattle.bb_design.specs.Laws.Wired.{IsWired}
 use Rattle.bb_cells.proofs.ListNumbers.{one_place_listed}
-use Rattle.bb_design.specs.DesignLaws.{DesignLaws}
+use Rattle.bb_design.specs.Laws.DesignLaws.{DesignLaws}
 
 -- places that are no bit's, by their kinds: an operator of a gate is higher than the steps of its inputs, and a pin of a box, which
 -- only bits read, is the highest

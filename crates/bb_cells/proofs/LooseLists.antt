@@ -28,10 +28,10 @@ use Rattle.bb_cells.proofs.ListFronts.{lists_begin, places-length}
 use Rattle.bb_cells.proofs.ListedEntries.{Entry, Cases, each_entry}
 use Rattle.bb_cells.proofs.ListedPlaces.{reads_there, listed_cell, listed_below, listed_at, pin_listed, box_is}
 use Rattle.bb_cells.proofs.ListedSources.{net_in, step_in, terminal_in, joined_in, given_in, data_in}
-use Rattle.bb_design.specs.Wired.{IsWired}
+use Rattle.bb_design.specs.Laws.Wired.{IsWired}
 use Rattle.std.proofs.lemmas.List.Filters.{length-filter_both}
-use Rattle.bb_cells.specs.ListLaws.{ListsAreLoose}
-use Rattle.bb_design.specs.DesignLaws.{DesignLaws}
+use Rattle.bb_cells.specs.Laws.ListLaws.{ListsAreLoose}
+use Rattle.bb_design.specs.Laws.DesignLaws.{DesignLaws}
 
 module _ (of_designs : DesignLaws) (d : Design) (lowering : Lowering) (l : LooseList) (list : IsListOf d lowering l) (lowered : IsLowering d lowering) (wired : IsWired d) where
   -- a cell at a place reads places of the list, an input is one of the inputs, and a pin is one of its box

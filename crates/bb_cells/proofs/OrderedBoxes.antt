@@ -8,8 +8,8 @@ use Rattle.bb_bits.specs.Closures.{IsFirst}
 use Rattle.bb_net.specs.Flats.{FlatNet}
 use Rattle.bb_net.specs.Loose.{NeedsBox}
 use Rattle.bb_net.specs.Orders.{IsReady}
-use Rattle.bb_design.specs.Allowed.{IsAllowed}
-use Rattle.bb_design.specs.DesignLaws.{DesignLaws}
+use Rattle.bb_design.specs.Inside.Allowed.{IsAllowed}
+use Rattle.bb_design.specs.Laws.DesignLaws.{DesignLaws}
 use Rattle.bb_design.specs.Hierarchy.{Design, Scope, root, boxes}
 use Rattle.bb_design.specs.Refusals.{AreDrivenOnce, box_paths, TwoDrivers, BoxTexts as TwiceBoxes}
 use Rattle.bb_cells.specs.BoxOrders.{DependsOnBox, MayFollow, IsBoxOrder, StandingNetsHaveBoxOrders}

@@ -32,15 +32,15 @@ use Rattle.bb_design.specs.Refusals.{AreDrivenOnce}
 use Rattle.bb_cells.proofs.DataPlaces.{data_place}
 use Rattle.bb_cells.proofs.GivenDrives.{term_of, low_terms, part_driven}
 use Rattle.bb_lists.proofs.Zips.{zip_parts}
-use Rattle.bb_cells.specs.ReadPlaces.{read_by, FollowsAt, IsReadPlace}
+use Rattle.bb_cells.specs.Inside.ReadPlaces.{read_by, FollowsAt, IsReadPlace}
 use Rattle.bb_lists.proofs.Members.{from_filter, from_flat, from_map, from_drop, into_flat, contains-map, contains_here, contains_there, contains_cases, none_in_nil}
 use Rattle.bb_cells.proofs.CopyWalks.{To, copy_on, no_bit, within_copies, steps_copies, input_copies}
 use Rattle.bb_lists.proofs.Numbered.{enumerated_from, numbered_there, from_numbered}
 use Rattle.bb_cells.proofs.ListedPlaces.{IsListed, Stands, lowered_at, reads_there, listed_cell, listed_below, step_stands, joined_listed, inverted_listed}
 use Rattle.bb_cells.proofs.ListedSources.{terminal_there}
-use Rattle.bb_design.specs.Wired.{IsWired}
+use Rattle.bb_design.specs.Laws.Wired.{IsWired}
 use Rattle.bb_cells.proofs.GateTerms.{input_term, terminals_are}
-use Rattle.bb_design.specs.DesignLaws.{DesignLaws}
+use Rattle.bb_design.specs.Laws.DesignLaws.{DesignLaws}
 
 module _ {A T : Type 0} where
   only_one : (a q : A) → Contains (a ∷ []) q → (a ≡ q → T) → T

@@ -10,13 +10,13 @@ use Rattle.bb_names.specs.Nets.{nets_of}
 use Rattle.bb_net.specs.Flats.{FlatNet, ArePrintable}
 use Rattle.bb_net.specs.Pairs.{BoxTexts}
 use Rattle.bb_net.specs.declared.flat.Reg.{Reg}
-use Rattle.bb_design.specs.Allowed.{IsBounded}
-use Rattle.bb_design.specs.DesignLaws.{DesignLaws}
+use Rattle.bb_design.specs.Inside.Allowed.{IsBounded}
+use Rattle.bb_design.specs.Laws.DesignLaws.{DesignLaws}
 use Rattle.bb_design.specs.Hierarchy.{Design, scopes, root, boxes, instances}
 use Rattle.bb_design.specs.NetBits.{Bit, same_bit, bits_of_net, net_order, scope_bits, top_inputs, top_outputs}
 use Rattle.bb_design.specs.Registers.{RegisterBit, registers, stored}
 use Rattle.bb_design.specs.Texts.{bit_text}
-use Rattle.bb_cells.specs.ListLaws.{StandingNetsArePrintable}
+use Rattle.bb_cells.specs.Laws.ListLaws.{StandingNetsArePrintable}
 use Rattle.bb_cells.specs.Places.{pins_of}
 use Rattle.bb_cells.specs.Stands.{IsRegister, StandsFor, box_number, box_texts}
 use Rattle.bb_lists.proofs.Members.{all_from, from_flat, from_map, from_filter, from_find, into_flat, contains_here, contains_there, kept_from}

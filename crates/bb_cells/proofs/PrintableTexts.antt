@@ -9,7 +9,7 @@ use Rattle.bb_ast.specs.declared.expr.Op.{Op}
 use Rattle.bb_ast.specs.declared.module.Port.{Port}
 use Rattle.bb_ast.specs.declared.module.Range.{Range}
 use Rattle.bb_ast.specs.Folds.{of_operands, of_arms, of_parts}
-use Rattle.bb_ast.specs.Formed.{IsFormedExpression, AreFormedOperands, AreFormedArms, AreFormedParts, IsFormedPair, IsFormedAssignment, IsFormedGate, IsFormedConns, IsFormedCall, IsFormedBody, IsFormedHead, IsFormed}
+use Rattle.bb_ast.specs.Inside.Formed.{IsFormedExpression, AreFormedOperands, AreFormedArms, AreFormedParts, IsFormedPair, IsFormedAssignment, IsFormedGate, IsFormedConns, IsFormedCall, IsFormedBody, IsFormedHead, IsFormed}
 use Rattle.bb_ast.specs.Names.{naming, names_in}
 use Rattle.bb_ast.specs.Syntax.{Expression, Net, Bit as BitOf, Part, Sized, Plain, Not, Chain, Cond, Concat, Repeat, Operands, no_operand, operand, Arms, no_arm, arm, Parts, no_part, part, PlainConns, Order, Named, PlainBody, Ports, Nets, Regs, Supply, Assign, Gates, Calls, Always, PlainItem, PlainHead, PlainModule}
 use Rattle.bb_names.specs.declared.net.NetInfo.{NetInfo}
@@ -18,11 +18,11 @@ use Rattle.bb_names.specs.Nets.{net_names, net_of, nets_of, is_empty}
 use Rattle.bb_names.specs.Spots.{module_named}
 use Rattle.bb_bits.specs.Earlier.{once}
 use Rattle.bb_design.specs.Hierarchy.{Path, Design, Scope, Instance, instance_of, instances_in, instances_of, root, children, below, instances, scopes, boxes, is_box, is_top, path_to, too_low}
-use Rattle.bb_design.specs.Allowed.{IsBounded}
+use Rattle.bb_design.specs.Inside.Allowed.{IsBounded}
 use Rattle.bb_design.specs.NetBits.{Bit, bits_of_net, scope_bits, net_order}
 use Rattle.bb_design.specs.Texts.{path_text, path_prefix, index_at, index_text, net_bit_text, range_at, bit_text}
 use Rattle.bb_lists.proofs.Members.{each_of, from_flat, from_map, contains_cases, kept_from, none_in_nil, from_find, from_filter_map}
-use Rattle.bb_design.specs.DesignLaws.{DesignLaws}
+use Rattle.bb_design.specs.Laws.DesignLaws.{DesignLaws}
 
 -- what holds of each element
 

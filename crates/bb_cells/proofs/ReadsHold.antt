@@ -4,16 +4,16 @@ use Rattle.bb_ast.specs.Syntax.{PlainAlways}
 use Rattle.bb_net.specs.Loose.{LooseList}
 use Rattle.bb_design.specs.Constructs.{Register, parts}
 use Rattle.bb_design.specs.Hierarchy.{Design, Scope}
-use Rattle.bb_design.specs.Allowed.{IsBounded}
+use Rattle.bb_design.specs.Inside.Allowed.{IsBounded}
 use Rattle.bb_design.specs.NetBits.{Bit, written_bits}
 use Rattle.bb_cells.specs.Places.{NetBit, Lowering, IsLowering, IsListOf}
-use Rattle.bb_cells.specs.ReadPlaces.{IsReadPlace}
+use Rattle.bb_cells.specs.Inside.ReadPlaces.{IsReadPlace}
 use Rattle.bb_design.specs.Reading.{IsRead, read_directly}
 use Rattle.bb_design.specs.Refusals.{AreDrivenOnce}
 use Rattle.bb_cells.proofs.ClockInputs.{join}
 use Rattle.bb_cells.proofs.CopyWalks.{follows_at}
 use Rattle.bb_cells.proofs.PlacesRead.{direct_place, data_read}
-use Rattle.bb_design.specs.DesignLaws.{DesignLaws}
+use Rattle.bb_design.specs.Laws.DesignLaws.{DesignLaws}
 
 module _ (of_designs : DesignLaws) (d : Design) (lowering : Lowering) (l : LooseList) (list : IsListOf d lowering l) (lowered : IsLowering d lowering) (bounded : IsBounded d) (once : AreDrivenOnce d) (clocks : List ℕ)
     (timed : (s : Scope) (a : PlainAlways) → Contains (parts d) (s, Register a) → (b : Bit) → Contains (written_bits s a.clock) b → Contains clocks (list.number (NetBit b))) where

@@ -7,20 +7,20 @@ use Rattle.std.proofs.lemmas.List.Sorted.{IsPermutation-refl}
 use Rattle.bb_ast.specs.Syntax.{Expression}
 use Rattle.bb_names.specs.Declarations.{range_of}
 use Rattle.bb_names.specs.Nets.{nets_of}
-use Rattle.bb_expr.specs.FitLaws.{StandingIsFitIn, LoweringsExist}
+use Rattle.bb_expr.specs.Laws.FitLaws.{StandingIsFitIn, LoweringsExist}
 use Rattle.bb_expr.specs.Lowered.{IsLowered}
 use Rattle.bb_net.specs.declared.loose.LooseCell.{LooseCell}
 use Rattle.bb_net.specs.declared.loose.LooseCell.TheVariants as cell
 use Rattle.bb_net.specs.Loose.{LooseList, loose_at}
-use Rattle.bb_design.specs.Allowed.{IsBounded}
+use Rattle.bb_design.specs.Inside.Allowed.{IsBounded}
 use Rattle.bb_design.specs.Constructs.{Construct, Assignment, GateInstance, Register, SupplyNet, InputConnection, OutputConnection, BoxContents, parts}
 use Rattle.bb_design.specs.Contexts.{width_of, context_width}
-use Rattle.bb_design.specs.DesignLaws.{DesignLaws}
+use Rattle.bb_design.specs.Laws.DesignLaws.{DesignLaws}
 use Rattle.bb_design.specs.Hierarchy.{Design, Scope, boxes}
 use Rattle.bb_design.specs.NetBits.{top_outputs}
 use Rattle.bb_design.specs.Registers.{cut_bits}
 use Rattle.bb_cells.specs.Places.{Place, NetBit, Lowering, Steps, lowered_in, IsLoweringOf, IsLowering, places, data_places, pins_of, IsListOf}
-use Rattle.bb_cells.specs.ListLaws.{ListsExist}
+use Rattle.bb_cells.specs.Laws.ListLaws.{ListsExist}
 use Rattle.bb_lists.proofs.Chosen.{choose}
 use Rattle.bb_lists.proofs.Members.{all_from, from_map, contains_cases, none_in_nil}
 use Rattle.bb_lists.proofs.Numbered.{placed-at}

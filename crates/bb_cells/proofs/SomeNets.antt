@@ -4,7 +4,7 @@ use Rattle.std.proofs.Common.{◌≡◌, ◌≢◌, ◌⊎◌, ℕ, ◌<◌, Boo
 use Rattle.std.specs.Prelude.{All, slice_get}
 use Rattle.std.specs.List.{AllZip}
 use Rattle.std.proofs.lemmas.List.Elements.{All-contains}
-use Rattle.bb_ast.specs.Formed.{IsFormed, IsFormedBody, IsNetOrBit}
+use Rattle.bb_ast.specs.Inside.Formed.{IsFormed, IsFormedBody, IsNetOrBit}
 use Rattle.bb_ast.specs.Names.{names_in}
 use Rattle.bb_ast.specs.Syntax.{Expression, Net, Bit as BitOf, Part, Sized, Plain, Not, Chain, Cond, Concat, Repeat, Always, PlainAlways, PlainItem}
 use Rattle.bb_bits.specs.Closures.{Leads, One, More, IsFirst}
@@ -14,20 +14,20 @@ use Rattle.bb_net.specs.declared.flat.Reg.{Reg}
 use Rattle.bb_net.specs.Flats.{FlatNet}
 use Rattle.bb_net.specs.Loose.{LooseList, IsOnClosedWalk}
 use Rattle.bb_net.specs.Orders.{OrderExists}
-use Rattle.bb_design.specs.Allowed.{IsAllowed, IsBounded}
-use Rattle.bb_design.specs.BitLaws.{BitsAreToldApart}
+use Rattle.bb_design.specs.Inside.Allowed.{IsAllowed, IsBounded}
+use Rattle.bb_design.specs.Laws.BitLaws.{BitsAreToldApart}
 use Rattle.bb_design.specs.Constructs.{Register, BoxContents, body_constructs, constructs_at, parts}
 use Rattle.bb_design.specs.Contexts.{width_of}
 use Rattle.bb_design.specs.Dependence.{dependences}
-use Rattle.bb_design.specs.DesignLaws.{DesignLaws}
-use Rattle.bb_design.specs.DrivenWorlds.{IsLegal}
+use Rattle.bb_design.specs.Laws.DesignLaws.{DesignLaws}
+use Rattle.bb_design.specs.Laws.DrivenWorlds.{IsLegal}
 use Rattle.bb_design.specs.Hierarchy.{Design, Scope, is_box}
 use Rattle.bb_design.specs.NetBits.{Bit, same_bit, bits_from, top_inputs, top_outputs, written_bits}
 use Rattle.bb_design.specs.Reading.{copied_bits}
 use Rattle.bb_design.specs.Refusals.{IsAcyclic, TwoDrivers, Cycle}
 use Rattle.bb_design.specs.Registers.{RegisterBit, registers}
 use Rattle.bb_design.specs.Texts.{bit_text}
-use Rattle.bb_cells.specs.ListLaws.{ListsAreLoose, ListsExist, StandingNetsExist}
+use Rattle.bb_cells.specs.Laws.ListLaws.{ListsAreLoose, ListsExist, StandingNetsExist}
 use Rattle.bb_cells.specs.Places.{Lowering, IsLowering, IsListOf}
 use Rattle.bb_cells.specs.Stands.{Follows, IsClock, IsRegister, StandsFor, box_number, box_texts}
 use Rattle.bb_lists.proofs.Deciding.{Decision, Decides, decide_either, decide_leads, first_or_none}

@@ -14,7 +14,7 @@ use Rattle.bb_net.specs.declared.loose.LooseCell.TheVariants as cell
 use Rattle.bb_ast.specs.Syntax.{Expression}
 use Rattle.bb_ast.specs.declared.module.Gate.{Gate}
 use Rattle.bb_bits.specs.Closures.{IsDistinct}
-use Rattle.bb_design.specs.BitLaws.{BitsAreToldApart}
+use Rattle.bb_design.specs.Laws.BitLaws.{BitsAreToldApart}
 use Rattle.bb_design.specs.Hierarchy.{Design, Scope, root, boxes}
 use Rattle.bb_design.specs.NetBits.{Bit, same_bit, net_order, output_bits}
 use Rattle.bb_design.specs.Constructs.{Construct, Assignment, GateInstance, Register, SupplyNet, InputConnection, OutputConnection, BoxContents, parts}

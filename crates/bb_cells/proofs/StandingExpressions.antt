@@ -7,7 +7,7 @@ use Rattle.bb_ast.specs.Gates.{output_count}
 use Rattle.bb_ast.specs.Syntax.{Expression, Net, PlainConns, Order, Named, PlainBody, Ports, Nets, Regs, Supply, Assign, Gates, Calls, Always, PlainItem, PlainModule}
 use Rattle.bb_names.specs.Faults.{is_input}
 use Rattle.bb_names.specs.Spots.{Pin, module_named, pin_named, pin_at}
-use Rattle.bb_expr.specs.Standing.{expressions_in, conns_expressions, item_expressions, StandsIn}
+use Rattle.bb_expr.specs.Inside.Standing.{expressions_in, conns_expressions, item_expressions, StandsIn}
 use Rattle.bb_design.specs.Constructs.{Construct, Assignment, Register, SupplyNet, InputConnection, OutputConnection, BoxContents, initial_construct, gate_construct, connection, connections, body_constructs, constructs_at}
 use Rattle.bb_design.specs.Contexts.{width_of}
 use Rattle.bb_design.specs.Hierarchy.{Scope, is_box}

@@ -12,8 +12,8 @@ use Rattle.bb_design.specs.Constructs.{parts}
 use Rattle.bb_design.specs.Drivers.{Source, Free, MadeOf, Box, Drive, driven, drives_at, drives, driven_bits}
 use Rattle.bb_net.specs.Flats.{FlatNet}
 use Rattle.bb_design.specs.Hierarchy.{Path, Design}
-use Rattle.bb_design.specs.Allowed.{IsAllowed}
-use Rattle.bb_cells.specs.NamingLaws.{FollowedInputsAreOne, StandingNetsAreNamed, StandingNetsAreNamedAlike}
+use Rattle.bb_design.specs.Inside.Allowed.{IsAllowed}
+use Rattle.bb_cells.specs.Laws.NamingLaws.{FollowedInputsAreOne, StandingNetsAreNamed, StandingNetsAreNamedAlike}
 use Rattle.bb_design.specs.NetBits.{Bit, top_inputs}
 use Rattle.bb_design.specs.Reading.{bit_itself, copied, copied_bits}
 use Rattle.bb_design.specs.Refusals.{TwoDrivers, AreDrivenOnce}
@@ -26,7 +26,7 @@ use Rattle.bb_cells.proofs.ContentTables.{one_place, list_count}
 use Rattle.bb_cells.proofs.FlatInvariants.{are_named}
 use Rattle.bb_cells.proofs.GivenDrives.{top_driven}
 use Rattle.bb_lists.proofs.Apart.{one_by}
-use Rattle.bb_design.specs.DesignLaws.{DesignLaws}
+use Rattle.bb_design.specs.Laws.DesignLaws.{DesignLaws}
 
 -- clocks
 

@@ -15,9 +15,9 @@ use Rattle.bb_net.specs.Flats.{FlatNet}
 use Rattle.bb_design.specs.Hierarchy.{Design}
 use Rattle.bb_design.specs.NetBits.{Bit, top_outputs}
 use Rattle.bb_design.specs.Constructs.{parts}
-use Rattle.bb_design.specs.DrivenWorlds.{IsDrivenWorld, ConstructsHoldBitByBit}
-use Rattle.bb_cells.specs.ListLaws.{vector_bits, given_by_contents, given_by_paths, world_at, StandingNetsGiveOutputs, StandingNetsAgree}
-use Rattle.bb_design.specs.Allowed.{IsAllowed}
+use Rattle.bb_design.specs.Laws.DrivenWorlds.{IsDrivenWorld, ConstructsHoldBitByBit}
+use Rattle.bb_cells.specs.Laws.ListLaws.{vector_bits, given_by_contents, given_by_paths, world_at, StandingNetsGiveOutputs, StandingNetsAgree}
+use Rattle.bb_design.specs.Inside.Allowed.{IsAllowed}
 use Rattle.bb_cells.specs.Places.{Place, NetBit, data_at, data_places, place_in}
 use Rattle.bb_design.specs.Refusals.{TwoDrivers, NoDriver, Cycle}
 use Rattle.bb_design.specs.Registers.{RegisterBit, registers}
@@ -27,7 +27,7 @@ use Rattle.bb_cells.proofs.LooseLists.{lists_are_loose}
 use Rattle.bb_cells.proofs.ListedData.{data_value}
 use Rattle.bb_cells.proofs.ListWorlds.{driven_world, has_vector}
 use Rattle.bb_lists.proofs.Members.{contains_here, contains_there}
-use Rattle.bb_design.specs.DesignLaws.{DesignLaws}
+use Rattle.bb_design.specs.Laws.DesignLaws.{DesignLaws}
 
 module _ (of_designs : DesignLaws) (values : ValuesHaveWidth) (made : MadeHasValue) (bitwise : ConstructsHoldBitByBit) (keeps : OrderKeepsValues) (by_boxes : ValueGoesByBoxes)
     (d : Design) (f : FlatNet) (allowed : IsAllowed d) (stands : StandsFor d f) (contents : Contents) (x : Vector) (fit : FitDesign d contents) where

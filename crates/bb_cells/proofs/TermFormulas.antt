@@ -3,9 +3,9 @@ use Rattle.std.proofs.Common.{◌≡◌, ℕ, zero, suc, ◌+◌, ◌<◌, Bool,
 use Rattle.std.specs.List.{enumerate_from}
 use Rattle.std.proofs.lemmas.List.Elements.{All-contains, All-head, All-tail}
 use Rattle.bb_ast.specs.Syntax.{Expression}
-use Rattle.bb_alike.specs.Formulas.{Formula}
-use Rattle.bb_alike.specs.Formulas as formula
-use Rattle.bb_alike.specs.LooseFormulas.{IsFormulaOf, AreLooseFormulas}
+use Rattle.bb_alike.specs.Laws.Formulas.{Formula}
+use Rattle.bb_alike.specs.Laws.Formulas as formula
+use Rattle.bb_alike.specs.Laws.LooseFormulas.{IsFormulaOf, AreLooseFormulas}
 use Rattle.bb_names.specs.declared.net.NetInfo.{NetInfo}
 use Rattle.bb_names.specs.Nets.{nets_of}
 use Rattle.bb_names.specs.Widths.{Ranges}

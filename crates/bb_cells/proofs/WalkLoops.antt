@@ -21,7 +21,7 @@ use Rattle.bb_design.specs.Hierarchy.{Design, Scope, boxes, scopes, is_box, path
 use Rattle.bb_design.specs.NetBits.{Bit, same_bit, net_order, bits_named, pin_bits, input_bits, output_bits, written_bits, scope_bits}
 use Rattle.bb_design.specs.Contexts.{width_of, context_width}
 use Rattle.bb_bits.specs.Bits.{low_bits}
-use Rattle.bb_cells.specs.LoopLaws.{ListWalksAreLoops}
+use Rattle.bb_cells.specs.Laws.LoopLaws.{ListWalksAreLoops}
 use Rattle.bb_design.specs.Constructs.{Construct, Assignment, GateInstance, Register, SupplyNet, InputConnection, OutputConnection, BoxContents, parts}
 use Rattle.bb_design.specs.Dependence.{bits_below, needed, dependences}
 use Rattle.bb_design.specs.Drivers.{MadeOf, Box, Drive, driven, driven_by, terminal_terms, drives_at, drives}
@@ -36,10 +36,10 @@ use Rattle.bb_lists.proofs.Zips.{zip_parts}
 use Rattle.bb_names.specs.Spots.{Pin}
 use Rattle.bb_cells.proofs.ListedPlaces.{IsListed, Stands, lowered_at, reads_there, listed_cell, constant_listed, input_listed, net_listed, pin_listed, step_stands, joined_listed, inverted_listed, box_is}
 use Rattle.bb_cells.proofs.ListedSources.{net_bit_of_step, scope_there, terminal_there}
-use Rattle.bb_design.specs.Wired.{IsWired}
+use Rattle.bb_design.specs.Laws.Wired.{IsWired}
 use Rattle.bb_cells.proofs.ListNumbers.{one_place_listed}
 use Rattle.bb_cells.proofs.GateTerms.{input_term, terminals_are}
-use Rattle.bb_design.specs.DesignLaws.{DesignLaws}
+use Rattle.bb_design.specs.Laws.DesignLaws.{DesignLaws}
 
 -- whether a place is that of a bit, and the bit
 abbrev is_net : Place → Bool

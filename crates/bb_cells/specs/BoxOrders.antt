@@ -2,7 +2,7 @@
 -- in elaboration order.
 use Rattle.std.specs.Prelude.{◌≡◌, ◌⊎◌, ℕ, ◌<◌, List, ◌∷◌, ◌++◌, map, Contains, IsPermutation}
 use Rattle.bb_bits.specs.Closures.{IsFirst, Leads}
-use Rattle.bb_design.specs.Allowed.{IsAllowed}
+use Rattle.bb_design.specs.Inside.Allowed.{IsAllowed}
 use Rattle.bb_design.specs.Dependence.{dependences}
 use Rattle.bb_design.specs.Hierarchy.{Design, Scope, boxes}
 use Rattle.bb_design.specs.NetBits.{Bit, input_bits, output_bits}

@@ -1,11 +1,5 @@
-pub mod AlikeNets
 pub mod BoxOrders
-pub mod CellLaws
-pub mod ContentTables
-pub mod CopyLaws
-pub mod ListLaws
-pub mod LoopLaws
-pub mod NamingLaws
 pub mod Places
-pub mod ReadPlaces
 pub mod Stands
+pub mod Inside
+pub mod Laws

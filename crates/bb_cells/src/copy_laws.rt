@@ -1,7 +1,7 @@
 //! Laws that link copies in the list of cells of a design with copies of its bits. Each function has a law as its contract and
 //! does nothing.
 
-ghost use Rattle.bb_cells.specs.CopyLaws.{CopiesAreListed};
+ghost use Rattle.bb_cells.specs.Laws.CopyLaws.{CopiesAreListed};
 
 use bb_design::laws::laws_of_designs;
 

@@ -1,8 +1,8 @@
 //! Laws that link the list of cells of a design, and a flat netlist that stands for it, with the worlds of the design. Each function
 //! has a law as its contract and does nothing.
 
-ghost use Rattle.bb_cells.specs.CellLaws.{CellLaws};
-ghost use Rattle.bb_cells.specs.ListLaws.{ListsBegin, ListsExist, StandingNetsArePrintable, StandingNetsExist, ListsAreLoose, ListsGiveWorlds, StandingNetsGiveOutputs, StandingNetsAgree, NetsAreNoLarger, PlacesAreFew, StandingNetsAreFlat};
+ghost use Rattle.bb_cells.specs.Laws.CellLaws.{CellLaws};
+ghost use Rattle.bb_cells.specs.Laws.ListLaws.{ListsBegin, ListsExist, StandingNetsArePrintable, StandingNetsExist, ListsAreLoose, ListsGiveWorlds, StandingNetsGiveOutputs, StandingNetsAgree, NetsAreNoLarger, PlacesAreFew, StandingNetsAreFlat};
 
 use bb_design::laws::{constructs_hold_bit_by_bit, laws_of_designs};
 use bb_expr::laws::{lowerings_exist, made_has_value, standing_is_fit_in, values_have_width};

@@ -1,7 +1,7 @@
 //! Laws that link closed walks in the list of cells of a design with loops of dependence. Each function has a law as its contract
 //! and does nothing.
 
-ghost use Rattle.bb_cells.specs.LoopLaws.{ListsWithoutWalks, ListWalksAreLoops, LeastWalksAreFirstLoops};
+ghost use Rattle.bb_cells.specs.Laws.LoopLaws.{ListsWithoutWalks, ListWalksAreLoops, LeastWalksAreFirstLoops};
 
 use bb_design::laws::laws_of_designs;
 

@@ -1,8 +1,8 @@
 //! Laws of the names in flat netlists. Each function has a law as its contract and does nothing.
 
-ghost use Rattle.bb_cells.specs.NamingLaws.{BoxNeedsAreOne, FollowedInputsAreOne, StandingNetsAreNamed, StandingNetsAreNamedAlike};
+ghost use Rattle.bb_cells.specs.Laws.NamingLaws.{BoxNeedsAreOne, FollowedInputsAreOne, StandingNetsAreNamed, StandingNetsAreNamedAlike};
 ghost use Rattle.bb_cells.specs.BoxOrders.{BoxesHaveHeights, StandingNetsHaveBoxOrders};
-ghost use Rattle.bb_cells.specs.AlikeNets.{StandingNetsAreAlike};
+ghost use Rattle.bb_cells.specs.Laws.AlikeNets.{StandingNetsAreAlike};
 
 use bb_alike::laws::order_keeps_formulas;
 use bb_design::laws::laws_of_designs;

@@ -1,6 +1,6 @@
 //! Laws of contents of boxes as tables. Each function has a law as its contract and does nothing.
 
-ghost use Rattle.bb_cells.specs.ContentTables.{TablesGiveValues, ContentsHaveTables, TablesHaveContents, TablesGiveOutputs};
+ghost use Rattle.bb_cells.specs.Laws.ContentTables.{TablesGiveValues, ContentsHaveTables, TablesHaveContents, TablesGiveOutputs};
 
 use crate::list_laws::standing_nets_give_outputs;
 use bb_bits::{rows_are_chosen, rows_are_tables, rows_have_shape};

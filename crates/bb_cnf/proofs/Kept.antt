@@ -2,7 +2,7 @@
 use Rattle.std.proofs.Common.{◌≡◌, ◌≤◌, ℕ, ◌+◌, List, ◌++◌, length, take, Result, Ok, Err, OnErr, sym, ◌∙◌, ap, arith, length-append}
 use Rattle.std.proofs.Math.Seq.{take-append_seam}
 use Rattle.std.proofs.lemmas.List.{take-take}
-use Rattle.bb_cnf.specs.Printed.{IsKept}
+use Rattle.bb_cnf.specs.Inside.Printed.{IsKept}
 
 pub kept_after : (old mid new text : List ℕ) → mid ≡ old ++ text → IsKept mid new → IsKept old new
 kept_after old mid new text grown kept =

@@ -10,7 +10,7 @@ use Rattle.bb_cnf.specs.declared.clauses.Lit.{Lit}
 use Rattle.bb_cnf.specs.declared.refutation.Step.{Step}
 use Rattle.bb_cnf.specs.Clauses.{Literals, literals_of, lists_of, same_literal}
 use Rattle.bb_cnf.specs.Chains.{made_by, derived, IsEmpty, EndsEmpty, IsRefutation}
-use Rattle.bb_cnf.specs.PartialResolvent.{sets_of}
+use Rattle.bb_cnf.specs.Inside.PartialResolvent.{sets_of}
 use Rattle.bb_cnf.proofs.Literals.{same_literal-itself}
 
 pub sets_of-lists : (given : List (SmallVec Lit)) → map literals_of (lists_of given) ≡ sets_of given

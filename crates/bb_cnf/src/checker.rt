@@ -4,7 +4,7 @@ ghost use Rattle.smallvec.specs.SmallVec.{SmallVec as Items};
 ghost use Rattle.bb_cnf.specs.declared.clauses.Lit.{Lit};
 ghost use Rattle.bb_cnf.specs.Clauses.{literals_of, lists_of};
 ghost use Rattle.bb_cnf.specs.Chains.{chain, made_by, IsRefutation};
-ghost use Rattle.bb_cnf.specs.PartialResolvent.{held, AreListed, sets_of};
+ghost use Rattle.bb_cnf.specs.Inside.PartialResolvent.{held, AreListed, sets_of};
 ghost use Rattle.bb_cnf.specs.Truth.{HaveNoModel};
 
 use crate::partial_resolvent::PartialResolvent;

@@ -1,7 +1,7 @@
 // Marks of variables, in pages that are made where they are first needed: a few variables with high numbers
 // take little memory.
 ghost use Rattle.std.specs.Prelude.{◌≡◌, ◌==◌, ◌&&◌, ◌||◌, ◌<◌, ◌≤◌, not, false, ℕ, OnOk, slice_index_or, vec_len};
-ghost use Rattle.bb_cnf.specs.Marks.{bit_at, mark_at};
+ghost use Rattle.bb_cnf.specs.Inside.Marks.{bit_at, mark_at};
 
 use crate::NoMemory;
 use std::alloc::Global;

@@ -4,7 +4,7 @@ ghost use Rattle.std.specs.Prelude.{◌≡◌, ◌==◌, ◌&&◌, ◌||◌, not
 ghost use Rattle.bb_cnf.specs.declared.clauses.Lit.{Lit};
 ghost use Rattle.bb_cnf.specs.Clauses.{literals_of, same_literal, without, union};
 ghost use Rattle.bb_cnf.specs.Chains.{resolvent, resolution};
-ghost use Rattle.bb_cnf.specs.PartialResolvent.{held, AreListed};
+ghost use Rattle.bb_cnf.specs.Inside.PartialResolvent.{held, AreListed};
 
 use crate::marks::{clear_mark, mark, set_mark};
 use crate::{Lit, NoMemory};

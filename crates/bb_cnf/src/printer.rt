@@ -2,7 +2,7 @@
 ghost use Rattle.std.specs.Prelude.{◌≡◌, ◌++◌, ◌+◌, ◌<◌, ◌≤◌, ◌^◌, decimal, flat_map, length, OnOk, OnErr};
 ghost use Rattle.bb_cnf.specs.Clauses.{lists_of};
 ghost use Rattle.bb_cnf.specs.Lines.{literal_text, clause_line, pair_text, step_line, clause_lines, step_lines, proof_lines};
-ghost use Rattle.bb_cnf.specs.Printed.{IsKept};
+ghost use Rattle.bb_cnf.specs.Inside.Printed.{IsKept};
 
 use crate::{Cnf, Lit, NoMemory, Refutation, Step};
 use itoa::Buffer;

@@ -10,7 +10,7 @@ use Rattle.bb_uniq.specs.declared.store.Ref.{Ref}
 use Rattle.bb_dd.specs.declared.key.Key.{Key}
 use Rattle.bb_dd.specs.declared.key.Operation.{Operation}
 use Rattle.bb_dd.specs.declared.key.Key.TheVariants.{Apply, Quantify}
-use Rattle.bb_dd.specs.Results.{KeepsEntries}
+use Rattle.bb_dd.specs.Inside.Results.{KeepsEntries}
 
 -- where an entry is found, one less is left without it
 length-remove : (test : Key → Bool) (es : List (Key × Ref)) (e : Key × Ref) → lookup_entry test es ≡ Some e → length (remove_entry test es) + 1 ≡ length es

@@ -2,11 +2,11 @@
 use Rattle.std.proofs.Common.{◌≡◌, ◌<◌, ◌≤◌, ℕ, suc, ◌+◌, ◌-◌, Bool, true, false, List, length, min, refl, sym, ap, ap₂, ◌∙◌, subst, inl, inr, arith}
 use Rattle.std.proofs.lemmas.Bool.{cases_lt}
 use Rattle.bb_bits.specs.Truth.{Truth, Halves, IsTruthTable, lifted, combined, truth_at}
-use Rattle.bb_uniq.specs.Nodes.{NodeStore, IsRef, IsBelow, IsStore, view_of}
-use Rattle.bb_uniq.specs.Meaning.{Keeps, Adds, IsTooMany, truth_of}
-use Rattle.bb_uniq.specs.Cofactors.{variable_seen, top_of, lo_seen, hi_seen, AreCofactors, IsReady}
-use Rattle.bb_dd.specs.Results.{result_table}
-use Rattle.bb_dd.specs.Terminals.{Settles, IsGiven}
+use Rattle.bb_uniq.specs.Inside.Nodes.{NodeStore, IsRef, IsBelow, IsStore, view_of}
+use Rattle.bb_uniq.specs.Inside.Meaning.{Keeps, Adds, IsTooMany, truth_of}
+use Rattle.bb_uniq.specs.Inside.Cofactors.{variable_seen, top_of, lo_seen, hi_seen, AreCofactors, IsReady}
+use Rattle.bb_dd.specs.Inside.Results.{result_table}
+use Rattle.bb_dd.specs.Inside.Terminals.{Settles, IsGiven}
 use Rattle.bb_dd.proofs.Given.{Given}
 
 -- what is given is of the store

@@ -8,12 +8,12 @@ use Rattle.lru.specs.LruCache.{LruCache, lru_cache, promoted, put_entries}
 use Rattle.lru.proofs.CallerLemmas.{Contains-promoted, Contains-put_entries, Contains-lookup, lookup-put_entries}
 use Rattle.bb_bits.specs.Truth.{quantified}
 use Rattle.bb_uniq.specs.declared.store.Ref.{Ref}
-use Rattle.bb_uniq.specs.Nodes.{NodeStore, IsRef}
-use Rattle.bb_uniq.specs.Meaning.{Keeps, truth_of}
+use Rattle.bb_uniq.specs.Inside.Nodes.{NodeStore, IsRef}
+use Rattle.bb_uniq.specs.Inside.Meaning.{Keeps, truth_of}
 use Rattle.bb_dd.specs.declared.key.Key.{Key}
 use Rattle.bb_dd.specs.declared.key.Key.TheVariants.{Apply, Quantify}
-use Rattle.bb_dd.specs.Operations.{value_of}
-use Rattle.bb_dd.specs.Results.{IsRight, AreRight, HasOperands, table_of_key, quantifier}
+use Rattle.bb_dd.specs.Inside.Operations.{value_of}
+use Rattle.bb_dd.specs.Inside.Results.{IsRight, AreRight, HasOperands, table_of_key, quantifier}
 use Rattle.bb_dd.proofs.Halving.{result_kept}
 
 key_kept : (old new : NodeStore) → Keeps old new → (key : Key) → HasOperands old key → HasOperands new key × (table_of_key new key ≡ table_of_key old key)

@@ -1,8 +1,8 @@
 -- the table of a variable, and the bit of a branch at a point
 use Rattle.std.proofs.Common.{◌≡◌, ◌<◌, ℕ, zero, suc, Bool, true, false, List, length, get_or, cond, refl, sym, ap, ap₂, ◌∙◌, arith}
 use Rattle.bb_bits.specs.Truth.{Truth, Bit, Halves, IsTruthTable, constant, variable, chosen, truth_at}
-use Rattle.bb_uniq.specs.Nodes.{NodeStore}
-use Rattle.bb_uniq.specs.Meaning.{truth_of, branch}
+use Rattle.bb_uniq.specs.Inside.Nodes.{NodeStore}
+use Rattle.bb_uniq.specs.Inside.Meaning.{truth_of, branch}
 use Rattle.bb_dd.proofs.Given.{Given}
 
 -- the choice between true and false is the condition

@@ -1,5 +1,1 @@
-pub mod Keys
-pub mod Operations
-pub mod Results
-pub mod State
-pub mod Terminals
+pub mod Inside

@@ -1,9 +1,9 @@
 ghost use Rattle.std.specs.Prelude.{◌≡◌, ◌<◌, length, IfOk, IsErrOf, OnErr};
 ghost use Rattle.bb_bits.specs.Truth.{truth_at};
-ghost use Rattle.bb_uniq.specs.Nodes.{IsRef, IsBelow, IsStore, IsNew, Gives};
-ghost use Rattle.bb_uniq.specs.Meaning.{Adds, IsTooMany, Keeps, branch, truth_of};
-ghost use Rattle.bb_dd.specs.Operations.{value_of};
-ghost use Rattle.bb_dd.specs.Results.{result_table, AreRight, Leaves};
+ghost use Rattle.bb_uniq.specs.Inside.Nodes.{IsRef, IsBelow, IsStore, IsNew, Gives};
+ghost use Rattle.bb_uniq.specs.Inside.Meaning.{Adds, IsTooMany, Keeps, branch, truth_of};
+ghost use Rattle.bb_dd.specs.Inside.Operations.{value_of};
+ghost use Rattle.bb_dd.specs.Inside.Results.{result_table, AreRight, Leaves};
 
 use crate::cache::{peek, remember};
 use crate::call::{Call, key_of};

@@ -1,6 +1,6 @@
 ghost use Rattle.std.specs.Prelude.{◌≡◌, min};
-ghost use Rattle.bb_uniq.specs.Nodes.{IsRef, view_of};
-ghost use Rattle.bb_uniq.specs.Cofactors.{top_of, variable_seen, lo_seen, hi_seen};
+ghost use Rattle.bb_uniq.specs.Inside.Nodes.{IsRef, view_of};
+ghost use Rattle.bb_uniq.specs.Inside.Cofactors.{top_of, variable_seen, lo_seen, hi_seen};
 
 use bb_uniq::{Ref, Store, View};
 

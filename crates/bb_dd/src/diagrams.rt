@@ -3,11 +3,11 @@ ghost use Rattle.std.specs.Map.{lookup};
 ghost use Rattle.lru.specs.LruCache.{lru_cache, promoted, put_entries};
 ghost use Rattle.bb_bits.specs.Truth.{variable, complement, joined, chosen, quantified, truth_at};
 ghost use Rattle.bb_bits.specs.TruthSets.{HasSize};
-ghost use Rattle.bb_uniq.specs.Nodes.{IsRef, IsBelow, IsNew, Gives, view_of};
-ghost use Rattle.bb_uniq.specs.Meaning.{truth_of, branch, Adds, Keeps, IsTooMany, IsHeld, ViewMeans};
+ghost use Rattle.bb_uniq.specs.Inside.Nodes.{IsRef, IsBelow, IsNew, Gives, view_of};
+ghost use Rattle.bb_uniq.specs.Inside.Meaning.{truth_of, branch, Adds, Keeps, IsTooMany, IsHeld, ViewMeans};
 ghost use Rattle.bb_bits.specs.Bits.{xor};
-ghost use Rattle.bb_dd.specs.Results.{quantifier, KeepsEntries};
-ghost use Rattle.bb_dd.specs.State.{DiagramState, IsSound};
+ghost use Rattle.bb_dd.specs.Inside.Results.{quantifier, KeepsEntries};
+ghost use Rattle.bb_dd.specs.Inside.State.{DiagramState, IsSound};
 
 use crate::apply::{bit_at, make_node, operate};
 use crate::cache::{look_up, put};
@@ -29,7 +29,7 @@ pub struct Diagrams {
 }
 
 impl Model for Diagrams {
-    ghost use Rattle.bb_dd.specs.State.{DiagramState, IsSound};
+    ghost use Rattle.bb_dd.specs.Inside.State.{DiagramState, IsSound};
 
     ghost Value = { DiagramState };
 

@@ -2,7 +2,7 @@ ghost use Rattle.std.specs.Prelude.{◌≡◌, ◌<◌, ◌*◌, ◌+◌, ◌^�
 ghost use Rattle.std.specs.Hash as fed;
 ghost use Rattle.std.specs.Cmp.Rules.{hashing};
 ghost use Rattle.std.proofs.Common.{rules};
-ghost use Rattle.bb_dd.specs.Keys.{kind_of, four_fields, number_of_key};
+ghost use Rattle.bb_dd.specs.Inside.Keys.{kind_of, four_fields, number_of_key};
 
 use bb_uniq::Ref;
 use std::hash::{Hash, Hasher};

@@ -1,7 +1,7 @@
 ghost use Rattle.std.specs.Prelude.{◌≡◌, ◌<◌, ◌≤◌, ℕ, Bool, true, false, not, ◌&&◌, ◌||◌, if◌then◌else◌, IfSome, IfNone};
 ghost use Rattle.bb_bits.specs.Bits.{xor};
-ghost use Rattle.bb_dd.specs.Operations.{value_of};
-ghost use Rattle.bb_dd.specs.Terminals.{Settles, IsGiven};
+ghost use Rattle.bb_dd.specs.Inside.Operations.{value_of};
+ghost use Rattle.bb_dd.specs.Inside.Terminals.{Settles, IsGiven};
 
 use crate::key::Operation;
 use bb_uniq::Ref;

@@ -4,7 +4,7 @@ use Rattle.std.specs.List.{enumerate_from}
 use Rattle.std.proofs.lemmas.List.Elements.{All-contains}
 use Rattle.bb_ast.specs.declared.module.Gate.{Gate}
 use Rattle.bb_ast.specs.declared.module.Gate.TheVariants as gates
-use Rattle.bb_ast.specs.Formed.{IsFormed, IsFormedBody, IsFormedGate}
+use Rattle.bb_ast.specs.Inside.Formed.{IsFormed, IsFormedBody, IsFormedGate}
 use Rattle.bb_ast.specs.Gates.{output_count}
 use Rattle.bb_ast.specs.Syntax.{Expression, Net, PlainConns, Order, Named, PlainBody, Ports, Nets, Regs, Supply, Assign, Gates, Calls, Always, PlainItem, PlainModule}
 use Rattle.bb_names.specs.Faults.{is_input}
@@ -15,13 +15,13 @@ use Rattle.bb_design.specs.NetBits.{input_bits, output_bits}
 use Rattle.bb_design.specs.Contexts.{width_of}
 use Rattle.bb_design.specs.Constructs.{Construct, Assignment, GateInstance, Register, SupplyNet, InputConnection, OutputConnection, BoxContents, initial_construct, gate_construct, connection, connections, body_constructs, constructs_at, parts}
 use Rattle.bb_design.specs.Refusals.{Depth, Size, IsSoundDesign, design_on}
-use Rattle.bb_design.specs.DrivenWorlds.{IsLegal}
+use Rattle.bb_design.specs.Laws.DrivenWorlds.{IsLegal}
 use Rattle.bb_design.specs.Laws.{BitsAreThere, ScopesAreEnds}
-use Rattle.bb_design.specs.Allowed.{IsBounded, SoundTextsAreAllowed}
+use Rattle.bb_design.specs.Inside.Allowed.{IsBounded, SoundTextsAreAllowed}
 use Rattle.bb_design.specs.Texts.{path_text}
 use Rattle.bb_design.specs.Worlds.{FitDesign}
 use Rattle.bb_lists.proofs.Members.{all_from, from_flat, from_map, contains_cases, none_in_nil, keeps, each_of}
-use Rattle.bb_design.specs.Wired.{IsWired}
+use Rattle.bb_design.specs.Laws.Wired.{IsWired}
 use Rattle.bb_design.proofs.ScopeLaws.{paths_lead_to_scopes}
 use Rattle.bb_design.proofs.SoundBits.{nets_there, sound_bits_are_there}
 use Rattle.bb_design.proofs.SoundConstructs.{sound_constructs_are_legal}

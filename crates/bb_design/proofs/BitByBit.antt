@@ -20,7 +20,7 @@ use Rattle.bb_design.specs.Contexts.{width_of, context_width, value_in, made_in}
 use Rattle.bb_bits.specs.Bits.{low_bits}
 use Rattle.bb_design.specs.Constructs.{Assignment, GateInstance, Register, SupplyNet, InputConnection, OutputConnection, BoxContents}
 use Rattle.bb_design.specs.GateFunctions.{on_bits, on_terms, joins, joined, inverts, gate_gives}
-use Rattle.bb_design.specs.DrivenWorlds.{IsGiven, ConstructsHoldBitByBit}
+use Rattle.bb_design.specs.Laws.DrivenWorlds.{IsGiven, ConstructsHoldBitByBit}
 use Rattle.bb_design.specs.Drivers.{Free, MadeOf, Box, driven, driven_by, terminal_terms}
 use Rattle.bb_design.specs.Texts.{path_text}
 use Rattle.bb_design.specs.Worlds.{World, bit_in, bits_in}

@@ -9,7 +9,7 @@ use Rattle.bb_bits.specs.Names.{same_name, placed}
 use Rattle.bb_ast.specs.Syntax.{PlainModule}
 use Rattle.bb_names.specs.Faults.{IsSound}
 use Rattle.bb_names.specs.Spots.{module_named}
-use Rattle.bb_design.specs.Callees.{place_named, callees, called, callee_place, source_of, child}
+use Rattle.bb_design.specs.Inside.Callees.{place_named, callees, called, callee_place, source_of, child}
 use Rattle.bb_design.specs.Hierarchy.{Instance, Scope, instances_of, instantiations, children, path_to}
 use Rattle.bb_lists.proofs.Places.{got-map}
 use Rattle.bb_lists.proofs.Members.{contains-map, into_flat, contains_here, contains_there, contains_cases, none_in_nil}

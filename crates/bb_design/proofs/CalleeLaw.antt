@@ -3,9 +3,9 @@ use Rattle.std.proofs.Common.{◌≡◌, ◌≢◌, ◌<◌, ◌+◌, ◌⊎◌,
 use Rattle.std.specs.Prelude.{slice_get}
 use Rattle.std.proofs.lemmas.List.{get_or_default, get_or-map, length-map}
 use Rattle.bb_ast.specs.Syntax.{PlainModule}
-use Rattle.bb_design.specs.Callees.{place_named, callees}
+use Rattle.bb_design.specs.Inside.Callees.{place_named, callees}
 use Rattle.bb_design.specs.Hierarchy.{Instance, instances_of, instantiations}
-use Rattle.bb_design.specs.HierarchyLaws.{CalleesAreInstantiated}
+use Rattle.bb_design.specs.Laws.HierarchyLaws.{CalleesAreInstantiated}
 use Rattle.bb_lists.proofs.Members.{from_flat, from_map, contains-map, into_flat, from_filter, into_filter}
 use Rattle.bb_lists.proofs.Orders.{less_or_same}
 use Rattle.bb_design.proofs.SoundModules.{sound_texts_have_modules_apart}

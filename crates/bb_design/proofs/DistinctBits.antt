@@ -11,12 +11,12 @@ use Rattle.bb_names.specs.Faults.{IsSound}
 use Rattle.bb_names.specs.Nets.{nets_of}
 use Rattle.bb_names.specs.Ranges.{range_width}
 use Rattle.bb_names.specs.Spots.{module_named}
-use Rattle.bb_expr.specs.FitLaws.{NetNamesDiffer}
+use Rattle.bb_expr.specs.Laws.FitLaws.{NetNamesDiffer}
 use Rattle.bb_design.specs.Hierarchy.{Design, Instance, Path, Scope, root, path_to, instances_of, children, below, scopes}
 use Rattle.bb_design.specs.NetBits.{Bit, bits_of_net, scope_bits, net_order}
 use Rattle.bb_design.specs.Laws.{HasNamesApart}
 use Rattle.bb_design.proofs.CalledInstances.{children_are}
-use Rattle.bb_design.specs.Callees.{child}
+use Rattle.bb_design.specs.Inside.Callees.{child}
 use Rattle.bb_lists.proofs.Members.{from_flat, from_map, mapped_there, contains_here, contains_there, contains_cases, none_in_nil, from_find, from_filter_map, contains-map}
 use Rattle.bb_design.proofs.SoundNames.{sound_texts_have_names_apart}
 use Rattle.bb_bits.specs.Closures.{IsDistinct}

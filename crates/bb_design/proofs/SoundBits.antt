@@ -29,7 +29,7 @@ use Rattle.bb_design.proofs.PartBits.{IsUsedWell, HasNets, IsThere, PartThere, p
 use Rattle.bb_design.proofs.ScopeLaws.{both_there}
 use Rattle.bb_design.proofs.SoundConstructs.{spot_sound}
 use Rattle.bb_lists.proofs.Earlier.{into_each}
-use Rattle.bb_design.specs.SoundSpots.{IsSoundSpot}
+use Rattle.bb_design.specs.Laws.SoundSpots.{IsSoundSpot}
 use Rattle.bb_design.proofs.SoundSpots.{has_used, child_there, source_there}
 use Rattle.bb_design.proofs.TermNets.{HasUsed}
 use Rattle.bb_design.proofs.WorldLaws.{into_filter_map}

@@ -17,9 +17,9 @@ use Rattle.bb_names.specs.Spots.{Read, Driven, Stored, Pin, Spot, Declared, Plac
 use Rattle.bb_design.specs.Hierarchy.{Scope, is_box}
 use Rattle.bb_design.specs.Contexts.{width_of}
 use Rattle.bb_design.specs.Constructs.{Construct, Assignment, Register, SupplyNet, InputConnection, OutputConnection, BoxContents, initial_construct, gate_construct, connection, connections, body_constructs}
-use Rattle.bb_design.specs.DrivenWorlds.{MayBeDriven, IsLegal, SoundConstructsAreLegal}
+use Rattle.bb_design.specs.Laws.DrivenWorlds.{MayBeDriven, IsLegal, SoundConstructsAreLegal}
 use Rattle.bb_lists.proofs.Members.{from_flat, from_map, all_from, into_flat, contains_here, contains_there, contains_cases, none_in_nil, flat_nil, map_nil, right_nil}
-use Rattle.bb_design.specs.SoundSpots.{IsSoundSpot}
+use Rattle.bb_design.specs.Laws.SoundSpots.{IsSoundSpot}
 use Rattle.bb_lists.proofs.Earlier.{each_nil, into_each}
 
 -- lists of nothing

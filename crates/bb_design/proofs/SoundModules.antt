@@ -10,7 +10,7 @@ use Rattle.bb_names.specs.Faults.{Rows, twice, unknown, kinds, statement_faults,
 use Rattle.bb_names.specs.Spots.{Spot, ModuleName, Target, header_spots, item_spots, module_named}
 use Rattle.bb_bits.specs.Earlier.{each_from}
 use Rattle.bb_design.specs.Hierarchy.{Instance, instance_of, instances_in, instances_of, instantiations}
-use Rattle.bb_design.specs.HierarchyLaws.{SoundTextsHaveModulesApart, SoundTextsHaveTargets}
+use Rattle.bb_design.specs.Laws.HierarchyLaws.{SoundTextsHaveModulesApart, SoundTextsHaveTargets}
 use Rattle.bb_lists.proofs.Members.{from_flat, from_map, all_from, none_of, left_nil, right_nil, flat_nil, map_nil, contains_here, contains_there, none_in_nil}
 use Rattle.bb_lists.proofs.Apart.{push_name}
 use Rattle.bb_design.proofs.SoundConstructs.{not_told, spot_sound}

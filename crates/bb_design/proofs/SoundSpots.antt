@@ -18,7 +18,7 @@ use Rattle.bb_design.specs.Refusals.{IsShallow}
 use Rattle.bb_lists.proofs.Members.{from_flat, into_flat, mapped_there, contains_here, contains_there, contains_cases, none_in_nil, from_find, from_filter_map}
 use Rattle.bb_design.proofs.KnownNets.{known_net, net_bit_there}
 use Rattle.bb_design.proofs.SoundConstructs.{not_told, not_false}
-use Rattle.bb_design.specs.SoundSpots.{IsSoundSpot}
+use Rattle.bb_design.specs.Laws.SoundSpots.{IsSoundSpot}
 use Rattle.bb_design.proofs.TermNets.{HasUsed}
 
 and_first : (a b : Bool) → (a && b) ≡ true → a ≡ true

@@ -5,7 +5,7 @@ use Rattle.bb_design.specs.Hierarchy.{Design}
 use Rattle.bb_design.specs.Refusals.{Cause, Recursion, Depth, Size, TwoDrivers, NoDriver, Cycle, BoxTexts, RegisterTexts, PortTexts, rank, IsAbsent, IsRefusalOf, IsSoundDesign}
 use Rattle.bb_lists.proofs.Orders.{less_or_not}
 use Rattle.bb_design.proofs.RefusalLaws.{cause_at, at_rank}
-use Rattle.bb_design.specs.CauseLaws.{AreClear, TellsOf}
+use Rattle.bb_design.specs.Laws.CauseLaws.{AreClear, TellsOf}
 
 pub none_clear : (d : Design) → AreClear d 0
 none_clear d other lt = absurd (omega (arith, lt))

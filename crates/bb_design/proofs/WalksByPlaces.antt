@@ -5,10 +5,10 @@ use Rattle.std.specs.List.{enumerate_from}
 use Rattle.std.proofs.lemmas.List.Elements.{All-contains}
 use Rattle.bb_ast.specs.Syntax.{PlainModule}
 use Rattle.bb_names.specs.Faults.{IsSound}
-use Rattle.bb_design.specs.Callees.{place_named, callees, calls}
+use Rattle.bb_design.specs.Inside.Callees.{place_named, callees, calls}
 use Rattle.bb_bits.specs.Closures.{Leads, One, More}
 use Rattle.bb_design.specs.Hierarchy.{Instance, instances_of, instantiations}
-use Rattle.bb_design.specs.HierarchyLaws.{WalksAreByPlaces}
+use Rattle.bb_design.specs.Laws.HierarchyLaws.{WalksAreByPlaces}
 use Rattle.bb_design.proofs.CalleeLaw.{callees_are_instantiated}
 use Rattle.bb_lists.proofs.Names.{place-holds}
 use Rattle.bb_lists.proofs.Places.{got, mapped_at}

@@ -6,7 +6,7 @@ use Rattle.bb_design.specs.Hierarchy.{Design, Scope, scopes}
 use Rattle.bb_design.specs.NetBits.{top_inputs}
 use Rattle.bb_design.specs.Constructs.{Construct, constructs_at, parts}
 use Rattle.bb_design.specs.Drivers.{Drive, Free, driven, drives_at, drives}
-use Rattle.bb_design.specs.DrivenWorlds.{IsGiven, IsLegal, ConstructsHoldBitByBit, IsDrivenWorld, WorldsAreDriven}
+use Rattle.bb_design.specs.Laws.DrivenWorlds.{IsGiven, IsLegal, ConstructsHoldBitByBit, IsDrivenWorld, WorldsAreDriven}
 use Rattle.bb_design.specs.Laws.{ScopesAreEnds}
 use Rattle.bb_design.specs.Refusals.{IsShallow}
 use Rattle.bb_design.specs.Worlds.{World, Holds, IsWorld}

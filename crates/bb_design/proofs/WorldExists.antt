@@ -15,7 +15,7 @@ use Rattle.bb_design.specs.Texts.{path_text, bit_text}
 use Rattle.bb_design.specs.Worlds.{World, Vector, HasVector, bits_in}
 use Rattle.bb_net.specs.CutPoints.{TopInput, State}
 use Rattle.bb_design.specs.Refusals.{AreDrivenOnce, IsAcyclic}
-use Rattle.bb_design.specs.DrivenWorlds.{Gives, IsGiven, IsDrivenWorld, VectorsHaveWorlds}
+use Rattle.bb_design.specs.Laws.DrivenWorlds.{Gives, IsGiven, IsDrivenWorld, VectorsHaveWorlds}
 use Rattle.bb_lists.proofs.Members.{from_flat, from_map, all_from, contains-map, into_flat, contains_here, contains_there, contains_cases, none_in_nil, find_there, from_filter_map, from_find}
 use Rattle.bb_design.proofs.WorldLaws.{same_bit_is, same_bit_self, same_terms, same_bits}
 use Rattle.bb_lists.proofs.Apart.{apart_append, one_by}

@@ -18,7 +18,7 @@ use Rattle.bb_design.specs.Worlds.{World, Vector, HasVector, bit_in, bits_in}
 use Rattle.bb_net.specs.CutPoints.{TopInput, State}
 use Rattle.bb_design.specs.Refusals.{AreDriven, IsAcyclic}
 use Rattle.bb_design.specs.Laws.{BitsAreThere, ReadNeedsRead}
-use Rattle.bb_design.specs.DrivenWorlds.{Gives, IsGiven, IsDrivenWorld, WorldsAgreeWhereRead}
+use Rattle.bb_design.specs.Laws.DrivenWorlds.{Gives, IsGiven, IsDrivenWorld, WorldsAgreeWhereRead}
 use Rattle.bb_lists.proofs.Members.{from_flat, from_map, contains-map, into_flat, contains_here, contains_there, contains_cases, none_in_nil, find_there}
 use Rattle.bb_lists.proofs.Numbered.{numbered_there}
 

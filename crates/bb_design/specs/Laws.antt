@@ -1,4 +1,12 @@
 -- Laws that a reader expects of these definitions.
+pub mod BitLaws
+pub mod CauseLaws
+pub mod DesignLaws
+pub mod DriveLaws
+pub mod DrivenWorlds
+pub mod HierarchyLaws
+pub mod SoundSpots
+pub mod Wired
 use Rattle.std.specs.Prelude.{◌≡◌, ◌≢◌, ◌⊎◌, ℕ, true, false, List, [], map, All, AllPairs, Contains, Option, Some, None}
 use Rattle.bb_ast.specs.Assignable.{is_assignable}
 use Rattle.bb_ast.specs.Syntax.{Expression, PlainModule}

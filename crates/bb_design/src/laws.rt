@@ -1,9 +1,9 @@
 //! Laws of these definitions. Each function has a law as its contract and does nothing.
 
-ghost use Rattle.bb_design.specs.Allowed.{SoundTextsAreAllowed};
-ghost use Rattle.bb_design.specs.DesignLaws.{DesignLaws};
-ghost use Rattle.bb_design.specs.DrivenWorlds.{ConstructsHoldBitByBit, WorldsAgreeWhereRead, VectorsHaveWorlds, WorldsAreDriven, SoundConstructsAreLegal};
-ghost use Rattle.bb_design.specs.HierarchyLaws.{CalleesAreInstantiated, SoundTextsHaveModulesApart, SoundTextsHaveTargets, WalksAreByPlaces};
+ghost use Rattle.bb_design.specs.Inside.Allowed.{SoundTextsAreAllowed};
+ghost use Rattle.bb_design.specs.Laws.DesignLaws.{DesignLaws};
+ghost use Rattle.bb_design.specs.Laws.DrivenWorlds.{ConstructsHoldBitByBit, WorldsAgreeWhereRead, VectorsHaveWorlds, WorldsAreDriven, SoundConstructsAreLegal};
+ghost use Rattle.bb_design.specs.Laws.HierarchyLaws.{CalleesAreInstantiated, SoundTextsHaveModulesApart, SoundTextsHaveTargets, WalksAreByPlaces};
 ghost use Rattle.bb_design.specs.Laws.{NotSoundAndRefused, FirstRefusalsAreOne, TopsAreMeant, PathsAreCalledApart, WrittenBitsAreValue, SoundBitsAreThere, SoundOrRefused, ReadNeedsRead, PathsLeadToScopes, SoundTextsHaveNamesApart};
 
 use bb_bits::number_is_below;

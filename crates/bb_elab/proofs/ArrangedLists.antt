@@ -10,20 +10,20 @@ use Rattle.bb_elab.specs.declared.growing.Grown.{Grown}
 use Rattle.bb_blast.specs.declared.outline.Outline.{Outline}
 use Rattle.bb_blast.specs.declared.placed.Placed.{Placed}
 use Rattle.bb_blast.specs.declared.stored.Stored.{Stored}
-use Rattle.bb_elab.specs.DrivenNumbers.{IsFirstAt, AreCounts, AreReads}
+use Rattle.bb_elab.specs.Inside.DrivenNumbers.{IsFirstAt, AreCounts, AreReads}
 use Rattle.bb_design.specs.Hierarchy.{Design}
-use Rattle.bb_cells.specs.ListLaws.{ListsAreLoose}
-use Rattle.bb_design.specs.Allowed.{IsBounded}
-use Rattle.bb_cells.specs.LoopLaws.{ListsWithoutWalks, LeastWalksAreFirstLoops}
+use Rattle.bb_cells.specs.Laws.ListLaws.{ListsAreLoose}
+use Rattle.bb_design.specs.Inside.Allowed.{IsBounded}
+use Rattle.bb_cells.specs.Laws.LoopLaws.{ListsWithoutWalks, LeastWalksAreFirstLoops}
 use Rattle.bb_design.specs.NetBits.{Bit, net_order}
-use Rattle.bb_blast.specs.Placements.{ArePlaced, AreOutlined, AreStored}
+use Rattle.bb_blast.specs.Inside.Placements.{ArePlaced, AreOutlined, AreStored}
 use Rattle.bb_design.specs.Refusals.{IsAcyclic, AreDrivenOnce, IsUndriven, AreDriven, TwoDrivers, NoDriver, Cycle, IsRefusalOf}
-use Rattle.bb_design.specs.CauseLaws.{TellsOf}
-use Rattle.bb_elab.specs.Stages.{HasGrown, IsListed, IsReadable}
-use Rattle.bb_hier.specs.Finite.{IsFinite}
+use Rattle.bb_design.specs.Laws.CauseLaws.{TellsOf}
+use Rattle.bb_elab.specs.Inside.Stages.{HasGrown, IsListed, IsReadable}
+use Rattle.bb_hier.specs.Inside.Finite.{IsFinite}
 use Rattle.bb_design.specs.Texts.{bit_text}
 use Rattle.bb_elab.proofs.FiniteDesigns.{finite_clear}
-use Rattle.bb_design.specs.DesignLaws.{DesignLaws}
+use Rattle.bb_design.specs.Laws.DesignLaws.{DesignLaws}
 
 module _ (text : List PlainModule) (g : Grown) (l : LooseList) where
   pub is_loose : ListsAreLoose → (x : (d : Design) × HasGrown text d g × IsListed d l) → IsLoose l

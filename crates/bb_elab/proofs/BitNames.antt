@@ -6,7 +6,7 @@ use Rattle.std.specs.Option.{option_and_then}
 use Rattle.std.proofs.lemmas.Option.{slice_get_within, same_Some}
 use Rattle.bb_ast.specs.Syntax.{PlainModule}
 use Rattle.bb_names.specs.declared.net.NetInfo.{NetInfo}
-use Rattle.bb_names.specs.Checked.{ModuleFacts, syntax, IsChecked}
+use Rattle.bb_names.specs.Inside.Checked.{ModuleFacts, syntax, IsChecked}
 use Rattle.bb_names.specs.Declarations.{range_of}
 use Rattle.bb_names.specs.Nets.{net_names, net_of, nets_of}
 use Rattle.bb_names.specs.Ranges.{range_width}
@@ -15,14 +15,14 @@ use Rattle.bb_blast.specs.declared.placed.Placed.{Placed}
 use Rattle.bb_design.specs.Laws.{HasNamesApart}
 use Rattle.bb_design.specs.Hierarchy.{Design, Scope, scopes, module_at}
 use Rattle.bb_design.specs.NetBits.{bits_of_net, Bit, scope_bits}
-use Rattle.bb_blast.specs.Outlines.{net_start}
-use Rattle.bb_blast.specs.Outlining.{bit_count}
-use Rattle.bb_blast.specs.Placements.{IsScopeAt, ArePlaced, AreOutlined}
+use Rattle.bb_blast.specs.Inside.Outlines.{net_start}
+use Rattle.bb_blast.specs.Inside.Outlining.{bit_count}
+use Rattle.bb_blast.specs.Inside.Placements.{IsScopeAt, ArePlaced, AreOutlined}
 use Rattle.bb_design.specs.Texts.{net_bit_text, pin_text, range_at}
 use Rattle.bb_lists.proofs.Places.{there_at, some_at}
 use Rattle.bb_lists.proofs.Members.{from_flat, from_map}
-use Rattle.bb_design.specs.DesignLaws.{DesignLaws}
-use Rattle.bb_blast.specs.ModuleLaws.{ModuleLaws}
+use Rattle.bb_design.specs.Laws.DesignLaws.{DesignLaws}
+use Rattle.bb_blast.specs.Laws.ModuleLaws.{ModuleLaws}
 
 -- a net has the range of its name
 own_range : (m : PlainModule) (k : ℕ) (net : NetInfo) → slice_get (nets_of m) k ≡ Some net → net.range ≡ range_of m net.name

@@ -9,8 +9,8 @@ use Rattle.std.proofs.lemmas.Option.{slice_get_within, get_or_from_slice_get, sa
 use Rattle.bb_blast.specs.declared.placed.Placed.{Placed}
 use Rattle.bb_design.specs.Hierarchy.{Design, Scope, scopes}
 use Rattle.bb_design.specs.NetBits.{Bit, net_order, scope_bits}
-use Rattle.bb_elab.specs.PlacedPaths.{IsLastBelow}
-use Rattle.bb_blast.specs.Placements.{IsScopeAt, ArePlaced}
+use Rattle.bb_elab.specs.Inside.PlacedPaths.{IsLastBelow}
+use Rattle.bb_blast.specs.Inside.Placements.{IsScopeAt, ArePlaced}
 use Rattle.bb_lists.proofs.Orders.{less_or_past}
 use Rattle.bb_lists.proofs.Places.{got_flat, some_at}
 

@@ -10,12 +10,12 @@ use Rattle.bb_net.specs.declared.loose.LooseCell.TheVariants.{Const, Input, Copy
 use Rattle.bb_net.specs.Loose.{LooseList, loose_at, IsLoose}
 use Rattle.bb_net.specs.Orders.{IsKept, IsSource}
 use Rattle.bb_bits.specs.Closures.{Leads, One, More}
-use Rattle.bb_elab.specs.CopyEnds.{EndsAt, AreEnds}
-use Rattle.bb_cells.specs.ReadPlaces.{copy_steps, FollowsAt}
+use Rattle.bb_elab.specs.Inside.CopyEnds.{EndsAt, AreEnds}
+use Rattle.bb_cells.specs.Inside.ReadPlaces.{copy_steps, FollowsAt}
 use Rattle.bb_elab.proofs.CopyMarks.{copies_one}
 use Rattle.bb_lists.proofs.Marks.{unmarked, unmarked_less, unmarked_at}
 use Rattle.bb_lists.proofs.Orders.{less_or_same, less_or_past}
-use Rattle.bb_cells.specs.CellLaws.{CellLaws}
+use Rattle.bb_cells.specs.Laws.CellLaws.{CellLaws}
 
 module _ (of_cells : CellLaws) (l : LooseList) where
   kept_no_copy : (k p : ℕ) → IsKept (loose_at l k) → loose_at l k ≡ Copy p → ⊥

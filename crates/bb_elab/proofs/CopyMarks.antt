@@ -7,14 +7,14 @@ use Rattle.std.proofs.lemmas.List.{get_or_default, get_or-set_same, get_or-set_o
 use Rattle.bb_net.specs.declared.loose.LooseCell.{LooseCell}
 use Rattle.bb_net.specs.declared.loose.LooseCell.TheVariants.{Const, Input, Not, And, Or, Xor, Mux, BoxOut, Copy}
 use Rattle.bb_bits.specs.Closures.{Leads, One, More}
-use Rattle.bb_cells.specs.ReadPlaces.{read_by, copied_by, copy_steps, read_places, FollowsAt, IsReadPlace, AreClosed}
+use Rattle.bb_cells.specs.Inside.ReadPlaces.{read_by, copied_by, copy_steps, read_places, FollowsAt, IsReadPlace, AreClosed}
 use Rattle.bb_net.specs.Loose.{LooseList, loose_at, operands, IsLoose}
 use Rattle.bb_net.specs.Netlists.{Pins, box_at}
 use Rattle.bb_lists.proofs.Members.{from_flat, from_map, contains-map, into_flat, contains_here, contains_cases, none_in_nil}
 use Rattle.bb_lists.proofs.Numbered.{enumerated_from, numbered_at}
 use Rattle.bb_lists.proofs.Orders.{less_or_same}
 use Rattle.bb_lists.proofs.Marks.{unmarked_at}
-use Rattle.bb_cells.specs.CellLaws.{CellLaws}
+use Rattle.bb_cells.specs.Laws.CellLaws.{CellLaws}
 
 pub leads_on : {A : Type 0} (steps : List (A × A)) (a b c : A) → Leads steps a b → Contains steps (b, c) → Leads steps a c
 leads_on steps a b c (One has) step = More has (One step)

@@ -8,12 +8,12 @@ use Rattle.std.proofs.lemmas.Option.{slice_get_read}
 use Rattle.bb_design.specs.Hierarchy.{Design}
 use Rattle.bb_design.specs.NetBits.{Bit, same_bit, net_order}
 use Rattle.bb_design.specs.Drivers.{driven_bits}
-use Rattle.bb_elab.specs.DrivenNumbers.{IsFirstAt, AreCounts}
-use Rattle.bb_design.specs.Allowed.{IsBounded}
+use Rattle.bb_elab.specs.Inside.DrivenNumbers.{IsFirstAt, AreCounts}
+use Rattle.bb_design.specs.Inside.Allowed.{IsBounded}
 use Rattle.bb_design.specs.Refusals.{AreDrivenOnce, IsDrivenTwice}
 use Rattle.bb_lists.proofs.Places.{some_at, split, taken}
 use Rattle.bb_lists.proofs.Members.{contains_here, contains_there, contains_cases, none_in_nil}
-use Rattle.bb_design.specs.DesignLaws.{DesignLaws}
+use Rattle.bb_design.specs.Laws.DesignLaws.{DesignLaws}
 
 abbrev found : Bit → List Bit → ℕ
 found b xs = length (filter (same_bit b) xs)

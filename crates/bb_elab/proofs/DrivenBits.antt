@@ -15,13 +15,13 @@ use Rattle.bb_design.specs.Contexts.{width_of, context_width, made_in}
 use Rattle.bb_bits.specs.Bits.{low_bits}
 use Rattle.bb_design.specs.Constructs.{Construct, Assignment, GateInstance, Register, SupplyNet, InputConnection, OutputConnection, BoxContents, body_constructs, constructs_at, parts}
 use Rattle.bb_design.specs.Drivers.{Source, Free, MadeOf, Box, Drive, driven, driven_by, terminal_terms, drives_at, driven_bits}
-use Rattle.bb_design.specs.DrivenWorlds.{IsLegal}
+use Rattle.bb_design.specs.Laws.DrivenWorlds.{IsLegal}
 use Rattle.bb_design.specs.GateFunctions.{on_terms, gate_gives}
-use Rattle.bb_design.specs.Allowed.{IsBounded}
+use Rattle.bb_design.specs.Inside.Allowed.{IsBounded}
 use Rattle.bb_lists.proofs.Members.{contains_here, contains_there, contains_cases, none_in_nil}
 use Rattle.bb_lists.proofs.Ranges.{length-range}
 use Rattle.bb_expr.specs.Terms as term
-use Rattle.bb_design.specs.DesignLaws.{DesignLaws}
+use Rattle.bb_design.specs.Laws.DesignLaws.{DesignLaws}
 
 -- the bits that a construct drives
 

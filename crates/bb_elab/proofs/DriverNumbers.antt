@@ -13,18 +13,18 @@ use Rattle.bb_design.specs.Hierarchy.{Design, Instance, Scope, root, path_to, in
 use Rattle.bb_design.specs.NetBits.{Bit, scope_bits, net_order, bits_named, pin_bits, output_bits, top_inputs, written_bits}
 use Rattle.bb_design.specs.Constructs.{Construct, Assignment, GateInstance, Register, SupplyNet, InputConnection, OutputConnection, BoxContents, body_constructs, constructs_at}
 use Rattle.bb_design.specs.Drivers.{driven_bits}
-use Rattle.bb_design.specs.Allowed.{IsBounded}
-use Rattle.bb_blast.specs.Outlines.{IsPinIn, IsPartOf, IsOutline}
-use Rattle.bb_bits.specs.Places.{AreAt, numbers_from}
-use Rattle.bb_blast.specs.Placements.{IsScopeAt, IsChildAt, IsPlacedAt, ArePlaced, AreOutlined}
-use Rattle.bb_elab.specs.DrivenNumbers.{first_inside, part_numbers, outline_numbers, scope_numbers, top_numbers, driven_numbers, IsInside, MayCountInputs, MayBeCounted}
+use Rattle.bb_design.specs.Inside.Allowed.{IsBounded}
+use Rattle.bb_blast.specs.Inside.Outlines.{IsPinIn, IsPartOf, IsOutline}
+use Rattle.bb_bits.specs.Inside.Places.{AreAt, numbers_from}
+use Rattle.bb_blast.specs.Inside.Placements.{IsScopeAt, IsChildAt, IsPlacedAt, ArePlaced, AreOutlined}
+use Rattle.bb_elab.specs.Inside.DrivenNumbers.{first_inside, part_numbers, outline_numbers, scope_numbers, top_numbers, driven_numbers, IsInside, MayCountInputs, MayBeCounted}
 use Rattle.bb_lists.proofs.Places.{got, some_at, some_same}
 use Rattle.bb_lists.proofs.AtPlaces.{at_append, at_below, zip_flat}
 use Rattle.bb_lists.proofs.Zips.{zip_all, zip_other, AreNumbered, zip_numbered}
 use Rattle.bb_elab.proofs.DrivenBits.{bits_driven, drivers_in, driven_are}
 use Rattle.bb_blast.specs.declared.outline.Part.TheVariants as part
 use Rattle.bb_lists.proofs.FlatPlaces.{at_flat, flat_longer, flat_fits}
-use Rattle.bb_design.specs.DesignLaws.{DesignLaws}
+use Rattle.bb_design.specs.Laws.DesignLaws.{DesignLaws}
 
 module _ (d : Design) (all : List Placed) (placed : ArePlaced d all) (k : ℕ) (s : Scope) (p : Placed) (here : IsScopeAt d k s) (is : IsPlacedAt d k s p) where
   at_scope : (xs : List Bit) (ks : List ℕ) → AreAt (scope_bits s) ks xs → AreAt (net_order d) (numbers_from p.first ks) xs

@@ -7,10 +7,10 @@ use Rattle.bb_design.specs.declared.fault.ElabFault.TheVariants.{NoMemory}
 use Rattle.bb_net.specs.Flats.{FlatNet}
 use Rattle.bb_design.specs.Hierarchy.{top_of}
 use Rattle.bb_design.specs.Refusals.{IsFirstRefusal, IsRefusalOf, IsSoundDesign, IsSoundText}
-use Rattle.bb_hier.specs.Finite.{AtTop}
+use Rattle.bb_hier.specs.Inside.Finite.{AtTop}
 use Rattle.bb_cells.specs.Stands.{StandsFor, StandsForText}
 use Rattle.bb_lists.proofs.Places.{some_at}
-use Rattle.bb_design.specs.DesignLaws.{DesignLaws}
+use Rattle.bb_design.specs.Laws.DesignLaws.{DesignLaws}
 
 module _ (of_designs : DesignLaws) (text : List PlainModule) (name : Option (List ℕ)) (top : ℕ) (lt : top < length text) (place : slice_get text top ≡ top_of text name) where
   abbrev head : (t : PlainModule) × (slice_get text top ≡ Some t)

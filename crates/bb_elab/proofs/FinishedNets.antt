@@ -13,14 +13,14 @@ use Rattle.bb_net.specs.declared.flat.Reg.{Reg}
 use Rattle.bb_elab.specs.declared.growing.Grown.{Grown}
 use Rattle.bb_net.specs.Flats.{FlatNet, IsFlat}
 use Rattle.bb_design.specs.Hierarchy.{Design, boxes}
-use Rattle.bb_cells.specs.ListLaws.{StandingNetsAreFlat, StandingNetsArePrintable}
+use Rattle.bb_cells.specs.Laws.ListLaws.{StandingNetsAreFlat, StandingNetsArePrintable}
 use Rattle.bb_design.specs.NetBits.{net_order}
-use Rattle.bb_blast.specs.Placements.{IsScopeAt, IsStoredAt}
+use Rattle.bb_blast.specs.Inside.Placements.{IsScopeAt, IsStoredAt}
 use Rattle.bb_cells.specs.Places.{pins_of}
 use Rattle.bb_design.specs.Refusals.{TwoDrivers, NoDriver, Cycle, BoxTexts, RegisterTexts, PortTexts, IsAbsent, IsSoundDesign, IsRefusalOf, input_texts, output_texts}
-use Rattle.bb_design.specs.CauseLaws.{TellsOf, AreClear}
+use Rattle.bb_design.specs.Laws.CauseLaws.{TellsOf, AreClear}
 use Rattle.bb_design.specs.Registers.{RegisterBit, registers}
-use Rattle.bb_elab.specs.Stages.{HasGrown, AreArranged}
+use Rattle.bb_elab.specs.Inside.Stages.{HasGrown, AreArranged}
 use Rattle.bb_cells.specs.Stands.{IsRegister, StandsFor, box_number, box_texts}
 use Rattle.bb_lists.proofs.Members.{all_from}
 use Rattle.bb_lists.proofs.Places.{there_at}
@@ -28,7 +28,7 @@ use Rattle.bb_lists.proofs.Numbered.{length-enumerated}
 use Rattle.bb_lists.proofs.Zips.{zip_length}
 use Rattle.bb_elab.proofs.FiniteDesigns.{finite_clear}
 use Rattle.bb_elab.proofs.TimedRegisters.{zip_back}
-use Rattle.bb_design.specs.DesignLaws.{DesignLaws}
+use Rattle.bb_design.specs.Laws.DesignLaws.{DesignLaws}
 
 module _ (of_designs : DesignLaws) (text : List PlainModule) (d : Design) (g : Grown) (has : HasGrown text d g) (list : LooseList) (net : Netlist) (numbers : List ℕ) (are : AreArranged d list net numbers) where
   -- each number is that of a box

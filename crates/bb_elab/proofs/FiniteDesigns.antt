@@ -1,9 +1,9 @@
 -- Of a finite design no cause before the drivers holds.
 use Rattle.bb_design.specs.Hierarchy.{Design}
 use Rattle.bb_design.specs.Refusals.{Recursion, Depth, Size}
-use Rattle.bb_design.specs.CauseLaws.{AreClear}
-use Rattle.bb_hier.specs.Finite.{IsFinite}
-use Rattle.bb_design.specs.DesignLaws.{DesignLaws}
+use Rattle.bb_design.specs.Laws.CauseLaws.{AreClear}
+use Rattle.bb_hier.specs.Inside.Finite.{IsFinite}
+use Rattle.bb_design.specs.Laws.DesignLaws.{DesignLaws}
 
 module _ (of_designs : DesignLaws) where
   pub finite_clear : (d : Design) → IsFinite d → AreClear d 3

@@ -7,18 +7,18 @@ use Rattle.bb_design.specs.declared.fault.ElabFault.TheVariants.{DrivenTwice}
 use Rattle.bb_blast.specs.declared.outline.Outline.{Outline}
 use Rattle.bb_blast.specs.declared.placed.Placed.{Placed}
 use Rattle.bb_blast.specs.declared.stored.Stored.{Stored}
-use Rattle.bb_elab.specs.DrivenNumbers.{IsFirstAt, AreCounts}
+use Rattle.bb_elab.specs.Inside.DrivenNumbers.{IsFirstAt, AreCounts}
 use Rattle.bb_design.specs.Hierarchy.{Design}
-use Rattle.bb_design.specs.Allowed.{IsBounded}
+use Rattle.bb_design.specs.Inside.Allowed.{IsBounded}
 use Rattle.bb_design.specs.NetBits.{Bit, net_order}
-use Rattle.bb_blast.specs.Placements.{ArePlaced, AreOutlined, AreStored}
+use Rattle.bb_blast.specs.Inside.Placements.{ArePlaced, AreOutlined, AreStored}
 use Rattle.bb_design.specs.Refusals.{TwoDrivers, IsDrivenTwice, AreDrivenOnce, IsSmall, IsRefusalOf, design_on}
-use Rattle.bb_elab.specs.Stages.{AreGrown}
-use Rattle.bb_hier.specs.Finite.{AtTop, IsFinite}
+use Rattle.bb_elab.specs.Inside.Stages.{AreGrown}
+use Rattle.bb_hier.specs.Inside.Finite.{AtTop, IsFinite}
 use Rattle.bb_design.specs.Texts.{bit_text}
 use Rattle.bb_lists.proofs.Places.{some_at}
 use Rattle.bb_elab.proofs.FiniteDesigns.{finite_clear}
-use Rattle.bb_design.specs.DesignLaws.{DesignLaws}
+use Rattle.bb_design.specs.Laws.DesignLaws.{DesignLaws}
 
 module _ (of_designs : DesignLaws) (text : List PlainModule) (top : ℕ) (lt : top < length text) (finite : AtTop text top IsFinite) (placed : List Placed) (scopes : AtTop text top (λ d. ArePlaced d placed)) where
   -- the module on top, and the design

@@ -14,15 +14,15 @@ use Rattle.bb_names.specs.Ranges.{range_width}
 use Rattle.bb_blast.specs.declared.placed.Placed.{Placed}
 use Rattle.bb_design.specs.Hierarchy.{Design, Path, Scope, scopes}
 use Rattle.bb_design.specs.NetBits.{Bit, bits_of_net, scope_bits, net_order}
-use Rattle.bb_elab.specs.Placings.{bits_before}
-use Rattle.bb_blast.specs.Placements.{IsScopeAt, ArePlaced, AreOutlined}
+use Rattle.bb_elab.specs.Inside.Placings.{bits_before}
+use Rattle.bb_blast.specs.Inside.Placements.{IsScopeAt, ArePlaced, AreOutlined}
 use Rattle.bb_lists.proofs.Places.{got, some_at, split, take_at}
 use Rattle.bb_blast.specs.declared.outline.Outline.{Outline}
-use Rattle.bb_blast.specs.Outlines.{IsOutline}
-use Rattle.bb_bits.specs.Places.{AreAt, numbers_from}
+use Rattle.bb_blast.specs.Inside.Outlines.{IsOutline}
+use Rattle.bb_bits.specs.Inside.Places.{AreAt, numbers_from}
 use Rattle.bb_lists.proofs.AtPlaces.{at_inside}
 use Rattle.bb_lists.proofs.FlatPlaces.{flat_around}
-use Rattle.bb_design.specs.DesignLaws.{DesignLaws}
+use Rattle.bb_design.specs.Laws.DesignLaws.{DesignLaws}
 
 -- the last scope
 module _ (of_designs : DesignLaws) (d : Design) (all : List Placed) (outlines : List Outline) (placed : ArePlaced d all) (outlined : AreOutlined d all outlines) where

@@ -13,10 +13,10 @@ use Rattle.bb_blast.specs.declared.outline.Outline.{Outline}
 use Rattle.bb_blast.specs.declared.placed.Placed.{Placed}
 use Rattle.bb_bits.specs.Closures.{IsFirstRepeat}
 use Rattle.bb_design.specs.Hierarchy.{Design, Scope, root, scopes, boxes, is_box}
-use Rattle.bb_bits.specs.Places.{AreAt}
+use Rattle.bb_bits.specs.Inside.Places.{AreAt}
 use Rattle.bb_design.specs.NetBits.{Bit, net_order}
-use Rattle.bb_blast.specs.Placements.{IsScopeAt, ArePlaced, AreOutlined}
-use Rattle.bb_elab.specs.Stages.{HasGrown}
+use Rattle.bb_blast.specs.Inside.Placements.{IsScopeAt, ArePlaced, AreOutlined}
+use Rattle.bb_elab.specs.Inside.Stages.{HasGrown}
 use Rattle.bb_cells.specs.Stands.{box_number, box_texts}
 use Rattle.bb_lists.proofs.Members.{all_from}
 use Rattle.bb_lists.proofs.Places.{head_same, some_at}

@@ -11,11 +11,11 @@ use Rattle.bb_net.specs.declared.flat.Reg.{Reg}
 use Rattle.bb_blast.specs.declared.stored.Stored.{Stored}
 use Rattle.bb_design.specs.Hierarchy.{Design}
 use Rattle.bb_design.specs.NetBits.{Bit, net_order}
-use Rattle.bb_bits.specs.Places.{AreAt}
-use Rattle.bb_blast.specs.Placements.{IsStoredAt, AreStored}
+use Rattle.bb_bits.specs.Inside.Places.{AreAt}
+use Rattle.bb_blast.specs.Inside.Placements.{IsStoredAt, AreStored}
 use Rattle.bb_design.specs.Refusals.{register_texts}
 use Rattle.bb_design.specs.Registers.{RegisterBit, registers, cut_bits}
-use Rattle.bb_elab.specs.Stages.{AreArranged}
+use Rattle.bb_elab.specs.Inside.Stages.{AreArranged}
 use Rattle.bb_cells.specs.Stands.{IsRegister}
 use Rattle.bb_design.specs.Texts.{bit_text}
 use Rattle.bb_lists.proofs.Places.{got-map}
@@ -25,9 +25,9 @@ use Rattle.bb_lists.proofs.AtPlaces.{at_below}
 use Rattle.bb_lists.proofs.Maps.{map-twice}
 use Rattle.bb_elab.proofs.ReadBits.{zip_there}
 use Rattle.bb_lists.proofs.Turns.{zip_both}
-use Rattle.bb_cells.specs.CellLaws.{CellLaws}
-use Rattle.bb_cells.specs.ListLaws.{ListsAreLoose}
-use Rattle.bb_design.specs.Allowed.{IsBounded}
+use Rattle.bb_cells.specs.Laws.CellLaws.{CellLaws}
+use Rattle.bb_cells.specs.Laws.ListLaws.{ListsAreLoose}
+use Rattle.bb_design.specs.Inside.Allowed.{IsBounded}
 
 module _ (of_cells : CellLaws) (d : Design) (list : LooseList) (net : Netlist) (numbers : List ℕ) (are : AreArranged d list net numbers) where
   -- copies end behind it

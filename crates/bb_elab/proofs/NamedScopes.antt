@@ -8,12 +8,12 @@ use Rattle.bb_net.specs.Pairs.{BoxTexts}
 use Rattle.bb_elab.specs.declared.growing.Grown.{Grown}
 use Rattle.bb_blast.specs.declared.outline.Outline.{Outline}
 use Rattle.bb_blast.specs.declared.placed.Placed.{Placed}
-use Rattle.bb_bits.specs.Places.{numbers_from, AreAt}
+use Rattle.bb_bits.specs.Inside.Places.{numbers_from, AreAt}
 use Rattle.bb_design.specs.Hierarchy.{Design, Scope, root, scopes}
 use Rattle.bb_design.specs.NetBits.{Bit, net_order, input_bits, output_bits, top_inputs, top_outputs, scope_bits}
-use Rattle.bb_blast.specs.Outlines.{IsOutline}
-use Rattle.bb_blast.specs.Placements.{IsScopeAt}
-use Rattle.bb_elab.specs.Stages.{HasGrown}
+use Rattle.bb_blast.specs.Inside.Outlines.{IsOutline}
+use Rattle.bb_blast.specs.Inside.Placements.{IsScopeAt}
+use Rattle.bb_elab.specs.Inside.Stages.{HasGrown}
 use Rattle.bb_cells.specs.Stands.{box_texts}
 use Rattle.bb_design.specs.Texts.{path_text, pin_text}
 use Rattle.bb_design.specs.Refusals.{IsSmall}

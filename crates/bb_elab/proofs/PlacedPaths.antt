@@ -5,13 +5,13 @@ use Rattle.std.proofs.lemmas.Option.{slice_get_within, same_Some}
 use Rattle.bb_blast.specs.declared.placed.Instance as placed
 use Rattle.bb_blast.specs.declared.placed.Placed.{Placed}
 use Rattle.bb_design.specs.Hierarchy.{Path, Design, Scope, path_to, scopes}
-use Rattle.bb_elab.specs.PlacedPaths.{IsPathAt, Top, Below, AreRooted}
-use Rattle.bb_blast.specs.Placements.{IsScopeAt, IsInstanceAt, ArePlaced}
+use Rattle.bb_elab.specs.Inside.PlacedPaths.{IsPathAt, Top, Below, AreRooted}
+use Rattle.bb_blast.specs.Inside.Placements.{IsScopeAt, IsInstanceAt, ArePlaced}
 use Rattle.bb_design.specs.Texts.{path_prefix, path_text}
 use Rattle.bb_lists.proofs.Places.{some_at}
 use Rattle.bb_lists.proofs.Members.{into_flat}
 use Rattle.bb_design.specs.NetBits.{scope_bits}
-use Rattle.bb_design.specs.DesignLaws.{DesignLaws}
+use Rattle.bb_design.specs.Laws.DesignLaws.{DesignLaws}
 
 module _ (of_designs : DesignLaws) where
   pub text-below : (above : Path) (n : List ℕ) → path_text (path_to above n) ≡ path_prefix above ++ n

@@ -9,20 +9,20 @@ use Rattle.bb_net.specs.Loose.{LooseList}
 use Rattle.bb_blast.specs.declared.stored.Stored.{Stored}
 use Rattle.bb_design.specs.Constructs.{Register, parts}
 use Rattle.bb_design.specs.Hierarchy.{Design, Scope}
-use Rattle.bb_design.specs.Allowed.{IsBounded}
+use Rattle.bb_design.specs.Inside.Allowed.{IsBounded}
 use Rattle.bb_design.specs.NetBits.{Bit, net_order, top_outputs, written_bits}
-use Rattle.bb_blast.specs.Placements.{IsStoredAt, AreStored}
+use Rattle.bb_blast.specs.Inside.Placements.{IsStoredAt, AreStored}
 use Rattle.bb_cells.specs.Places.{NetBit, Lowering, IsLowering, IsListOf}
 use Rattle.bb_design.specs.Reading.{IsRead, bit_itself, operand_terms, cells_at, read_at, read_beside, read_directly}
-use Rattle.bb_cells.specs.ReadPlaces.{IsReadPlace}
-use Rattle.bb_elab.specs.StoredNumbers.{AreTimed}
+use Rattle.bb_cells.specs.Inside.ReadPlaces.{IsReadPlace}
+use Rattle.bb_elab.specs.Inside.StoredNumbers.{AreTimed}
 use Rattle.bb_design.specs.Refusals.{AreDrivenOnce}
 use Rattle.bb_design.specs.Registers.{RegisterBit, registers, cut_bits, data_terms}
 use Rattle.bb_lists.proofs.Places.{got}
 use Rattle.bb_lists.proofs.Members.{from_map, contains-map, into_flat, contains_here, contains_there, contains_cases, none_in_nil}
 use Rattle.bb_lists.proofs.Orders.{less_or_past}
-use Rattle.bb_design.specs.DesignLaws.{DesignLaws}
-use Rattle.bb_cells.specs.CellLaws.{CellLaws}
+use Rattle.bb_design.specs.Laws.DesignLaws.{DesignLaws}
+use Rattle.bb_cells.specs.Laws.CellLaws.{CellLaws}
 
 pub zip_there : {A B : Type 0} (R : A → B → Type 0) (xs : List A) (ys : List B) (x : A) → AllZip R xs ys → Contains xs x → (y : B) × Contains ys y × R x y
 zip_there R [] ys x all has = absurd (none_in_nil x has)

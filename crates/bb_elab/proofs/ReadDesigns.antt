@@ -4,27 +4,27 @@ use Rattle.std.proofs.lemmas.List.Elements.{All-contains}
 use Rattle.std.proofs.lemmas.Option.{slice_get_within}
 use Rattle.std.specs.Prelude.{slice_get, Result, Ok, Err, IfOk}
 use Rattle.bb_ast.specs.Syntax.{PlainModule}
-use Rattle.bb_names.specs.Checked.{AreFormedAndSmall}
+use Rattle.bb_names.specs.Inside.Checked.{AreFormedAndSmall}
 use Rattle.bb_net.specs.Loose.{LooseList, IsLoose}
 use Rattle.bb_blast.specs.declared.stored.Stored.{Stored}
 use Rattle.bb_design.specs.Hierarchy.{Design}
-use Rattle.bb_cells.specs.ListLaws.{ListsAreLoose}
-use Rattle.bb_design.specs.Allowed.{IsBounded}
+use Rattle.bb_cells.specs.Laws.ListLaws.{ListsAreLoose}
+use Rattle.bb_design.specs.Inside.Allowed.{IsBounded}
 use Rattle.bb_design.specs.NetBits.{Bit, net_order}
-use Rattle.bb_blast.specs.Placements.{IsStoredAt, AreStored}
-use Rattle.bb_elab.specs.DrivenNumbers.{AreReads}
+use Rattle.bb_blast.specs.Inside.Placements.{IsStoredAt, AreStored}
+use Rattle.bb_elab.specs.Inside.DrivenNumbers.{AreReads}
 use Rattle.bb_cells.specs.Places.{Lowering, IsLowering, IsListOf}
 use Rattle.bb_design.specs.Reading.{IsRead}
-use Rattle.bb_elab.specs.StoredNumbers.{AreTimed}
+use Rattle.bb_elab.specs.Inside.StoredNumbers.{AreTimed}
 use Rattle.bb_design.specs.Refusals.{AreDrivenOnce}
 use Rattle.bb_design.specs.Registers.{registers, cut_bits}
-use Rattle.bb_elab.specs.Stages.{IsReadable}
+use Rattle.bb_elab.specs.Inside.Stages.{IsReadable}
 use Rattle.bb_lists.proofs.Members.{all_from}
 use Rattle.bb_elab.proofs.ReadBits.{zip_there}
 use Rattle.bb_elab.proofs.TimedRegisters.{are_timed}
-use Rattle.bb_design.specs.DesignLaws.{DesignLaws}
-use Rattle.bb_cells.specs.CellLaws.{CellLaws}
-use Rattle.bb_blast.specs.ModuleLaws.{ModuleLaws}
+use Rattle.bb_design.specs.Laws.DesignLaws.{DesignLaws}
+use Rattle.bb_cells.specs.Laws.CellLaws.{CellLaws}
+use Rattle.bb_blast.specs.Laws.ModuleLaws.{ModuleLaws}
 
 module _ (of_cells : CellLaws) (text : List PlainModule) (l : LooseList) (stored : List Stored) (bits : ℕ) (x : (d : Design) × IsReadable text d l stored bits) (first : ℕ) (is : first ≡ 2 + l.inputs) where
   -- the clocks have their places in the list

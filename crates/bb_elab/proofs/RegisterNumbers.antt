@@ -12,18 +12,18 @@ use Rattle.bb_blast.specs.declared.stored.Stored.{Stored}
 use Rattle.bb_design.specs.Hierarchy.{Design, Scope, scopes, is_box}
 use Rattle.bb_design.specs.NetBits.{Bit, same_bit, net_order, written_bits, scope_bits}
 use Rattle.bb_design.specs.Constructs.{Construct, Assignment, GateInstance, Register, SupplyNet, InputConnection, OutputConnection, BoxContents, body_constructs, constructs_at}
-use Rattle.bb_bits.specs.Places.{numbers_from, AreAt}
-use Rattle.bb_blast.specs.Outlines.{AreBitsIn, IsPartOf, IsOutline}
-use Rattle.bb_blast.specs.Placements.{IsScopeAt, IsPlacedAt, ArePlaced, AreOutlined, IsStoredAt, AreStored}
+use Rattle.bb_bits.specs.Inside.Places.{numbers_from, AreAt}
+use Rattle.bb_blast.specs.Inside.Outlines.{AreBitsIn, IsPartOf, IsOutline}
+use Rattle.bb_blast.specs.Inside.Placements.{IsScopeAt, IsPlacedAt, ArePlaced, AreOutlined, IsStoredAt, AreStored}
 use Rattle.bb_design.specs.Registers.{RegisterBit, stored_at, stored}
-use Rattle.bb_elab.specs.StoredNumbers.{stored_from, part_stored, scope_stored, IsStorable, MayBeNoted, AreNotes}
+use Rattle.bb_elab.specs.Inside.StoredNumbers.{stored_from, part_stored, scope_stored, IsStorable, MayBeNoted, AreNotes}
 use Rattle.bb_lists.proofs.Places.{got, head_same}
 use Rattle.bb_bits.specs.Closures.{IsDistinct}
 use Rattle.bb_elab.proofs.Tallies.{test_same}
 use Rattle.bb_lists.proofs.Zips.{zip_all, zip_by, AreNumbered, zip_numbered, zip_flat_zip}
 use Rattle.bb_blast.specs.declared.outline.Part.TheVariants as part
 use Rattle.bb_lists.proofs.FlatPlaces.{at_flat, flat_longer, flat_fits}
-use Rattle.bb_design.specs.DesignLaws.{DesignLaws}
+use Rattle.bb_design.specs.Laws.DesignLaws.{DesignLaws}
 
 flat_flat : {A B C : Type 0} (f : B → List C) (g : A → List B) (xs : List A) → flat_map f (flat_map g xs) ≡ flat_map (λ x. flat_map f (g x)) xs
 flat_flat f g [] = refl

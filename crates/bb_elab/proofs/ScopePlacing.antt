@@ -11,13 +11,13 @@ use Rattle.bb_names.specs.Ranges.{range_width}
 use Rattle.bb_blast.specs.declared.placed.Placed.{Placed}
 use Rattle.bb_elab.specs.declared.scopes.Placing.{Placing}
 use Rattle.bb_hier.specs.declared.sketch.Sketch.{Sketch}
-use Rattle.bb_design.specs.Callees.{callees, callee_place, source_of, child, called as called_lists}
+use Rattle.bb_design.specs.Inside.Callees.{callees, callee_place, source_of, child, called as called_lists}
 use Rattle.bb_design.specs.Hierarchy.{Design, Instance, Path, Scope, root, path_to, instances_of, children, below, instances, scopes, is_top, is_box}
 use Rattle.bb_design.specs.NetBits.{scope_bits}
-use Rattle.bb_elab.specs.Placings.{bits_before, IsAdded, with_children, AreSketched, MayBePlaced, IsNext, IsPlacedNext}
-use Rattle.bb_blast.specs.Placements.{IsScopeAt, IsInstanceAt, IsChildAt, IsPlacedAt, ArePlaced}
+use Rattle.bb_elab.specs.Inside.Placings.{bits_before, IsAdded, with_children, AreSketched, MayBePlaced, IsNext, IsPlacedNext}
+use Rattle.bb_blast.specs.Inside.Placements.{IsScopeAt, IsInstanceAt, IsChildAt, IsPlacedAt, ArePlaced}
 use Rattle.bb_design.specs.Refusals.{design_on}
-use Rattle.bb_hier.specs.Sketches.{IsSketch}
+use Rattle.bb_hier.specs.Inside.Sketches.{IsSketch}
 use Rattle.bb_lists.proofs.Places.{there_at, got, list_here, some_at, drop_first, drop_at, take_at, get_behind, set_behind, get_set_other, some_same, map_at, in_front}
 use Rattle.bb_lists.proofs.Zips.{zip_append, zip_at}
 use Rattle.bb_lists.proofs.Members.{contains_cases}
@@ -25,7 +25,7 @@ use Rattle.bb_lists.proofs.Orders.{same_or_less, less_or_not}
 use Rattle.std.proofs.lemmas.Slice.Zip.{AllZip-long}
 use Rattle.bb_blast.specs.declared.placed.Instance as placed
 use Rattle.bb_lists.proofs.FlatPlaces.{at_flat, flat_longer, flat_fits}
-use Rattle.bb_design.specs.DesignLaws.{DesignLaws}
+use Rattle.bb_design.specs.Laws.DesignLaws.{DesignLaws}
 
 cut_off : (a b : ℕ) → a ≤ b → min a b ≡ a
 cut_off a b le = omega arith

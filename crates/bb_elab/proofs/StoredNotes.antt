@@ -6,7 +6,7 @@ use Rattle.std.proofs.lemmas.Bool.Decides.{nat_tests}
 use Rattle.std.proofs.lemmas.List.{get_or-set_same, get_or-set_other, length-set, length-map, get_or-map, get_or_default}
 use Rattle.std.proofs.lemmas.List.Elements.{filter_map-append}
 use Rattle.bb_blast.specs.declared.stored.Stored.{Stored}
-use Rattle.bb_elab.specs.StoredNumbers.{stored_from, IsStorable, AreNotes}
+use Rattle.bb_elab.specs.Inside.StoredNumbers.{stored_from, IsStorable, AreNotes}
 use Rattle.bb_lists.proofs.Turns.{front_more}
 use Rattle.std.proofs.lemmas.List.Folds.{find-append}
 use Rattle.std.specs.Option.{option_or}

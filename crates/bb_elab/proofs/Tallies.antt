@@ -9,14 +9,14 @@ use Rattle.std.proofs.lemmas.List.Elements.{All-contains}
 use Rattle.bb_design.specs.Hierarchy.{Design}
 use Rattle.bb_design.specs.NetBits.{Bit, same_bit, net_order}
 use Rattle.bb_design.specs.Drivers.{driven_bits}
-use Rattle.bb_elab.specs.DrivenNumbers.{IsTally, times, AreCounts}
-use Rattle.bb_bits.specs.Places.{AreAt}
+use Rattle.bb_elab.specs.Inside.DrivenNumbers.{IsTally, times, AreCounts}
+use Rattle.bb_bits.specs.Inside.Places.{AreAt}
 use Rattle.bb_lists.proofs.Places.{got, some_same}
 use Rattle.bb_lists.proofs.Members.{all_from, into_flat}
 use Rattle.bb_lists.proofs.Apart.{one_place}
 use Rattle.bb_bits.specs.Closures.{IsDistinct}
 use Rattle.bb_lists.proofs.Turns.{item_there, front_more}
-use Rattle.bb_design.specs.DesignLaws.{DesignLaws}
+use Rattle.bb_design.specs.Laws.DesignLaws.{DesignLaws}
 
 -- these numbers have been counted besides
 abbrev pub TalliesMore : List ℕ → List ℕ → List ℕ → Type 0

@@ -4,24 +4,24 @@ use Rattle.std.proofs.lemmas.List.{map-append}
 use Rattle.std.proofs.lemmas.List.Elements.{All-contains, Contains-append_right}
 use Rattle.std.specs.Prelude.{slice_get}
 use Rattle.std.specs.List.{AllZip, find, flat_map, enumerate_from}
-use Rattle.bb_ast.specs.Formed.{IsFormed}
+use Rattle.bb_ast.specs.Inside.Formed.{IsFormed}
 use Rattle.bb_ast.specs.Syntax.{PlainAlways, PlainItem}
-use Rattle.bb_names.specs.Checked.{AreFormedAndSmall}
+use Rattle.bb_names.specs.Inside.Checked.{AreFormedAndSmall}
 use Rattle.bb_blast.specs.declared.stored.Stored.{Stored}
 use Rattle.bb_design.specs.Constructs.{Construct, Assignment, GateInstance, Register, SupplyNet, InputConnection, OutputConnection, BoxContents, parts, body_constructs}
 use Rattle.bb_design.specs.Drivers.{Drive, driven, Free, drives, drives_at, driven_bits}
 use Rattle.bb_design.specs.Hierarchy.{Design, Scope, scopes, is_box}
-use Rattle.bb_design.specs.Allowed.{IsBounded}
+use Rattle.bb_design.specs.Inside.Allowed.{IsBounded}
 use Rattle.bb_design.specs.NetBits.{Bit, same_bit, net_order, top_inputs, written_bits}
-use Rattle.bb_blast.specs.Placements.{IsStoredAt, AreStored}
-use Rattle.bb_elab.specs.StoredNumbers.{AreTimed}
+use Rattle.bb_blast.specs.Inside.Placements.{IsStoredAt, AreStored}
+use Rattle.bb_elab.specs.Inside.StoredNumbers.{AreTimed}
 use Rattle.bb_design.specs.Refusals.{AreDrivenOnce}
 use Rattle.bb_design.specs.Registers.{RegisterBit, stored, stored_at, registers}
 use Rattle.bb_lists.proofs.Members.{each_of, from_flat, from_map, contains-map, into_flat, contains_here, contains_there, contains_cases, none_in_nil, from_find, from_filter_map}
 use Rattle.bb_lists.proofs.Apart.{apart_right, apart_append}
-use Rattle.bb_blast.specs.ModuleLaws.{LeftHasBits, ModuleLaws}
+use Rattle.bb_blast.specs.Laws.ModuleLaws.{LeftHasBits, ModuleLaws}
 use Rattle.bb_lists.proofs.Numbered.{from_numbered, numbered_there}
-use Rattle.bb_design.specs.DesignLaws.{DesignLaws}
+use Rattle.bb_design.specs.Laws.DesignLaws.{DesignLaws}
 
 -- what a part drives is driven in the design
 part_drives : (d : Design) (part : Scope × Construct) → Contains (parts d) part → (z : Drive) → Contains (drives_at part) z → Contains (drives d) z

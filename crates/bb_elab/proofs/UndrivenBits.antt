@@ -2,14 +2,14 @@
 use Rattle.std.proofs.Common.{◌≡◌, ℕ, suc, ◌<◌, Bool, true, false, List, take, drop, length, get_or, Some, refl, sym, arith}
 use Rattle.std.specs.Prelude.{slice_get}
 use Rattle.std.proofs.lemmas.Option.{slice_get_read}
-use Rattle.bb_elab.specs.DrivenNumbers.{IsFirstAt, AreCounts, AreReads}
+use Rattle.bb_elab.specs.Inside.DrivenNumbers.{IsFirstAt, AreCounts, AreReads}
 use Rattle.bb_design.specs.Hierarchy.{Design}
-use Rattle.bb_design.specs.Allowed.{IsBounded}
+use Rattle.bb_design.specs.Inside.Allowed.{IsBounded}
 use Rattle.bb_design.specs.NetBits.{net_order}
 use Rattle.bb_design.specs.Refusals.{IsUndriven, AreDriven}
 use Rattle.bb_elab.proofs.CountedDrivers.{driven_counted, undriven_counted}
 use Rattle.bb_lists.proofs.Places.{some_at, split, taken}
-use Rattle.bb_design.specs.DesignLaws.{DesignLaws}
+use Rattle.bb_design.specs.Laws.DesignLaws.{DesignLaws}
 
 -- each of these that is read has a driver
 abbrev pub HaveDrivers : ℕ → List Bool → List ℕ → Type 0

@@ -1,14 +1,14 @@
 //! The cells of a design in order; it is refused where a read bit has no driver or bits are on a loop.
 
 ghost use Rattle.std.specs.Prelude.{◌≡◌, ◌⊎◌, map, IfOk, IfErr, OnOk};
-ghost use Rattle.bb_names.specs.Checked.{syntax};
+ghost use Rattle.bb_names.specs.Inside.Checked.{syntax};
 ghost use Rattle.bb_design.specs.declared.fault.ElabFault.TheVariants.{NoMemory};
 ghost use Rattle.bb_design.specs.Hierarchy.{Design};
 ghost use Rattle.bb_design.specs.Refusals.{AreDriven, IsAcyclic, NoDriver, Cycle, IsRefusalOf};
-ghost use Rattle.bb_design.specs.CauseLaws.{TellsOf};
+ghost use Rattle.bb_design.specs.Laws.CauseLaws.{TellsOf};
 ghost use Rattle.bb_net.specs.Netlists.{IsNetlist};
 ghost use Rattle.bb_net.specs.Orders.{IsOrderOf};
-ghost use Rattle.bb_elab.specs.Stages.{HasGrown, IsListed, AreArranged};
+ghost use Rattle.bb_elab.specs.Inside.Stages.{HasGrown, IsListed, AreArranged};
 
 use crate::growing::Grown;
 use crate::reads::bits_read;

@@ -5,12 +5,12 @@ ghost use Rattle.std.specs.List.{slice_index_or};
 ghost use Rattle.bb_names.specs.declared.net.NetInfo.{NetInfo};
 ghost use Rattle.bb_names.specs.Ranges.{range_width};
 ghost use Rattle.bb_blast.specs.declared.placed.Placed.{Placed};
-ghost use Rattle.bb_blast.specs.Outlines.{net_start};
-ghost use Rattle.bb_blast.specs.Outlining.{bit_count};
+ghost use Rattle.bb_blast.specs.Inside.Outlines.{net_start};
+ghost use Rattle.bb_blast.specs.Inside.Outlining.{bit_count};
 ghost use Rattle.bb_design.specs.Hierarchy.{Design, Scope};
 ghost use Rattle.bb_design.specs.NetBits.{Bit, net_order, scope_bits};
-ghost use Rattle.bb_elab.specs.PlacedPaths.{IsLastBelow};
-ghost use Rattle.bb_blast.specs.Placements.{IsScopeAt, ArePlaced};
+ghost use Rattle.bb_elab.specs.Inside.PlacedPaths.{IsLastBelow};
+ghost use Rattle.bb_blast.specs.Inside.Placements.{IsScopeAt, ArePlaced};
 
 use bb_blast::Placed;
 use bb_names::NetInfo;

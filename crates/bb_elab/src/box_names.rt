@@ -2,13 +2,13 @@
 
 ghost use Rattle.std.specs.Prelude.{◌≡◌, ◌⊎◌, ◌<◌, ◌^◌, All, length, map, IfOk, IfErr};
 ghost use Rattle.std.specs.List.{AllZip};
-ghost use Rattle.bb_names.specs.Checked.{syntax};
+ghost use Rattle.bb_names.specs.Inside.Checked.{syntax};
 ghost use Rattle.bb_design.specs.declared.fault.ElabFault.TheVariants.{NoMemory as out_of_memory};
 ghost use Rattle.bb_design.specs.Hierarchy.{Design, Scope, boxes};
-ghost use Rattle.bb_blast.specs.Placements.{IsScopeAt, ArePlaced};
+ghost use Rattle.bb_blast.specs.Inside.Placements.{IsScopeAt, ArePlaced};
 ghost use Rattle.bb_design.specs.Refusals.{BoxTexts, IsAbsent, box_paths};
-ghost use Rattle.bb_design.specs.CauseLaws.{TellsOf};
-ghost use Rattle.bb_elab.specs.Stages.{HasGrown};
+ghost use Rattle.bb_design.specs.Laws.CauseLaws.{TellsOf};
+ghost use Rattle.bb_elab.specs.Inside.Stages.{HasGrown};
 ghost use Rattle.bb_cells.specs.Stands.{box_number, box_texts};
 
 use crate::growing::Grown;

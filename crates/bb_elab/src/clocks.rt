@@ -4,9 +4,9 @@
 
 ghost use Rattle.std.specs.Prelude.{◌≡◌, ◌+◌, ◌<◌, ◌^◌, ℕ, Some, slice_get, length, IfSome, IfNone};
 ghost use Rattle.bb_net.specs.Orders.{IsSource};
-ghost use Rattle.bb_elab.specs.CopyEnds.{AreEnds};
+ghost use Rattle.bb_elab.specs.Inside.CopyEnds.{AreEnds};
 ghost use Rattle.bb_design.specs.Hierarchy.{Design};
-ghost use Rattle.bb_design.specs.Allowed.{IsBounded};
+ghost use Rattle.bb_design.specs.Inside.Allowed.{IsBounded};
 ghost use Rattle.bb_design.specs.NetBits.{Bit, net_order, top_inputs};
 ghost use Rattle.bb_cells.specs.Places.{Lowering, IsLowering, IsListOf};
 ghost use Rattle.bb_design.specs.Refusals.{AreDrivenOnce};

@@ -4,7 +4,7 @@
 
 ghost use Rattle.std.specs.Prelude.{◌≡◌, ◌<◌, ℕ, None, Some, false, length, slice_index_or, IfOk, IfSome, IfNone};
 ghost use Rattle.bb_net.specs.declared.loose.LooseCell.TheVariants.{Const, Copy};
-ghost use Rattle.bb_elab.specs.CopyEnds.{EndsAt, AreEnds};
+ghost use Rattle.bb_elab.specs.Inside.CopyEnds.{EndsAt, AreEnds};
 
 use bb_bits::NoMemory;
 use bb_cells::list_laws::laws_of_cells;

@@ -6,12 +6,12 @@ ghost use Rattle.std.specs.Prelude.{◌≡◌, ◌+◌, ◌<◌, ◌++◌, ◌�
 ghost use Rattle.std.specs.List.{flat_map};
 ghost use Rattle.bb_blast.specs.declared.outline.Outline.{Outline};
 ghost use Rattle.bb_blast.specs.declared.placed.Placed.{Placed};
-ghost use Rattle.bb_elab.specs.DrivenNumbers.{top_numbers, part_numbers, scope_numbers, driven_numbers, IsInside, MayCountInputs, MayBeCounted, IsTally, IsFirstAt, AreCounts};
-ghost use Rattle.bb_bits.specs.Places.{numbers_from};
+ghost use Rattle.bb_elab.specs.Inside.DrivenNumbers.{top_numbers, part_numbers, scope_numbers, driven_numbers, IsInside, MayCountInputs, MayBeCounted, IsTally, IsFirstAt, AreCounts};
+ghost use Rattle.bb_bits.specs.Inside.Places.{numbers_from};
 ghost use Rattle.bb_design.specs.Hierarchy.{Design};
-ghost use Rattle.bb_design.specs.Allowed.{IsBounded};
+ghost use Rattle.bb_design.specs.Inside.Allowed.{IsBounded};
 ghost use Rattle.bb_design.specs.NetBits.{net_order};
-ghost use Rattle.bb_blast.specs.Placements.{ArePlaced, AreOutlined};
+ghost use Rattle.bb_blast.specs.Inside.Placements.{ArePlaced, AreOutlined};
 ghost use Rattle.bb_design.specs.Refusals.{AreDrivenOnce, IsDrivenTwice};
 
 use bb_bits::NoMemory;

@@ -1,11 +1,11 @@
 //! The flat netlist of a checked source, or the first cause for which it is refused.
 
 ghost use Rattle.std.specs.Prelude.{◌≡◌, ◌⊎◌, ◌<◌, length, map, IfOk, IfErr, MatchResult, option_copied};
-ghost use Rattle.bb_names.specs.Checked.{syntax};
+ghost use Rattle.bb_names.specs.Inside.Checked.{syntax};
 ghost use Rattle.bb_design.specs.declared.fault.ElabFault.{ElabFault};
 ghost use Rattle.bb_design.specs.declared.fault.ElabFault.TheVariants.{NoMemory};
 ghost use Rattle.bb_design.specs.Refusals.{IsFirstRefusal, IsRefusalOf, IsSoundDesign, IsSoundText};
-ghost use Rattle.bb_hier.specs.Finite.{AtTop};
+ghost use Rattle.bb_hier.specs.Inside.Finite.{AtTop};
 ghost use Rattle.bb_cells.specs.Stands.{StandsFor, StandsForText};
 
 use crate::arranging::arrange;

@@ -1,11 +1,11 @@
 //! The flat netlist of a design whose cells are in order, or the first two things that have one text.
 
 ghost use Rattle.std.specs.Prelude.{◌≡◌, ◌⊎◌, map, IfOk, IfErr};
-ghost use Rattle.bb_names.specs.Checked.{syntax};
+ghost use Rattle.bb_names.specs.Inside.Checked.{syntax};
 ghost use Rattle.bb_design.specs.declared.fault.ElabFault.TheVariants.{NoMemory};
 ghost use Rattle.bb_design.specs.Hierarchy.{Design};
 ghost use Rattle.bb_design.specs.Refusals.{IsRefusalOf, IsSoundDesign};
-ghost use Rattle.bb_elab.specs.Stages.{HasGrown, AreArranged};
+ghost use Rattle.bb_elab.specs.Inside.Stages.{HasGrown, AreArranged};
 ghost use Rattle.bb_cells.specs.Stands.{StandsFor};
 
 use crate::arranging::Arranged;

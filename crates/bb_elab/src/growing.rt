@@ -1,12 +1,12 @@
 //! The scopes, the drivers and the registers of a design by numbers; it is refused where a bit is driven twice.
 
 ghost use Rattle.std.specs.Prelude.{◌≡◌, ◌⊎◌, ◌<◌, ℕ, map, length, Some, slice_get, IfOk, IfErr};
-ghost use Rattle.bb_names.specs.Checked.{syntax};
+ghost use Rattle.bb_names.specs.Inside.Checked.{syntax};
 ghost use Rattle.bb_design.specs.declared.fault.ElabFault.TheVariants.{NoMemory};
-ghost use Rattle.bb_design.specs.Callees.{callees};
+ghost use Rattle.bb_design.specs.Inside.Callees.{callees};
 ghost use Rattle.bb_design.specs.Refusals.{TwoDrivers, IsRefusalOf};
-ghost use Rattle.bb_elab.specs.Stages.{AreGrown};
-ghost use Rattle.bb_hier.specs.Finite.{AtTop, IsFinite};
+ghost use Rattle.bb_elab.specs.Inside.Stages.{AreGrown};
+ghost use Rattle.bb_hier.specs.Inside.Finite.{AtTop, IsFinite};
 
 use crate::drivers::{bit_count, driver_counts, first_driven_twice};
 use crate::registers::stored_bits;

@@ -2,11 +2,11 @@
 
 ghost use Rattle.std.specs.Prelude.{◌≡◌, ◌<◌, List, All, length, map, IfOk};
 ghost use Rattle.bb_ast.specs.Syntax.{PlainModule};
-ghost use Rattle.bb_names.specs.Checked.{syntax};
+ghost use Rattle.bb_names.specs.Inside.Checked.{syntax};
 ghost use Rattle.bb_design.specs.Hierarchy.{Design};
 ghost use Rattle.bb_design.specs.NetBits.{Bit, net_order, top_inputs, top_outputs};
-ghost use Rattle.bb_elab.specs.DrivenNumbers.{AreBitsAt};
-ghost use Rattle.bb_elab.specs.Stages.{HasGrown};
+ghost use Rattle.bb_elab.specs.Inside.DrivenNumbers.{AreBitsAt};
+ghost use Rattle.bb_elab.specs.Inside.Stages.{HasGrown};
 ghost use Rattle.bb_design.specs.Texts.{bit_text, pin_text};
 
 use crate::growing::Grown;

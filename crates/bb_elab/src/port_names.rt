@@ -1,12 +1,12 @@
 //! The texts of the ports of the top; a design is refused where two inputs or two outputs have the same.
 
 ghost use Rattle.std.specs.Prelude.{◌≡◌, ◌⊎◌, map, IfOk, IfErr};
-ghost use Rattle.bb_names.specs.Checked.{syntax};
+ghost use Rattle.bb_names.specs.Inside.Checked.{syntax};
 ghost use Rattle.bb_design.specs.declared.fault.ElabFault.TheVariants.{NoMemory as out_of_memory};
 ghost use Rattle.bb_design.specs.Hierarchy.{Design};
 ghost use Rattle.bb_design.specs.Refusals.{PortTexts, IsAbsent, input_texts, output_texts};
-ghost use Rattle.bb_design.specs.CauseLaws.{TellsOf};
-ghost use Rattle.bb_elab.specs.Stages.{HasGrown};
+ghost use Rattle.bb_design.specs.Laws.CauseLaws.{TellsOf};
+ghost use Rattle.bb_elab.specs.Inside.Stages.{HasGrown};
 
 use crate::growing::Grown;
 use crate::naming::{bit_names, top_outline};

@@ -8,13 +8,13 @@ ghost use Rattle.std.specs.Prelude.{◌≡◌, ◌⊎◌, ◌+◌, ◌<◌, ◌�
 ghost use Rattle.std.specs.List.{flat_map};
 ghost use Rattle.bb_net.specs.Loose.{IsLoose};
 ghost use Rattle.bb_design.specs.Hierarchy.{Design};
-ghost use Rattle.bb_design.specs.Allowed.{IsBounded};
+ghost use Rattle.bb_design.specs.Inside.Allowed.{IsBounded};
 ghost use Rattle.bb_design.specs.NetBits.{Bit, net_order};
-ghost use Rattle.bb_blast.specs.Placements.{AreStored};
+ghost use Rattle.bb_blast.specs.Inside.Placements.{AreStored};
 ghost use Rattle.bb_cells.specs.Places.{Lowering, IsLowering, IsListOf};
 ghost use Rattle.bb_design.specs.Reading.{IsRead};
-ghost use Rattle.bb_cells.specs.ReadPlaces.{read_by, read_places, copy_steps, FollowsAt, IsReadPlace, AreClosed};
-ghost use Rattle.bb_elab.specs.StoredNumbers.{AreTimed};
+ghost use Rattle.bb_cells.specs.Inside.ReadPlaces.{read_by, read_places, copy_steps, FollowsAt, IsReadPlace, AreClosed};
+ghost use Rattle.bb_elab.specs.Inside.StoredNumbers.{AreTimed};
 ghost use Rattle.bb_design.specs.Refusals.{AreDrivenOnce};
 ghost use Rattle.bb_design.specs.Registers.{cut_bits};
 

@@ -4,10 +4,10 @@
 //! names, these are the clocks of all registers.
 
 ghost use Rattle.std.specs.Prelude.{map, IfOk};
-ghost use Rattle.bb_names.specs.Checked.{syntax};
+ghost use Rattle.bb_names.specs.Inside.Checked.{syntax};
 ghost use Rattle.bb_design.specs.Hierarchy.{Design};
-ghost use Rattle.bb_elab.specs.DrivenNumbers.{AreReads};
-ghost use Rattle.bb_elab.specs.Stages.{IsReadable};
+ghost use Rattle.bb_elab.specs.Inside.DrivenNumbers.{AreReads};
+ghost use Rattle.bb_elab.specs.Inside.Stages.{IsReadable};
 
 use crate::reading::read_bits;
 use bb_bits::NoMemory;

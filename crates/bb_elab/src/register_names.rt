@@ -2,18 +2,18 @@
 
 ghost use Rattle.std.specs.Prelude.{◌≡◌, ◌⊎◌, ◌+◌, ◌<◌, ◌^◌, ℕ, List, All, length, map, IfOk, IfErr};
 ghost use Rattle.std.specs.List.{AllZip};
-ghost use Rattle.bb_names.specs.Checked.{syntax};
+ghost use Rattle.bb_names.specs.Inside.Checked.{syntax};
 ghost use Rattle.bb_net.specs.Netlists.{Netlist};
 ghost use Rattle.bb_design.specs.declared.fault.ElabFault.TheVariants.{NoMemory as out_of_memory};
-ghost use Rattle.bb_elab.specs.CopyEnds.{AreEnds};
+ghost use Rattle.bb_elab.specs.Inside.CopyEnds.{AreEnds};
 ghost use Rattle.bb_design.specs.Hierarchy.{Design};
-ghost use Rattle.bb_design.specs.Allowed.{IsBounded};
+ghost use Rattle.bb_design.specs.Inside.Allowed.{IsBounded};
 ghost use Rattle.bb_design.specs.NetBits.{top_inputs};
-ghost use Rattle.bb_blast.specs.Placements.{IsStoredAt, AreStored};
+ghost use Rattle.bb_blast.specs.Inside.Placements.{IsStoredAt, AreStored};
 ghost use Rattle.bb_design.specs.Refusals.{RegisterTexts, AreDrivenOnce, IsAbsent, register_texts};
-ghost use Rattle.bb_design.specs.CauseLaws.{TellsOf};
+ghost use Rattle.bb_design.specs.Laws.CauseLaws.{TellsOf};
 ghost use Rattle.bb_design.specs.Registers.{RegisterBit, registers, cut_bits};
-ghost use Rattle.bb_elab.specs.Stages.{HasGrown, AreArranged};
+ghost use Rattle.bb_elab.specs.Inside.Stages.{HasGrown, AreArranged};
 ghost use Rattle.bb_cells.specs.Stands.{IsRegister};
 ghost use Rattle.bb_design.specs.Texts.{bit_text};
 

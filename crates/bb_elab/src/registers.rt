@@ -6,10 +6,10 @@ ghost use Rattle.std.specs.Prelude.{◌≡◌, ◌^◌, ◌<◌, ◌++◌, ◌�
 ghost use Rattle.std.specs.List.{filter_map, flat_map};
 ghost use Rattle.bb_blast.specs.declared.stored.Stored.{Stored};
 ghost use Rattle.bb_design.specs.Hierarchy.{Design};
-ghost use Rattle.bb_design.specs.Allowed.{IsBounded};
+ghost use Rattle.bb_design.specs.Inside.Allowed.{IsBounded};
 ghost use Rattle.bb_design.specs.NetBits.{net_order};
-ghost use Rattle.bb_blast.specs.Placements.{ArePlaced, AreOutlined, AreStored};
-ghost use Rattle.bb_elab.specs.StoredNumbers.{stored_from, part_stored, scope_stored, IsStorable, MayBeNoted, AreNotes};
+ghost use Rattle.bb_blast.specs.Inside.Placements.{ArePlaced, AreOutlined, AreStored};
+ghost use Rattle.bb_elab.specs.Inside.StoredNumbers.{stored_from, part_stored, scope_stored, IsStorable, MayBeNoted, AreNotes};
 
 use bb_bits::NoMemory;
 use bb_blast::{Outline, Part, Placed, Stored};

@@ -5,13 +5,13 @@
 
 ghost use Rattle.std.specs.Prelude.{◌≡◌, ◌+◌, ◌^◌, ◌<◌, ◌++◌, ◌∷◌, [], List, Some, length, map, slice_get, slice_set, IfOk, OnOk};
 ghost use Rattle.bb_ast.specs.Syntax.{PlainModule};
-ghost use Rattle.bb_names.specs.Checked.{syntax};
+ghost use Rattle.bb_names.specs.Inside.Checked.{syntax};
 ghost use Rattle.bb_blast.specs.declared.placed.Placed.{Placed};
-ghost use Rattle.bb_design.specs.Callees.{callees};
+ghost use Rattle.bb_design.specs.Inside.Callees.{callees};
 ghost use Rattle.bb_design.specs.Hierarchy.{Design, Scope};
-ghost use Rattle.bb_blast.specs.Placements.{ArePlaced};
+ghost use Rattle.bb_blast.specs.Inside.Placements.{ArePlaced};
 ghost use Rattle.bb_design.specs.Refusals.{IsShallow, IsSmall, design_on};
-ghost use Rattle.bb_elab.specs.Placings.{IsAdded, IsNext, IsPlacedNext, with_children};
+ghost use Rattle.bb_elab.specs.Inside.Placings.{IsAdded, IsNext, IsPlacedNext, with_children};
 
 use bb_bits::NoMemory;
 use bb_blast::{Instance, Placed};

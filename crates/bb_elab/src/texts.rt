@@ -3,13 +3,13 @@
 //! A path is told from its end upwards, since a scope knows the scope in which it stands.
 
 ghost use Rattle.std.specs.Prelude.{◌≡◌, ◌<◌, ◌++◌, Some, decimal, length, map, slice_get, IfOk, OnOk};
-ghost use Rattle.bb_names.specs.Checked.{module_facts, syntax, IsChecked};
+ghost use Rattle.bb_names.specs.Inside.Checked.{module_facts, syntax, IsChecked};
 ghost use Rattle.bb_names.specs.Ranges.{range_width};
 ghost use Rattle.bb_blast.specs.declared.placed.Placed.{Placed};
 ghost use Rattle.bb_design.specs.Hierarchy.{Path, Design, Scope};
 ghost use Rattle.bb_design.specs.NetBits.{Bit, net_order};
-ghost use Rattle.bb_elab.specs.PlacedPaths.{IsPathAt, AreRooted};
-ghost use Rattle.bb_blast.specs.Placements.{IsScopeAt, ArePlaced, AreOutlined};
+ghost use Rattle.bb_elab.specs.Inside.PlacedPaths.{IsPathAt, AreRooted};
+ghost use Rattle.bb_blast.specs.Inside.Placements.{IsScopeAt, ArePlaced, AreOutlined};
 ghost use Rattle.bb_design.specs.Texts.{path_prefix, path_text, index_text, net_bit_text, bit_text, pin_text};
 
 use crate::bit_places::{net_of_bit, scope_of_bit};

@@ -1,9 +1,9 @@
 //! Bits that are read and have no driver.
 
 ghost use Rattle.std.specs.Prelude.{◌≡◌, ℕ, length, IfSome, IfNone};
-ghost use Rattle.bb_elab.specs.DrivenNumbers.{IsFirstAt, AreCounts, AreReads};
+ghost use Rattle.bb_elab.specs.Inside.DrivenNumbers.{IsFirstAt, AreCounts, AreReads};
 ghost use Rattle.bb_design.specs.Hierarchy.{Design};
-ghost use Rattle.bb_design.specs.Allowed.{IsBounded};
+ghost use Rattle.bb_design.specs.Inside.Allowed.{IsBounded};
 ghost use Rattle.bb_design.specs.Refusals.{IsUndriven, AreDriven};
 
 use bb_design::laws::laws_of_designs;

@@ -8,7 +8,7 @@ use Rattle.bb_net.specs.Netlists.{Netlist}
 use Rattle.bb_net.specs.Values.{flat_with}
 use Rattle.bb_expand.specs.Expansions.{all_vectors}
 use Rattle.bb_expand.specs.Laws.{VectorsRise, VectorsAreAll}
-use Rattle.bb_expand.specs.LawsBelow.{Numbering}
+use Rattle.bb_expand.specs.Inside.LawsBelow.{Numbering}
 use Rattle.bb_expand.proofs.Pieces.{each_holds, all_hold}
 
 pub agree_from_all : Numbering → (spec imp : Netlist) (tables : List TableBits) → All (λ x. AllRight spec imp x (flat_with imp x tables)) (all_vectors imp.inputs) → TablesAgree spec imp tables

@@ -15,7 +15,7 @@ use Rattle.bb_cnf.specs.Clauses.{positive, negated}
 use Rattle.bb_cnf.specs.Truth.{IsTrueClause, Satisfies}
 use Rattle.bb_cnf.specs.Truth as truth
 use Rattle.bb_expand.specs.Expansions.{having, differing, row_clauses, cell_clauses, table_variable}
-use Rattle.bb_expand.specs.LawsBelow.{Numbering}
+use Rattle.bb_expand.specs.Inside.LawsBelow.{Numbering}
 use Rattle.bb_expand.specs.Laws.{CellClausesSayGate}
 use Rattle.bb_expand.proofs.Pieces.{pieces_hold, piece_holds}
 use Rattle.bb_expand.proofs.Tested.{clause_bit, all_bits, satisfies_from, bits_from, same, same_is, is_same, unit_says, not_bits, and_bits, or_bits, xor_bits, mux_bits}

@@ -11,8 +11,8 @@ use Rattle.bb_expand.specs.ClauseCounts.{clauses_per_vector, clause_total}
 use Rattle.bb_expand.specs.Expanded.{IsError}
 use Rattle.bb_expand.specs.Expansions.{expansion, all_vectors}
 use Rattle.bb_expand.specs.Laws.{ClausesAreCounted}
-use Rattle.bb_expand.specs.LawsBelow.{Numbering, ValueExists, ValueIsUnique}
-use Rattle.bb_expand.specs.ReadTables.{tables_in}
+use Rattle.bb_expand.specs.Inside.LawsBelow.{Numbering, ValueExists, ValueIsUnique}
+use Rattle.bb_expand.specs.Inside.ReadTables.{tables_in}
 use Rattle.bb_expand.proofs.AllVectors.{agree_from_all, all_from_agree}
 use Rattle.bb_expand.proofs.ExpandedVectors.{length-all_vectors}
 use Rattle.bb_expand.proofs.FromModel.{model_fits, model_right}

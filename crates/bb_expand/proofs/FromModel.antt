@@ -13,9 +13,9 @@ use Rattle.bb_net.specs.Values.{bit_of, IsValue, tabled_bit, flat_with, FitBoxes
 use Rattle.bb_cnf.specs.Truth.{IsTrueClause, Satisfies, assignment_of, IsModel}
 use Rattle.bb_expand.specs.Expansions.{having, cell_variable, cell_clauses, cells_clauses, output_clauses, vector_clauses, expansion}
 use Rattle.bb_expand.specs.Laws.{assigned_bit}
-use Rattle.bb_expand.specs.ReadTables.{tables_in}
+use Rattle.bb_expand.specs.Inside.ReadTables.{tables_in}
 use Rattle.bb_expand.proofs.BoxesThere.{cell_has_box}
-use Rattle.bb_expand.specs.LawsBelow.{Numbering, ValueIsUnique}
+use Rattle.bb_expand.specs.Inside.LawsBelow.{Numbering, ValueIsUnique}
 use Rattle.bb_expand.proofs.CellLaw.{cell_law}
 use Rattle.bb_expand.proofs.GateSame.{gate_same}
 use Rattle.bb_expand.proofs.Pieces.{all_left, all_right, piece_holds, each_holds}

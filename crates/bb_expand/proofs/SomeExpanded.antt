@@ -18,7 +18,7 @@ use Rattle.bb_expand.specs.declared.expanded.Expanded.TheVariants as answers
 use Rattle.bb_expand.specs.ClauseCounts.{cell_clause_count, clauses_per_vector, clause_total}
 use Rattle.bb_expand.specs.Expansions.{expansion, all_vectors}
 use Rattle.bb_expand.specs.Laws.{AllVectorsDecide, ClausesAreCounted, VariablesAreWithin, ExpansionsAreRefuted, AnswersExist}
-use Rattle.bb_expand.specs.LawsBelow.{Numbering}
+use Rattle.bb_expand.specs.Inside.LawsBelow.{Numbering}
 use Rattle.bb_cnf.specs.Laws.{ModelLaws}
 
 pub expansions_are_refuted : RefutationsExist → ModelLaws → AllVectorsDecide → VariablesAreWithin → ExpansionsAreRefuted

@@ -10,7 +10,7 @@ use Rattle.bb_net.specs.Netlists.{Pins, box_at}
 use Rattle.bb_net.specs.Values.{FitBoxes, table_at}
 use Rattle.bb_cnf.specs.Truth.{assignment_of}
 use Rattle.bb_expand.specs.Expansions.{table_variable}
-use Rattle.bb_expand.specs.ReadTables.{bits_of_table, table_in, tables_in}
+use Rattle.bb_expand.specs.Inside.ReadTables.{bits_of_table, table_in, tables_in}
 use Rattle.bb_expand.proofs.RowLemmas.{bits_fit, bits_more, row_fits}
 
 table_bits-cons : (pins : Pins) (boxes : List Pins) → table_bits (pins ∷ boxes) ≡ bits_of_table pins + table_bits boxes

@@ -17,7 +17,7 @@ use Rattle.bb_cnf.specs.Truth.{IsTrueClause, Satisfies, assignment_of, IsModel}
 use Rattle.bb_expand.specs.Expansions.{having, cell_variable, table_variable, cell_clauses, cells_clauses, output_clauses, vector_clauses, expansion}
 use Rattle.bb_expand.specs.Laws.{assigned_bit}
 use Rattle.bb_expand.proofs.BoxesThere.{cell_has_box}
-use Rattle.bb_expand.specs.LawsBelow.{Numbering, ValueExists}
+use Rattle.bb_expand.specs.Inside.LawsBelow.{Numbering, ValueExists}
 use Rattle.bb_expand.proofs.CellLaw.{cell_law}
 use Rattle.bb_expand.proofs.FromModel.{row_below}
 use Rattle.bb_expand.proofs.GateSame.{gate_same}

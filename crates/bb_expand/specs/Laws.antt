@@ -12,7 +12,7 @@ use Rattle.bb_cnf.specs.Chains.{IsRefutation}
 use Rattle.bb_cnf.specs.Clauses.{IsWithin}
 use Rattle.bb_cnf.specs.declared.refutation.Step.{Step}
 use Rattle.bb_cnf.specs.Truth.{Satisfies}
-use Rattle.bb_cdcl.specs.Outcomes.{HasModel}
+use Rattle.bb_cdcl.specs.Inside.Outcomes.{HasModel}
 use Rattle.bb_expand.specs.ClauseCounts.{clauses_per_vector, clause_total}
 use Rattle.bb_expand.specs.declared.expanded.Expanded.{Expanded}
 use Rattle.bb_expand.specs.Expanded.{IsExpanded, HasShortRefutation}

@@ -1,8 +1,6 @@
+pub use Rattle.bb_net.specs.Completions
 pub mod ClauseCounts
 pub mod Expanded
 pub mod Expansions
 pub mod Laws
-pub mod LawsBelow
-pub mod ReadTables
-pub mod TableStarts
-pub use Rattle.bb_net.specs.Completions
+pub mod Inside

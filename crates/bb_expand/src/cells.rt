@@ -5,7 +5,7 @@ ghost use Rattle.std.specs.List.{flat_map, range_with_len};
 ghost use Rattle.bb_cnf.specs.Clauses.{lists_of};
 ghost use Rattle.bb_net.specs.Completions.{table_bits, HaveSmallTables};
 ghost use Rattle.bb_net.specs.Netlists.{ReadsBefore, box_at, cell_at};
-ghost use Rattle.bb_expand.specs.TableStarts.{AreStarts};
+ghost use Rattle.bb_expand.specs.Inside.TableStarts.{AreStarts};
 ghost use Rattle.bb_expand.specs.Expansions.{cell_clauses};
 
 use crate::clauses::{having, push, push_and, push_mux, push_not, push_xor};

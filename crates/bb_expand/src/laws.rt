@@ -1,7 +1,7 @@
 //! Laws of expansions. Each public function has laws as its contract and does nothing.
 
 ghost use Rattle.bb_expand.specs.Laws.{CellClausesSayGate, ModelsAreTables, AllVectorsDecide, ClausesAreCounted, VariablesAreWithin, VectorsRise, VectorsAreAll, ExpansionsAreRefuted, AnswersExist};
-ghost use Rattle.bb_expand.specs.LawsBelow.{Numbering, ValueExists, ValueIsUnique};
+ghost use Rattle.bb_expand.specs.Inside.LawsBelow.{Numbering, ValueExists, ValueIsUnique};
 
 use bb_bits::{number_is_below, number_spelled, number_spelled_once};
 use bb_cnf::laws;

@@ -3,7 +3,7 @@
 ghost use Rattle.std.specs.Prelude.{◌≡◌, ◌+◌, ◌*◌, ◌^◌, ◌<◌, ◌≤◌, ℕ, length, take, drop, IfOk};
 ghost use Rattle.bb_net.specs.Completions.{table_bits, HaveSmallTables};
 ghost use Rattle.bb_net.specs.Pairs.{pin_count};
-ghost use Rattle.bb_expand.specs.ReadTables.{tables_in};
+ghost use Rattle.bb_expand.specs.Inside.ReadTables.{tables_in};
 
 use crate::rows::box_bits;
 use bb_bits::{NoMemory, Table};

@@ -7,7 +7,7 @@ ghost use Rattle.bb_cnf.specs.Clauses.{lists_of};
 ghost use Rattle.bb_net.specs.Completions.{table_bits, HaveSmallTables};
 ghost use Rattle.bb_net.specs.Values.{bit_of};
 ghost use Rattle.bb_expand.specs.ClauseCounts.{clause_total};
-ghost use Rattle.bb_expand.specs.TableStarts.{AreStarts};
+ghost use Rattle.bb_expand.specs.Inside.TableStarts.{AreStarts};
 ghost use Rattle.bb_expand.specs.Expansions.{having, vector_clauses};
 
 use crate::cells::push_cells;

@@ -13,7 +13,7 @@ use Rattle.bb_expr.specs.Lists.{extended}
 use Rattle.bb_expr.specs.Terms.{Term, Const, Not}
 use Rattle.bb_expr.specs.Cells.{Made, without_cells, inverted}
 use Rattle.bb_expr.specs.Lowered.{step_term, term_at, Reads, operands, is_operator}
-use Rattle.bb_expr.specs.Growing.{Adds, AddsRow}
+use Rattle.bb_expr.specs.Inside.Growing.{Adds, AddsRow}
 use Rattle.bb_expr.proofs.StepLemmas.{reads-later}
 use Rattle.bb_expr.proofs.RowLemmas.{row_cell, IsReadBy, terms-of-rows, terms-kept, adds-nothing, adds-rows}
 

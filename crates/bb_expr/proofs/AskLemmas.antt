@@ -7,11 +7,11 @@ use Rattle.std.proofs.lemmas.List.Sums.{sum-map}
 use Rattle.bb_ast.specs.declared.expr.Op.{Op}
 use Rattle.bb_ast.specs.Syntax.{Expression, Not, Chain, Cond, Concat, Repeat, operands, arms, listed_parts}
 use Rattle.bb_names.specs.Widths.{own_width, greatest}
-use Rattle.bb_names.specs.Checked.{ModuleFacts}
+use Rattle.bb_names.specs.Inside.Checked.{ModuleFacts}
 use Rattle.bb_expr.specs.Cells.{is_odd, cell_count}
-use Rattle.bb_expr.specs.Fit.{AreFit, ranges_in}
-use Rattle.bb_expr.specs.Growing.{most_steps}
-use Rattle.bb_expr.specs.Shares.{own_cells, operand_cells, arm_cells}
+use Rattle.bb_expr.specs.Inside.Fit.{AreFit, ranges_in}
+use Rattle.bb_expr.specs.Inside.Growing.{most_steps}
+use Rattle.bb_expr.specs.Inside.Shares.{own_cells, operand_cells, arm_cells}
 use Rattle.bb_expr.proofs.OperandLemmas.{fit-here, fit-not, chain-width, cond-width, concat-width, repeat-width}
 use Rattle.bb_expr.proofs.ChoiceLemmas.{copies-cover}
 use Rattle.bb_expr.proofs.ShareLemmas.{chain-cells, cond-cells, concat-cells, repeat-cells}

@@ -13,7 +13,7 @@ use Rattle.bb_names.specs.Widths.{Ranges, own_width, widths}
 use Rattle.bb_expr.specs.Lists.{extended}
 use Rattle.bb_expr.specs.Terms.{Const, Net as NetTerm}
 use Rattle.bb_expr.specs.Cells.{made, makes, net_terms, part_bits, part_cells}
-use Rattle.bb_expr.specs.FitLaws.{IsNetBit, AssignableIsNets}
+use Rattle.bb_expr.specs.Laws.FitLaws.{IsNetBit, AssignableIsNets}
 use Rattle.bb_expr.proofs.ValueLemmas.{length-range, sum-step}
 use Rattle.bb_expr.proofs.MadeValue.{made_seen}
 use Rattle.bb_expr.proofs.CellCounts.{length-made}

@@ -13,7 +13,7 @@ use Rattle.bb_expr.specs.Lists.{copies, bitwise}
 use Rattle.bb_expr.specs.Terms.{Term, Or, Mux}
 use Rattle.bb_expr.specs.Cells.{Made, any_bit, selected, arm_made}
 use Rattle.bb_expr.specs.Lowered.{term_at, Reads}
-use Rattle.bb_expr.specs.Growing.{Adds, AddsRow, paired}
+use Rattle.bb_expr.specs.Inside.Growing.{Adds, AddsRow, paired}
 use Rattle.bb_expr.proofs.ValueLemmas.{length-bitwise, length-copies}
 use Rattle.bb_expr.proofs.RowLemmas.{IsReadBy, terms-of-rows, terms-kept, steps-kept, adds-rows, adds-beside, adds-same}
 use Rattle.bb_expr.proofs.AddLemmas.{adds-operators, read-first}

@@ -7,15 +7,15 @@ use Rattle.std.proofs.lemmas.List.Sums.{sum_by-cons}
 use Rattle.bb_ast.specs.declared.module.Range.{Range}
 use Rattle.bb_ast.specs.Syntax.{Expression, Net, Bit, Part, Sized, Plain, Not, Chain, Cond, Concat, Repeat, Operands, no_operand, operand, Arms, no_arm, arm, Parts, no_part, part, PlainModule}
 use Rattle.bb_ast.specs.Folds.{of_operands, of_arms, of_parts}
-use Rattle.bb_ast.specs.Formed.{IsFormedExpression, AreFormedOperands, AreFormedArms, AreFormedParts}
+use Rattle.bb_ast.specs.Inside.Formed.{IsFormedExpression, AreFormedOperands, AreFormedArms, AreFormedParts}
 use Rattle.bb_names.specs.Ranges.{range_width, has_bits}
 use Rattle.bb_names.specs.Widths.{widths, own_width}
 use Rattle.bb_names.specs.Declarations.{is_instance, range_of}
 use Rattle.bb_names.specs.Spots.{Use, Read, Driven, Stored, Spot, Number, Whole, Used, with_inside, part_spots, inside, is_plain, spots_in}
 use Rattle.bb_names.specs.Faults.{told_if, wrong_role, widest, is_no_copy}
 use Rattle.bb_names.specs.Nets.{net_names}
-use Rattle.bb_expr.specs.Standing.{gathering, expressions_in}
-use Rattle.bb_expr.specs.Fit.{IsRightIn, IsFitIn}
+use Rattle.bb_expr.specs.Inside.Standing.{gathering, expressions_in}
+use Rattle.bb_expr.specs.Inside.Fit.{IsRightIn, IsFitIn}
 use Rattle.bb_expr.proofs.KnownNames.{known-there}
 use Rattle.bb_expr.proofs.Booleans.{not-not, or-second}
 use Rattle.bb_expr.proofs.ListLemmas.{all-front, all-back, all-join, front-nil, back-nil}

@@ -10,7 +10,7 @@ use Rattle.bb_expr.specs.Lists.{bitwise}
 use Rattle.bb_expr.specs.Terms.{Term, Mux}
 use Rattle.bb_expr.specs.Cells.{Made, selected}
 use Rattle.bb_expr.specs.Lowered.{step_term, term_at, Reads, operands, is_operator}
-use Rattle.bb_expr.specs.Growing.{Adds, AddsRow, paired}
+use Rattle.bb_expr.specs.Inside.Growing.{Adds, AddsRow, paired}
 use Rattle.bb_expr.proofs.ValueLemmas.{length-bitwise}
 use Rattle.bb_expr.proofs.RowLemmas.{IsReadBy, adds-beside}
 use Rattle.bb_expr.proofs.ListLemmas.{all-front, all-back, single}

@@ -14,9 +14,9 @@ use Rattle.bb_ast.specs.Syntax.{PlainModule}
 use Rattle.bb_bits.specs.Earlier.{once, has_name}
 use Rattle.bb_names.specs.Declarations.{Declaration, declarations, is_declared, is_instance, implicit_names, is_known}
 use Rattle.bb_names.specs.Nets.{net_names, net_of, nets_of}
-use Rattle.bb_names.specs.Checked.{ModuleFacts, syntax, HasNets}
-use Rattle.bb_expr.specs.Fit.{HasNet}
-use Rattle.bb_expr.specs.FitLaws.{NetNamesDiffer}
+use Rattle.bb_names.specs.Inside.Checked.{ModuleFacts, syntax, HasNets}
+use Rattle.bb_expr.specs.Inside.Fit.{HasNet}
+use Rattle.bb_expr.specs.Laws.FitLaws.{NetNamesDiffer}
 use Rattle.bb_expr.proofs.Booleans.{either, or-true}
 use Rattle.bb_expr.proofs.ListLemmas.{slice_get-map}
 

@@ -14,7 +14,7 @@ use Rattle.bb_expr.specs.declared.step.BitStep.TheVariants as steps
 use Rattle.bb_expr.specs.Terms.{term_bit}
 use Rattle.bb_expr.specs.Cells.{made}
 use Rattle.bb_expr.specs.Lowered.{Reads, term_at, IsUsed, IsLowered, HasValue}
-use Rattle.bb_expr.specs.Growing.{AreOrdered, AreSteps, Adds}
+use Rattle.bb_expr.specs.Inside.Growing.{AreOrdered, AreSteps, Adds}
 use Rattle.bb_expr.proofs.MadeValue.{made-value}
 use Rattle.bb_expr.proofs.CellCounts.{length-made}
 

@@ -6,10 +6,10 @@ use Rattle.std.proofs.lemmas.List.Elements.{All-from_recursion, recursion_from_A
 use Rattle.bb_ast.specs.Syntax.{Expression, Net, Bit, Part, Sized, Plain, Not, Chain, Cond, Concat, Repeat, Operands, no_operand, operand, Arms, no_arm, arm, Parts, no_part, part}
 use Rattle.bb_ast.specs.Folds.{of_operands, of_arms, of_parts}
 use Rattle.bb_ast.specs.Names.{naming, names_in}
-use Rattle.bb_names.specs.Checked.{ModuleFacts}
-use Rattle.bb_expr.specs.Standing.{gathering, expressions_in}
-use Rattle.bb_expr.specs.Fit.{HasNet, IsFit, AreFit}
-use Rattle.bb_expr.specs.FitLaws.{NamesAreNets}
+use Rattle.bb_names.specs.Inside.Checked.{ModuleFacts}
+use Rattle.bb_expr.specs.Inside.Standing.{gathering, expressions_in}
+use Rattle.bb_expr.specs.Inside.Fit.{HasNet, IsFit, AreFit}
+use Rattle.bb_expr.specs.Laws.FitLaws.{NamesAreNets}
 use Rattle.bb_expr.proofs.ListLemmas.{all-front, all-back, all-join}
 use Rattle.bb_expr.proofs.StandingLemmas.{some-and, standing_is_fit}
 

@@ -9,14 +9,14 @@ use Rattle.bb_bits.specs.Names.{same_name}
 use Rattle.bb_ast.specs.declared.module.Range.{Range}
 use Rattle.bb_names.specs.declared.net.NetInfo.{NetInfo}
 use Rattle.bb_names.specs.Ranges.{distance, range_width, place_of, is_index, has_bits}
-use Rattle.bb_names.specs.Checked.{ModuleFacts}
+use Rattle.bb_names.specs.Inside.Checked.{ModuleFacts}
 use Rattle.bb_expr.specs.declared.step.BitStep.{BitStep}
 use Rattle.bb_expr.specs.declared.step.BitStep.TheVariants as steps
 use Rattle.bb_expr.specs.Terms.{Const, Net}
 use Rattle.bb_expr.specs.Cells.{without_cells, net_terms}
 use Rattle.bb_expr.specs.Lowered.{name_at}
-use Rattle.bb_expr.specs.Fit.{HasNet, ranges_in}
-use Rattle.bb_expr.specs.Growing.{Adds, AddsRow}
+use Rattle.bb_expr.specs.Inside.Fit.{HasNet, ranges_in}
+use Rattle.bb_expr.specs.Inside.Growing.{Adds, AddsRow}
 use Rattle.bb_expr.proofs.Booleans.{and-first, and-second, or-cases}
 use Rattle.bb_expr.proofs.AddLemmas.{AreLeaves, leaf_term, adds-leaves}
 

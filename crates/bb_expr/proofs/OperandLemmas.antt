@@ -8,9 +8,9 @@ use Rattle.bb_ast.specs.Syntax.{Expression, Not, Chain, Cond, Concat, Repeat, op
 use Rattle.bb_ast.specs.Folds.{of_operands, of_arms, of_parts}
 use Rattle.bb_names.specs.Widths.{Ranges, greatest, widths, own_width}
 use Rattle.bb_names.specs.Faults.{widest}
-use Rattle.bb_names.specs.Checked.{ModuleFacts}
-use Rattle.bb_expr.specs.Standing.{gathering, expressions_in}
-use Rattle.bb_expr.specs.Fit.{IsFit, AreFit, ranges_in}
+use Rattle.bb_names.specs.Inside.Checked.{ModuleFacts}
+use Rattle.bb_expr.specs.Inside.Standing.{gathering, expressions_in}
+use Rattle.bb_expr.specs.Inside.Fit.{IsFit, AreFit, ranges_in}
 use Rattle.bb_expr.proofs.ListLemmas.{all-front, all-back}
 
 module _ (m : ModuleFacts) where

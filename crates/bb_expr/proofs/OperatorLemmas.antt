@@ -9,7 +9,7 @@ use Rattle.bb_expr.specs.declared.step.BitStep.TheVariants as steps
 use Rattle.bb_expr.specs.Lists.{bitwise}
 use Rattle.bb_expr.specs.Terms.{Term, Or, Xor}
 use Rattle.bb_expr.specs.Cells.{Made, op_cells, inverted, operated, chained, any_from, any_bit}
-use Rattle.bb_expr.specs.Growing.{Adds, AddsRow, paired, gate_step, gate_term, gated, complemented, reduced}
+use Rattle.bb_expr.specs.Inside.Growing.{Adds, AddsRow, paired, gate_step, gate_term, gated, complemented, reduced}
 use Rattle.bb_expr.proofs.GateLemmas.{IsGate, adds-gates}
 use Rattle.bb_expr.proofs.ChoiceLemmas.{adds-or}
 

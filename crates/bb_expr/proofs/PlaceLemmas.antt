@@ -10,7 +10,7 @@ use Rattle.bb_expr.specs.declared.step.BitStep.{BitStep}
 use Rattle.bb_expr.specs.declared.step.BitStep.TheVariants as steps
 use Rattle.bb_expr.specs.Cells.{Made}
 use Rattle.bb_expr.specs.Lists.{copies}
-use Rattle.bb_expr.specs.Growing.{Adds, AddsRow, paired, widened}
+use Rattle.bb_expr.specs.Inside.Growing.{Adds, AddsRow, paired, widened}
 use Rattle.bb_expr.proofs.AddLemmas.{adds-extended}
 use Rattle.bb_expr.proofs.GateLemmas.{length-paired}
 

@@ -11,7 +11,7 @@ use Rattle.bb_expr.specs.declared.step.BitStep.{BitStep}
 use Rattle.bb_expr.specs.Terms.{Term}
 use Rattle.bb_expr.specs.Cells.{Made}
 use Rattle.bb_expr.specs.Lowered.{step_term, term_at, Reads, operands, is_operator, operators}
-use Rattle.bb_expr.specs.Growing.{step_at, AreOrdered, AreSteps, Adds}
+use Rattle.bb_expr.specs.Inside.Growing.{step_at, AreOrdered, AreSteps, Adds}
 use Rattle.bb_expr.proofs.StepLemmas.{either-side, term-more, ordered-rows, row-term}
 
 -- the cell that a step is, if it is an operator, where its operands stand among these steps

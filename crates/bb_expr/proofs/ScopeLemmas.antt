@@ -6,10 +6,10 @@ use Rattle.std.proofs.lemmas.List.{length-map}
 use Rattle.bb_ast.specs.Syntax.{Expression}
 use Rattle.bb_names.specs.declared.checked.CheckedModule.{CheckedModule}
 use Rattle.bb_names.specs.Declarations.{range_of}
-use Rattle.bb_names.specs.Checked.{ModuleFacts, module_facts, syntax, IsChecked}
-use Rattle.bb_expr.specs.Standing.{StandsAt, nets_at, ranges_at}
-use Rattle.bb_expr.specs.Fit.{AreFit, ranges_in}
-use Rattle.bb_expr.specs.FitLaws.{StandingIsFit}
+use Rattle.bb_names.specs.Inside.Checked.{ModuleFacts, module_facts, syntax, IsChecked}
+use Rattle.bb_expr.specs.Inside.Standing.{StandsAt, nets_at, ranges_at}
+use Rattle.bb_expr.specs.Inside.Fit.{AreFit, ranges_in}
+use Rattle.bb_expr.specs.Laws.FitLaws.{StandingIsFit}
 use Rattle.bb_expr.proofs.ListLemmas.{slice_get-map}
 
 some-within : {X : Type 0} (P : X → Type 0) (xs : List X) (k : ℕ) → IsSomeAnd (slice_get xs k) P → k < length xs

@@ -11,7 +11,7 @@ use Rattle.bb_ast.specs.Syntax.{Expression, Chain, Cond, Concat, Repeat, operand
 use Rattle.bb_ast.specs.Folds.{of_operands, of_arms, of_parts}
 use Rattle.bb_names.specs.Widths.{Ranges, Operand, alone}
 use Rattle.bb_expr.specs.Cells.{is_odd, op_cells, counts, cell_count}
-use Rattle.bb_expr.specs.Shares.{own_cells, operand_cells, arm_cells}
+use Rattle.bb_expr.specs.Inside.Shares.{own_cells, operand_cells, arm_cells}
 use Rattle.bb_expr.proofs.CellCounts.{count_seen}
 
 operands-counted : (ranges : Ranges) (w : ℕ) (xs : List (Op × Expression))

@@ -12,12 +12,12 @@ use Rattle.bb_names.specs.Widths.{Ranges, greatest, widths, own_width}
 use Rattle.bb_names.specs.Declarations.{range_of}
 use Rattle.bb_names.specs.Nets.{net_names, net_of, nets_of}
 use Rattle.bb_expr.specs.declared.step.BitStep.{BitStep}
-use Rattle.bb_expr.specs.Standing.{gathering, expressions_in}
-use Rattle.bb_expr.specs.Fit.{IsFitIn}
-use Rattle.bb_expr.specs.FitLaws.{LoweringsExist}
+use Rattle.bb_expr.specs.Inside.Standing.{gathering, expressions_in}
+use Rattle.bb_expr.specs.Inside.Fit.{IsFitIn}
+use Rattle.bb_expr.specs.Laws.FitLaws.{LoweringsExist}
 use Rattle.bb_expr.specs.Terms.{Const}
 use Rattle.bb_expr.specs.Cells.{Made, without_cells, net_terms, made, makes, chained, operated, arms_made, part_bits, part_cells, is_odd}
-use Rattle.bb_expr.specs.Growing.{Adds, widened}
+use Rattle.bb_expr.specs.Inside.Growing.{Adds, widened}
 use Rattle.bb_expr.proofs.Booleans.{either}
 use Rattle.bb_expr.proofs.CellCounts.{length-made, length-operated}
 use Rattle.bb_expr.proofs.KnownNames.{net-at}

@@ -11,7 +11,7 @@ use Rattle.bb_expr.specs.declared.step.BitStep.TheVariants as steps
 use Rattle.bb_expr.specs.Lists.{copies}
 use Rattle.bb_expr.specs.Terms.{Const}
 use Rattle.bb_expr.specs.Cells.{Made, without_cells, net_terms, chained, operated, arm_made}
-use Rattle.bb_expr.specs.Growing.{Adds, AddsRow, paired, gate_step, gated, complemented, reduced, widened}
+use Rattle.bb_expr.specs.Inside.Growing.{Adds, AddsRow, paired, gate_step, gated, complemented, reduced, widened}
 use Rattle.bb_expr.proofs.AddLemmas.{adds-inverted}
 use Rattle.bb_expr.proofs.ChoiceLemmas.{adds-arm, adds-copied}
 use Rattle.bb_expr.proofs.NetBitLemmas.{adds-constants, adds-net-at}

@@ -14,7 +14,7 @@ use Rattle.bb_names.specs.declared.net.NetKind.TheVariants.{Wire}
 use Rattle.bb_names.specs.Declarations.{Declaration, declared_by_head, declared_by, net_declaration, instance_declaration}
 use Rattle.bb_names.specs.Spots.{Use, Read, Driven, Stored, Spot, Pin, Terminal, PortName, Declared, Placed, module_named, pin_named, pin_at, place_count, spots_in, gate_spots, joined_spots, conns_spots, initial_spots, header_spots, item_spots, use_at}
 use Rattle.bb_names.specs.Faults.{twice, unknown, wrong_select, wrong_width, wrong_role, statement_faults, module_faults, IsSound}
-use Rattle.bb_expr.specs.Standing.{conns_expressions, item_expressions}
+use Rattle.bb_expr.specs.Inside.Standing.{conns_expressions, item_expressions}
 use Rattle.bb_expr.proofs.ListLemmas.{all-front, all-back, all-join, all-mapped, front-nil, back-nil, map-nil, flat-nil}
 
 -- nothing is at fault at a spot

@@ -6,11 +6,11 @@ use Rattle.std.proofs.lemmas.List.Elements.{All-weaker, All-from_recursion, recu
 use Rattle.bb_ast.specs.Syntax.{Expression, Net, Bit, Part, Sized, Plain, Not, Chain, Cond, Concat, Repeat, Operands, no_operand, operand, Arms, no_arm, arm, Parts, no_part, part}
 use Rattle.bb_ast.specs.Syntax.{PlainConns, Order, Named, PlainBody, Ports, Nets, Regs, Supply, Assign, Gates, Calls, Always, PlainItem, PlainModule}
 use Rattle.bb_ast.specs.Folds.{fold_by, of_operands, of_arms, of_parts}
-use Rattle.bb_ast.specs.Formed.{IsFormedExpression, IsFormedConns, IsFormedBody, IsFormed}
-use Rattle.bb_names.specs.Checked.{ModuleFacts, syntax, HasNets}
-use Rattle.bb_expr.specs.Standing.{gathering, expressions_in, conns_expressions, item_expressions, StandsIn, StandsAt}
-use Rattle.bb_expr.specs.Fit.{IsRight, IsRightIn, IsFit, IsFitIn, AreFit, AreFitIn}
-use Rattle.bb_expr.specs.FitLaws.{StandingIsFit, StandingIsFitIn, PartsStand}
+use Rattle.bb_ast.specs.Inside.Formed.{IsFormedExpression, IsFormedConns, IsFormedBody, IsFormed}
+use Rattle.bb_names.specs.Inside.Checked.{ModuleFacts, syntax, HasNets}
+use Rattle.bb_expr.specs.Inside.Standing.{gathering, expressions_in, conns_expressions, item_expressions, StandsIn, StandsAt}
+use Rattle.bb_expr.specs.Inside.Fit.{IsRight, IsRightIn, IsFit, IsFitIn, AreFit, AreFitIn}
+use Rattle.bb_expr.specs.Laws.FitLaws.{StandingIsFit, StandingIsFitIn, PartsStand}
 use Rattle.bb_expr.proofs.ListLemmas.{all-join, single}
 use Rattle.bb_expr.proofs.SpotLemmas.{HasCleanSpots, IsCleanItem, IsCleanModule, sound-clean, item-clean}
 use Rattle.bb_expr.proofs.FitLemmas.{fits}

@@ -8,7 +8,7 @@ use Rattle.bb_expr.specs.declared.step.BitStep.{BitStep}
 use Rattle.bb_expr.specs.declared.step.BitStep.TheVariants as steps
 use Rattle.bb_expr.specs.Terms.{Term, Not, And, Or, Xor}
 use Rattle.bb_expr.specs.Lowered.{step_term, term_within, term_at, Reads}
-use Rattle.bb_expr.specs.Growing.{step_at, AreOrdered}
+use Rattle.bb_expr.specs.Inside.Growing.{step_at, AreOrdered}
 
 -- a place stands before another, or so far behind it
 pub either-side : (k n : ℕ) → (k < n) ⊎ ((i : ℕ) × (k ≡ n + i))

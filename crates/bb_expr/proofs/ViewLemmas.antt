@@ -6,7 +6,7 @@ use Rattle.bb_ast.specs.declared.expr.Expr as of
 use Rattle.bb_ast.specs.declared.expr.Expr.TheFolds.{fold_out-Expr}
 use Rattle.bb_ast.specs.declared.expr.Expr.TheVariants.{outs-Net, outs-Bit, outs-Part, outs-Sized, outs-Plain, outs-Not, outs-Chain, outs-Cond, outs-Concat, outs-Repeat}
 use Rattle.bb_ast.specs.Syntax.{Expression, Net, Bit, Part, Sized, Plain, Not, Chain, Cond, Concat, Repeat, operands, arms, listed_parts}
-use Rattle.bb_ast.specs.Views.{layer, expression, operand_view, arm_view}
+use Rattle.bb_ast.specs.Inside.Views.{layer, expression, operand_view, arm_view}
 
 pub expression-not : (e : Expr) (k : ℕ) (operand : Box Expr Global) → e ≡ of.Not k operand → expression e ≡ Not k (expression operand.value)
 expression-not e k operand is = rw (fold_out-Expr Expression layer e, is, outs-Not k operand) refl

@@ -11,7 +11,7 @@ use Rattle.bb_names.specs.Ranges.{distance, range_width, place_of}
 use Rattle.bb_names.specs.Widths.{Ranges, greatest, own_width, widths, alone}
 use Rattle.bb_expr.specs.Lists.{extended, copies, bitwise}
 use Rattle.bb_expr.specs.Values.{Bits, value, values, net_bits, op_bit, chosen}
-use Rattle.bb_expr.specs.Steady.{keeps_zero, steadying, is_steady}
+use Rattle.bb_expr.specs.Laws.Steady.{keeps_zero, steadying, is_steady}
 use Rattle.bb_expr.specs.Laws.{WiderAddsZeros}
 use Rattle.bb_expr.proofs.ValueLemmas.{length-net_bits, length-bits_of, length-copies, parts-length, seen}
 

@@ -1,9 +1,11 @@
 -- Laws that a reader expects of values and cells.
+pub mod FitLaws
+pub mod Steady
 use Rattle.std.specs.Prelude.{◌≡◌, ◌≤◌, ◌+◌, ℕ, true, false, ◌++◌, map, length, replicate}
 use Rattle.bb_ast.specs.Syntax.{Expression}
 use Rattle.bb_names.specs.Widths.{Ranges, own_width}
 use Rattle.bb_expr.specs.Cells.{made, cell_count}
-use Rattle.bb_expr.specs.Steady.{is_steady}
+use Rattle.bb_expr.specs.Laws.Steady.{is_steady}
 use Rattle.bb_expr.specs.Terms.{term_bit}
 use Rattle.bb_expr.specs.Values.{Bits, value}
 

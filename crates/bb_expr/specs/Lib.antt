@@ -3,10 +3,5 @@ pub mod Values
 pub mod Terms
 pub mod Cells
 pub mod Lowered
-pub mod Standing
-pub mod Steady
-pub mod Fit
-pub mod FitLaws
-pub mod Shares
-pub mod Growing
 pub mod Laws
+pub mod Inside

@@ -1,13 +1,13 @@
 //! How many cells expressions make: they are counted before any is made, so that what is too large is refused first.
 
 ghost use Rattle.std.specs.Prelude.{◌≡◌, ◌≤◌, ◌+◌, ◌*◌, ◌-◌, ◌^◌, min, map, sum_by, All};
-ghost use Rattle.bb_ast.specs.Views.{expression, operand_view, arm_view};
-ghost use Rattle.bb_names.specs.Checked.{module_facts};
+ghost use Rattle.bb_ast.specs.Inside.Views.{expression, operand_view, arm_view};
+ghost use Rattle.bb_names.specs.Inside.Checked.{module_facts};
 ghost use Rattle.bb_names.specs.Widths.{own_width};
 ghost use Rattle.bb_expr.specs.Cells.{is_odd, op_cells, cell_count};
-ghost use Rattle.bb_expr.specs.Fit.{AreFit, ranges_in};
-ghost use Rattle.bb_expr.specs.Shares.{capped, own_cells, operand_cells, arm_cells};
-ghost use Rattle.bb_expr.specs.Standing.{StandsAt, ranges_at};
+ghost use Rattle.bb_expr.specs.Inside.Fit.{AreFit, ranges_in};
+ghost use Rattle.bb_expr.specs.Inside.Shares.{capped, own_cells, operand_cells, arm_cells};
+ghost use Rattle.bb_expr.specs.Inside.Standing.{StandsAt, ranges_at};
 
 use crate::laws;
 use crate::width::width_of;

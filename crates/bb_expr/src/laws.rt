@@ -1,7 +1,7 @@
 //! Laws of widths, values and cells, and of what stands in a checked module. Each function has a law as its contract.
 
 ghost use Rattle.bb_expr.specs.Laws.{ValuesHaveWidth, MadeHasValue, CellsAreCounted, WiderAddsZeros};
-ghost use Rattle.bb_expr.specs.FitLaws.{StandingIsFit, StandingIsFitIn, LoweringsExist, NamesAreNets, PartsStand, NetNamesDiffer, AssignableIsNets};
+ghost use Rattle.bb_expr.specs.Laws.FitLaws.{StandingIsFit, StandingIsFitIn, LoweringsExist, NamesAreNets, PartsStand, NetNamesDiffer, AssignableIsNets};
 
 /// A value has as many bits as its context.
 #[tactic(auto, using(crate::proofs::ValueLemmas::values_have_width))]

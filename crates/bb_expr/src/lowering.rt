@@ -2,19 +2,19 @@
 
 ghost use Rattle.std.specs.Prelude.{◌≡◌, ◌≤◌, ◌+◌, ◌-◌, ◌*◌, ◌^◌, Bool, true, false, List, length, map, sum, sum_by, All, IfOk};
 ghost use Rattle.bb_ast.specs.Syntax.{Net, Part};
-ghost use Rattle.bb_ast.specs.Views.{expression, operand_view, arm_view};
+ghost use Rattle.bb_ast.specs.Inside.Views.{expression, operand_view, arm_view};
 ghost use Rattle.bb_names.specs.declared.net.NetInfo.{NetInfo};
-ghost use Rattle.bb_names.specs.Checked.{module_facts};
+ghost use Rattle.bb_names.specs.Inside.Checked.{module_facts};
 ghost use Rattle.bb_names.specs.Ranges.{has_bits, distance, range_width, place_of};
 ghost use Rattle.bb_names.specs.Widths.{own_width};
 ghost use Rattle.bb_expr.specs.declared.step.BitStep.{BitStep};
 ghost use Rattle.bb_expr.specs.Cells.{Made, without_cells, made, cell_count};
-ghost use Rattle.bb_expr.specs.Fit.{HasNet, AreFit, ranges_in};
-ghost use Rattle.bb_expr.specs.Growing.{Adds, beside, chained_on, arms_on, most_steps};
+ghost use Rattle.bb_expr.specs.Inside.Fit.{HasNet, AreFit, ranges_in};
+ghost use Rattle.bb_expr.specs.Inside.Growing.{Adds, beside, chained_on, arms_on, most_steps};
 ghost use Rattle.bb_expr.specs.Lists.{extended};
 ghost use Rattle.bb_expr.specs.Lowered.{IsLowered, HasValue};
-ghost use Rattle.bb_expr.specs.Shares.{own_cells, operand_cells, arm_cells};
-ghost use Rattle.bb_expr.specs.Standing.{StandsAt, nets_at, ranges_at};
+ghost use Rattle.bb_expr.specs.Inside.Shares.{own_cells, operand_cells, arm_cells};
+ghost use Rattle.bb_expr.specs.Inside.Standing.{StandsAt, nets_at, ranges_at};
 ghost use Rattle.bb_expr.specs.Terms.{Const};
 
 use crate::cell_count::{cells, is_odd};

@@ -6,7 +6,7 @@ ghost use Rattle.bb_names.specs.declared.net.NetInfo.{NetInfo};
 ghost use Rattle.bb_expr.specs.declared.step.BitStep.{BitStep};
 ghost use Rattle.bb_expr.specs.Lists.{copies};
 ghost use Rattle.bb_expr.specs.Cells.{Made, operated, chained, op_cells, arm_made};
-ghost use Rattle.bb_expr.specs.Growing.{Adds, complemented, gated, gate_step, reduced};
+ghost use Rattle.bb_expr.specs.Inside.Growing.{Adds, complemented, gated, gate_step, reduced};
 
 use crate::rows::{add, push};
 use crate::step::BitStep;

@@ -7,7 +7,7 @@ ghost use Rattle.bb_names.specs.declared.net.NetInfo.{NetInfo};
 ghost use Rattle.bb_expr.specs.declared.step.BitStep.{BitStep};
 ghost use Rattle.bb_expr.specs.declared.step.BitStep.TheVariants as of;
 ghost use Rattle.bb_expr.specs.Cells.{Made};
-ghost use Rattle.bb_expr.specs.Growing.{Adds, AddsRow, widened};
+ghost use Rattle.bb_expr.specs.Inside.Growing.{Adds, AddsRow, widened};
 
 use crate::step::BitStep;
 use bb_bits::NoMemory;

@@ -3,8 +3,8 @@
 ghost use Rattle.std.specs.Prelude.{◌≡◌, Some};
 ghost use Rattle.std.specs.Map.{lookup};
 ghost use Rattle.bb_bits.specs.Names.{same_name};
-ghost use Rattle.bb_names.specs.Checked.{module_facts};
-ghost use Rattle.bb_expr.specs.Fit.{HasNet, ranges_in};
+ghost use Rattle.bb_names.specs.Inside.Checked.{module_facts};
+ghost use Rattle.bb_expr.specs.Inside.Fit.{HasNet, ranges_in};
 
 use bb_ast::Range;
 use bb_bits::Name;

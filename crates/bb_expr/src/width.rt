@@ -1,12 +1,12 @@
 //! Own widths of expressions.
 
 ghost use Rattle.std.specs.Prelude.{◌≡◌, ◌≤◌, map, sum, All};
-ghost use Rattle.bb_ast.specs.Views.{expression, operand_view, arm_view};
-ghost use Rattle.bb_names.specs.Checked.{module_facts};
+ghost use Rattle.bb_ast.specs.Inside.Views.{expression, operand_view, arm_view};
+ghost use Rattle.bb_names.specs.Inside.Checked.{module_facts};
 ghost use Rattle.bb_names.specs.Ranges.{distance, range_width};
 ghost use Rattle.bb_names.specs.Widths.{own_width, greatest};
-ghost use Rattle.bb_expr.specs.Fit.{AreFit, ranges_in};
-ghost use Rattle.bb_expr.specs.Standing.{StandsAt, ranges_at};
+ghost use Rattle.bb_expr.specs.Inside.Fit.{AreFit, ranges_in};
+ghost use Rattle.bb_expr.specs.Inside.Standing.{StandsAt, ranges_at};
 
 use crate::laws;
 use crate::scope::range_of;

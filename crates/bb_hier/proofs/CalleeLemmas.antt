@@ -9,7 +9,7 @@ use Rattle.std.proofs.lemmas.List.Elements.{filter_map-append}
 use Rattle.bb_bits.specs.Names.{same_name, placed}
 use Rattle.bb_ast.specs.Syntax.{PlainModule, PlainConns}
 use Rattle.bb_design.specs.Hierarchy.{Instance, instance_of, instances_of}
-use Rattle.bb_design.specs.Callees.{place_named, callees}
+use Rattle.bb_design.specs.Inside.Callees.{place_named, callees}
 use Rattle.bb_lists.proofs.Names.{same_equal}
 
 abbrev first_or : {X : Type 0} → Option X → Option X → Option X

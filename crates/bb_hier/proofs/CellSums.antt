@@ -10,14 +10,14 @@ use Rattle.bb_ast.specs.declared.expr.Expr.{Expr}
 use Rattle.bb_ast.specs.declared.module.Gate.{Gate}
 use Rattle.bb_ast.specs.Gates.{output_count}
 use Rattle.bb_ast.specs.Syntax.{Expression}
-use Rattle.bb_ast.specs.Views.{expression}
-use Rattle.bb_names.specs.Checked.{ModuleFacts, syntax, IsChecked}
+use Rattle.bb_ast.specs.Inside.Views.{expression}
+use Rattle.bb_names.specs.Inside.Checked.{ModuleFacts, syntax, IsChecked}
 use Rattle.bb_names.specs.Declarations.{range_of}
 use Rattle.bb_names.specs.Widths.{own_width}
-use Rattle.bb_expr.specs.Fit.{AreFit, ranges_in}
-use Rattle.bb_expr.specs.FitLaws.{StandingIsFit}
-use Rattle.bb_expr.specs.Standing.{StandsAt, ranges_at}
-use Rattle.bb_hier.specs.Weights.{inputs_of}
+use Rattle.bb_expr.specs.Inside.Fit.{AreFit, ranges_in}
+use Rattle.bb_expr.specs.Laws.FitLaws.{StandingIsFit}
+use Rattle.bb_expr.specs.Inside.Standing.{StandsAt, ranges_at}
+use Rattle.bb_hier.specs.Inside.Weights.{inputs_of}
 use Rattle.bb_lists.proofs.Members.{all_from, contains-map, into_flat}
 use Rattle.bb_lists.proofs.Orders.{less_or_not}
 

@@ -9,7 +9,7 @@ use Rattle.bb_names.specs.Declarations.{range_of}
 use Rattle.bb_names.specs.Faults.{IsSound}
 use Rattle.bb_names.specs.Nets.{nets_of, is_empty}
 use Rattle.bb_names.specs.Spots.{module_named}
-use Rattle.bb_expr.specs.FitLaws.{AssignableIsNets}
+use Rattle.bb_expr.specs.Laws.FitLaws.{AssignableIsNets}
 use Rattle.bb_expr.specs.Laws.{CellsAreCounted, MadeHasValue, ValuesHaveWidth}
 use Rattle.bb_design.specs.Constructs.{BoxContents, body_constructs, constructs_at, parts}
 use Rattle.bb_design.specs.Hierarchy.{Path, Design, Scope, root, is_top, is_box, path_to, children, below, instances, instances_of, scopes, too_low}
@@ -18,16 +18,16 @@ use Rattle.bb_design.specs.NetBits.{output_bits, top_inputs}
 use Rattle.bb_design.specs.Refusals.{design_on}
 use Rattle.bb_design.specs.Registers.{RegisterBit, registers, cut_bits}
 use Rattle.bb_design.specs.Sizes.{cell_count_at, cells_in, bits_and_instances}
-use Rattle.bb_hier.specs.Weights.{net_width, is_input_net, is_output_net, bit_count, item_cells, construct_cells, instance_cells, total_below}
+use Rattle.bb_hier.specs.Inside.Weights.{net_width, is_input_net, is_output_net, bit_count, item_cells, construct_cells, instance_cells, total_below}
 use Rattle.bb_lists.proofs.Places.{there_at}
 use Rattle.bb_lists.proofs.Members.{from_flat, mapped_there, contains_here, contains_there, contains_cases, none_in_nil, from_filter_map}
 use Rattle.bb_lists.proofs.Orders.{less_or_not}
 use Rattle.bb_hier.proofs.CellSums.{sum_flat}
 use Rattle.bb_hier.proofs.ConstructCounts.{sum_items}
 use Rattle.bb_hier.proofs.HierarchySums.{weight_or, sum_map, sum_same, sum_both, sum_below, long_nets, weight_at, bits_counted, got_map, total_capped_where}
-use Rattle.bb_design.specs.Callees.{called}
+use Rattle.bb_design.specs.Inside.Callees.{called}
 use Rattle.bb_hier.proofs.RegisterCounts.{registers_of, registers_inside, registers_in_box, registers_counted}
-use Rattle.bb_design.specs.DesignLaws.{DesignLaws}
+use Rattle.bb_design.specs.Laws.DesignLaws.{DesignLaws}
 
 -- an instance is not the top
 

@@ -18,29 +18,29 @@ use Rattle.bb_names.specs.Faults.{IsSound, Rows, is_input, unknown, wrong_role, 
 use Rattle.bb_names.specs.Spots.{Pin, Spot, HeadName, Target, Placed, PortName, Declared, header_spots, declared_spots, item_spots, conns_spots, joined_spots, module_named, pin_named, pin_at, place_count}
 use Rattle.bb_names.specs.Widths.{Ranges, own_width}
 use Rattle.bb_expr.specs.Cells.{cell_count}
-use Rattle.bb_expr.specs.FitLaws.{AssignableIsNets}
+use Rattle.bb_expr.specs.Laws.FitLaws.{AssignableIsNets}
 use Rattle.bb_expr.specs.Laws.{CellsAreCounted, MadeHasValue, ValuesHaveWidth}
-use Rattle.bb_expr.specs.Shares.{own_cells}
-use Rattle.bb_expr.specs.Standing.{conns_expressions}
+use Rattle.bb_expr.specs.Inside.Shares.{own_cells}
+use Rattle.bb_expr.specs.Inside.Standing.{conns_expressions}
 use Rattle.bb_expr.specs.Terms.{Term, term_bit}
 use Rattle.bb_expr.specs.Values.{Bits}
 use Rattle.bb_design.specs.Constructs.{Construct, Assignment, Register, SupplyNet, InputConnection, OutputConnection, initial_construct, gate_construct, connection, connections, body_constructs}
 use Rattle.bb_design.specs.Contexts.{width_of, made_in}
 use Rattle.bb_design.specs.Drivers.{terminal_terms}
-use Rattle.bb_design.specs.DrivenWorlds.{IsLegal}
+use Rattle.bb_design.specs.Laws.DrivenWorlds.{IsLegal}
 use Rattle.bb_design.specs.GateFunctions.{inverts, on_terms, gate_gives, joined_after, joining_cells, gate_cells}
 use Rattle.bb_design.specs.Hierarchy.{Scope}
 use Rattle.bb_design.specs.Sizes.{cell_count_at}
-use Rattle.bb_hier.specs.Weights.{assigned_cells, initial_cells, assignment_cells, inputs_of, inversions, gate_weight, item_cells}
+use Rattle.bb_hier.specs.Inside.Weights.{assigned_cells, initial_cells, assignment_cells, inputs_of, inversions, gate_weight, item_cells}
 use Rattle.bb_lists.proofs.Places.{got, some_at}
 use Rattle.bb_hier.proofs.CellSums.{sum_flat}
 use Rattle.bb_lists.proofs.Numbered.{enumerated_from}
 use Rattle.bb_hier.proofs.HierarchySums.{sum_map, sum_same, sum_ones, length_flat}
 use Rattle.bb_lists.proofs.Members.{contains-map, into_flat, flat_nil, left_nil, map_nil, contains_here, contains_there, from_find, find_there, none_if}
 use Rattle.bb_lists.proofs.Earlier.{each_there, each_nil}
-use Rattle.bb_design.specs.SoundSpots.{IsSoundSpot}
+use Rattle.bb_design.specs.Laws.SoundSpots.{IsSoundSpot}
 use Rattle.bb_lists.proofs.Names.{same_self}
-use Rattle.bb_design.specs.DesignLaws.{DesignLaws}
+use Rattle.bb_design.specs.Laws.DesignLaws.{DesignLaws}
 
 some_where : {A : Type 0} (o : Option A) → is_none o ≡ false → (x : A) × (o ≡ Some x)
 some_where None e = absurd (true≢false e)

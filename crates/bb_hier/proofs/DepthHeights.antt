@@ -4,7 +4,7 @@ use Rattle.std.specs.Prelude.{max, nat_le, replicate}
 use Rattle.std.specs.List.{list_any, slice_index_or}
 use Rattle.std.proofs.lemmas.List.{get_or-map, get_or_default, length-map, take_more, map-append}
 use Rattle.std.proofs.lemmas.List.Elements.{All-from_get_or}
-use Rattle.bb_hier.specs.Depths.{height_over, is_tall}
+use Rattle.bb_hier.specs.Inside.Depths.{height_over, is_tall}
 use Rattle.bb_lists.proofs.Orders.{less_or_same}
 
 height_over-push : (h : ℕ → ℕ) (xs : List ℕ) (k : ℕ) → height_over h (xs ++ k ∷ []) ≡ max (height_over h xs) (h k + 1)

@@ -9,16 +9,16 @@ use Rattle.std.proofs.lemmas.List.Folds.{list_any_at}
 use Rattle.bb_ast.specs.Syntax.{PlainModule}
 use Rattle.bb_names.specs.Faults.{IsSound}
 use Rattle.bb_bits.specs.Closures.{IsFirst}
-use Rattle.bb_hier.specs.Depths.{is_tall}
+use Rattle.bb_hier.specs.Inside.Depths.{is_tall}
 use Rattle.bb_design.specs.Hierarchy.{Instance, Path, Scope, instances_of, children, path_to, below, root, instances}
 use Rattle.bb_design.specs.Refusals.{Depth, IsTooLow, IsTold, IsAbsent, design_on}
 use Rattle.bb_design.specs.Texts.{path_text}
-use Rattle.bb_design.specs.Callees.{callee_place, child, called}
+use Rattle.bb_design.specs.Inside.Callees.{callee_place, child, called}
 use Rattle.bb_lists.proofs.Places.{there_at, got, some_at, split, taken, list_here}
 use Rattle.bb_lists.proofs.Members.{all_from, from_flat, from_map, contains_there, contains_cases, none_in_nil}
 use Rattle.bb_lists.proofs.Orders.{less_or_past}
 use Rattle.bb_lists.proofs.Maps.{any-map}
-use Rattle.bb_design.specs.DesignLaws.{DesignLaws}
+use Rattle.bb_design.specs.Laws.DesignLaws.{DesignLaws}
 
 module _ (of_designs : DesignLaws) (text : List PlainModule) (sound : IsSound text) where
   -- what stands in a scope that is too low has as many instances above it

@@ -13,14 +13,14 @@ use Rattle.bb_design.specs.Hierarchy.{Path, Design, Scope, root, below, instance
 use Rattle.bb_design.specs.NetBits.{bits_of_net, scope_bits, net_order}
 use Rattle.bb_design.specs.Refusals.{design_on}
 use Rattle.bb_design.specs.Sizes.{bits_and_instances}
-use Rattle.bb_hier.specs.Weights.{net_width, bit_count, total_below}
-use Rattle.bb_design.specs.Callees.{callee_place, child, called}
+use Rattle.bb_hier.specs.Inside.Weights.{net_width, bit_count, total_below}
+use Rattle.bb_design.specs.Inside.Callees.{callee_place, child, called}
 use Rattle.bb_lists.proofs.Places.{there_at}
 use Rattle.bb_lists.proofs.Orders.{less_or_not}
 use Rattle.bb_hier.proofs.CellSums.{sum_flat}
 use Rattle.bb_hier.proofs.SizeTotals.{add_capped, total_capped}
 use Rattle.bb_lists.proofs.Members.{contains_here, contains_there}
-use Rattle.bb_design.specs.DesignLaws.{DesignLaws}
+use Rattle.bb_design.specs.Laws.DesignLaws.{DesignLaws}
 
 pub sum_map : {X Y : Type 0} (g : Y → ℕ) (f : X → Y) (xs : List X) → sum_by g (map f xs) ≡ sum_by (λ x. g (f x)) xs
 sum_map g f [] = refl

@@ -5,7 +5,7 @@ use Rattle.std.specs.List.{flat_map}
 use Rattle.std.proofs.lemmas.List.{get_or-map, length-map}
 use Rattle.bb_ast.specs.declared.module.Call.{Call}
 use Rattle.bb_ast.specs.declared.module.Item.{Item}
-use Rattle.bb_ast.specs.Views.{call_view, item_view}
+use Rattle.bb_ast.specs.Inside.Views.{call_view, item_view}
 use Rattle.bb_design.specs.Hierarchy.{Instance, instance_of, instances_in}
 use Rattle.bb_lists.proofs.Places.{got, some_at, in_front}
 

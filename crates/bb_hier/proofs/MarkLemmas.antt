@@ -15,17 +15,17 @@ use Rattle.bb_ast.specs.declared.expr.Expr.{Expr}
 use Rattle.bb_ast.specs.declared.expr.Expr as of
 use Rattle.bb_ast.specs.declared.expr.Expr.TheFolds.{fold_out-Expr}
 use Rattle.bb_ast.specs.declared.expr.Expr.TheVariants.{outs-Bit, outs-Concat}
-use Rattle.bb_ast.specs.FoldLaws.{sees_parts}
+use Rattle.bb_ast.specs.Laws.FoldLaws.{sees_parts}
 use Rattle.bb_ast.specs.Syntax.{Expression, Bit as BitOf, Concat, listed_parts, PlainModule}
-use Rattle.bb_ast.specs.Views.{layer, expression}
+use Rattle.bb_ast.specs.Inside.Views.{layer, expression}
 use Rattle.bb_names.specs.declared.net.NetInfo.{NetInfo}
-use Rattle.bb_names.specs.Checked.{ModuleFacts, syntax, HasNets}
+use Rattle.bb_names.specs.Inside.Checked.{ModuleFacts, syntax, HasNets}
 use Rattle.bb_names.specs.Declarations.{range_of}
 use Rattle.bb_names.specs.Nets.{net_names, net_of, nets_of}
 use Rattle.bb_names.specs.Ranges.{distance, range_width, place_of}
-use Rattle.bb_expr.specs.FitLaws.{NetNamesDiffer}
+use Rattle.bb_expr.specs.Laws.FitLaws.{NetNamesDiffer}
 use Rattle.bb_design.specs.NetBits.{Bit, same_bit, bits_from, bits_of_net, assigned, written_bits}
-use Rattle.bb_hier.specs.Weights.{any_scope, is_among, named_bits, AreMarks, stored_bits, register_count}
+use Rattle.bb_hier.specs.Inside.Weights.{any_scope, is_among, named_bits, AreMarks, stored_bits, register_count}
 use Rattle.bb_lists.proofs.Names.{place-holds, holds-place, same_equal, same_self}
 use Rattle.bb_lists.proofs.Places.{got, got-map}
 use Rattle.bb_lists.proofs.Orders.{less_or_same}

@@ -11,7 +11,7 @@ use Rattle.bb_net.specs.declared.loose.LooseCell.TheVariants.{Const, Input, BoxO
 use Rattle.bb_net.specs.Loose.{loose_at, operands, IsLoose, Reaches}
 use Rattle.bb_net.specs.Netlists.{Pins, box_at, IsPinAt}
 use Rattle.bb_bits.specs.Closures.{Leads, One, More}
-use Rattle.bb_hier.specs.Recursions.{place_steps, ArePlacesThere, module_pins, module_list}
+use Rattle.bb_hier.specs.Inside.Recursions.{place_steps, ArePlacesThere, module_pins, module_list}
 use Rattle.bb_lists.proofs.Members.{all_from, from_flat, from_map, contains-map, into_flat, none_in_nil}
 use Rattle.bb_lists.proofs.Numbered.{placed-at, at-place}
 use Rattle.bb_lists.proofs.Orders.{less_or_past}

@@ -6,7 +6,7 @@ use Rattle.std.proofs.lemmas.List.Elements.{All-contains}
 use Rattle.std.proofs.lemmas.Option.{slice_get_read}
 use Rattle.bb_ast.specs.Syntax.{PlainModule}
 use Rattle.bb_names.specs.declared.checked.CheckedModule.{CheckedModule}
-use Rattle.bb_names.specs.Checked.{ModuleFacts, module_facts, syntax, HasNets, IsChecked}
+use Rattle.bb_names.specs.Inside.Checked.{ModuleFacts, module_facts, syntax, HasNets, IsChecked}
 use Rattle.bb_lists.proofs.Places.{there_at, got-map}
 
 module _ (checked : List ModuleFacts) (modules : List CheckedModule) (same : map module_facts modules ≡ checked) (k : ℕ) (item : CheckedModule) (at : item ≡ get_or modules k item) (lt : k < length checked) where

@@ -10,22 +10,22 @@ use Rattle.bb_ast.specs.Syntax.{Expression, PlainBody, Ports, Nets, Regs, Supply
 use Rattle.bb_names.specs.declared.net.NetInfo.{NetInfo}
 use Rattle.bb_names.specs.declared.net.NetKind.TheVariants.{Wire}
 use Rattle.bb_names.specs.declared.fault.NameFault.TheVariants as name_faults
-use Rattle.bb_names.specs.Checked.{ModuleFacts, syntax, HasNets}
+use Rattle.bb_names.specs.Inside.Checked.{ModuleFacts, syntax, HasNets}
 use Rattle.bb_names.specs.Declarations.{net_declaration, range_of}
 use Rattle.bb_names.specs.Faults.{IsSound, widest, wrong_width}
 use Rattle.bb_names.specs.Nets.{net_names, net_of, nets_of}
 use Rattle.bb_names.specs.Ranges.{range_width}
 use Rattle.bb_names.specs.Spots.{Read, Driven, Spot, Declared, Used, initial_spots, spots_in, item_spots}
-use Rattle.bb_expr.specs.Fit.{HasNet, ranges_in}
-use Rattle.bb_expr.specs.FitLaws.{NetNamesDiffer}
-use Rattle.bb_expr.specs.Standing.{expressions_in, item_expressions, StandsIn, StandsAt}
-use Rattle.bb_hier.specs.Weights.{any_scope, IsNarrowNet, AreNarrowNets}
+use Rattle.bb_expr.specs.Inside.Fit.{HasNet, ranges_in}
+use Rattle.bb_expr.specs.Laws.FitLaws.{NetNamesDiffer}
+use Rattle.bb_expr.specs.Inside.Standing.{expressions_in, item_expressions, StandsIn, StandsAt}
+use Rattle.bb_hier.specs.Inside.Weights.{any_scope, IsNarrowNet, AreNarrowNets}
 use Rattle.bb_lists.proofs.Names.{holds-place}
 use Rattle.bb_lists.proofs.Places.{got-map}
 use Rattle.bb_lists.proofs.Members.{all_from, from_flat, into_flat, contains_here, contains_there, none_if}
 use Rattle.bb_hier.proofs.MarkLemmas.{names_are}
 use Rattle.bb_lists.proofs.Earlier.{each_there}
-use Rattle.bb_design.specs.DesignLaws.{DesignLaws}
+use Rattle.bb_design.specs.Laws.DesignLaws.{DesignLaws}
 
 not_less : (a b : ℕ) → nat_lt a b ≡ false → b ≤ a
 not_less a b h = grind (arith, nat_tests, h)

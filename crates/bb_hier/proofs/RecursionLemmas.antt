@@ -8,7 +8,7 @@ use Rattle.std.proofs.lemmas.List.FromFn.{get_or-enumerate_from, length-enumerat
 use Rattle.bb_net.specs.Loose.{LooseList, IsLoose, DependsOn, IsOnClosedWalk, IsLeastOnClosedWalk, Reaches}
 use Rattle.bb_net.specs.Values.{bit_of}
 use Rattle.bb_bits.specs.Closures.{Leads, One, More}
-use Rattle.bb_hier.specs.Recursions.{place_steps, ArePlacesThere, IsReachedAt, IsRecursiveAt, IsFirstRecursive, module_list, kept_lists}
+use Rattle.bb_hier.specs.Inside.Recursions.{place_steps, ArePlacesThere, IsReachedAt, IsRecursiveAt, IsFirstRecursive, module_list, kept_lists}
 use Rattle.bb_lists.proofs.Members.{all_from, none_in_nil}
 use Rattle.bb_hier.proofs.ModuleCells.{cells_long, modules_are_loose, step_from, step_to, walk_from, walk_to}
 use Rattle.bb_lists.proofs.Walks.{more_behind}

@@ -5,7 +5,7 @@ use Rattle.std.proofs.lemmas.Bool.{cases_eq}
 use Rattle.std.proofs.lemmas.List.{get_or-map, length-map, length-set, length-take, map-set, take_more, map-append, ext_get_or}
 use Rattle.bb_net.specs.Netlists.{Pins}
 use Rattle.bb_net.specs.Values.{bit_of}
-use Rattle.bb_hier.specs.Recursions.{ArePlacesThere, module_pins, kept_lists}
+use Rattle.bb_hier.specs.Inside.Recursions.{ArePlacesThere, module_pins, kept_lists}
 use Rattle.bb_hier.proofs.RecursionLemmas.{kept_at, kept_long}
 
 pub pins_fit : (callees : List (Vec ℕ Global)) (place : ℕ) (list : Vec ℕ Global) (called : List ℕ) → ArePlacesThere (map (λ list. list.items) callees) → place < length callees → list ≡ get_or callees place list

@@ -5,19 +5,19 @@ use Rattle.std.specs.List.{enumerate_from, flat_map}
 use Rattle.std.proofs.lemmas.Grind.{common_steps}
 use Rattle.std.proofs.lemmas.List.{length-map}
 use Rattle.std.proofs.lemmas.Option.{slice_get_within, slice_get-get_or}
-use Rattle.bb_ast.specs.Sizes.{module_size, source_size}
+use Rattle.bb_ast.specs.Inside.Sizes.{module_size, source_size}
 use Rattle.bb_ast.specs.Syntax.{PlainModule}
 use Rattle.bb_names.specs.Faults.{IsSound}
-use Rattle.bb_design.specs.Callees.{callees, called, calls, place_named}
+use Rattle.bb_design.specs.Inside.Callees.{callees, called, calls, place_named}
 use Rattle.bb_bits.specs.Closures.{Leads}
 use Rattle.bb_design.specs.Hierarchy.{Instance, instances_of}
-use Rattle.bb_hier.specs.Recursions.{place_steps, ArePlacesThere, IsReachedAt, IsRecursiveAt, IsFirstRecursive}
+use Rattle.bb_hier.specs.Inside.Recursions.{place_steps, ArePlacesThere, IsReachedAt, IsRecursiveAt, IsFirstRecursive}
 use Rattle.bb_design.specs.Refusals.{IsReached, IsRecursive, Recursion, IsTold, IsAbsent, design_on}
 use Rattle.bb_lists.proofs.Names.{place-holds}
 use Rattle.bb_lists.proofs.Places.{got, got-map, some_at, split, taken, mapped_at}
 use Rattle.bb_lists.proofs.Members.{from_filter, all_from, from_map}
 use Rattle.bb_lists.proofs.Firsts.{first_there}
-use Rattle.bb_design.specs.DesignLaws.{DesignLaws}
+use Rattle.bb_design.specs.Laws.DesignLaws.{DesignLaws}
 
 steps_from : (text ms : List PlainModule) (s : ℕ) → flat_map (λ (x : ℕ × List ℕ). map {A = ℕ} {B = ℕ × ℕ} (λ k. (x.0, k)) x.1) (enumerate_from s (map (callees text) ms))
     ≡ flat_map (λ (x : ℕ × PlainModule). map {A = ℕ} {B = ℕ × ℕ} (λ k. (x.0, k)) (callees text x.1)) (enumerate_from s ms)

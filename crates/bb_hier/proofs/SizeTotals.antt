@@ -3,7 +3,7 @@ use Rattle.std.proofs.Common.{◌≡◌, ℕ, zero, suc, ◌+◌, List, [], ◌�
 use Rattle.std.specs.Prelude.{sum_by, min, replicate, slice_index_or}
 use Rattle.std.proofs.lemmas.List.{length-map}
 use Rattle.std.proofs.lemmas.List.Sums.{sum_by-cons}
-use Rattle.bb_hier.specs.Weights.{total_below}
+use Rattle.bb_hier.specs.Inside.Weights.{total_below}
 
 -- totals after so many rounds
 pub record AreTotals (m : ℕ) (lists : List (List ℕ)) (own : List ℕ) (n : ℕ) (totals : List ℕ) : Type 0 where

@@ -1,11 +1,11 @@
 -- A cause that a stage finds, where the stages before it found none, is the first refusal of the design.
 use Rattle.std.proofs.Common.{ℕ, List}
 use Rattle.std.specs.List.{AllByRecursion}
-use Rattle.bb_ast.specs.Formed.{IsFormed}
+use Rattle.bb_ast.specs.Inside.Formed.{IsFormed}
 use Rattle.bb_ast.specs.Syntax.{PlainModule}
 use Rattle.bb_names.specs.Faults.{IsSound}
 use Rattle.bb_design.specs.Refusals.{Recursion, Depth, Size, IsAbsent}
-use Rattle.bb_hier.specs.Finite.{AtTop, IsFinite}
+use Rattle.bb_hier.specs.Inside.Finite.{AtTop, IsFinite}
 use Rattle.bb_lists.proofs.Places.{there_at}
 
 -- a design of a well-formed text without faults

@@ -1,5 +1,1 @@
-pub mod Depths
-pub mod Finite
-pub mod Recursions
-pub mod Sketches
-pub mod Weights
+pub mod Inside

@@ -4,9 +4,9 @@ ghost use Rattle.std.specs.Prelude.{◌≡◌, ◌++◌, ℕ, List, map, replica
 ghost use Rattle.std.specs.List.{filter_map, flat_map};
 ghost use Rattle.std.specs.Map.{lookup};
 ghost use Rattle.bb_bits.specs.Names.{same_name};
-ghost use Rattle.bb_ast.specs.Views.{body_view, item_view};
-ghost use Rattle.bb_names.specs.Checked.{module_facts, syntax};
-ghost use Rattle.bb_design.specs.Callees.{place_named, callees};
+ghost use Rattle.bb_ast.specs.Inside.Views.{body_view, item_view};
+ghost use Rattle.bb_names.specs.Inside.Checked.{module_facts, syntax};
+ghost use Rattle.bb_design.specs.Inside.Callees.{place_named, callees};
 ghost use Rattle.bb_design.specs.Hierarchy.{instances_in, instances_of};
 
 use bb_ast::{Body, Item};

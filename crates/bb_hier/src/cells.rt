@@ -3,13 +3,13 @@
 ghost use Rattle.std.specs.Prelude.{◌≡◌, ◌≤◌, ◌∷◌, [], map, min, sum_by, option_to_list, All, IfSome};
 ghost use Rattle.std.specs.List.{flat_map};
 ghost use Rattle.bb_ast.specs.Gates.{output_count};
-ghost use Rattle.bb_ast.specs.Views.{expression, optional_view, named_view, arm_view, gate_view, conns_view, call_view, body_view, item_view};
+ghost use Rattle.bb_ast.specs.Inside.Views.{expression, optional_view, named_view, arm_view, gate_view, conns_view, call_view, body_view, item_view};
 ghost use Rattle.bb_names.specs.Ranges.{range_width};
 ghost use Rattle.bb_names.specs.Widths.{own_width};
-ghost use Rattle.bb_expr.specs.Shares.{capped, own_cells};
-ghost use Rattle.bb_expr.specs.Standing.{StandsAt, ranges_at, conns_expressions, item_expressions};
+ghost use Rattle.bb_expr.specs.Inside.Shares.{capped, own_cells};
+ghost use Rattle.bb_expr.specs.Inside.Standing.{StandsAt, ranges_at, conns_expressions, item_expressions};
 ghost use Rattle.bb_design.specs.GateFunctions.{inverts};
-ghost use Rattle.bb_hier.specs.Weights.{assigned_cells, initial_cells, assignment_cells, inputs_of, inversions, gate_weight, item_cells, IsNarrowNet, AreNarrowNets};
+ghost use Rattle.bb_hier.specs.Inside.Weights.{assigned_cells, initial_cells, assignment_cells, inputs_of, inversions, gate_weight, item_cells, IsNarrowNet, AreNarrowNets};
 
 use crate::register_bits::width_of;
 use bb_ast::{Body, Call, Conns, Expr, Gate, GateCall, Item};

@@ -7,10 +7,10 @@
 ghost use Rattle.std.specs.Prelude.{◌≡◌, ◌+◌, ◌<◌, ◌≤◌, ◌++◌, ◌==◌, [], false, true, ℕ, All, Some, codes, length, map, nat_le, slice_get, if◌then◌else◌, IfOk, IfSome, IfNone, OnOk};
 ghost use Rattle.std.specs.List.{flat_map, list_any, slice_index_or};
 ghost use Rattle.bb_ast.specs.Syntax.{PlainModule};
-ghost use Rattle.bb_ast.specs.Views.{body_view, item_view};
-ghost use Rattle.bb_names.specs.Checked.{syntax};
-ghost use Rattle.bb_design.specs.Callees.{callees};
-ghost use Rattle.bb_hier.specs.Depths.{height_over, is_tall};
+ghost use Rattle.bb_ast.specs.Inside.Views.{body_view, item_view};
+ghost use Rattle.bb_names.specs.Inside.Checked.{syntax};
+ghost use Rattle.bb_design.specs.Inside.Callees.{callees};
+ghost use Rattle.bb_hier.specs.Inside.Depths.{height_over, is_tall};
 ghost use Rattle.bb_design.specs.Hierarchy.{instances_in};
 ghost use Rattle.bb_design.specs.Refusals.{IsTold, IsAbsent, Depth, design_on};
 

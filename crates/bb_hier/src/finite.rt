@@ -1,11 +1,11 @@
 //! The hierarchy of a design: it is refused where it is recursive, too deep or too large.
 
 ghost use Rattle.std.specs.Prelude.{◌≡◌, ◌⊎◌, ◌<◌, map, length, IfOk, IfErr};
-ghost use Rattle.bb_names.specs.Checked.{syntax};
+ghost use Rattle.bb_names.specs.Inside.Checked.{syntax};
 ghost use Rattle.bb_design.specs.declared.fault.ElabFault.TheVariants.{NoMemory};
-ghost use Rattle.bb_design.specs.Callees.{callees};
+ghost use Rattle.bb_design.specs.Inside.Callees.{callees};
 ghost use Rattle.bb_design.specs.Refusals.{IsRefusalOf};
-ghost use Rattle.bb_hier.specs.Finite.{AtTop, IsFinite};
+ghost use Rattle.bb_hier.specs.Inside.Finite.{AtTop, IsFinite};
 
 use crate::callees::callees_of;
 use crate::depth::low_instance;

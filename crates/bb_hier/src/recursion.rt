@@ -8,10 +8,10 @@ ghost use Rattle.std.specs.List.{enumerate_from, range_with_len};
 ghost use Rattle.bb_net.specs.declared.loose.LooseCell.TheVariants.{Const, BoxOut};
 ghost use Rattle.bb_net.specs.Values.{bit_of};
 ghost use Rattle.bb_ast.specs.Syntax.{PlainModule};
-ghost use Rattle.bb_names.specs.Checked.{syntax};
-ghost use Rattle.bb_design.specs.Callees.{callees};
+ghost use Rattle.bb_names.specs.Inside.Checked.{syntax};
+ghost use Rattle.bb_design.specs.Inside.Callees.{callees};
 ghost use Rattle.bb_design.specs.Refusals.{IsTold, IsAbsent, Recursion, design_on};
-ghost use Rattle.bb_hier.specs.Recursions.{module_pins, module_list, kept_lists, ArePlacesThere, IsRecursiveAt, IsFirstRecursive};
+ghost use Rattle.bb_hier.specs.Inside.Recursions.{module_pins, module_list, kept_lists, ArePlacesThere, IsRecursiveAt, IsFirstRecursive};
 
 use bb_bits::{Name, NoMemory};
 use bb_design::laws::laws_of_designs;

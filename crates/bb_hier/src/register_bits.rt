@@ -7,12 +7,12 @@ ghost use Rattle.std.specs.Prelude.{◌≡◌, ◌⊎◌, ◌+◌, ◌<◌, ◌�
 ghost use Rattle.std.specs.List.{flat_map};
 ghost use Rattle.std.specs.Map.{lookup};
 ghost use Rattle.bb_bits.specs.Names.{same_name};
-ghost use Rattle.bb_ast.specs.Views.{expression, body_view, item_view};
-ghost use Rattle.bb_names.specs.Checked.{module_facts, syntax, HasNets};
+ghost use Rattle.bb_ast.specs.Inside.Views.{expression, body_view, item_view};
+ghost use Rattle.bb_names.specs.Inside.Checked.{module_facts, syntax, HasNets};
 ghost use Rattle.bb_names.specs.Ranges.{range_width, place_of};
-ghost use Rattle.bb_expr.specs.Shares.{capped};
+ghost use Rattle.bb_expr.specs.Inside.Shares.{capped};
 ghost use Rattle.bb_design.specs.NetBits.{Bit, written_bits};
-ghost use Rattle.bb_hier.specs.Weights.{any_scope, is_among, named_bits, stored_by, register_count, AreMarks};
+ghost use Rattle.bb_hier.specs.Inside.Weights.{any_scope, is_among, named_bits, stored_by, register_count, AreMarks};
 
 use bb_ast::{Body, Expr, Item, Range};
 use bb_bits::{Name, NoMemory};

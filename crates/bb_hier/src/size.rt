@@ -5,12 +5,12 @@
 
 ghost use Rattle.std.specs.Prelude.{◌≡◌, ◌+◌, ◌<◌, ◌≤◌, [], false, true, ℕ, All, Some, filter, if◌then◌else◌, length, map, nat_lt, slice_get, slice_index_or, sum_by, IfOk};
 ghost use Rattle.bb_ast.specs.Syntax.{PlainModule};
-ghost use Rattle.bb_names.specs.Checked.{syntax};
-ghost use Rattle.bb_expr.specs.Shares.{capped};
-ghost use Rattle.bb_design.specs.Callees.{callees};
+ghost use Rattle.bb_names.specs.Inside.Checked.{syntax};
+ghost use Rattle.bb_expr.specs.Inside.Shares.{capped};
+ghost use Rattle.bb_design.specs.Inside.Callees.{callees};
 ghost use Rattle.bb_design.specs.Refusals.{IsTold, IsAbsent, Size, design_on, most_bits, most_cells};
 ghost use Rattle.bb_design.specs.Sizes.{cells_in, bits_and_instances};
-ghost use Rattle.bb_hier.specs.Weights.{bit_count, construct_cells, instance_cells, is_input_net, is_output_net, net_width, total_below};
+ghost use Rattle.bb_hier.specs.Inside.Weights.{bit_count, construct_cells, instance_cells, is_input_net, is_output_net, net_width, total_below};
 
 use crate::cells::items_cells;
 use crate::register_bits::{registers_in, width_of};

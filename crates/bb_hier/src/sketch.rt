@@ -2,11 +2,11 @@
 
 ghost use Rattle.std.specs.Prelude.{◌≡◌, ◌-◌, ◌^◌, ◌++◌, All, map, min, sum_by, IfOk, OnOk};
 ghost use Rattle.std.specs.List.{AllZip, flat_map};
-ghost use Rattle.bb_ast.specs.Views.{body_view, item_view};
-ghost use Rattle.bb_names.specs.Checked.{module_facts, syntax, HasNets};
+ghost use Rattle.bb_ast.specs.Inside.Views.{body_view, item_view};
+ghost use Rattle.bb_names.specs.Inside.Checked.{module_facts, syntax, HasNets};
 ghost use Rattle.bb_names.specs.Ranges.{range_width};
 ghost use Rattle.bb_design.specs.Hierarchy.{instances_in};
-ghost use Rattle.bb_hier.specs.Sketches.{IsSketch};
+ghost use Rattle.bb_hier.specs.Inside.Sketches.{IsSketch};
 
 use crate::depth::calls_in;
 use bb_ast::{Item, Range};

@@ -4,8 +4,8 @@ ghost use Rattle.std.specs.Prelude.{◌≡◌, ◌||◌, ◌<◌, ℕ, List, not
 ghost use Rattle.std.specs.List.{list_any};
 ghost use Rattle.std.specs.Option.{option_and_then};
 ghost use Rattle.bb_bits.specs.Names.{same_name};
-ghost use Rattle.bb_ast.specs.Views.{body_view, item_view};
-ghost use Rattle.bb_names.specs.Checked.{module_facts, syntax};
+ghost use Rattle.bb_ast.specs.Inside.Views.{body_view, item_view};
+ghost use Rattle.bb_names.specs.Inside.Checked.{module_facts, syntax};
 ghost use Rattle.bb_names.specs.Spots.{module_named};
 ghost use Rattle.bb_design.specs.Hierarchy.{instances_in, instances_of, is_instantiated, roots, the_only, top_of};
 

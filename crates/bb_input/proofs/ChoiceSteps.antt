@@ -4,10 +4,10 @@ use Rattle.bb_bits.specs.Truth.{Truth, IsBeadOfAny, quantified_block}
 use Rattle.bb_net.specs.Netlists.{Pins, box_at}
 use Rattle.bb_net.specs.Pairs.{pin_count}
 use Rattle.bb_uniq.specs.declared.store.Ref.{Ref}
-use Rattle.bb_uniq.specs.Nodes.{NodeStore}
-use Rattle.bb_uniq.specs.Meaning.{truth_of}
+use Rattle.bb_uniq.specs.Inside.Nodes.{NodeStore}
+use Rattle.bb_uniq.specs.Inside.Meaning.{truth_of}
 use Rattle.bb_sym.specs.Laws.{MakingLaws}
-use Rattle.bb_sym.specs.Made.{Makes, AreTooMany, StandsFor}
+use Rattle.bb_sym.specs.Inside.Made.{Makes, AreTooMany, StandsFor}
 use Rattle.bb_sym.specs.Plain.{block_functions}
 use Rattle.bb_input.specs.InputFunctions.{outs_quantified, box_quantified, boxes_quantified, box_functions, boxes_functions}
 use Rattle.bb_input.proofs.OrderLemmas.{count_more}

@@ -4,10 +4,10 @@ use Rattle.bb_bits.specs.Truth.{Truth, quantified_block}
 use Rattle.bb_net.specs.Netlists.{Netlist, Pins}
 use Rattle.bb_net.specs.Pairs.{NetPair, IsPair, pin_count}
 use Rattle.bb_uniq.specs.declared.store.Ref.{Ref}
-use Rattle.bb_uniq.specs.Nodes.{NodeStore}
-use Rattle.bb_uniq.specs.Meaning.{truth_of}
+use Rattle.bb_uniq.specs.Inside.Nodes.{NodeStore}
+use Rattle.bb_uniq.specs.Inside.Meaning.{truth_of}
 use Rattle.bb_sym.specs.Laws.{MakingLaws}
-use Rattle.bb_sym.specs.Made.{Makes, AreTooMany, StandsFor}
+use Rattle.bb_sym.specs.Inside.Made.{Makes, AreTooMany, StandsFor}
 use Rattle.bb_sym.specs.Plain.{table, tables, plain_functions_at, block_functions}
 use Rattle.bb_input.specs.InputFunctions.{pins_and_inputs, boxes_first, leads, refutes, refuted, lost, wrong_functions, missed_functions, quantified_functions, boxes_quantified, boxes_functions, input_functions}
 use Rattle.bb_input.proofs.RefutingParts.{front_refused}

@@ -4,8 +4,8 @@ use Rattle.std.proofs.lemmas.Bool.{cases_lt}
 use Rattle.bb_bits.specs.Numbers.{number_of, bits_of}
 use Rattle.bb_bits.specs.Tables.{TableBits, row_of}
 use Rattle.bb_bits.specs.Truth.{Truth}
-use Rattle.bb_quant.specs.LeastPoints.{IsLeastPoint}
-use Rattle.bb_input.specs.Rows.{IsLeastRow, HasLeastRows}
+use Rattle.bb_quant.specs.Inside.LeastPoints.{IsLeastPoint}
+use Rattle.bb_input.specs.Inside.Rows.{IsLeastRow, HasLeastRows}
 
 pub yes : (b : Bool) → (b ≡ false → ⊥) → b ≡ true
 yes true h = refl

@@ -8,12 +8,12 @@ use Rattle.bb_net.specs.Netlists.{Pins, box_at}
 use Rattle.bb_net.specs.Pairs.{NetPair, IsPair}
 use Rattle.bb_net.specs.Values.{bit_of}
 use Rattle.bb_uniq.specs.declared.store.Ref.{Ref}
-use Rattle.bb_uniq.specs.Nodes.{NodeStore}
+use Rattle.bb_uniq.specs.Inside.Nodes.{NodeStore}
 use Rattle.bb_sym.specs.Laws.{FunctionLaws, MakingLaws}
-use Rattle.bb_sym.specs.Made.{AreRefs, StandForAll, StandsFor, HaveCells, ref_at}
+use Rattle.bb_sym.specs.Inside.Made.{AreRefs, StandForAll, StandsFor, HaveCells, ref_at}
 use Rattle.bb_sym.specs.Plain.{Function, cell_bit, table}
 use Rattle.bb_input.specs.InputFunctions.{pins_and_inputs, boxes_first, given_ins, in_places}
-use Rattle.bb_input.specs.Order.{in_variables}
+use Rattle.bb_input.specs.Inside.Order.{in_variables}
 use Rattle.bb_input.proofs.Readings.{ins_read, variables_within, variables_count}
 
 -- the cells at input pins are there

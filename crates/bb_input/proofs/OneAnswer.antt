@@ -3,7 +3,7 @@ use Rattle.std.proofs.Common.{◌≡◌, ◌<◌, ◌≤◌, ℕ, zero, suc, ◌
 use Rattle.std.specs.List.{range_with_len}
 use Rattle.std.proofs.lemmas.List.FromFn.{fill_by_all, length-map-range_with_len, get_or-map-range_with_len}
 use Rattle.bb_bits.specs.Numbers.{number_of, bits_of}
-use Rattle.bb_bits.specs.RowLaws.{RowsFixTable}
+use Rattle.bb_bits.specs.Laws.RowLaws.{RowsFixTable}
 use Rattle.bb_bits.specs.Tables.{TableBits, row_of, rows_of}
 use Rattle.bb_net.specs.Conditions.{NoChoicesSuit, NoTablesAgree}
 use Rattle.bb_net.specs.Netlists.{Netlist, IsNetlist, box_at}

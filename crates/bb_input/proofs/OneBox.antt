@@ -7,17 +7,17 @@ use Rattle.std.proofs.lemmas.List.Sums.{sum_by-cons}
 use Rattle.bb_bits.specs.Numbers.{number_of}
 use Rattle.bb_bits.specs.Tables.{TableBits, HasAllBits, row_of, table_bit}
 use Rattle.bb_bits.specs.Truth.{Truth, truth_at}
-use Rattle.bb_bits.specs.TruthLaws.{QuantifierLaws}
+use Rattle.bb_bits.specs.Laws.TruthLaws.{QuantifierLaws}
 use Rattle.bb_net.specs.Agreement.{AllRight, TablesAgree}
 use Rattle.bb_net.specs.Conditions.{all_outs, all_ins, Suit, Wins, SomeChoicesSuit}
 use Rattle.bb_net.specs.Netlists.{Netlist, Pins, IsNetlist, box_at}
 use Rattle.bb_net.specs.Pairs.{pin_count}
 use Rattle.bb_net.specs.Values.{bit_of, flat, flat_with, free_bit, tabled_bit, table_at, output_pins, FitBoxes, ValueGoesByBoxes}
-use Rattle.bb_quant.specs.LeastPoints.{BeginsAs}
+use Rattle.bb_quant.specs.Inside.LeastPoints.{BeginsAs}
 use Rattle.bb_sym.specs.Laws.{FunctionLaws, PointLaws}
 use Rattle.bb_input.specs.Answers.{AreLeastOutputs, AreLeastTables}
 use Rattle.bb_input.specs.InputFunctions.{pins_and_inputs, pin_bits, refuted}
-use Rattle.bb_input.specs.Rows.{IsLeastRow, HasLeastRows}
+use Rattle.bb_input.specs.Inside.Rows.{IsLeastRow, HasLeastRows}
 use Rattle.bb_input.proofs.OrderLemmas.{pins_of}
 use Rattle.bb_input.proofs.Points.{bits_push}
 use Rattle.bb_input.proofs.Suits.{suits_of_false, false_of_suits}

@@ -6,7 +6,7 @@ use Rattle.std.proofs.lemmas.List.Sums.{sum_by-cons}
 use Rattle.bb_net.specs.Netlists.{Pins, box_at}
 use Rattle.bb_net.specs.Pairs.{pin_count}
 use Rattle.bb_input.specs.InputFunctions.{in_places}
-use Rattle.bb_input.specs.Order.{in_variables}
+use Rattle.bb_input.specs.Inside.Order.{in_variables}
 
 pub range_more : (first k : ℕ) → range_with_len first (k + 1) ≡ range_with_len first k ++ (first + k) ∷ []
 range_more first k =

@@ -12,7 +12,7 @@ use Rattle.bb_net.specs.Pairs.{pin_count}
 use Rattle.bb_net.specs.Values.{bit_of, output_pins}
 use Rattle.bb_sym.specs.Plain.{AreVariables, IsReadSo}
 use Rattle.bb_input.specs.InputFunctions.{pins_and_inputs, pin_bits, boxes_first, in_places}
-use Rattle.bb_input.specs.Order.{in_variables}
+use Rattle.bb_input.specs.Inside.Order.{in_variables}
 use Rattle.bb_input.proofs.OrderLemmas.{pins_of, fits_more}
 
 -- the bit at an output pin

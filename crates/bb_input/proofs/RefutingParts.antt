@@ -3,10 +3,10 @@ use Rattle.std.proofs.Common.{◌≡◌, ℕ, not, ◌&&◌, List, [], ◌∷◌
 use Rattle.bb_bits.specs.Truth.{Truth, complement, joined}
 use Rattle.bb_net.specs.Netlists.{Netlist}
 use Rattle.bb_uniq.specs.declared.store.Ref.{Ref}
-use Rattle.bb_uniq.specs.Nodes.{NodeStore}
-use Rattle.bb_uniq.specs.Meaning.{truth_of, Adds, IsTooMany}
+use Rattle.bb_uniq.specs.Inside.Nodes.{NodeStore}
+use Rattle.bb_uniq.specs.Inside.Meaning.{truth_of, Adds, IsTooMany}
 use Rattle.bb_sym.specs.Laws.{FunctionLaws, MakingLaws}
-use Rattle.bb_sym.specs.Made.{Makes, AreTooMany, StandsFor}
+use Rattle.bb_sym.specs.Inside.Made.{Makes, AreTooMany, StandsFor}
 use Rattle.bb_sym.specs.Plain.{table, tables, outputs, one_of, first_of}
 use Rattle.bb_input.specs.InputFunctions.{pins_and_inputs, is_wrong_output, has_wrong, is_missed, in_places, leads, refutes, wrong_functions, missed_functions}
 

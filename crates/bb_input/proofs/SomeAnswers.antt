@@ -6,9 +6,9 @@ use Rattle.std.proofs.lemmas.Bool.{cases_lt}
 use Rattle.std.proofs.lemmas.List.FromFn.{length-map-range_with_len, get_or-map-range_with_len}
 use Rattle.bb_bits.specs.Contents.{HasShape}
 use Rattle.bb_bits.specs.Numbers.{number_of, bits_of}
-use Rattle.bb_bits.specs.RowLaws.{RowsHaveTable, RowsAreChosen}
+use Rattle.bb_bits.specs.Laws.RowLaws.{RowsHaveTable, RowsAreChosen}
 use Rattle.bb_bits.specs.Tables.{TableBits, row_of}
-use Rattle.bb_bits.specs.TruthLaws.{QuantifierLaws}
+use Rattle.bb_bits.specs.Laws.TruthLaws.{QuantifierLaws}
 use Rattle.bb_lists.proofs.Chosen.{choose}
 use Rattle.bb_lists.proofs.LeastBits.{Below, least_or_none}
 use Rattle.bb_lists.proofs.Vectors.{vec_of}

@@ -5,7 +5,7 @@ use Rattle.std.proofs.lemmas.List.{ext_get_or, length-map, get_or-map}
 use Rattle.std.proofs.Math.Seq.{drop-append_seam}
 use Rattle.bb_bits.specs.Bits.{xor}
 use Rattle.bb_bits.specs.Truth.{IsTruthTable, truth_at}
-use Rattle.bb_bits.specs.TruthLaws.{QuantifierLaws}
+use Rattle.bb_bits.specs.Laws.TruthLaws.{QuantifierLaws}
 use Rattle.bb_net.specs.Agreement.{AllRight, out_bit, wanted_bit}
 use Rattle.bb_net.specs.Conditions.{PinBits, all_outs, all_ins, Suit}
 use Rattle.bb_net.specs.Netlists.{Netlist}

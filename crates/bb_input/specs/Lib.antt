@@ -1,5 +1,4 @@
 pub mod Answers
 pub mod InputFunctions
 pub mod Laws
-pub mod Order
-pub mod Rows
+pub mod Inside

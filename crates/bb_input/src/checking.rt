@@ -6,7 +6,7 @@ ghost use Rattle.bb_bits.specs.TruthSets.{HasMoreThan};
 ghost use Rattle.bb_net.specs.Conditions.{SomeChoicesSuit};
 ghost use Rattle.bb_net.specs.Netlists.{Netlist};
 ghost use Rattle.bb_net.specs.Pairs.{pin_count};
-ghost use Rattle.bb_sym.specs.Made.{Makes, AreTooMany, StandsFor};
+ghost use Rattle.bb_sym.specs.Inside.Made.{Makes, AreTooMany, StandsFor};
 ghost use Rattle.bb_input.specs.Answers.{IsAnswer, IsFinishable, AreLeastTables};
 ghost use Rattle.bb_input.specs.InputFunctions.{pins_and_inputs, refuted, lost, input_functions};
 

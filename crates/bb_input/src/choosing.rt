@@ -3,9 +3,9 @@
 ghost use Rattle.std.specs.Prelude.{◌≡◌, ◌+◌, ◌-◌, ◌<◌, ◌≤◌, ℕ, length, take, IfOk, OnOk, IsErrOf, slice_index_or};
 ghost use Rattle.bb_net.specs.Netlists.{box_at};
 ghost use Rattle.bb_net.specs.Pairs.{pin_count};
-ghost use Rattle.bb_uniq.specs.Nodes.{IsRef};
-ghost use Rattle.bb_uniq.specs.Meaning.{truth_of};
-ghost use Rattle.bb_sym.specs.Made.{Makes, AreTooMany, StandsFor};
+ghost use Rattle.bb_uniq.specs.Inside.Nodes.{IsRef};
+ghost use Rattle.bb_uniq.specs.Inside.Meaning.{truth_of};
+ghost use Rattle.bb_sym.specs.Inside.Made.{Makes, AreTooMany, StandsFor};
 ghost use Rattle.bb_input.specs.InputFunctions.{box_quantified, boxes_quantified, box_functions, boxes_functions};
 
 use bb_dd::{Diagrams, Ref};

@@ -3,7 +3,7 @@
 ghost use Rattle.std.specs.Prelude.{◌≡◌, length, IfOk, OnOk, IsErrOf};
 ghost use Rattle.bb_bits.specs.Truth.{variable};
 ghost use Rattle.bb_sym.specs.Plain.{table, one_of};
-ghost use Rattle.bb_sym.specs.Made.{Makes, AreTooMany, StandsFor, StandForAll, HaveCells};
+ghost use Rattle.bb_sym.specs.Inside.Made.{Makes, AreTooMany, StandsFor, StandForAll, HaveCells};
 ghost use Rattle.bb_input.specs.InputFunctions.{pins_and_inputs, boxes_first, in_places, is_missed, missed_functions};
 
 use crate::order::{input_places, input_variables};

@@ -5,7 +5,7 @@ ghost use Rattle.std.specs.List.{range_with_len};
 ghost use Rattle.bb_net.specs.Netlists.{box_at};
 ghost use Rattle.bb_net.specs.Pairs.{pin_count};
 ghost use Rattle.bb_input.specs.InputFunctions.{in_places};
-ghost use Rattle.bb_input.specs.Order.{in_variables};
+ghost use Rattle.bb_input.specs.Inside.Order.{in_variables};
 
 use bb_bits::NoMemory;
 use bb_net::BoxPins;

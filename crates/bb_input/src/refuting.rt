@@ -5,7 +5,7 @@ ghost use Rattle.bb_bits.specs.Truth.{variable};
 ghost use Rattle.bb_net.specs.Netlists.{box_at};
 ghost use Rattle.bb_net.specs.Pairs.{pin_count};
 ghost use Rattle.bb_sym.specs.Plain.{table, tables, plain_functions_at};
-ghost use Rattle.bb_sym.specs.Made.{Makes, AreTooMany, StandsFor, StandForAll, AreCells, HaveCells};
+ghost use Rattle.bb_sym.specs.Inside.Made.{Makes, AreTooMany, StandsFor, StandForAll, AreCells, HaveCells};
 ghost use Rattle.bb_input.specs.InputFunctions.{pins_and_inputs, boxes_first, leads, refutes, wrong_functions, missed_functions};
 
 use crate::missing::some_missed;

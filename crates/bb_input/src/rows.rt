@@ -4,9 +4,9 @@ ghost use Rattle.std.specs.Prelude.{◌≡◌, ◌+◌, ◌*◌, ◌^◌, ◌<�
 ghost use Rattle.bb_bits.specs.Numbers.{number_of};
 ghost use Rattle.bb_bits.specs.Tables.{row_of};
 ghost use Rattle.bb_bits.specs.Truth.{truth_at};
-ghost use Rattle.bb_uniq.specs.Nodes.{IsRef};
-ghost use Rattle.bb_uniq.specs.Meaning.{truth_of};
-ghost use Rattle.bb_input.specs.Rows.{HasLeastRows, IsLeastRow};
+ghost use Rattle.bb_uniq.specs.Inside.Nodes.{IsRef};
+ghost use Rattle.bb_uniq.specs.Inside.Meaning.{truth_of};
+ghost use Rattle.bb_input.specs.Inside.Rows.{HasLeastRows, IsLeastRow};
 
 use crate::counting::count_up;
 use bb_bits::{NoMemory, Table, number_spelled_once, tables_have_few_inputs};

@@ -6,7 +6,7 @@ use Rattle.std.proofs.lemmas.List.Elements.{All-weaker}
 use Rattle.std.proofs.lemmas.Option.{get_or_from_slice_get, slice_get_within}
 use Rattle.bb_agree.specs.DesignAgreement.{IsPairFor}
 use Rattle.bb_agree.specs.Mistakes.{inputs_of, outputs_of, IsMistakeAt, PairsAreNamed, WrongOutputsAreMistakes, WrongVectorsAreMistakes}
-use Rattle.bb_design.specs.Allowed.{IsAllowed}
+use Rattle.bb_design.specs.Inside.Allowed.{IsAllowed}
 use Rattle.bb_design.specs.Hierarchy.{Design}
 use Rattle.bb_design.specs.Worlds.{Vector}
 use Rattle.bb_match.specs.Pairing.{input_text, output_name}
@@ -20,7 +20,7 @@ use Rattle.bb_rungs.specs.declared.line.Line.{Line}
 use Rattle.bb_rungs.specs.declared.line.Said.{Said}
 use Rattle.bb_rungs.specs.declared.line.Said.TheVariants.{Error, Nothing, Repair, Nodes, Clauses, Wide}
 use Rattle.bb_rungs.specs.Reports.{input_line, output_line, told_output}
-use Rattle.bb_rungs.specs.ShownVectors.{FoundVectorsAreMistakes, IsWrongAt, SaidIsMistake}
+use Rattle.bb_rungs.specs.Laws.ShownVectors.{FoundVectorsAreMistakes, IsWrongAt, SaidIsMistake}
 use Rattle.bb_ladder.specs.declared.asked.Asked.{Asked}
 use Rattle.bb_ladder.specs.ShownMistakes.{shown_text, SaidShows, ShowsMistake, AreShown, ErrorsAreShown}
 use Rattle.bb_ladder.specs.TextAnswers.{Judges, Refused, Judged}

@@ -1,13 +1,13 @@
 -- Two texts have an answer: a first fault of one of them, a refusal of their designs, or the report of a pair that stands for them.
 use Rattle.std.proofs.Common.{ℕ, List, refl, inl, inr}
-use Rattle.bb_agree.specs.DesignRefusals.{FitOrRefused, FittingDesignsHavePairs}
+use Rattle.bb_agree.specs.Laws.DesignRefusals.{FitOrRefused, FittingDesignsHavePairs}
 use Rattle.bb_rungs.specs.Reports.{report_text, status_of, verdict_of}
-use Rattle.bb_rungs.specs.SomeClimbs.{ClimbsExist}
+use Rattle.bb_rungs.specs.Laws.SomeClimbs.{ClimbsExist}
 use Rattle.bb_texts.specs.declared.refusal.Refusal.{Refusal}
 use Rattle.bb_texts.specs.declared.refusal.Refusal.TheVariants.{Spec, Imp, Pair}
 use Rattle.bb_texts.specs.RefusalLines.{refusal_line}
 use Rattle.bb_texts.specs.TextDesigns.{DesignOrFault}
-use Rattle.bb_ladder.specs.SomeAnswers.{TextsAreJudged}
+use Rattle.bb_ladder.specs.Laws.SomeAnswers.{TextsAreJudged}
 use Rattle.bb_ladder.specs.TextAnswers.{Judges, Refused, Judged}
 use Rattle.bb_ladder.specs.TextPairs.{IsRefusal, StandsForTexts, AreDesignsOf, DesignsAreAllowed}
 

@@ -1,7 +1,7 @@
 -- Two texts have one status, since what is finished is not refuted and what one answer leaves open every other does, and one report.
 use Rattle.std.proofs.Common.{◌≡◌, ℕ, List, sym, ◌∙◌, subst}
 use Rattle.bb_agree.specs.DesignAgreement.{NoContentsAgree}
-use Rattle.bb_rungs.specs.AlikePairs.{AlikeReportsAreOne}
+use Rattle.bb_rungs.specs.Laws.AlikePairs.{AlikeReportsAreOne}
 use Rattle.bb_rungs.specs.declared.verdict.Verdict.{Verdict}
 use Rattle.bb_rungs.specs.declared.verdict.Verdict.TheVariants as verdicts
 use Rattle.bb_rungs.specs.Reports.{status_of, verdict_of}

@@ -6,7 +6,7 @@ use Rattle.bb_words.specs.Asked.{AskNothing, MadePair, asked, made_asked, reques
 use Rattle.bb_words.specs.Laws.{WordsAskOnce}
 use Rattle.bb_words.specs.declared.asked.Asked.{Asked as WordsAsked}
 use Rattle.bb_ladder.specs.Answers.{OfFiles, MayAnswer, Asked, Refuting, question, question_of}
-use Rattle.bb_ladder.specs.Tasks.{AskTask, IsBounded, judged_by}
+use Rattle.bb_ladder.specs.Inside.Tasks.{AskTask, IsBounded, judged_by}
 use Rattle.bb_ladder.specs.declared.words.Task.{Task}
 use Rattle.bb_ladder.specs.declared.words.Task.TheVariants.{Comparison, Refutation}
 use Rattle.bb_ladder.proofs.HeadlineLemmas.{never_files_and_made}

@@ -6,18 +6,18 @@ use Rattle.std.proofs.lemmas.List.Elements.{All-weaker}
 use Rattle.std.proofs.lemmas.Result.{IfErr-weaker}
 use Rattle.bb_net.specs.Flats.{FlatNet}
 use Rattle.bb_design.specs.Hierarchy.{Design}
-use Rattle.bb_design.specs.Allowed.{SoundTextsAreAllowed}
+use Rattle.bb_design.specs.Inside.Allowed.{SoundTextsAreAllowed}
 use Rattle.bb_cells.specs.Stands.{StandsFor}
 use Rattle.bb_match.specs.declared.fault.MatchFault.{MatchFault}
 use Rattle.bb_match.specs.declared.fault.MatchFault.TheVariants as pair
-use Rattle.bb_agree.specs.AlikePairs.{PairsForDesignsAreAlike}
+use Rattle.bb_agree.specs.Laws.AlikePairs.{PairsForDesignsAreAlike}
 use Rattle.bb_agree.specs.DesignAgreement.{AreSpelled, FittingTablesAreOfBoxes, IsPairFor, IsTableOf, NoTablesNoContents, PairsHaveBoxOrders, SpelledContentsAgree, TablesSpellContents}
 use Rattle.bb_agree.specs.DesignFit.{IsRefusalFor}
-use Rattle.bb_agree.specs.DesignRefusals.{DesignRefusalsAreOne, NetsAreTakenAsDesigns, NotFitAndRefused, PairsStandExactlyForFitting}
+use Rattle.bb_agree.specs.Laws.DesignRefusals.{DesignRefusalsAreOne, NetsAreTakenAsDesigns, NotFitAndRefused, PairsStandExactlyForFitting}
 use Rattle.bb_match.specs.Refusals.{IsFirstRefusal}
 use Rattle.bb_net.specs.Pairs.{NetPair, IsPair}
 use Rattle.bb_parse.specs.Laws.{SourcesAreFormed}
-use Rattle.bb_rungs.specs.AlikePairs.{AlikePairsAreLeftOpen, AlikePairsAreDecided}
+use Rattle.bb_rungs.specs.Laws.AlikePairs.{AlikePairsAreLeftOpen, AlikePairsAreDecided}
 use Rattle.bb_rungs.specs.declared.line.Line.{Line}
 use Rattle.bb_rungs.specs.declared.verdict.Verdict.{Verdict}
 use Rattle.bb_rungs.specs.declared.verdict.Verdict.TheVariants as verdicts
@@ -36,7 +36,7 @@ use Rattle.bb_texts.specs.RefusalLines.{refusal_line}
 use Rattle.bb_ladder.specs.TextAnswers.{Judges, Refused, Judged, ErrorsRefute, RepairsFinish, OpenAnswersLeaveOpen, DecidedAreAnswered, LeftOpenAreAnswered, RefusedAreAnsweredOnce}
 use Rattle.bb_texts.specs.TextDesigns.{IsDesignOf, IsSideFault, TextDesignsAreOne, SideFaultsAreOne, NotDesignAndFault}
 use Rattle.bb_ladder.specs.TextPairs.{AreDesignsOf, IsRefusal, StandsForTexts, DesignsAreAllowed, RefusalsAreOne, NotPairAndRefusal, TextPairsAreAlike}
-use Rattle.bb_texts.specs.TextRefusals.{of_spec, of_imp, of_pair}
+use Rattle.bb_texts.specs.Inside.TextRefusals.{of_spec, of_imp, of_pair}
 
 pub designs_are_allowed : SourcesAreFormed → SoundTextsAreAllowed → DesignsAreAllowed
 designs_are_allowed formed allowed name text d is = allowed d.text name d.top (formed text d.text is.reads) is.faultless (d.top, is.top, is.sound) is.top

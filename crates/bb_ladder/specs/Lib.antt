@@ -5,7 +5,7 @@ pub mod Refutations
 pub mod Sources
 pub mod MadePairs
 pub mod Answers
-pub mod Tasks
 pub mod CallRefusals
 pub mod GivenTexts
-pub mod SomeAnswers
+pub mod Inside
+pub mod Laws

@@ -2,7 +2,7 @@
 use Rattle.std.specs.Prelude.{◌≡◌, ◌⊎◌, ℕ, List}
 use Rattle.std.specs.List.{AllZip}
 use Rattle.bb_net.specs.Pairs.{NetPair}
-use Rattle.bb_rungs.specs.AlikePairs.{AreToldAlike}
+use Rattle.bb_rungs.specs.Laws.AlikePairs.{AreToldAlike}
 use Rattle.bb_rungs.specs.declared.line.Line.{Line}
 use Rattle.bb_rungs.specs.Reports.{report_text, status_of, verdict_of}
 use Rattle.bb_rungs.specs.Rungs.{IsClimb}

@@ -3,13 +3,13 @@
 -- specification comes before what is wrong with the implementation, and that before what is wrong with the two as a pair.
 use Rattle.std.specs.Prelude.{◌≡◌, ℕ, List, map, Option}
 use Rattle.std.specs.List.{AllZip}
-use Rattle.bb_alike.specs.Alike.{ArePairsAlike}
+use Rattle.bb_alike.specs.Laws.Alike.{ArePairsAlike}
 use Rattle.bb_bits.specs.Contents.{Contents}
 use Rattle.bb_bits.specs.Tables.{TableBits}
 use Rattle.bb_cells.specs.BoxOrders.{IsBoxOrder}
 use Rattle.bb_cells.specs.Stands.{box_texts}
 use Rattle.bb_design.specs.Hierarchy.{Design, Scope}
-use Rattle.bb_design.specs.Allowed.{IsAllowed}
+use Rattle.bb_design.specs.Inside.Allowed.{IsAllowed}
 use Rattle.bb_design.specs.Worlds.{FitDesign}
 use Rattle.bb_agree.specs.DesignAgreement.{AreSpelled, ContentsAgree, IsPairFor, IsTableOf, NoContentsAgree}
 use Rattle.bb_agree.specs.DesignFit.{DesignsFit, IsRefusalFor}

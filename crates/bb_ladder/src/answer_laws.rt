@@ -1,6 +1,6 @@
 //! That two texts have an answer. The function has a law as its contract and does nothing.
 
-ghost use Rattle.bb_ladder.specs.SomeAnswers.{TextsAreJudged};
+ghost use Rattle.bb_ladder.specs.Laws.SomeAnswers.{TextsAreJudged};
 
 use crate::text_laws::designs_are_allowed;
 use bb_agree::laws::{fit_or_refused, fitting_designs_have_pairs};

@@ -14,7 +14,7 @@ ghost use Rattle.bb_ladder.specs.MadePairs.{head_of};
 ghost use Rattle.bb_ladder.specs.Refutations.{AreRead, FailsAt, IsRefutation, SaysWhether, no_line};
 ghost use Rattle.bb_ladder.specs.ShownMistakes.{AreShown};
 ghost use Rattle.bb_ladder.specs.Sources.{MayHaveFailed, Source};
-ghost use Rattle.bb_ladder.specs.Tasks.{IsBounded, judged_by};
+ghost use Rattle.bb_ladder.specs.Inside.Tasks.{IsBounded, judged_by};
 ghost use Rattle.bb_ladder.specs.TextPairs.{AreDecided, AreFinished, AreLeftOpen, AreRefuted};
 
 use crate::answer::{Answer, say};

@@ -3,7 +3,7 @@
 ghost use Rattle.std.specs.Prelude.{◌≡◌, ◌⊎◌, map, option_copied, string_bytes, IfErr, IfOk, None};
 ghost use Rattle.bb_words.specs.Asked.{made_asked, request_of, rup_asked};
 ghost use Rattle.bb_ladder.specs.Answers.{question, question_of};
-ghost use Rattle.bb_ladder.specs.Tasks.{AskCall, HasBounds};
+ghost use Rattle.bb_ladder.specs.Inside.Tasks.{AskCall, HasBounds};
 
 use crate::asked::Asked;
 use bb_bits::{Name, NoMemory};

@@ -4,8 +4,8 @@ use Rattle.std.specs.Prelude.{◌&&◌, ◌||◌, ◌==◌, codes}
 use Rattle.bb_lex.specs.Bytes.{is_in_line, Each, BeginsNot, EndsBefore, past}
 use Rattle.bb_lex.specs.Skips.{EndsAtFirst, EndsAtQuote, IsOrdinary, IsPart, ArePartsOf}
 use Rattle.bb_lex.specs.Skips.IsPart.{Quoted, Block, Line, Other}
-use Rattle.bb_lex.specs.Reading.Runs.{run_of}
-use Rattle.bb_lex.specs.Reading.Skips.{behind_pair, behind_quote, behind_slash, behind_part, behind_close, behind_next, behind_parts, behind_attribute}
+use Rattle.bb_lex.specs.Inside.Runs.{run_of}
+use Rattle.bb_lex.specs.Inside.Skips.{behind_pair, behind_quote, behind_slash, behind_part, behind_close, behind_next, behind_parts, behind_attribute}
 use Rattle.bb_lex.proofs.Choices.{cases_of, chosen, match_true, match_false, by_match, cond_true, cond_false, from_not, to_not, or_false, left_false, right_false, and_false, false_and, left_true, right_true}
 use Rattle.bb_lex.proofs.Runs.{run-past, each_of_run, past_stops, past-each, past-none}
 

@@ -9,7 +9,7 @@ use Rattle.bb_lex.specs.Skips.IsSkip.{White, LineComment, BlockComment, Attribut
 use Rattle.bb_lex.specs.Pieces.{written, IsIdentifier, IsDecimalRun, IsToken, Piece, IsPiece}
 use Rattle.bb_lex.specs.Pieces.IsToken.{Identifier, Escaped, SizedNumber, PlainNumber, Symbol}
 use Rattle.bb_lex.specs.Cut.{IsLongest, IsCutUpTo}
-use Rattle.bb_lex.specs.Reading.Pieces.{piece_at}
+use Rattle.bb_lex.specs.Inside.Pieces.{piece_at}
 use Rattle.bb_lex.proofs.Choices.{some_pair}
 use Rattle.bb_lex.proofs.PieceReading.{IsAtFront, piece_sound, piece_complete}
 

@@ -6,7 +6,7 @@ use Rattle.std.proofs.Math.Nat.{mul-le-mul_left, one-le-pow, add-mod, pow-zero, 
 use Rattle.std.proofs.lemmas.Nat.{mul-mod_first}
 use Rattle.std.proofs.lemmas.List.{take_all}
 use Rattle.std.specs.Char.{digit_value, is_digit, is_ascii_digit}
-use Rattle.bb_lex.specs.Reading.Numbers.{joined, joined_low}
+use Rattle.bb_lex.specs.Inside.Numbers.{joined, joined_low}
 use Rattle.bb_lex.specs.Numbers.{spelled, digits_of, number}
 use Rattle.bb_lex.proofs.Choices.{cases_of, cond_true, cond_false}
 

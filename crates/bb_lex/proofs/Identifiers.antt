@@ -7,8 +7,8 @@ use Rattle.std.proofs.lemmas.Slice.Eq.{bytes_eq-Decides}
 use Rattle.bb_lex.specs.Bytes.{is_white, is_in_line, begins_identifier, is_identifier_byte, is_graphic, Each, BeginsNot, EndsBefore, past}
 use Rattle.bb_lex.specs.Skips.{IsDirective}
 use Rattle.bb_lex.specs.Pieces.{IsIdentifier, IsEscaped}
-use Rattle.bb_lex.specs.Reading.Runs.{run_of}
-use Rattle.bb_lex.specs.Reading.Skips.{is_directive, behind_directive, at_white, behind_escaped}
+use Rattle.bb_lex.specs.Inside.Runs.{run_of}
+use Rattle.bb_lex.specs.Inside.Skips.{is_directive, behind_directive, at_white, behind_escaped}
 use Rattle.bb_lex.proofs.Choices.{chosen, cond_true, or_cases, each_from_test}
 use Rattle.bb_lex.proofs.Runs.{run-past, each_of_run, past_stops, past-each, run-each, past-none, run-none}
 

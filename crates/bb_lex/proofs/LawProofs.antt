@@ -5,11 +5,11 @@ use Rattle.std.specs.Global.{Global}
 use Rattle.bb_lex.specs.declared.token.Token.{Token}
 use Rattle.bb_lex.specs.declared.fault.LexFault.{LexFault}
 use Rattle.bb_lex.specs.declared.fault.LexFault.TheVariants.{Bad, NoMemory}
-use Rattle.bb_lex.specs.Answers.{IsFault, IsAnswer}
+use Rattle.bb_lex.specs.Inside.Answers.{IsFault, IsAnswer}
 use Rattle.std.proofs.lemmas.Nat.{mod-pow-add}
 use Rattle.std.proofs.lemmas.List.{length-map}
 use Rattle.bb_lex.specs.Numbers.{spelled, number, radix_of, low_bits, bit_value}
-use Rattle.bb_lex.specs.Reading.Numbers.{sized_bits_of}
+use Rattle.bb_lex.specs.Inside.Numbers.{sized_bits_of}
 use Rattle.bb_lex.specs.Cut.{AreTokens, tokens_behind, line_behind}
 use Rattle.bb_lex.specs.Laws.{CutsAreOne, TokensAreOne, BadPlacesAreOne, BadLinesAreOne, CutOrBad, NotBoth, TokensOrBadLine, NotTokensAndBadLine, TokensStandInText, TokensRise, LowBitsSpell, EndsAtFirstPlace, TokensEndPastTheirPlaces, TokensAreFew, NamesArePrintable, SizedTokensSayBits, SizedBitsAreOne, SizedBitsFit, PlainValuesFit, ReadBitsAreSaid, ReadPiecesAreLongest, LongestPiecesAreRead, NoneIsReadWhereNoneBegins}
 use Rattle.bb_lex.specs.Skips.{EndsAtFirst}

@@ -6,7 +6,7 @@ use Rattle.bb_lex.specs.declared.token.Kind.TheVariants.{Mark as MarkKind}
 use Rattle.bb_lex.specs.declared.mark.Mark.{Mark}
 use Rattle.bb_lex.specs.declared.mark.Mark.TheVariants.{LeftRound, RightRound, LeftSquare, RightSquare, LeftBrace, RightBrace, Comma, Semicolon, Colon, Dot, Equals, At, Amp, Bar, Caret, Tilde, Query, LessEqual, TildeCaret, CaretTilde}
 use Rattle.bb_lex.specs.Pieces.{written}
-use Rattle.bb_lex.specs.Reading.Marks.{short_mark, long_mark, mark_before, longer_mark, mark_at}
+use Rattle.bb_lex.specs.Inside.Marks.{short_mark, long_mark, mark_before, longer_mark, mark_at}
 use Rattle.bb_lex.proofs.Choices.{chosen, left_true, right_true, some_pair}
 
 -- the mark that a byte writes by itself

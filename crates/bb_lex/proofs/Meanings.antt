@@ -8,8 +8,8 @@ use Rattle.std.proofs.Math.Pow.{mod-mod-pow}
 use Rattle.std.specs.Char.{is_digit, digit_value}
 use Rattle.std.proofs.lemmas.Bool.Decides.{nat_tests}
 use Rattle.bb_lex.specs.declared.token.Kind.{Kind}
-use Rattle.bb_lex.specs.Reading.Runs.{is_no_apostrophe, run_of}
-use Rattle.bb_lex.specs.Reading.Numbers.{size_of, value_of, based_value, sized_bits_of}
+use Rattle.bb_lex.specs.Inside.Runs.{is_no_apostrophe, run_of}
+use Rattle.bb_lex.specs.Inside.Numbers.{size_of, value_of, based_value, sized_bits_of}
 use Rattle.bb_lex.specs.Meaning.{SaysBits}
 use Rattle.bb_lex.specs.declared.token.Kind.TheVariants.{Sized, Plain}
 use Rattle.bb_lex.specs.declared.keyword.Keyword.{Keyword}

@@ -8,9 +8,9 @@ use Rattle.bb_lex.specs.Bytes.{is_white, is_decimal_byte, Each, BeginsNot, past}
 use Rattle.bb_lex.specs.Numbers.{number, radix_of}
 use Rattle.bb_lex.specs.Bytes.{is_apostrophe}
 use Rattle.bb_lex.specs.Pieces.{IsDecimalRun, IsSized, IsPlain}
-use Rattle.bb_lex.specs.Reading.Runs.{run_of}
-use Rattle.bb_lex.specs.Reading.Found.{token_of}
-use Rattle.bb_lex.specs.Reading.Numbers.{size_fits, behind_base, plain_behind, sized_behind, number_behind, number_at}
+use Rattle.bb_lex.specs.Inside.Runs.{run_of}
+use Rattle.bb_lex.specs.Inside.Found.{token_of}
+use Rattle.bb_lex.specs.Inside.Numbers.{size_fits, behind_base, plain_behind, sized_behind, number_behind, number_at}
 use Rattle.bb_lex.proofs.Choices.{chosen, cond_true, cond_false, left_true, right_true, both_true, some_pair}
 use Rattle.bb_lex.proofs.Runs.{run-past, each_of_run, past_stops, past-each, run-each, past-none, run-none}
 use Rattle.bb_lex.proofs.Numerals.{below_from_test, test_from_below, at_most_from_test, test_from_at_most, white_not_decimal, decimal_run, each_of_decimal, base_from_run, IsBased, base_sound, base_complete}

@@ -6,8 +6,8 @@ use Rattle.std.proofs.lemmas.Bool.Decides.{nat_tests}
 use Rattle.bb_lex.specs.Bytes.{is_white, is_word_byte, is_decimal_byte, Each, BeginsNot, past}
 use Rattle.bb_lex.specs.Numbers.{number, radix_of}
 use Rattle.bb_lex.specs.Pieces.{IsDecimalRun, IsDigitRun}
-use Rattle.bb_lex.specs.Reading.Runs.{run_of}
-use Rattle.bb_lex.specs.Reading.Numbers.{is_digit_run, value_fits, behind_digits, behind_base}
+use Rattle.bb_lex.specs.Inside.Runs.{run_of}
+use Rattle.bb_lex.specs.Inside.Numbers.{is_digit_run, value_fits, behind_digits, behind_base}
 use Rattle.bb_lex.proofs.Choices.{cases_of, chosen, cond_true, cond_false, left_true, right_true, both_true, each_from_test, test_from_each}
 use Rattle.bb_lex.proofs.Runs.{run-past, each_of_run, past_stops, past-each, run-each, past-none, run-none}
 

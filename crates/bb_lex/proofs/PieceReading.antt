@@ -14,12 +14,12 @@ use Rattle.bb_lex.specs.Skips.{IsDirective, IsSkip}
 use Rattle.bb_lex.specs.Skips.IsSkip.{White, LineComment, BlockComment, Attribute, Directive}
 use Rattle.bb_lex.specs.Pieces.{written, IsIdentifier, IsDecimalRun, kind_of_word, IsSized, IsEscaped, IsToken, Piece, IsPiece}
 use Rattle.bb_lex.specs.Pieces.IsToken.{Identifier, Escaped, SizedNumber, PlainNumber, Symbol}
-use Rattle.bb_lex.specs.Reading.Runs.{run_of}
-use Rattle.bb_lex.specs.Reading.Found.{skipped, token_of}
-use Rattle.bb_lex.specs.Reading.Numbers.{number_at}
-use Rattle.bb_lex.specs.Reading.Skips.{behind_pair, behind_comment, behind_attribute, behind_directive, behind_escaped}
-use Rattle.bb_lex.specs.Reading.Marks.{round_at, longer_mark}
-use Rattle.bb_lex.specs.Reading.Pieces.{opening_of, opened_by, piece_at}
+use Rattle.bb_lex.specs.Inside.Runs.{run_of}
+use Rattle.bb_lex.specs.Inside.Found.{skipped, token_of}
+use Rattle.bb_lex.specs.Inside.Numbers.{number_at}
+use Rattle.bb_lex.specs.Inside.Skips.{behind_pair, behind_comment, behind_attribute, behind_directive, behind_escaped}
+use Rattle.bb_lex.specs.Inside.Marks.{round_at, longer_mark}
+use Rattle.bb_lex.specs.Inside.Pieces.{opening_of, opened_by, piece_at}
 use Rattle.bb_lex.proofs.Choices.{cases_of, chosen, cond_true, cond_false, some_pair}
 use Rattle.bb_lex.proofs.Runs.{run-past, each_of_run, past-each, run-each}
 use Rattle.bb_lex.proofs.Comments.{pair_sound, pair_complete, attribute_sound, attribute_complete}

@@ -2,7 +2,7 @@
 use Rattle.std.proofs.Common.{◌≡◌, ℕ, ◌-◌, ◌≤◌, Bool, List, [], ◌∷◌, ◌++◌, length, take, drop, refl, ap, ◌∙◌, arith, ⊎_elim, length-append}
 use Rattle.std.proofs.lemmas.List.{take_at, drop_at}
 use Rattle.bb_lex.specs.Bytes.{Each, BeginsNot, past}
-use Rattle.bb_lex.specs.Reading.Runs.{run_of}
+use Rattle.bb_lex.specs.Inside.Runs.{run_of}
 use Rattle.bb_lex.proofs.Choices.{cases_of, cond_true, cond_false}
 
 -- the run and what is left are the whole

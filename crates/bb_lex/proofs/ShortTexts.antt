@@ -1,6 +1,6 @@
 -- Texts too short for a pair of bytes.
 use Rattle.std.proofs.Common.{◌≡◌, ℕ, ◌<◌, None, List, [], ◌∷◌, length, refl, arith}
-use Rattle.bb_lex.specs.Reading.Skips.{behind_pair, behind_close}
+use Rattle.bb_lex.specs.Inside.Skips.{behind_pair, behind_close}
 
 pub behind_pair-short : (x y : ℕ) (t : List ℕ) → length t < 2 → behind_pair x y t ≡ None
 behind_pair-short x y [] short = refl

@@ -10,7 +10,7 @@ use Rattle.bb_lex.specs.declared.token.Kind.{Kind}
 use Rattle.bb_lex.specs.declared.token.Token.{Token}
 use Rattle.bb_lex.specs.Pieces.{IsToken, Piece, IsPiece}
 use Rattle.bb_lex.specs.Cut.{IsLongest, IsCutUpTo, IsCut, AreTokens, IsBadBehind, IsBadOn, token_at, with_token, tokens_behind, line_behind, IsTokenOf, StandsBefore}
-use Rattle.bb_lex.specs.Reading.Pieces.{piece_at, tokens_at}
+use Rattle.bb_lex.specs.Inside.Pieces.{piece_at, tokens_at}
 use Rattle.bb_lex.proofs.Runs.{take-front}
 use Rattle.bb_lex.proofs.PieceReading.{IsAtFront, piece_sound}
 use Rattle.bb_lex.proofs.CutReading.{length-piece, longest_from_read, none_begins, none_read, cuts_agree, cut_to_stop}

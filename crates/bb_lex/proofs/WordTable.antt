@@ -3,7 +3,7 @@ use Rattle.std.proofs.Common.{◌≡◌, ℕ, ◌<◌, ◌≤◌, Bool, true, fa
 use Rattle.std.specs.Prelude.{◌&&◌, ◌==◌, not, bytes_eq}
 use Rattle.bb_lex.specs.declared.keyword.Keyword.{Keyword}
 use Rattle.bb_lex.specs.Words.{entry_of, reserved, keyword_of, words_a, words_b, words_c, words_d, words_e, words_f, words_g, words_h, words_i, words_j, words_l, words_m, words_n, words_o, words_p, words_r, words_s, words_t, words_u, words_v, words_w, words_x}
-use Rattle.bb_lex.specs.Reading.Words.{words_by}
+use Rattle.bb_lex.specs.Inside.Words.{words_by}
 use Rattle.bb_lex.proofs.Choices.{cases_of, cond_true, cond_false, left_true, right_true, false_and}
 use Rattle.std.proofs.lemmas.Bool.Decides.{nat_tests}
 

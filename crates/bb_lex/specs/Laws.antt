@@ -9,8 +9,8 @@ use Rattle.bb_lex.specs.Pieces.{Piece, IsPiece}
 use Rattle.bb_lex.specs.Skips.{EndsAtFirst}
 use Rattle.bb_lex.specs.Cut.{IsLongest, IsCut, AreTokens, IsBadBehind, IsBadOn, IsTokenOf, StandsBefore}
 use Rattle.bb_lex.specs.Meaning.{name_of, IsNameOrWord, SaysBits, plain_value_of}
-use Rattle.bb_lex.specs.Reading.Numbers.{sized_bits_of}
-use Rattle.bb_lex.specs.Reading.Pieces.{piece_at}
+use Rattle.bb_lex.specs.Inside.Numbers.{sized_bits_of}
+use Rattle.bb_lex.specs.Inside.Pieces.{piece_at}
 use Rattle.bb_lex.specs.Numbers.{spelled, low_bits, bit_value}
 
 -- a text is cut in one way, and so has one list of tokens

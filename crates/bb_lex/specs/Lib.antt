@@ -1,10 +1,9 @@
-pub mod Answers
 pub mod Bytes
 pub mod Cut
 pub mod Laws
 pub mod Meaning
 pub mod Numbers
 pub mod Pieces
-pub mod Reading
 pub mod Skips
 pub mod Words
+pub mod Inside

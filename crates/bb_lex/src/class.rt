@@ -1,7 +1,7 @@
 ghost use Rattle.std.specs.Prelude.{◌≡◌};
 ghost use Rattle.bb_lex.specs.Bytes.{past};
-ghost use Rattle.bb_lex.specs.Reading.Runs.{is_of, run_of};
-ghost use Rattle.bb_lex.specs.Reading.Pieces.{opening_of};
+ghost use Rattle.bb_lex.specs.Inside.Runs.{is_of, run_of};
+ghost use Rattle.bb_lex.specs.Inside.Pieces.{opening_of};
 
 /// A class of bytes.
 #[derive(Clone, Copy)]

@@ -2,8 +2,8 @@ ghost use Rattle.std.specs.Prelude.{◌≡◌, ◌⊎◌, ◌<◌, ◌≤◌, �
 ghost use Rattle.bb_lex.specs.declared.token.Token.{Token};
 ghost use Rattle.bb_lex.specs.declared.fault.LexFault.{LexFault};
 ghost use Rattle.bb_lex.specs.Cut.{AreTokens};
-ghost use Rattle.bb_lex.specs.Answers.{IsFault, IsAnswer};
-ghost use Rattle.bb_lex.specs.Reading.Pieces.{tokens_at};
+ghost use Rattle.bb_lex.specs.Inside.Answers.{IsFault, IsAnswer};
+ghost use Rattle.bb_lex.specs.Inside.Pieces.{tokens_at};
 
 use crate::fault::LexFault;
 use crate::piece::piece_at;

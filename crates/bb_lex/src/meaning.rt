@@ -1,6 +1,6 @@
 ghost use Rattle.std.specs.Prelude.{◌≡◌, ◌<◌, ◌≤◌, ◌%◌, ◌^◌, IfOk};
 ghost use Rattle.bb_lex.specs.declared.token.Kind.{Kind};
-ghost use Rattle.bb_lex.specs.Reading.Numbers.{size_of, value_of};
+ghost use Rattle.bb_lex.specs.Inside.Numbers.{size_of, value_of};
 ghost use Rattle.bb_lex.specs.Cut.{bytes_of, IsTokenOf};
 ghost use Rattle.bb_lex.specs.Meaning.{name_of, SaysBits, plain_value_of, IsNameOrWord};
 ghost use Rattle.bb_lex.specs.Numbers.{low_bits};

@@ -2,8 +2,8 @@ ghost use Rattle.std.specs.Prelude.{◌≡◌, ◌<◌, ◌%◌, ◌^◌, ◌||�
 ghost use Rattle.std.specs.List.{list_all};
 ghost use Rattle.std.specs.Char.{digit_value, is_digit};
 ghost use Rattle.bb_lex.specs.Numbers.{number, radix_of};
-ghost use Rattle.bb_lex.specs.Reading.Found.{seen};
-ghost use Rattle.bb_lex.specs.Reading.Numbers.{is_digit_run, value_fits, size_fits, behind_digits, behind_base, number_at, joined, joined_low, plain_behind, sized_behind, based_value};
+ghost use Rattle.bb_lex.specs.Inside.Found.{seen};
+ghost use Rattle.bb_lex.specs.Inside.Numbers.{is_digit_run, value_fits, size_fits, behind_digits, behind_base, number_at, joined, joined_low, plain_behind, sized_behind, based_value};
 
 use crate::class::{Class, past, run};
 use crate::piece::Found;

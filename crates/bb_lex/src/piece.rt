@@ -1,10 +1,10 @@
 ghost use Rattle.std.specs.Prelude.{◌≡◌, option_copied};
 ghost use Rattle.bb_lex.specs.Pieces.{kind_of_word};
-ghost use Rattle.bb_lex.specs.Reading.Found.{skipped, token_of, seen};
-ghost use Rattle.bb_lex.specs.Reading.Words.{identifier_at};
-ghost use Rattle.bb_lex.specs.Reading.Skips.{at_white, behind_escaped};
-ghost use Rattle.bb_lex.specs.Reading.Marks.{round_at};
-ghost use Rattle.bb_lex.specs.Reading.Pieces.{opened_by, piece_at};
+ghost use Rattle.bb_lex.specs.Inside.Found.{skipped, token_of, seen};
+ghost use Rattle.bb_lex.specs.Inside.Words.{identifier_at};
+ghost use Rattle.bb_lex.specs.Inside.Skips.{at_white, behind_escaped};
+ghost use Rattle.bb_lex.specs.Inside.Marks.{round_at};
+ghost use Rattle.bb_lex.specs.Inside.Pieces.{opened_by, piece_at};
 
 use crate::class::{Class, Opening, is_of, opening_of, past, run};
 use crate::keyword::Keyword;

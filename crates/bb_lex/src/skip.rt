@@ -1,5 +1,5 @@
 ghost use Rattle.std.specs.Prelude.{◌≡◌, option_copied, codes, ◌||◌, bytes_eq};
-ghost use Rattle.bb_lex.specs.Reading.Skips.{behind_pair, behind_quote, behind_slash, behind_part, behind_close, behind_parts, behind_attribute, behind_comment, is_directive, behind_directive};
+ghost use Rattle.bb_lex.specs.Inside.Skips.{behind_pair, behind_quote, behind_slash, behind_part, behind_close, behind_parts, behind_attribute, behind_comment, is_directive, behind_directive};
 
 use crate::class::{Class, past, run};
 

@@ -1,6 +1,6 @@
 ghost use Rattle.std.specs.Prelude.{◌≡◌};
-ghost use Rattle.bb_lex.specs.Reading.Found.{seen};
-ghost use Rattle.bb_lex.specs.Reading.Marks.{short_mark, long_mark, mark_at};
+ghost use Rattle.bb_lex.specs.Inside.Found.{seen};
+ghost use Rattle.bb_lex.specs.Inside.Marks.{short_mark, long_mark, mark_at};
 
 use crate::mark::Mark;
 use crate::piece::Found;

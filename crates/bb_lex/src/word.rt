@@ -1,6 +1,6 @@
 ghost use Rattle.std.specs.Prelude.{◌≡◌, map};
 ghost use Rattle.bb_lex.specs.Words.{entry_of, keyword_of};
-ghost use Rattle.bb_lex.specs.Reading.Words.{entries, words_by};
+ghost use Rattle.bb_lex.specs.Inside.Words.{entries, words_by};
 
 use crate::keyword::Keyword;
 
@@ -182,7 +182,7 @@ static WORDS_W: [Entry; 7] = [
 static WORDS_X: [Entry; 2] = [(b"xnor", Keyword::Xnor), (b"xor", Keyword::Xor)];
 
 /// The reserved words that begin with a letter, in alphabetical order.
-#[tactic(auto, unfolding(crate::specs::Reading::Words::words_by))]
+#[tactic(auto, unfolding(crate::specs::Inside::Words::words_by))]
 fn words_by(first: u8) -> &'static [Entry]
     ensures { entries result.now ≡ words_by first }
 {

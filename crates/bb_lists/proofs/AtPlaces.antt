@@ -5,7 +5,7 @@ use Rattle.std.specs.List.{AllZip, flat_map}
 use Rattle.std.proofs.lemmas.List.{map-append}
 use Rattle.std.proofs.lemmas.List.Elements.{All-cons, All-nil}
 use Rattle.bb_lists.proofs.Places.{got, in_front, head_same}
-use Rattle.bb_bits.specs.Places.{AreAt, numbers_from}
+use Rattle.bb_bits.specs.Inside.Places.{AreAt, numbers_from}
 
 -- two lists, place by place
 

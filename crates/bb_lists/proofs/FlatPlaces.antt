@@ -2,7 +2,7 @@
 use Rattle.std.proofs.Common.{◌≡◌, ◌∙◌, ◌+◌, ◌≤◌, ◌++◌, ◌∷◌, ℕ, suc, List, [], length, take, drop, flat_map, Some, sym, ap, subst, arith, append-nil, length-append}
 use Rattle.std.specs.Prelude.{slice_get}
 use Rattle.std.proofs.lemmas.Grind.{flat_map-append}
-use Rattle.bb_bits.specs.Places.{AreAt, numbers_from}
+use Rattle.bb_bits.specs.Inside.Places.{AreAt, numbers_from}
 use Rattle.bb_lists.proofs.AtPlaces.{at_inside}
 use Rattle.bb_lists.proofs.Places.{split, take_at}
 

@@ -8,7 +8,7 @@ use Rattle.bb_bits.specs.Names.{same_name}
 use Rattle.bb_net.specs.declared.flat.Reg.{Reg}
 use Rattle.bb_net.specs.Flats.{FlatNet}
 use Rattle.bb_net.specs.CutPoints.{register_texts, clock_text}
-use Rattle.bb_match.specs.Places.{ArePlaces, text_place}
+use Rattle.bb_match.specs.Inside.Places.{ArePlaces, text_place}
 use Rattle.bb_match.specs.Refusals.{IsClockedApart, IsClockedAlike}
 use Rattle.bb_lists.proofs.Orders.{less_or_same}
 use Rattle.bb_match.proofs.Decisions.{decide_bool, decide_optional}

@@ -15,7 +15,7 @@ use Rattle.bb_net.specs.declared.flat.Reg.{Reg}
 use Rattle.bb_net.specs.Flats.{FlatNet, IsFlat}
 use Rattle.bb_net.specs.CutPoints.{CutInput, TopInput, State, CutOutput, TopOutput, NextState, register_texts, cut_inputs, cut_outputs}
 use Rattle.bb_match.specs.Refusals.{Box, SpecInput, SpecOutput, ImpInput, SpecRegister, ImpRegister, Fit, Pins as TooManyPins}
-use Rattle.bb_match.specs.Places.{ArePlaces, text_place}
+use Rattle.bb_match.specs.Inside.Places.{ArePlaces, text_place}
 use Rattle.bb_match.specs.Pairing.{Picks, IsPairOf, input_text, output_name}
 use Rattle.bb_match.proofs.PlaceLemmas.{place_fits}
 use Rattle.bb_match.proofs.PickLemmas.{placed, at_front, at_back, picks_both, picks_length, picks_within, one_length}

@@ -6,7 +6,7 @@ use Rattle.std.proofs.lemmas.List.Edits.{length-remove}
 use Rattle.std.proofs.lemmas.List.Elements.{All-head, All-tail}
 use Rattle.std.proofs.lemmas.Grind.{in_remove}
 use Rattle.std.proofs.lemmas.Option.{slice_get_within}
-use Rattle.bb_match.specs.Places.{ArePlaces, text_place}
+use Rattle.bb_match.specs.Inside.Places.{ArePlaces, text_place}
 use Rattle.bb_match.specs.Refusals.{AreAmong}
 use Rattle.bb_match.specs.Pairing.{Picks}
 use Rattle.bb_match.proofs.PlaceLemmas.{place_right}

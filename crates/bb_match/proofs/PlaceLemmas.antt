@@ -6,7 +6,7 @@ use Rattle.std.proofs.lemmas.List.Elements.{All-contains, All-weaker}
 use Rattle.std.proofs.lemmas.Option.{same_Some, slice_get-get_or, slice_get_within, get_or_from_slice_get}
 use Rattle.std.proofs.lemmas.Slice.Eq.{bytes_eq-Decides}
 use Rattle.bb_bits.specs.Names.{same_name}
-use Rattle.bb_match.specs.Places.{ArePlaces, text_place}
+use Rattle.bb_match.specs.Inside.Places.{ArePlaces, text_place}
 use Rattle.bb_match.specs.Refusals.{IsMissing}
 use Rattle.bb_match.proofs.Loops.{all_more}
 use Rattle.bb_match.proofs.RefusalLaws.{none_is_not_some}

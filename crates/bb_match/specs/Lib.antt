@@ -1,4 +1,4 @@
 pub mod Laws
 pub mod Pairing
-pub mod Places
 pub mod Refusals
+pub mod Inside

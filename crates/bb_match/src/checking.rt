@@ -5,7 +5,7 @@ ghost use Rattle.bb_bits.specs.Closures.{IsFirst};
 ghost use Rattle.bb_net.specs.declared.flat.Reg.{Reg};
 ghost use Rattle.bb_match.specs.declared.fault.MatchFault.TheVariants as faults;
 ghost use Rattle.bb_net.specs.CutPoints.{register_texts};
-ghost use Rattle.bb_match.specs.Places.{ArePlaces, IsIndexOf};
+ghost use Rattle.bb_match.specs.Inside.Places.{ArePlaces, IsIndexOf};
 ghost use Rattle.bb_match.specs.Refusals.{AreAmong, AreClockedAlike, Fit, HasNoClock, IsFirstClockedApart, IsFirstMissing, IsFirstRefusal, most_pins};
 
 use crate::clocks::{first_clocked_apart, first_without_clock};

@@ -3,7 +3,7 @@ ghost use Rattle.std.specs.Prelude.{◌≡◌, ◌↔◌, All, IsTrue, IsSome, I
 ghost use Rattle.bb_net.specs.declared.flat.Reg.{Reg};
 ghost use Rattle.bb_bits.specs.Closures.{IsFirst};
 ghost use Rattle.bb_net.specs.CutPoints.{register_texts, clock_text};
-ghost use Rattle.bb_match.specs.Places.{ArePlaces};
+ghost use Rattle.bb_match.specs.Inside.Places.{ArePlaces};
 ghost use Rattle.bb_match.specs.Refusals.{HasNoClock, IsClockedApart, IsClockedAlike, AreClockedAlike};
 
 use crate::places::{Places, text_place};

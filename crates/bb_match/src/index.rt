@@ -1,6 +1,6 @@
 //! A flat netlist's texts, indexed by their places.
 ghost use Rattle.std.specs.Prelude.{◌≡◌, map, IfOk};
-ghost use Rattle.bb_match.specs.Places.{IsIndexOf};
+ghost use Rattle.bb_match.specs.Inside.Places.{IsIndexOf};
 
 use crate::places::{Places, places_of};
 use bb_bits::{Name, NoMemory};

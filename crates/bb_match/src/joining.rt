@@ -3,7 +3,7 @@ ghost use Rattle.std.specs.Prelude.{◌≡◌, ◌≤◌, ◌++◌, length, map,
 ghost use Rattle.bb_net.specs.Flats.{IsFlat};
 ghost use Rattle.bb_net.specs.CutPoints.{TopOutput, NextState, register_texts, cut_inputs, cut_outputs};
 ghost use Rattle.bb_match.specs.Pairing.{IsPairOf, Picks, output_name};
-ghost use Rattle.bb_match.specs.Places.{IsIndexOf};
+ghost use Rattle.bb_match.specs.Inside.Places.{IsIndexOf};
 ghost use Rattle.bb_match.specs.Refusals.{Fit};
 
 use crate::index::Index;

@@ -6,7 +6,7 @@ ghost use Rattle.bb_net.specs.Flats.{IsFlat};
 ghost use Rattle.bb_match.specs.declared.fault.MatchFault.{MatchFault};
 ghost use Rattle.bb_match.specs.declared.fault.MatchFault.TheVariants.{NoMemory};
 ghost use Rattle.bb_match.specs.Pairing.{IsPairOf, Picks};
-ghost use Rattle.bb_match.specs.Places.{IsIndexOf};
+ghost use Rattle.bb_match.specs.Inside.Places.{IsIndexOf};
 ghost use Rattle.bb_match.specs.Refusals.{Fit, IsFirstRefusal};
 
 use crate::checking::check;

@@ -1,6 +1,6 @@
 //! The places of texts in a list.
 ghost use Rattle.std.specs.Prelude.{◌≡◌, ◌<◌, ◌+◌, ◌++◌, ◌^◌, ℕ, List, length, map, IfOk, OnOk, IfSome, IfNone};
-ghost use Rattle.bb_match.specs.Places.{ArePlaces, text_place};
+ghost use Rattle.bb_match.specs.Inside.Places.{ArePlaces, text_place};
 ghost use Rattle.bb_match.specs.Refusals.{IsFirstMissing, AreAmong};
 
 use bb_bits::{Name, NoMemory};

@@ -10,7 +10,7 @@ use Rattle.bb_ast.specs.Syntax.{PlainModule}
 use Rattle.bb_names.specs.declared.fault.NameFault.{NameFault}
 use Rattle.bb_names.specs.declared.fault.NameFault.TheVariants as faults
 use Rattle.bb_names.specs.Faults.{IsFirstFault, faults_of, statement_faults, twice, unknown, wrong_select, wrong_width, wrong_role}
-use Rattle.bb_names.specs.Firsts.{first_of, noted, nothing, first_fault, Answers}
+use Rattle.bb_names.specs.Inside.Firsts.{first_of, noted, nothing, first_fault, Answers}
 use Rattle.bb_names.specs.Spots.{Spot}
 use Rattle.bb_bits.specs.Earlier.{each_from}
 use Rattle.bb_names.proofs.Noting.{first_of-append, each_from-append, each_from-push, seen-more}

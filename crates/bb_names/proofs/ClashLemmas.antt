@@ -7,7 +7,7 @@ use Rattle.bb_names.specs.declared.summary.DeclaredAs.{DeclaredAs}
 use Rattle.bb_names.specs.declared.summary.Summary.{Summary}
 use Rattle.bb_names.specs.Declarations.{Declaration, is_port}
 use Rattle.bb_names.specs.Faults.{clashes, declares_supply, same_range}
-use Rattle.bb_names.specs.Summaries.{named, has_other, leaves_no_room, IsSummary}
+use Rattle.bb_names.specs.Inside.Summaries.{named, has_other, leaves_no_room, IsSummary}
 use Rattle.bb_names.proofs.Searches.{said-any}
 use Rattle.bb_names.proofs.SummaryLemmas.{same_equal}
 

@@ -7,7 +7,7 @@ use Rattle.bb_names.specs.declared.summary.Summary.{Summary}
 use Rattle.bb_names.specs.Declarations.{Declaration}
 use Rattle.std.specs.Map.{lookup}
 use Rattle.bb_bits.specs.Names.{same_name}
-use Rattle.bb_names.specs.Summaries.{IsSummary, Describes}
+use Rattle.bb_names.specs.Inside.Summaries.{IsSummary, Describes}
 use Rattle.bb_names.proofs.Noting.{seen-more, seen-all}
 
 -- one declaration more

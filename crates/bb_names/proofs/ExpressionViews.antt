@@ -3,17 +3,17 @@ use Rattle.std.proofs.Common.{◌≡◌, ℕ, ◌*◌, Bool, ◌&&◌, List, [],
 use Rattle.std.specs.Prelude.{max, sum}
 use Rattle.std.specs.List.{flat_map, list_all}
 use Rattle.bb_ast.specs.Assignable.{assigning, is_assignable}
-use Rattle.bb_names.specs.Firsts.{inner_spots, spots_of_part}
+use Rattle.bb_names.specs.Inside.Firsts.{inner_spots, spots_of_part}
 use Rattle.bb_names.specs.Spots.{Use, inside, with_inside, part_spots, spots_in}
 use Rattle.bb_names.specs.Widths.{Ranges, greatest, widths, own_width}
 use Rattle.bb_ast.specs.declared.expr.Expr.{Expr, out-Expr}
 use Rattle.bb_ast.specs.declared.expr.Op.{Op}
 use Rattle.bb_ast.specs.declared.expr.Expr.TheOpen.{Expr-F}
 use Rattle.bb_ast.specs.declared.expr.Expr.TheFolds.{fold_out-Expr, map-Expr}
-use Rattle.bb_ast.specs.FoldLaws.{sees_operands, sees_arms, sees_parts}
+use Rattle.bb_ast.specs.Laws.FoldLaws.{sees_operands, sees_arms, sees_parts}
 use Rattle.bb_ast.specs.Names.{naming, names_in}
 use Rattle.bb_ast.specs.Syntax.{Expression, Chain, Cond, Concat, Repeat, operands, arms, listed_parts}
-use Rattle.bb_ast.specs.Views.{layer, expression}
+use Rattle.bb_ast.specs.Inside.Views.{layer, expression}
 
 pub view-of : (e : Expr) (o : Expr-F Expr) → out-Expr e ≡ o → expression e ≡ layer (map-Expr Expr Expression expression o)
 view-of e o is = fold_out-Expr Expression layer e ∙ ap (λ z. layer (map-Expr Expr Expression expression z)) is

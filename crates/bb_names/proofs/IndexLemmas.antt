@@ -9,7 +9,7 @@ use Rattle.std.specs.Prelude.{option_to_list, option_map, nat_lt, MatchOption, I
 use Rattle.std.specs.Option.{option_map_or}
 use Rattle.bb_ast.specs.declared.module.Dir.{Dir}
 use Rattle.bb_ast.specs.declared.module.Module.{Module}
-use Rattle.bb_ast.specs.Views.{module_view}
+use Rattle.bb_ast.specs.Inside.Views.{module_view}
 use Rattle.bb_names.specs.Faults.{is_input}
 use Rattle.bb_names.specs.Spots.{module_named}
 use Rattle.std.specs.List.{find, list_any, position_from, take-map}
@@ -18,7 +18,7 @@ use Rattle.bb_bits.specs.Names.{same_name}
 use Rattle.bb_ast.specs.Syntax.{PlainModule, PlainHead}
 use Rattle.bb_names.specs.Declarations.{is_port, port_direction, direction_of}
 use Rattle.std.specs.Map.{lookup}
-use Rattle.bb_names.specs.Indexed.{head_names, ArePlaces}
+use Rattle.bb_names.specs.Inside.Indexed.{head_names, ArePlaces}
 use Rattle.bb_names.proofs.Searches.{option_or-none, found-any, position-push}
 use Rattle.bb_bits.specs.Earlier.{has_name, once}
 use Rattle.bb_names.proofs.Noting.{seen-more, seen-all}

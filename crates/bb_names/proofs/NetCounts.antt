@@ -9,10 +9,10 @@ use Rattle.bb_ast.specs.Names.{names_in, naming}
 use Rattle.bb_ast.specs.Folds.{of_operands, of_arms, of_parts}
 use Rattle.bb_ast.specs.Syntax.{Expression, Net, Bit, Part, Sized, Plain, Not, Chain, Cond, Concat, Repeat, Operands, no_operand, operand, Arms, no_arm, arm, Parts, no_part, part}
 use Rattle.bb_ast.specs.Syntax.{PlainConns, Order, Named, PlainBody, Ports, Nets, Regs, Supply, Assign, Gates, Calls, Always, PlainHead, PlainItem, PlainModule}
-use Rattle.bb_ast.specs.Sizes.{source_size, expression_size, operands_size, arms_size, parts_size, optional_size, pair_size, conns_size, gate_size, call_size, item_size, module_size}
+use Rattle.bb_ast.specs.Inside.Sizes.{source_size, expression_size, operands_size, arms_size, parts_size, optional_size, pair_size, conns_size, gate_size, call_size, item_size, module_size}
 use Rattle.bb_names.specs.declared.net.NetKind.TheVariants.{Wire, Reg}
 use Rattle.bb_names.specs.Declarations.{declared_by, declared_by_head, port_declaration, net_declaration, supply_kind, instance_declaration, names_in_optional, names_in_conns, implicit_places, implicit_names, is_declared}
-use Rattle.bb_names.specs.NetLists.{nets_declared_by}
+use Rattle.bb_names.specs.Inside.NetLists.{nets_declared_by}
 use Rattle.bb_names.specs.Nets.{net_names}
 use Rattle.bb_bits.specs.Earlier.{once}
 use Rattle.bb_names.proofs.NetLemmas.{names_of_nets, declared-names, no_nets, nets-append, nets-flat}

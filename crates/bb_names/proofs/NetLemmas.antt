@@ -12,9 +12,9 @@ use Rattle.bb_bits.specs.Names.{same_name, placed}
 use Rattle.bb_ast.specs.declared.module.Port.{Port}
 use Rattle.bb_ast.specs.Syntax.{PlainHead, PlainItem, PlainModule}
 use Rattle.bb_names.specs.Declarations.{Declaration, declared_by, declared_by_head, implicit_names}
-use Rattle.bb_names.specs.Implicit.{all_added}
-use Rattle.bb_names.specs.Indexed.{head_names}
-use Rattle.bb_names.specs.NetLists.{with_place, all_placed, nets_declared_by}
+use Rattle.bb_names.specs.Inside.Implicit.{all_added}
+use Rattle.bb_names.specs.Inside.Indexed.{head_names}
+use Rattle.bb_names.specs.Inside.NetLists.{with_place, all_placed, nets_declared_by}
 use Rattle.bb_names.specs.Nets.{net_of, net_names}
 use Rattle.bb_bits.specs.Earlier.{has_name, once}
 use Rattle.bb_names.proofs.IndexLemmas.{has-once}

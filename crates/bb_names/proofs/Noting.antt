@@ -7,7 +7,7 @@ use Rattle.std.specs.List.{flat_map, enumerate_from, take-map}
 use Rattle.bb_ast.specs.declared.expr.Expr.{Expr}
 use Rattle.bb_ast.specs.declared.module.Gate.{Gate}
 use Rattle.bb_ast.specs.Gates.{output_count}
-use Rattle.bb_ast.specs.Views.{expression}
+use Rattle.bb_ast.specs.Inside.Views.{expression}
 use Rattle.indexmap.specs.IndexSet.{insert_key}
 use Rattle.bb_bits.specs.Names.{same_name}
 use Rattle.bb_names.proofs.SummaryLemmas.{same_equal}
@@ -18,7 +18,7 @@ use Rattle.std.specs.Prelude.{◌==◌, is_none, codes, nat_lt, option_map, min}
 use Rattle.bb_ast.specs.Syntax.{Expression}
 use Rattle.bb_ast.specs.Names.{names_in}
 use Rattle.bb_names.specs.Faults.{Rows, told_if, width_in, twice, unknown, wrong_select, wrong_width, wrong_role}
-use Rattle.bb_names.specs.Firsts.{AreSame, terminal_spots, first_of, first_told, noted, noted_width, spots_of_part}
+use Rattle.bb_names.specs.Inside.Firsts.{AreSame, terminal_spots, first_of, first_told, noted, noted_width, spots_of_part}
 use Rattle.bb_names.specs.Spots.{gate_spots, Spot, Use, Clock, Whole, Number, Placed, Declared as DeclaredSpot, is_plain, spots_in, declared_spots}
 use Rattle.bb_names.specs.Declarations.{Declaration}
 use Rattle.bb_bits.specs.Earlier.{each_from, has_name}

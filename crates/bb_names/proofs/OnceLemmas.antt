@@ -10,7 +10,7 @@ use Rattle.std.specs.Map.{lookup}
 use Rattle.bb_names.specs.declared.summary.Summary.{Summary}
 use Rattle.indexmap.specs.IndexSet.{insert_key}
 use Rattle.bb_bits.specs.Names.{same_name}
-use Rattle.bb_names.specs.Implicit.{all_added, grown}
+use Rattle.bb_names.specs.Inside.Implicit.{all_added, grown}
 use Rattle.bb_bits.specs.Earlier.{has_name, once}
 use Rattle.bb_names.proofs.Noting.{flat_map-push, seen-more, seen-all}
 use Rattle.bb_names.proofs.SummaryLemmas.{same_equal}

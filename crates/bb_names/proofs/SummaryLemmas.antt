@@ -13,7 +13,7 @@ use Rattle.bb_names.specs.declared.summary.Ranges.TheVariants.{NoRange}
 use Rattle.bb_names.specs.declared.summary.Summary.{Summary}
 use Rattle.bb_names.specs.Declarations.{Declaration}
 use Rattle.bb_names.specs.Faults.{declares_supply}
-use Rattle.bb_names.specs.Summaries.{named, Tells, plain_ranges, IsSummary, Describes}
+use Rattle.bb_names.specs.Inside.Summaries.{named, Tells, plain_ranges, IsSummary, Describes}
 use Rattle.bb_names.proofs.Searches.{find-other, find-this, any-push, any-other, any-this, found-any, first_said-push}
 
 pub same_equal : (a b : List ℕ) → same_name a b ≡ true → a ≡ b

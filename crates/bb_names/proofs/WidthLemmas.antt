@@ -3,7 +3,7 @@ use Rattle.std.proofs.Common.{◌≡◌, ℕ, zero, suc, ◌+◌, ◌*◌, ◌<�
 use Rattle.std.proofs.lemmas.Grind.{common_steps}
 use Rattle.std.proofs.lemmas.List.{map-append}
 use Rattle.std.specs.Prelude.{◌⊎◌, max, min, sum}
-use Rattle.bb_names.specs.Firsts.{saturated}
+use Rattle.bb_names.specs.Inside.Firsts.{saturated}
 use Rattle.bb_names.specs.Widths.{greatest}
 use Rattle.bb_names.proofs.Noting.{seen-more}
 

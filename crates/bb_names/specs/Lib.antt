@@ -1,13 +1,8 @@
-pub mod Checked
 pub mod Declarations
 pub mod Faults
-pub mod Firsts
-pub mod Implicit
-pub mod Indexed
 pub mod Laws
-pub mod NetLists
 pub mod Nets
 pub mod Ranges
 pub mod Spots
-pub mod Summaries
 pub mod Widths
+pub mod Inside

@@ -1,8 +1,8 @@
 //! A source without faults: its modules with their nets.
 
 ghost use Rattle.std.specs.Prelude.{◌≡◌, ◌<◌, ◌^◌, length, map, IfOk};
-ghost use Rattle.bb_ast.specs.Views.{module_view};
-ghost use Rattle.bb_names.specs.Checked.{module_facts, syntax, AreFormedAndSmall, HasNets, IsChecked};
+ghost use Rattle.bb_ast.specs.Inside.Views.{module_view};
+ghost use Rattle.bb_names.specs.Inside.Checked.{module_facts, syntax, AreFormedAndSmall, HasNets, IsChecked};
 ghost use Rattle.bb_names.specs.Faults.{IsSound};
 ghost use Rattle.bb_names.specs.Nets.{net_names};
 
@@ -35,7 +35,7 @@ impl Model for Checked {
     ghost use Rattle.std.specs.Prelude.{List, map};
     ghost use Rattle.std.specs.Coded.{codes};
     ghost use Rattle.bb_ast.specs.contracts.expr.Expr as e;
-    ghost use Rattle.bb_names.specs.Checked.{ModuleFacts, module_facts, IsChecked};
+    ghost use Rattle.bb_names.specs.Inside.Checked.{ModuleFacts, module_facts, IsChecked};
 
     ghost Value = { List ModuleFacts };
 

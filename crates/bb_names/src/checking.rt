@@ -1,12 +1,12 @@
 //! The faults of a source, or its modules with their nets.
 
 ghost use Rattle.std.specs.Prelude.{◌≡◌, ◌⊎◌, IfOk, IfErr, MatchResult, map};
-ghost use Rattle.bb_ast.specs.Views.{module_view, source_view};
+ghost use Rattle.bb_ast.specs.Inside.Views.{module_view, source_view};
 ghost use Rattle.bb_names.specs.declared.fault.NameFault.{NameFault};
 ghost use Rattle.bb_names.specs.declared.fault.NameFault.TheVariants.{NoMemory};
-ghost use Rattle.bb_names.specs.Checked.{AreFormedAndSmall, syntax};
+ghost use Rattle.bb_names.specs.Inside.Checked.{AreFormedAndSmall, syntax};
 ghost use Rattle.bb_names.specs.Faults.{IsSound, IsFirstFault, faults_of};
-ghost use Rattle.bb_names.specs.Firsts.{Answers};
+ghost use Rattle.bb_names.specs.Inside.Firsts.{Answers};
 
 use crate::checked::Checked;
 use crate::fault::NameFault;

@@ -1,10 +1,10 @@
 //! The declarations of a module, by the names that they declare.
 ghost use Rattle.std.specs.Prelude.{◌≡◌, ◌++◌, [], List, map, OnOk};
 ghost use Rattle.std.specs.List.{flat_map};
-ghost use Rattle.bb_ast.specs.Views.{head_view, body_view, named_view, call_view, module_view};
+ghost use Rattle.bb_ast.specs.Inside.Views.{head_view, body_view, named_view, call_view, module_view};
 ghost use Rattle.bb_names.specs.Declarations.{Declaration, declared_by_head, declared_by, declarations, instance_declaration};
 ghost use Rattle.bb_ast.specs.Syntax.{Nets};
-ghost use Rattle.bb_names.specs.Summaries.{named, Describes};
+ghost use Rattle.bb_names.specs.Inside.Summaries.{named, Describes};
 
 use crate::net::NetKind;
 use crate::summary::{Declared, DeclaredAs, declare, supply_kind_of};

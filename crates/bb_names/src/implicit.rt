@@ -2,9 +2,9 @@
 ghost use Rattle.std.specs.Prelude.{◌≡◌, ◌++◌, ◌∷◌, [], map, OnOk, IfOk};
 ghost use Rattle.std.specs.List.{flat_map};
 ghost use Rattle.bb_ast.specs.Names.{names_in};
-ghost use Rattle.bb_ast.specs.Views.{expression, operand_view, arm_view, optional_view, named_view, gate_view, call_view, conns_view, body_view, item_view};
+ghost use Rattle.bb_ast.specs.Inside.Views.{expression, operand_view, arm_view, optional_view, named_view, gate_view, call_view, conns_view, body_view, item_view};
 ghost use Rattle.bb_names.specs.Declarations.{implicit_places, names_in_optional, names_in_conns};
-ghost use Rattle.bb_names.specs.Implicit.{grown};
+ghost use Rattle.bb_names.specs.Inside.Implicit.{grown};
 
 use crate::summary::Declared;
 use bb_ast::{Body, Call, Conns, Expr, GateCall, Item, Op};

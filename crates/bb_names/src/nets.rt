@@ -1,11 +1,11 @@
 //! The nets of a module in net order, and the place of each by its name.
 ghost use Rattle.std.specs.Prelude.{◌≡◌, ◌<◌, ◌-◌, ◌^◌, min, ◌∷◌, [], ◌&&◌, is_none, map, length, IfOk, OnOk};
 ghost use Rattle.std.specs.List.{flat_map, list_all};
-ghost use Rattle.bb_ast.specs.Views.{module_view, body_view, head_view, item_view, named_view, optional_view};
+ghost use Rattle.bb_ast.specs.Inside.Views.{module_view, body_view, head_view, item_view, named_view, optional_view};
 ghost use Rattle.bb_names.specs.Declarations.{is_port};
 ghost use Rattle.bb_names.specs.Nets.{net_names, net_of, nets_of, is_of_empty, is_empty};
 ghost use Rattle.bb_bits.specs.Names.{placed};
-ghost use Rattle.bb_names.specs.NetLists.{all_placed, nets_declared_by};
+ghost use Rattle.bb_names.specs.Inside.NetLists.{all_placed, nets_declared_by};
 
 use crate::indexed::IndexedModule;
 use crate::net::NetInfo;

@@ -1,7 +1,7 @@
 //! The first place of each name in a list of names: where one stands twice, the first counts.
 ghost use Rattle.std.specs.Prelude.{◌≡◌, ◌++◌, ◌∷◌, [], ℕ, List, false, nat_lt, length, OnOk};
 ghost use Rattle.std.specs.Option.{option_map_or};
-ghost use Rattle.bb_names.specs.Indexed.{ArePlaces};
+ghost use Rattle.bb_names.specs.Inside.Indexed.{ArePlaces};
 
 use bb_bits::{Name, NoMemory};
 use indexmap::IndexMap;

@@ -3,8 +3,8 @@ ghost use Rattle.std.specs.Prelude.{◌≡◌, ◌++◌, ◌∷◌, [], List, le
 ghost use Rattle.std.specs.Vec.{vec_len};
 ghost use Rattle.std.specs.List.{position_from};
 ghost use Rattle.bb_bits.specs.Names.{same_name};
-ghost use Rattle.bb_ast.specs.Views.{module_view};
-ghost use Rattle.bb_names.specs.Indexed.{ArePlaces};
+ghost use Rattle.bb_ast.specs.Inside.Views.{module_view};
+ghost use Rattle.bb_names.specs.Inside.Indexed.{ArePlaces};
 ghost use Rattle.bb_names.specs.Spots.{module_named};
 
 use crate::indexed::IndexedModule;
@@ -25,7 +25,7 @@ pub(crate) struct IndexedSource {
 impl Model for IndexedSource {
     ghost use Rattle.std.specs.Prelude.{List, map};
     ghost use Rattle.std.specs.Coded.{codes};
-    ghost use Rattle.bb_names.specs.Indexed.{ArePlaces};
+    ghost use Rattle.bb_names.specs.Inside.Indexed.{ArePlaces};
     ghost use Rattle.bb_ast.specs.contracts.expr.Expr as e;
     ghost use Rattle.bb_ast.specs.declared.module.Module.{Module};
 

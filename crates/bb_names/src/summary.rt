@@ -6,7 +6,7 @@ ghost use Rattle.bb_bits.specs.Names.{same_name};
 ghost use Rattle.bb_ast.specs.Syntax.{PlainModule};
 ghost use Rattle.bb_names.specs.Declarations.{Declaration, port_declaration, net_declaration, instance_declaration, is_port, supply_kind, net_kind};
 ghost use Rattle.bb_names.specs.Faults.{clashes, declares_supply};
-ghost use Rattle.bb_names.specs.Summaries.{named, has_other, leaves_no_room, Tells, IsSummary, Describes};
+ghost use Rattle.bb_names.specs.Inside.Summaries.{named, has_other, leaves_no_room, Tells, IsSummary, Describes};
 
 use crate::net::NetKind;
 use bb_ast::{Dir, Port, PortKind, Range};

@@ -16,7 +16,7 @@ use Rattle.bb_net.specs.Netlists.{Netlist, Pins, box_at, with_cell, with_box}
 use Rattle.bb_net.specs.Values.{bit_of}
 use Rattle.bb_net.specs.Loose.{LooseList, loose_at, operands, IsLoose}
 use Rattle.bb_net.specs.Orders.{IsKept, IsMoved}
-use Rattle.bb_net.specs.Placings.{IsPlaced, given_place, IsBuilt, boxes_of, IsLeastFirst, IsPlacingBy, IsComing}
+use Rattle.bb_net.specs.Inside.Placings.{IsPlaced, given_place, IsBuilt, boxes_of, IsLeastFirst, IsPlacingBy, IsComing}
 use Rattle.bb_net.proofs.PlaceLists.{length-le_from_apart}
 use Rattle.bb_net.proofs.PlacedCells.{placed_or_open, place_of-at}
 use Rattle.bb_net.proofs.Queues.{Contains-cons_cases, IsWaiting-drop}

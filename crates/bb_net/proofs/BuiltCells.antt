@@ -11,7 +11,7 @@ use Rattle.bb_net.specs.declared.loose.LooseCell.TheVariants.{Const, Input, Not,
 use Rattle.bb_net.specs.Netlists.{Netlist, Pins, cell_at, box_at, MayFollow, with_pin, with_cell, with_box}
 use Rattle.bb_net.specs.Loose.{LooseList, loose_at, operands, IsLoose}
 use Rattle.bb_net.specs.Orders.{IsKept, IsMoved}
-use Rattle.bb_net.specs.Placings.{IsAt, IsPlaced, IsOpen, IsOutput, given_place, IsBegun, IsBuilt}
+use Rattle.bb_net.specs.Inside.Placings.{IsAt, IsPlaced, IsOpen, IsOutput, given_place, IsBegun, IsBuilt}
 use Rattle.bb_net.proofs.PlacedCells.{place_of-at, at_old, at_new, at_cases, place_of-old, open_count-set, index_cases}
 
 first_of : (a : ℕ) (xs : List ℕ) → Contains (a ∷ xs) a

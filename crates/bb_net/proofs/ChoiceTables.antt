@@ -11,7 +11,7 @@ use Rattle.std.proofs.lemmas.List.FromFn.{length-map-range_with_len, get_or-map-
 use Rattle.bb_bits.specs.Numbers.{number_of, bits_of}
 use Rattle.bb_bits.specs.Contents.{HasShape, row_at, output_bit}
 use Rattle.bb_bits.specs.Tables.{TableBits, HasAllBits, table_bit, rows_of}
-use Rattle.bb_bits.specs.RowLaws.{RowsHaveShape, BitsAreChosen, RowsHaveTable}
+use Rattle.bb_bits.specs.Laws.RowLaws.{RowsHaveShape, BitsAreChosen, RowsHaveTable}
 use Rattle.bb_net.specs.declared.cell.Cell.{Cell}
 use Rattle.bb_net.specs.declared.cell.Cell.TheVariants.{Const, Input, Not, And, Or, Xor, Mux, BoxOut}
 use Rattle.bb_net.specs.Netlists.{Netlist, Pins, cell_at, box_at, IsNetlist}

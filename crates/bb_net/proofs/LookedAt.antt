@@ -15,7 +15,7 @@ use Rattle.bb_net.specs.declared.placing.Moved.{Moved}
 use Rattle.bb_net.specs.declared.placing.Moved.TheVariants as what
 use Rattle.bb_net.specs.Netlists.{Netlist, Pins, box_at, with_cell, MayFollow}
 use Rattle.bb_net.specs.Loose.{LooseList, loose_at, operands}
-use Rattle.bb_net.specs.Placings.{IsPlaced, IsOpen, IsOutput, IsWaiter, waiters_at, IsWaiting, boxes_of, IsLeastFirst, IsPlacingBy, IsResolved}
+use Rattle.bb_net.specs.Inside.Placings.{IsPlaced, IsOpen, IsOutput, IsWaiter, waiters_at, IsWaiting, boxes_of, IsLeastFirst, IsPlacingBy, IsResolved}
 use Rattle.bb_net.proofs.PlacedCells.{at_open, at_new}
 use Rattle.bb_net.proofs.BuiltCells.{follows}
 use Rattle.bb_net.proofs.Queues.{Contains-cons_cases, IsWaiting-skip, IsWaiting-cell, IsWaiting-box, IsWaiting-ready, IsWaiting-wake}

@@ -16,7 +16,7 @@ use Rattle.bb_net.specs.Netlists.{Netlist, Pins, cell_at, box_at, first_cells, I
 use Rattle.bb_net.specs.Values.{bit_of}
 use Rattle.bb_net.specs.Loose.{LooseList, loose_at, operands, IsLoose, IsOnClosedWalk}
 use Rattle.bb_net.specs.Orders.{IsKept, IsMoved, IsOrderOf}
-use Rattle.bb_net.specs.Placings.{IsAt, IsPlaced, IsOpen, IsWaiter, waiters_at, given_place, open_count, EndsWithin, IsBegun, IsBuilt, IsLeastFirst, IsPlacingBy, AreAll}
+use Rattle.bb_net.specs.Inside.Placings.{IsAt, IsPlaced, IsOpen, IsWaiter, waiters_at, given_place, open_count, EndsWithin, IsBegun, IsBuilt, IsLeastFirst, IsPlacingBy, AreAll}
 use Rattle.bb_net.proofs.NetLemmas.{length-first_cells}
 use Rattle.bb_net.proofs.PlaceLists.{Contains-none, Reaches-push, walk_from_steps, box_number, le-length_from_all, length-le_from_apart}
 use Rattle.bb_net.proofs.PlacedCells.{placed_or_open, at_unique, at_open, at_within, place_of-at}

@@ -11,7 +11,7 @@ use Rattle.bb_net.specs.declared.loose.LooseCell.TheVariants.{Copy, BoxOut}
 use Rattle.bb_net.specs.Netlists.{box_at}
 use Rattle.bb_net.specs.Loose.{LooseList, loose_at, operands, Reaches}
 use Rattle.bb_net.specs.Orders.{IsSource, IsReady}
-use Rattle.bb_net.specs.Placings.{IsAt, IsPlaced, IsOpen, given_place, open_count, EndsWithin, InputsEnd, IsBegun}
+use Rattle.bb_net.specs.Inside.Placings.{IsAt, IsPlaced, IsOpen, given_place, open_count, EndsWithin, InputsEnd, IsBegun}
 
 option_cases : (o : Option ℕ) → ((p : ℕ) × (o ≡ Some p)) ⊎ (o ≡ None)
 option_cases (Some p) = inl (p, refl)

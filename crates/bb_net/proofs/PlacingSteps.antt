@@ -13,7 +13,7 @@ use Rattle.bb_net.specs.Netlists.{Netlist, box_at, with_cell, with_box}
 use Rattle.bb_net.specs.Values.{bit_of}
 use Rattle.bb_net.specs.Loose.{LooseList, loose_at, operands, Reaches}
 use Rattle.bb_net.specs.Orders.{IsKept, IsMoved, IsReady}
-use Rattle.bb_net.specs.Placings.{IsAt, IsPlaced, IsOpen, given_place, EndsWithin, InputsEnd, boxes_of, IsPlacingBy}
+use Rattle.bb_net.specs.Inside.Placings.{IsAt, IsPlaced, IsOpen, given_place, EndsWithin, InputsEnd, boxes_of, IsPlacingBy}
 use Rattle.bb_net.proofs.PlaceLists.{Contains-none, Contains-one, Reaches-push}
 use Rattle.bb_net.proofs.PlacedCells.{placed_or_open, at_open, at_new, placed_old, IsBegun-more, IsBegun-box}
 use Rattle.bb_net.proofs.BuiltCells.{IsBuilt-more, IsBuilt-copy, IsBuilt-box}

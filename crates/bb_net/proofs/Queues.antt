@@ -8,7 +8,7 @@ use Rattle.bb_net.specs.declared.placing.Waiter.{Waiter}
 use Rattle.bb_net.specs.declared.placing.Waiter.TheVariants as waiter
 use Rattle.bb_net.specs.Netlists.{box_at}
 use Rattle.bb_net.specs.Loose.{LooseList, loose_at, operands}
-use Rattle.bb_net.specs.Placings.{IsPlaced, IsOpen, IsOutput, waiters_at, IsWaiter, IsAwaited, CellWaits, BoxWaits, IsWaiting}
+use Rattle.bb_net.specs.Inside.Placings.{IsPlaced, IsOpen, IsOutput, waiters_at, IsWaiter, IsAwaited, CellWaits, BoxWaits, IsWaiting}
 use Rattle.bb_net.proofs.PlacedCells.{placed_old, open_old}
 
 pub Contains-cons_cases : {X : Type 0} (x : X) (xs : List X) (y : X) → Contains (x ∷ xs) y → (x ≡ y) ⊎ Contains xs y

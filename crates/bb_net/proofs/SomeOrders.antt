@@ -11,7 +11,7 @@ use Rattle.bb_net.specs.declared.loose.LooseCell.TheVariants.{Const, Input, Not,
 use Rattle.bb_net.specs.Netlists.{Netlist, box_at, first_cells, IsNetlist}
 use Rattle.bb_net.specs.Loose.{LooseList, loose_at, operands, IsLoose, Reaches, IsOnClosedWalk}
 use Rattle.bb_net.specs.Orders.{IsReady, IsOrderOf, OrderExists}
-use Rattle.bb_net.specs.Placings.{IsAt, IsPlaced, IsOpen, IsOutput, given_place, open_count, EndsWithin, InputsEnd}
+use Rattle.bb_net.specs.Inside.Placings.{IsAt, IsPlaced, IsOpen, IsOutput, given_place, open_count, EndsWithin, InputsEnd}
 use Rattle.bb_net.proofs.Finite.{below_or_one}
 use Rattle.bb_net.proofs.NetLemmas.{IsNetlist-first}
 use Rattle.bb_net.proofs.PlaceLists.{Contains-none, Reaches-push, walk_from_steps, box_number, length-le_from_apart}

@@ -10,7 +10,7 @@ use Rattle.bb_net.specs.declared.loose.LooseCell.TheVariants.{Const, Input, Not,
 use Rattle.bb_net.specs.Netlists.{Netlist, Pins, box_at, IsNetlist, MayFollow, with_cell, with_box}
 use Rattle.bb_net.specs.Loose.{LooseList, loose_at, operands, IsLoose}
 use Rattle.bb_net.specs.Orders.{IsKept, IsMoved, IsReady}
-use Rattle.bb_net.specs.Placings.{IsAt, IsPlaced, IsOpen, IsOutput, given_place, open_count, InputsEnd, IsBegun, IsBuilt, IsComing}
+use Rattle.bb_net.specs.Inside.Placings.{IsAt, IsPlaced, IsOpen, IsOutput, given_place, open_count, InputsEnd, IsBegun, IsBuilt, IsComing}
 use Rattle.bb_net.proofs.PlaceLists.{Contains-none, length-le_from_apart}
 use Rattle.bb_net.proofs.PlacedCells.{placed_or_open, open_count-set, IsBegun-more, IsBegun-box}
 use Rattle.bb_net.proofs.BuiltCells.{IsBuilt-more, IsBuilt-copy, IsBuilt-box, follows, room_for}

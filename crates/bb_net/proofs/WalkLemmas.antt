@@ -9,7 +9,7 @@ use Rattle.std.proofs.lemmas.List.Sums.{sum_by-set}
 use Rattle.bb_net.specs.Netlists.{Pins, box_at}
 use Rattle.bb_net.specs.Values.{bit_of}
 use Rattle.bb_net.specs.Loose.{LooseList, loose_at, operands, IsLoose, Reaches, DependsOn, IsOnClosedWalk}
-use Rattle.bb_net.specs.Walks.{IsMarked, IsSearched, AreDone, CellsRise}
+use Rattle.bb_net.specs.Inside.Walks.{IsMarked, IsSearched, AreDone, CellsRise}
 use Rattle.bb_net.proofs.PlaceLists.{Contains-one, Contains-none, Reaches-push}
 
 itself : (p k : ℕ) → p ≡ k → Contains (p ∷ []) k

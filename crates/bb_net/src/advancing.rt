@@ -1,7 +1,7 @@
 //! Cells and boxes are looked at once more when a cell for which they waited has got its place.
 
 ghost use Rattle.std.specs.Prelude.{◌≡◌, ◌+◌, ◌<◌, ◌≤◌, ◌∷◌, [], ℕ, List, All, Contains, length, slice_index, slice_index_or, drop, OnOk};
-ghost use Rattle.bb_net.specs.Placings.{IsPlaced, IsOpen, IsPlacing, IsLookedAt, work};
+ghost use Rattle.bb_net.specs.Inside.Placings.{IsPlaced, IsOpen, IsPlacing, IsLookedAt, work};
 ghost use Rattle.bb_net.specs.declared.placing.Waiter.{Waiter};
 ghost use Rattle.bb_net.specs.declared.placing.Waiter.TheVariants as waiter;
 

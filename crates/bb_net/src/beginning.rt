@@ -3,7 +3,7 @@
 ghost use Rattle.std.specs.Prelude.{◌≡◌, ◌+◌, ◌<◌, ◌≤◌, ◌^◌, ◌++◌, [], ℕ, List, replicate, length, map, IfOk, OnOk};
 ghost use Rattle.std.specs.List.{range_with_len};
 ghost use Rattle.bb_net.specs.Loose.{IsLoose};
-ghost use Rattle.bb_net.specs.Placings.{IsAt, IsOpen, open_count, IsPlacing, AreAll};
+ghost use Rattle.bb_net.specs.Inside.Placings.{IsAt, IsOpen, open_count, IsPlacing, AreAll};
 ghost use Rattle.bb_net.specs.declared.placing.Waiter.{Waiter};
 ghost use Rattle.bb_net.specs.declared.placing.Waiter.TheVariants as waiter;
 

@@ -4,7 +4,7 @@
 ghost use Rattle.std.specs.Prelude.{◌≡◌, ◌<◌, ◌≤◌, ◌^◌, ◌⊎◌, ℕ, Bool, List, length, All};
 ghost use Rattle.bb_net.specs.Values.{flat};
 ghost use Rattle.bb_bits.specs.Numbers.{number_of, bits_of};
-ghost use Rattle.bb_bits.specs.RowLaws.{RowsHaveShape, BitsAreChosen, RowsHaveTable};
+ghost use Rattle.bb_bits.specs.Laws.RowLaws.{RowsHaveShape, BitsAreChosen, RowsHaveTable};
 ghost use Rattle.bb_net.specs.Netlists.{Netlist, IsNetlist};
 ghost use Rattle.bb_net.specs.Agreement.{IsVector, AreBoxOutputs, IsRight, AllRight};
 ghost use Rattle.bb_net.specs.Conditions.{IsKnownWrong, MayBeRight, IsAlwaysWrong, HasAlwaysWrong, PinBits, Suit, KnownWrongAmong, MayBeRightAmong, IsFirstHit, KnownWrongSomewhere, MayBeRightEverywhere, OneAlwaysWrong, EachSometimesRight, SomeAlwaysWrong, AllSometimesRight, SomeChoicesSuit, NoChoicesSuit, SomeTablesAgree, NoTablesAgree};

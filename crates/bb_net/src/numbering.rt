@@ -4,7 +4,7 @@ ghost use Rattle.std.specs.Prelude.{◌≡◌, ◌+◌, ◌<◌, ◌≤◌, ◌�
 ghost use Rattle.std.specs.BinaryHeap.{heap_items};
 ghost use Rattle.bb_net.specs.Values.{bit_of};
 ghost use Rattle.bb_net.specs.Netlists.{box_at};
-ghost use Rattle.bb_net.specs.Placings.{IsOpen, given_place, boxes_of, IsLeastFirst, IsPlacing, IsComing};
+ghost use Rattle.bb_net.specs.Inside.Placings.{IsOpen, given_place, boxes_of, IsLeastFirst, IsPlacing, IsComing};
 
 use crate::advancing::settle;
 use crate::placing::{Placing, put};

@@ -4,8 +4,8 @@ ghost use Rattle.std.specs.Prelude.{◌≡◌, ◌<◌, ◌++◌, [], ℕ, All, 
 ghost use Rattle.std.specs.BinaryHeap.{heap_items};
 ghost use Rattle.bb_net.specs.Loose.{IsLoose};
 ghost use Rattle.bb_net.specs.Orders.{IsOrderOf, OrderKeepsValues, OrderHasNoWalk, OrderExists};
-ghost use Rattle.bb_net.specs.NetFaults.{IsFaultOf};
-ghost use Rattle.bb_net.specs.Placings.{IsAt, IsOpen, IsPlaced, IsPlacing, given_place};
+ghost use Rattle.bb_net.specs.Inside.NetFaults.{IsFaultOf};
+ghost use Rattle.bb_net.specs.Inside.Placings.{IsAt, IsOpen, IsPlaced, IsPlacing, given_place};
 
 use crate::advancing::look_at_all;
 use crate::beginning::{begin, everyone};

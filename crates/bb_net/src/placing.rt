@@ -3,7 +3,7 @@
 ghost use Rattle.std.specs.Prelude.{◌≡◌, ◌+◌, ◌<◌, ◌^◌, ◌⊎◌, ◌++◌, ◌∷◌, [], ℕ, List, Option, Some, All, Contains, length, set, vec_len, IfOk, IfErr, OnOk};
 ghost use Rattle.bb_net.specs.Netlists.{MayFollow, with_cell};
 ghost use Rattle.bb_net.specs.Loose.{operands};
-ghost use Rattle.bb_net.specs.Placings.{IsAt, IsOpen, IsResolved, waiters_at};
+ghost use Rattle.bb_net.specs.Inside.Placings.{IsAt, IsOpen, IsResolved, waiters_at};
 
 use crate::{Cell, LooseCell, Net};
 use bb_bits::NoMemory;

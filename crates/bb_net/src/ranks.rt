@@ -3,7 +3,7 @@
 ghost use Rattle.std.specs.Prelude.{◌≡◌, ◌+◌, ◌<◌, ◌≤◌, ℕ, [], true, All, Contains, length, slice_index};
 ghost use Rattle.bb_net.specs.Netlists.{box_at};
 ghost use Rattle.bb_net.specs.Loose.{IsLoose, loose_at, operands};
-ghost use Rattle.bb_net.specs.Walks.{BoxesRise, CellsRise};
+ghost use Rattle.bb_net.specs.Inside.Walks.{BoxesRise, CellsRise};
 
 use crate::components::{Ranks, rank_at};
 use crate::{Loose, LooseCell};

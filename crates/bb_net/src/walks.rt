@@ -6,7 +6,7 @@ ghost use Rattle.std.specs.List.{slice_index_or};
 ghost use Rattle.bb_net.specs.Netlists.{box_at};
 ghost use Rattle.bb_net.specs.Loose.{loose_at, operands, IsLoose, DependsOn, IsOnClosedWalk, IsLeastOnClosedWalk};
 ghost use Rattle.bb_net.specs.Values.{bit_of};
-ghost use Rattle.bb_net.specs.Walks.{IsMarked, IsSearched, AreDone, BoxesRise, CellsRise};
+ghost use Rattle.bb_net.specs.Inside.Walks.{IsMarked, IsSearched, AreDone, BoxesRise, CellsRise};
 
 use crate::components::{Ranks, components, rank_at};
 use crate::ranks::{above_operands, boxes_rise, cells_rise};

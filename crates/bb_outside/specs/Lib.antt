@@ -1,5 +1,2 @@
 pub mod Counts
-pub mod KeptFiles
-pub mod MemFiles
-pub mod MemSink
-pub mod Streams
+pub mod Inside

@@ -1,7 +1,7 @@
 //! Files that keep what was read.
 ghost use Rattle.std.specs.Prelude.{◌≡◌, ◌≤◌, ◌++◌, ◌∷◌, [], ℕ, List, take, IfOk, IfSome, IsErrOf, OnOk, OnErr, option_map, vec_len};
 ghost use Rattle.bb_outside.specs.Counts.{IsRead, Rose, outcome_of};
-ghost use Rattle.bb_outside.specs.KeptFiles.{entries, reads_of};
+ghost use Rattle.bb_outside.specs.Inside.KeptFiles.{entries, reads_of};
 
 use crate::{FileFault, Files};
 use std::alloc::{AllocError, Global};
@@ -26,7 +26,7 @@ pub struct KeptFiles<F: Files + Drop> {
 }
 
 impl<F: Files + Drop> Model for KeptFiles<F> {
-    ghost use Rattle.bb_outside.specs.KeptFiles.{Kept, entries};
+    ghost use Rattle.bb_outside.specs.Inside.KeptFiles.{Kept, entries};
 
     ghost Value = { Kept F };
 

@@ -1,6 +1,6 @@
 //! What a reader expects of the definitions that the clauses cite.
 ghost use Rattle.bb_outside.specs.Counts.{RoseIsGrowth};
-ghost use Rattle.bb_outside.specs.MemFiles.{FirstOfTheNameCounts};
+ghost use Rattle.bb_outside.specs.Inside.MemFiles.{FirstOfTheNameCounts};
 
 /// A count rose exactly where it grew, or stands at the last value that it can have.
 pub fn rose_is_growth()

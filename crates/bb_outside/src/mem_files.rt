@@ -1,7 +1,7 @@
 //! Files in memory, which fail by a list.
 ghost use Rattle.std.specs.Prelude.{◌≡◌, ◌≤◌, ◌↔◌, ℕ, List, Option, Some, take, map, length, Contains, IfOk, IfSome, IsErrOf, vec_len, string_bytes};
 ghost use Rattle.bb_outside.specs.Counts.{IsRead, Rose, outcome_of};
-ghost use Rattle.bb_outside.specs.MemFiles.{text_under, is_failing, after_read, entries, reads_of};
+ghost use Rattle.bb_outside.specs.Inside.MemFiles.{text_under, is_failing, after_read, entries, reads_of};
 
 use crate::{FileFault, Files};
 use std::alloc::Global;
@@ -18,7 +18,7 @@ pub struct MemFiles {
 }
 
 impl Model for MemFiles {
-    ghost use Rattle.bb_outside.specs.MemFiles.{HeldFiles, entries};
+    ghost use Rattle.bb_outside.specs.Inside.MemFiles.{HeldFiles, entries};
 
     ghost Value = { HeldFiles };
 

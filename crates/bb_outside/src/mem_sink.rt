@@ -2,7 +2,7 @@
 ghost use Rattle.std.specs.Prelude.{◌≡◌, ◌<◌, ◌≤◌, take, ◌+◌, ◌↔◌, [], ◌++◌, Some, max, length, drop, IfOk, OnOk, OnErr, IsOk, IsErr, vec_len, vec_capacity};
 ghost use Rattle.std.specs.Io.KnownBytes.{WriteAppends};
 ghost use Rattle.bb_outside.specs.Counts.{Rose};
-ghost use Rattle.bb_outside.specs.MemSink.{wanted, Refuses, after_put, after_refusal};
+ghost use Rattle.bb_outside.specs.Inside.MemSink.{wanted, Refuses, after_put, after_refusal};
 
 use crate::{Failed, NoMemory, Sink};
 use std::alloc::Global;
@@ -29,7 +29,7 @@ pub struct MemSink {
 
 impl Model for MemSink {
     ghost use Rattle.std.specs.Prelude.{◌≤◌, ◌+◌, drop, vec_len, vec_capacity};
-    ghost use Rattle.bb_outside.specs.MemSink.{PlannedSink};
+    ghost use Rattle.bb_outside.specs.Inside.MemSink.{PlannedSink};
 
     ghost Value = { PlannedSink };
 
@@ -39,7 +39,7 @@ impl Model for MemSink {
 }
 
 impl MemSink {
-    ghost use Rattle.bb_outside.specs.MemSink.{PlannedSink};
+    ghost use Rattle.bb_outside.specs.Inside.MemSink.{PlannedSink};
 
     /// An empty sink with no room.
     pub fn new(alloc: Global, plan: Vec<Take>) -> MemSink

@@ -15,7 +15,7 @@ pub struct StdOut<W: Write + Drop> {
 }
 
 impl<W: Write + Drop> Model for StdOut<W> {
-    ghost use Rattle.bb_outside.specs.Streams.{StreamState};
+    ghost use Rattle.bb_outside.specs.Inside.Streams.{StreamState};
 
     ghost Value = { StreamState };
 

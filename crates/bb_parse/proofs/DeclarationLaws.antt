@@ -13,9 +13,9 @@ use Rattle.bb_lex.specs.declared.token.Kind.TheVariants as kinds
 use Rattle.bb_parse.specs.Symbols.{Symbol, Identifier, Reserved, SizedNumber, PlainNumber, Sign}
 use Rattle.bb_parse.specs.Lists.{IsName, IsOptional, IsList}
 use Rattle.bb_parse.specs.Declarations.{IsRange, direction_word, port_kind_word, IsPortKind, IsPort, IsPlainHead, IsNextPort, IsMoreDeclared, AreDeclared, AreHeads, absent, empty, named, declared, IsHeader}
-use Rattle.bb_parse.specs.Reading.Symbols.{is_next, behind, next_kind}
-use Rattle.bb_parse.specs.Reading.Steps.{read_mark, read_name, read_plain, read_list}
-use Rattle.bb_parse.specs.Reading.Declarations.{taken, optional_taken, direction_of, port_kind_of, read_range, read_optional_range, read_port, read_head, read_next_port, read_ansi, read_ansi_more, read_ansi_heads, read_heads, read_header, header_at}
+use Rattle.bb_parse.specs.Inside.Symbols.{is_next, behind, next_kind}
+use Rattle.bb_parse.specs.Inside.Steps.{read_mark, read_name, read_plain, read_list}
+use Rattle.bb_parse.specs.Inside.Declarations.{taken, optional_taken, direction_of, port_kind_of, read_range, read_optional_range, read_port, read_head, read_next_port, read_ansi, read_ansi_more, read_ansi_heads, read_heads, read_header, header_at}
 use Rattle.bb_parse.proofs.Marks.{next_is, rank_next, no_comma}
 use Rattle.bb_parse.proofs.Parts.{and_then, and_so, either_way, behind_front, mark_sound, name_sound, plain_sound}
 use Rattle.bb_parse.proofs.ListLaws.{Sound, Complete, list_sound, list_complete}

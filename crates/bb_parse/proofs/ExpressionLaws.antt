@@ -9,9 +9,9 @@ use Rattle.bb_parse.specs.declared.level.Level.TheVariants as levels
 use Rattle.bb_parse.specs.Symbols.{Symbol, Identifier, Reserved, SizedNumber, PlainNumber, Sign}
 use Rattle.bb_parse.specs.Lists.{Rule, IsList}
 use Rattle.bb_parse.specs.Expressions.{IsSelect, IsPrimary, select, sized, plain, round, concat, repeat, IsSigns, IsUnary, IsOperands, IsChain, IsAndx, IsXorx, IsOrx, IsArms, conditional, IsExpr, IsLval}
-use Rattle.bb_parse.specs.Reading.Symbols.{is_next, behind}
-use Rattle.bb_parse.specs.Reading.Steps.{Read, read_mark, read_name, read_plain, read_list}
-use Rattle.bb_parse.specs.Reading.Expressions.{read_index, read_select, begins_repeat, read_braces, read_round, bracket_at, read_primary, read_signs, read_unary, next_operator, operands_at, read_operands, read_chain, read_operand, read_level, with_arms, read_arm, read_arms, read_conditional, read_expr, read_lvals, read_lval}
+use Rattle.bb_parse.specs.Inside.Symbols.{is_next, behind}
+use Rattle.bb_parse.specs.Inside.Steps.{Read, read_mark, read_name, read_plain, read_list}
+use Rattle.bb_parse.specs.Inside.Expressions.{read_index, read_select, begins_repeat, read_braces, read_round, bracket_at, read_primary, read_signs, read_unary, next_operator, operands_at, read_operands, read_chain, read_operand, read_level, with_arms, read_arm, read_arms, read_conditional, read_expr, read_lvals, read_lval}
 use Rattle.bb_parse.proofs.Marks.{next_is, no_square, operator_is}
 use Rattle.bb_parse.proofs.Parts.{and_then, and_so, either_way, behind_front, mark_sound, name_sound, plain_sound}
 use Rattle.bb_parse.proofs.ListLaws.{Sound, Complete, list_sound}

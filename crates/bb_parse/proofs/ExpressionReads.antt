@@ -9,9 +9,9 @@ use Rattle.bb_parse.specs.declared.level.Level.TheVariants as levels
 use Rattle.bb_parse.specs.Symbols.{Symbol, Identifier, Reserved, SizedNumber, PlainNumber, Sign}
 use Rattle.bb_parse.specs.Lists.{Rule, IsMore, IsList}
 use Rattle.bb_parse.specs.Expressions.{IsSelect, IsPrimary, select, sized, plain, round, concat, repeat, IsSigns, IsUnary, IsOperands, IsChain, IsAndx, IsXorx, IsOrx, IsArms, conditional, IsExpr, IsLval}
-use Rattle.bb_parse.specs.Reading.Symbols.{is_next, behind, next_kind}
-use Rattle.bb_parse.specs.Reading.Steps.{Read}
-use Rattle.bb_parse.specs.Reading.Expressions.{begins_repeat, read_braces, read_round, read_primary, read_signs, read_unary, read_operands, read_chain, read_operand, read_level, read_arm, read_arms, read_conditional, read_expr, read_lvals, read_lval}
+use Rattle.bb_parse.specs.Inside.Symbols.{is_next, behind, next_kind}
+use Rattle.bb_parse.specs.Inside.Steps.{Read}
+use Rattle.bb_parse.specs.Inside.Expressions.{begins_repeat, read_braces, read_round, read_primary, read_signs, read_unary, read_operands, read_chain, read_operand, read_level, read_arm, read_arms, read_conditional, read_expr, read_lvals, read_lval}
 use Rattle.bb_parse.proofs.Marks.{rank_next, level_rank, no_query, no_operator, operator_rank}
 use Rattle.bb_parse.proofs.ListLaws.{Complete, more_stops, list_complete}
 use Rattle.bb_parse.proofs.ExpressionLaws.{select_complete}

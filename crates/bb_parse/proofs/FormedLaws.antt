@@ -6,7 +6,7 @@ use Rattle.bb_ast.specs.declared.expr.Op.{Op}
 use Rattle.bb_ast.specs.declared.module.Port.{Port}
 use Rattle.bb_ast.specs.declared.module.PortKind.{PortKind}
 use Rattle.bb_ast.specs.Syntax.{Expression, Net, Bit, Part, Concat, Repeat, operands, arms, listed_parts, Order, Named, PlainBody, Ports, Nets, Regs, Supply, Assign, Gates, Calls, Always, PlainItem, PlainHead, PlainModule}
-use Rattle.bb_ast.specs.Formed.{IsSmall, IsFormedExpression, AreFormedOperands, AreFormedArms, AreFormedParts, SomeEach, IsFormedRange, IsFormedPort, IsFormedPair, IsFormedAssignment, IsFormedGate, IsFormedConns, IsFormedCall, IsFormedBody, IsFormedHead, IsFormed, IsNetOrBit}
+use Rattle.bb_ast.specs.Inside.Formed.{IsSmall, IsFormedExpression, AreFormedOperands, AreFormedArms, AreFormedParts, SomeEach, IsFormedRange, IsFormedPort, IsFormedPair, IsFormedAssignment, IsFormedGate, IsFormedConns, IsFormedCall, IsFormedBody, IsFormedHead, IsFormed, IsNetOrBit}
 use Rattle.bb_ast.specs.Assignable.{is_assignable}
 use Rattle.bb_bits.specs.Names.{IsPrintable}
 use Rattle.bb_lex.specs.declared.mark.Mark.TheVariants.{Comma, Query, Colon, RightRound, Equals, LessEqual, Semicolon}

@@ -12,11 +12,11 @@ use Rattle.bb_parse.specs.Lists.{IsName, IsOptional, IsMore, IsList}
 use Rattle.bb_parse.specs.Expressions.{IsExpr, IsLval}
 use Rattle.bb_parse.specs.Declarations.{IsRange, IsPort}
 use Rattle.bb_parse.specs.Items.{IsNet, IsAssignment, supply_word, gate_word, AreTerminals, IsGate, IsPlace, IsNamed, AreConns, IsCall, edge_word, IsClock, IsItem}
-use Rattle.bb_parse.specs.Reading.Symbols.{is_next, behind, next_kind}
-use Rattle.bb_parse.specs.Reading.Steps.{◌>>=◌, with_front, read_mark, read_name, read_plain, read_more, read_list}
-use Rattle.bb_parse.specs.Reading.Expressions.{read_expr, read_lval}
-use Rattle.bb_parse.specs.Reading.Declarations.{taken, read_optional_range, read_port, read_ports, read_regs, read_supply}
-use Rattle.bb_parse.specs.Reading.Items.{read_net, read_nets, read_sides, read_assignment, read_assign, read_optional_name, read_terms, read_gate, read_gates, read_place, read_named, read_conns, read_call, read_calls, edge_of, read_clock, read_event, read_clocked, read_always, worded, read_body}
+use Rattle.bb_parse.specs.Inside.Symbols.{is_next, behind, next_kind}
+use Rattle.bb_parse.specs.Inside.Steps.{◌>>=◌, with_front, read_mark, read_name, read_plain, read_more, read_list}
+use Rattle.bb_parse.specs.Inside.Expressions.{read_expr, read_lval}
+use Rattle.bb_parse.specs.Inside.Declarations.{taken, read_optional_range, read_port, read_ports, read_regs, read_supply}
+use Rattle.bb_parse.specs.Inside.Items.{read_net, read_nets, read_sides, read_assignment, read_assign, read_optional_name, read_terms, read_gate, read_gates, read_place, read_named, read_conns, read_call, read_calls, edge_of, read_clock, read_event, read_clocked, read_always, worded, read_body}
 use Rattle.bb_parse.proofs.Marks.{next_is}
 use Rattle.bb_parse.proofs.Parts.{and_then, and_so, either_way, behind_front, mark_sound, name_sound, plain_sound}
 use Rattle.bb_parse.proofs.ListLaws.{Sound, list_sound, more_sound}

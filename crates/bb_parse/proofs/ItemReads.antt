@@ -16,11 +16,11 @@ use Rattle.bb_parse.specs.Lists.{IsName, IsOptional, IsMore, IsList}
 use Rattle.bb_parse.specs.Expressions.{IsExpr}
 use Rattle.bb_parse.specs.Declarations.{IsRange, IsPort, direction_word}
 use Rattle.bb_parse.specs.Items.{IsNet, IsAssignment, supply_word, gate_word, AreTerminals, IsGate, IsPlace, IsNamed, AreConns, IsCall, edge_word, IsClock, IsItem}
-use Rattle.bb_parse.specs.Reading.Symbols.{is_next, behind}
-use Rattle.bb_parse.specs.Reading.Steps.{read_name, read_more, read_list}
-use Rattle.bb_parse.specs.Reading.Expressions.{read_expr}
-use Rattle.bb_parse.specs.Reading.Declarations.{read_optional_range, read_port, read_ports, read_regs, read_supply}
-use Rattle.bb_parse.specs.Reading.Items.{read_net, read_nets, read_sides, read_assignment, read_assign, read_terms, read_gate, read_gates, read_place, read_named, read_conns, read_call, read_calls, edge_of, read_clock, read_event, read_clocked, read_always, worded, read_body}
+use Rattle.bb_parse.specs.Inside.Symbols.{is_next, behind}
+use Rattle.bb_parse.specs.Inside.Steps.{read_name, read_more, read_list}
+use Rattle.bb_parse.specs.Inside.Expressions.{read_expr}
+use Rattle.bb_parse.specs.Inside.Declarations.{read_optional_range, read_port, read_ports, read_regs, read_supply}
+use Rattle.bb_parse.specs.Inside.Items.{read_net, read_nets, read_sides, read_assignment, read_assign, read_terms, read_gate, read_gates, read_place, read_named, read_conns, read_call, read_calls, edge_of, read_clock, read_event, read_clocked, read_always, worded, read_body}
 use Rattle.bb_parse.proofs.Marks.{rank_next, no_equals}
 use Rattle.bb_parse.proofs.ListLaws.{Complete, list_complete}
 use Rattle.bb_parse.proofs.ExpressionReads.{expr_complete, lval_complete, expr_begins}

@@ -3,8 +3,8 @@ use Rattle.std.proofs.Common.{◌≡◌, ℕ, zero, suc, ◌<◌, ◌≤◌, Lis
 use Rattle.bb_lex.specs.declared.mark.Mark.TheVariants.{Comma}
 use Rattle.bb_parse.specs.Symbols.{Symbol}
 use Rattle.bb_parse.specs.Lists.{Rule, IsMore, IsList}
-use Rattle.bb_parse.specs.Reading.Symbols.{is_next, behind}
-use Rattle.bb_parse.specs.Reading.Steps.{Read, read_more, read_list}
+use Rattle.bb_parse.specs.Inside.Symbols.{is_next, behind}
+use Rattle.bb_parse.specs.Inside.Steps.{Read, read_more, read_list}
 use Rattle.bb_parse.proofs.Marks.{next_is, rank_next, no_comma}
 use Rattle.bb_parse.proofs.Parts.{and_then, and_so, either_way, behind_front}
 

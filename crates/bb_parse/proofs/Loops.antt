@@ -8,7 +8,7 @@ use Rattle.bb_ast.specs.declared.expr.Expr.{Expr}
 use Rattle.bb_ast.specs.declared.module.Head.{Head}
 use Rattle.bb_ast.specs.declared.module.Port.{Port}
 use Rattle.bb_ast.specs.Syntax.{Expression, PlainHead}
-use Rattle.bb_ast.specs.Views.{expression, operand_view, arm_view, head_view}
+use Rattle.bb_ast.specs.Inside.Views.{expression, operand_view, arm_view, head_view}
 use Rattle.bb_lex.specs.declared.mark.Mark.TheVariants.{Comma, Tilde, Query}
 use Rattle.bb_parse.specs.declared.level.Level.{Level}
 use Rattle.bb_parse.specs.declared.level.Level.TheVariants as levels
@@ -16,11 +16,11 @@ use Rattle.bb_parse.specs.declared.stop.Stop.{Stop}
 use Rattle.bb_parse.specs.declared.stop.Stop.TheVariants.{Amiss, NoMemory}
 use Rattle.bb_parse.specs.Symbols.{Symbol}
 use Rattle.bb_parse.specs.Expressions.{conditional}
-use Rattle.bb_parse.specs.Reading.Symbols.{is_next, behind}
-use Rattle.bb_parse.specs.Reading.Steps.{Read, ◌>>=◌, Gives, Makes, with_front, read_mark, read_name, read_more, read_list}
-use Rattle.bb_parse.specs.Reading.Declarations.{read_port, declared, read_ansi, read_ansi_more, read_ansi_heads}
-use Rattle.bb_parse.specs.Reading.Expressions.{next_operator, read_operands, read_level, read_arm, read_arms, with_arms, conditional_from, read_conditional, read_signs, plus_signs, read_expr}
-use Rattle.bb_parse.specs.Reading.Items.{read_two_terms, read_terms}
+use Rattle.bb_parse.specs.Inside.Symbols.{is_next, behind}
+use Rattle.bb_parse.specs.Inside.Steps.{Read, ◌>>=◌, Gives, Makes, with_front, read_mark, read_name, read_more, read_list}
+use Rattle.bb_parse.specs.Inside.Declarations.{read_port, declared, read_ansi, read_ansi_more, read_ansi_heads}
+use Rattle.bb_parse.specs.Inside.Expressions.{next_operator, read_operands, read_level, read_arm, read_arms, with_arms, conditional_from, read_conditional, read_signs, plus_signs, read_expr}
+use Rattle.bb_parse.specs.Inside.Items.{read_two_terms, read_terms}
 
 pub with_front-nil : {A : Type 0} (r : Read (List A)) → with_front [] r ≡ r
 with_front-nil None = refl

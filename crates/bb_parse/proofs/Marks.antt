@@ -12,8 +12,8 @@ use Rattle.bb_parse.specs.declared.level.Level.{Level}
 use Rattle.bb_parse.specs.declared.level.Level.TheVariants as levels
 use Rattle.bb_parse.specs.Symbols.{Symbol, Identifier, Reserved, SizedNumber, PlainNumber, Sign}
 use Rattle.bb_parse.specs.Expressions.{level_operator}
-use Rattle.bb_parse.specs.Reading.Symbols.{mark_number, is_next, behind, next_kind}
-use Rattle.bb_parse.specs.Reading.Expressions.{next_operator}
+use Rattle.bb_parse.specs.Inside.Symbols.{mark_number, is_next, behind, next_kind}
+use Rattle.bb_parse.specs.Inside.Expressions.{next_operator}
 
 mark_numbered : ℕ → Mark
 mark_numbered n =

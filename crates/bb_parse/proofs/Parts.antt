@@ -2,8 +2,8 @@
 use Rattle.std.proofs.Common.{◌≡◌, List, [], ◌∷◌, Some, None, Bool, true, false, refl, if◌then◌else◌, IfSome}
 use Rattle.bb_lex.specs.declared.mark.Mark.{Mark}
 use Rattle.bb_parse.specs.Symbols.{Symbol, Identifier, Reserved, SizedNumber, PlainNumber, Sign}
-use Rattle.bb_parse.specs.Reading.Symbols.{is_next}
-use Rattle.bb_parse.specs.Reading.Steps.{Read, ◌>>=◌, with_front, read_mark, read_name, read_sized, read_plain}
+use Rattle.bb_parse.specs.Inside.Symbols.{is_next}
+use Rattle.bb_parse.specs.Inside.Steps.{Read, ◌>>=◌, with_front, read_mark, read_name, read_sized, read_plain}
 use Rattle.bb_parse.proofs.Marks.{next_is}
 
 -- one part, and then the rest

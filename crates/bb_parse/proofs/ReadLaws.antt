@@ -3,7 +3,7 @@ use Rattle.std.proofs.Common.{◌≡◌, ◌⊎◌, inl, inr, ℕ, suc, List, []
 use Rattle.std.specs.List.{AllByRecursion}
 use Rattle.bb_ast.specs.declared.module.Source.{Source}
 use Rattle.bb_ast.specs.Syntax.{PlainModule}
-use Rattle.bb_ast.specs.Views.{source_view}
+use Rattle.bb_ast.specs.Inside.Views.{source_view}
 use Rattle.bb_lex.specs.declared.token.Token.{Token}
 use Rattle.bb_lex.specs.Cut.{AreTokens, IsTokenOf}
 use Rattle.bb_lex.specs.Laws.{TokensStandInText, TokensAreOne, ReadBitsAreSaid}
@@ -11,7 +11,7 @@ use Rattle.bb_parse.specs.declared.fault.ParseFault.{ParseFault}
 use Rattle.bb_parse.specs.declared.fault.ParseFault.TheVariants.{Statement, Unended, Deep, NoMemory}
 use Rattle.bb_parse.specs.Sources.{IsSource, IsFault}
 use Rattle.bb_parse.specs.Laws.{SourcesAreOne, FaultsAreOne, SourceOrFault, NotSourceAndFault, TextsReadOnce, SourcesAreRead, FaultsAreRead}
-use Rattle.bb_parse.specs.Reading.Sources.{Answers, read_source}
+use Rattle.bb_parse.specs.Inside.Sources.{Answers, read_source}
 use Rattle.bb_parse.proofs.SourceLaws.{source_sound, source_complete, fault_complete}
 
 ok_same : {A : Type 0} (x y : A) (r : Result A ParseFault) → r ≡ Ok x → r ≡ Ok y → x ≡ y

@@ -19,7 +19,7 @@ use Rattle.bb_parse.specs.Expressions.{IsSelect, IsPrimary, select, sized, plain
 use Rattle.bb_parse.specs.Declarations.{IsRange, IsPortKind, IsPort, IsPlainHead, IsNextPort, IsMoreDeclared, AreDeclared, AreHeads, absent, empty, named, declared, IsHeader}
 use Rattle.bb_parse.specs.Items.{IsAssigned, IsNet, IsAssignment, AreTerminals, IsGate, IsPlace, IsNamed, AreConns, IsCall, IsClock, IsItem}
 use Rattle.bb_parse.specs.Sources.{AreItems, IsSource}
-use Rattle.bb_ast.specs.Sizes.{expression_size, operands_size, arms_size, parts_size, optional_size, pair_size, conns_size, gate_size, call_size, item_size, module_size, source_size}
+use Rattle.bb_ast.specs.Inside.Sizes.{expression_size, operands_size, arms_size, parts_size, optional_size, pair_size, conns_size, gate_size, call_size, item_size, module_size, source_size}
 use Rattle.bb_parse.specs.Laws.{SourcesAreShort, TextsAreLong}
 use Rattle.bb_parse.proofs.SymbolLaws.{length-symbols}
 

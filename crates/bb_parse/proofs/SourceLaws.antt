@@ -17,11 +17,11 @@ use Rattle.bb_parse.specs.Declarations.{IsHeader}
 use Rattle.bb_parse.specs.Items.{IsItem}
 use Rattle.bb_parse.specs.Nesting.{nesting}
 use Rattle.bb_parse.specs.Sources.{ends, IsStatement, IsFirst, HaveNoEnd, line_of, IsHeaderOf, IsItemOf, IsEnd, AreItems, IsSource, Place, Outside, Inside, IsGood, AreGood, IsWrong, IsFaultFrom, IsFault}
-use Rattle.bb_parse.specs.Reading.Symbols.{symbol_by, symbols, next_kind}
-use Rattle.bb_parse.specs.Reading.Steps.{Read}
-use Rattle.bb_parse.specs.Reading.Declarations.{header_at}
-use Rattle.bb_parse.specs.Reading.Items.{read_body}
-use Rattle.bb_parse.specs.Reading.Sources.{levels, first_statement, whole, or_fault, read_header_of, read_item_of, is_endmodule, with_item, with_modules, at_end, then_read, item_added, read_step, read_first, read_from, read_source}
+use Rattle.bb_parse.specs.Inside.Symbols.{symbol_by, symbols, next_kind}
+use Rattle.bb_parse.specs.Inside.Steps.{Read}
+use Rattle.bb_parse.specs.Inside.Declarations.{header_at}
+use Rattle.bb_parse.specs.Inside.Items.{read_body}
+use Rattle.bb_parse.specs.Inside.Sources.{levels, first_statement, whole, or_fault, read_header_of, read_item_of, is_endmodule, with_item, with_modules, at_end, then_read, item_added, read_step, read_first, read_from, read_source}
 use Rattle.bb_parse.proofs.DeclarationLaws.{header_sound, header_complete}
 use Rattle.bb_parse.proofs.ItemLaws.{item_sound}
 use Rattle.bb_parse.proofs.ItemReads.{item_complete}

@@ -6,7 +6,7 @@ use Rattle.bb_lex.specs.declared.token.Token.{Token}
 use Rattle.bb_parse.specs.declared.fault.ParseFault.{ParseFault}
 use Rattle.bb_lex.specs.Cut.{IsTokenOf}
 use Rattle.bb_parse.specs.Sources.{ends, IsFirst, HaveNoEnd}
-use Rattle.bb_parse.specs.Reading.Sources.{with_token, first_statement, with_modules, at_end, read_step, read_from}
+use Rattle.bb_parse.specs.Inside.Sources.{with_token, first_statement, with_modules, at_end, read_step, read_from}
 use Rattle.bb_parse.proofs.Loops.{next_distance}
 
 pub with_modules-nil : (r : Result (List PlainModule) ParseFault) → with_modules [] r ≡ r

@@ -12,9 +12,9 @@ use Rattle.bb_parse.specs.declared.stop.Stop.TheVariants.{Amiss, NoMemory}
 use Rattle.bb_parse.specs.Symbols.{Symbol, Identifier, Reserved, SizedNumber, PlainNumber, Sign}
 use Rattle.bb_parse.specs.Nesting.{mark_count, mark_square, count_behind, square_behind, greatest_from}
 use Rattle.bb_parse.specs.Sources.{ends}
-use Rattle.bb_parse.specs.Reading.Symbols.{next_kind, behind}
-use Rattle.bb_parse.specs.Reading.Steps.{Read, Gives}
-use Rattle.bb_parse.specs.Reading.Sources.{Answers, with_token, first_statement, whole, or_fault, judged, count_at, square_at}
+use Rattle.bb_parse.specs.Inside.Symbols.{next_kind, behind}
+use Rattle.bb_parse.specs.Inside.Steps.{Read, Gives}
+use Rattle.bb_parse.specs.Inside.Sources.{Answers, with_token, first_statement, whole, or_fault, judged, count_at, square_at}
 
 -- with these tokens in front of a statement
 abbrev pub with_tokens : List Token → Option (List Token × List Token) → Option (List Token × List Token)

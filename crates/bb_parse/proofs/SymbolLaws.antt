@@ -7,7 +7,7 @@ use Rattle.bb_lex.specs.declared.token.Token.{Token}
 use Rattle.bb_lex.specs.Cut.{IsTokenOf}
 use Rattle.bb_lex.specs.Laws.{ReadBitsAreSaid}
 use Rattle.bb_parse.specs.Symbols.{Symbol, Identifier, Reserved, SizedNumber, PlainNumber, Sign, IsSymbol, AreSymbols}
-use Rattle.bb_parse.specs.Reading.Symbols.{symbol_by, symbol, symbols}
+use Rattle.bb_parse.specs.Inside.Symbols.{symbol_by, symbol, symbols}
 
 pub length-symbols : (text : List ℕ) (tokens : List Token) (ts : List Symbol) → AreSymbols text tokens ts → length ts ≡ length tokens
 length-symbols text [] [] p = refl

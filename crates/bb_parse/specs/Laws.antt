@@ -3,13 +3,13 @@
 use Rattle.std.specs.Prelude.{◌≡◌, ◌⊎◌, ◌≤◌, ℕ, List, Ok, Err, length}
 use Rattle.std.specs.List.{AllByRecursion}
 use Rattle.bb_ast.specs.Syntax.{PlainModule}
-use Rattle.bb_ast.specs.Formed.{IsFormed}
+use Rattle.bb_ast.specs.Inside.Formed.{IsFormed}
 use Rattle.bb_lex.specs.declared.token.Token.{Token}
 use Rattle.bb_lex.specs.Cut.{AreTokens}
 use Rattle.bb_parse.specs.declared.fault.ParseFault.{ParseFault}
 use Rattle.bb_parse.specs.Sources.{IsSource, IsFault, ReadsAs}
-use Rattle.bb_parse.specs.Reading.Sources.{read_source}
-use Rattle.bb_ast.specs.Sizes.{source_size}
+use Rattle.bb_parse.specs.Inside.Sources.{read_source}
+use Rattle.bb_ast.specs.Inside.Sizes.{source_size}
 
 abbrev pub SourcesAreOne : Type 0
 SourcesAreOne = (text : List ℕ) (tokens : List Token) (ms ns : List PlainModule) → IsSource text tokens ms → IsSource text tokens ns → ms ≡ ns

@@ -3,7 +3,7 @@ pub mod Lists
 pub mod Expressions
 pub mod Declarations
 pub mod Items
-pub mod Reading
 pub mod Laws
 pub mod Nesting
 pub mod Sources
+pub mod Inside

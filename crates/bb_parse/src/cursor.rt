@@ -2,12 +2,12 @@ ghost use Rattle.std.specs.Prelude.{◌≡◌, ◌<◌, ◌^◌, List, length, t
 ghost use Rattle.std.specs.List.{AllByRecursion};
 ghost use Rattle.bb_lex.specs.declared.token.Kind.{Kind};
 ghost use Rattle.bb_lex.specs.Cut.{IsTokenOf};
-ghost use Rattle.bb_lex.specs.Reading.Numbers.{sized_bits_of};
+ghost use Rattle.bb_lex.specs.Inside.Numbers.{sized_bits_of};
 ghost use Rattle.bb_parse.specs.Symbols.{Symbol};
 ghost use Rattle.bb_parse.specs.Expressions.{level_operator};
-ghost use Rattle.bb_parse.specs.Reading.Symbols.{symbols, is_next, behind, next_kind};
-ghost use Rattle.bb_parse.specs.Reading.Steps.{Gives, read_mark, read_name, read_sized, read_plain};
-ghost use Rattle.bb_parse.specs.Reading.Expressions.{begins_repeat, next_operator};
+ghost use Rattle.bb_parse.specs.Inside.Symbols.{symbols, is_next, behind, next_kind};
+ghost use Rattle.bb_parse.specs.Inside.Steps.{Gives, read_mark, read_name, read_sized, read_plain};
+ghost use Rattle.bb_parse.specs.Inside.Expressions.{begins_repeat, next_operator};
 
 use crate::level::Level;
 use crate::stop::Stop;
@@ -30,7 +30,7 @@ impl<'a> Model for Cursor<'a> {
     ghost use Rattle.std.specs.List.{AllByRecursion};
     ghost use Rattle.bb_lex.specs.Cut.{IsTokenOf};
     ghost use Rattle.bb_parse.specs.Symbols.{Symbol};
-    ghost use Rattle.bb_parse.specs.Reading.Symbols.{symbols};
+    ghost use Rattle.bb_parse.specs.Inside.Symbols.{symbols};
 
     ghost Value = { List Symbol };
 

@@ -1,7 +1,7 @@
 ghost use Rattle.std.specs.Prelude.{◌≡◌, ℕ, List};
-ghost use Rattle.bb_ast.specs.Views.{body_view};
-ghost use Rattle.bb_parse.specs.Reading.Steps.{Gives};
-ghost use Rattle.bb_parse.specs.Reading.Declarations.{direction_of, port_kind_of, read_range, read_optional_range, read_port, read_ports, read_regs, read_supply};
+ghost use Rattle.bb_ast.specs.Inside.Views.{body_view};
+ghost use Rattle.bb_parse.specs.Inside.Steps.{Gives};
+ghost use Rattle.bb_parse.specs.Inside.Declarations.{direction_of, port_kind_of, read_range, read_optional_range, read_port, read_ports, read_regs, read_supply};
 
 use crate::cursor::Cursor;
 use crate::names::names;
@@ -32,7 +32,7 @@ fn port_kind(kind: Option<Kind>) -> Option<PortKind>
     }
 }
 
-#[tactic(auto, unfolding(crate::specs::Reading::Declarations::read_range))]
+#[tactic(auto, unfolding(crate::specs::Inside::Declarations::read_range))]
 fn range(cursor: &mut Cursor<'_>) -> Result<Range, Stop>
     ensures { Gives (λ range. range) result cursor.new (read_range cursor.old) }
 {
@@ -45,7 +45,7 @@ fn range(cursor: &mut Cursor<'_>) -> Result<Range, Stop>
 }
 
 /// A range, or nothing where no `[` comes next.
-#[tactic(auto, unfolding(crate::specs::Reading::Declarations::read_optional_range))]
+#[tactic(auto, unfolding(crate::specs::Inside::Declarations::read_optional_range))]
 pub(crate) fn optional_range(cursor: &mut Cursor<'_>) -> Result<Option<Range>, Stop>
     ensures { Gives (λ range. range) result cursor.new (read_optional_range cursor.old) }
 {
@@ -57,7 +57,7 @@ pub(crate) fn optional_range(cursor: &mut Cursor<'_>) -> Result<Option<Range>, S
 }
 
 /// A port's declaration, without names.
-#[tactic(auto, unfolding(crate::specs::Reading::Declarations::read_port))]
+#[tactic(auto, unfolding(crate::specs::Inside::Declarations::read_port))]
 pub(crate) fn port(cursor: &mut Cursor<'_>) -> Result<Port, Stop>
     ensures { Gives (λ port. port) result cursor.new (read_port cursor.old) }
 {
@@ -74,7 +74,7 @@ pub(crate) fn port(cursor: &mut Cursor<'_>) -> Result<Port, Stop>
 }
 
 /// Ports with their declaration.
-#[tactic(auto, unfolding(crate::specs::Reading::Declarations::read_ports))]
+#[tactic(auto, unfolding(crate::specs::Inside::Declarations::read_ports))]
 pub(crate) fn ports(alloc: Global, cursor: &mut Cursor<'_>) -> Result<Body, Stop>
     ensures { Gives body_view result cursor.new (read_ports cursor.old) }
 {
@@ -85,7 +85,7 @@ pub(crate) fn ports(alloc: Global, cursor: &mut Cursor<'_>) -> Result<Body, Stop
 }
 
 /// Registers, behind `reg`.
-#[tactic(auto, unfolding(crate::specs::Reading::Declarations::read_regs))]
+#[tactic(auto, unfolding(crate::specs::Inside::Declarations::read_regs))]
 pub(crate) fn regs(alloc: Global, cursor: &mut Cursor<'_>) -> Result<Body, Stop>
     ensures { Gives body_view result cursor.new (read_regs cursor.old) }
 {
@@ -96,7 +96,7 @@ pub(crate) fn regs(alloc: Global, cursor: &mut Cursor<'_>) -> Result<Body, Stop>
 }
 
 /// Constant nets, behind `supply0` or `supply1`.
-#[tactic(auto, unfolding(crate::specs::Reading::Declarations::read_supply))]
+#[tactic(auto, unfolding(crate::specs::Inside::Declarations::read_supply))]
 pub(crate) fn supply(alloc: Global, cursor: &mut Cursor<'_>, high: bool) -> Result<Body, Stop>
     ensures { Gives body_view result cursor.new (read_supply high cursor.old) }
 {

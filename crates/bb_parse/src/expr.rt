@@ -1,10 +1,10 @@
 ghost use Rattle.std.specs.Prelude.{◌≡◌, ℕ, List, map, length};
-ghost use Rattle.bb_ast.specs.Views.{expression, operand_view, arm_view};
+ghost use Rattle.bb_ast.specs.Inside.Views.{expression, operand_view, arm_view};
 ghost use Rattle.bb_parse.specs.Expressions.{negated, chained, conditional};
-ghost use Rattle.bb_parse.specs.Reading.Steps.{Gives, Makes, read_list};
-ghost use Rattle.bb_parse.specs.Reading.Expressions.{read_signs, read_select, read_index, read_expr, read_arm, read_conditional};
-ghost use Rattle.bb_parse.specs.Reading.Expressions.{read_level, read_operand, read_operands, read_unary, read_primary};
-ghost use Rattle.bb_parse.specs.Reading.Expressions.{read_round, read_braces, bracket_at};
+ghost use Rattle.bb_parse.specs.Inside.Steps.{Gives, Makes, read_list};
+ghost use Rattle.bb_parse.specs.Inside.Expressions.{read_signs, read_select, read_index, read_expr, read_arm, read_conditional};
+ghost use Rattle.bb_parse.specs.Inside.Expressions.{read_level, read_operand, read_operands, read_unary, read_primary};
+ghost use Rattle.bb_parse.specs.Inside.Expressions.{read_round, read_braces, bracket_at};
 
 use crate::cursor::Cursor;
 use crate::level::Level;
@@ -16,7 +16,7 @@ use bb_lex::{Kind, Mark};
 use std::alloc::Global;
 
 /// A net, or some of its bits.
-#[tactic(auto, unfolding(crate::specs::Reading::Expressions::read_select))]
+#[tactic(auto, unfolding(crate::specs::Inside::Expressions::read_select))]
 pub(crate) fn select(alloc: Global, cursor: &mut Cursor<'_>) -> Result<Expr, Stop>
     ensures { Gives expression result cursor.new (read_select cursor.old) }
 {
@@ -29,7 +29,7 @@ pub(crate) fn select(alloc: Global, cursor: &mut Cursor<'_>) -> Result<Expr, Sto
 }
 
 /// The bits of a net that stand behind `[`.
-#[tactic(auto, unfolding(crate::specs::Reading::Expressions::read_index))]
+#[tactic(auto, unfolding(crate::specs::Inside::Expressions::read_index))]
 fn index(cursor: &mut Cursor<'_>, name: Name) -> Result<Expr, Stop>
     ensures { Gives expression result cursor.new (read_index name cursor.old) }
 {
@@ -45,7 +45,7 @@ fn index(cursor: &mut Cursor<'_>, name: Name) -> Result<Expr, Stop>
 
 /// An expression in which brackets and conditionals nest to less than `depth` levels.
 #[cycle(expr)]
-#[tactic(auto, unfolding(crate::specs::Reading::Expressions::read_expr))]
+#[tactic(auto, unfolding(crate::specs::Inside::Expressions::read_expr))]
 pub(crate) fn expr(alloc: Global, cursor: &mut Cursor<'_>, depth: u32) -> Result<Expr, Stop>
     ensures { Gives expression result cursor.new (read_expr depth cursor.old) }
 {
@@ -75,7 +75,7 @@ fn conditional(alloc: Global, cursor: &mut Cursor<'_>, inner: u32) -> Result<Exp
 
 /// A condition, which was read, with its value, behind `?`, and `:`.
 #[cycle(expr)]
-#[tactic(auto, unfolding(crate::specs::Reading::Expressions::read_arm))]
+#[tactic(auto, unfolding(crate::specs::Inside::Expressions::read_arm))]
 fn arm(
     alloc: Global,
     cursor: &mut Cursor<'_>,
@@ -91,7 +91,7 @@ fn arm(
 
 /// A chain of the level.
 #[cycle(expr)]
-#[tactic(auto, unfolding(crate::specs::Reading::Expressions::read_chain))]
+#[tactic(auto, unfolding(crate::specs::Inside::Expressions::read_chain))]
 fn chain(alloc: Global, cursor: &mut Cursor<'_>, inner: u32, level: Level) -> Result<Expr, Stop>
     ensures { Gives expression result cursor.new (read_level level (read_expr inner) cursor.old) }
 {
@@ -137,7 +137,7 @@ fn operand(alloc: Global, cursor: &mut Cursor<'_>, inner: u32, level: Level) -> 
 
 /// A run of signs `~`, which may be empty, before a primary.
 #[cycle(expr)]
-#[tactic(auto, unfolding(crate::specs::Reading::Expressions::read_unary))]
+#[tactic(auto, unfolding(crate::specs::Inside::Expressions::read_unary))]
 fn unary(alloc: Global, cursor: &mut Cursor<'_>, inner: u32) -> Result<Expr, Stop>
     ensures { Gives expression result cursor.new (read_unary (read_expr inner) cursor.old) }
 {
@@ -147,7 +147,7 @@ fn unary(alloc: Global, cursor: &mut Cursor<'_>, inner: u32) -> Result<Expr, Sto
 }
 
 #[cycle(expr)]
-#[tactic(auto, unfolding(crate::specs::Reading::Expressions::read_primary))]
+#[tactic(auto, unfolding(crate::specs::Inside::Expressions::read_primary))]
 fn primary(alloc: Global, cursor: &mut Cursor<'_>, inner: u32) -> Result<Expr, Stop>
     ensures { Gives expression result cursor.new (read_primary (read_expr inner) cursor.old) }
 {
@@ -165,7 +165,7 @@ fn primary(alloc: Global, cursor: &mut Cursor<'_>, inner: u32) -> Result<Expr, S
 
 /// What stands behind a mark that begins a primary.
 #[cycle(expr)]
-#[tactic(auto, unfolding(crate::specs::Reading::Expressions::read_round))]
+#[tactic(auto, unfolding(crate::specs::Inside::Expressions::read_round))]
 fn bracket(alloc: Global, cursor: &mut Cursor<'_>, inner: u32, mark: Mark) -> Result<Expr, Stop>
     ensures { Gives expression result cursor.new (bracket_at mark (read_expr inner) cursor.old) }
 {
@@ -182,7 +182,7 @@ fn bracket(alloc: Global, cursor: &mut Cursor<'_>, inner: u32, mark: Mark) -> Re
 
 /// What stands behind `{`: a count and parts in braces, or parts, and `}`.
 #[cycle(expr)]
-#[tactic(auto, unfolding(crate::specs::Reading::Expressions::read_braces))]
+#[tactic(auto, unfolding(crate::specs::Inside::Expressions::read_braces))]
 fn braces(alloc: Global, cursor: &mut Cursor<'_>, inner: u32) -> Result<Expr, Stop>
     ensures { Gives expression result cursor.new (read_braces (read_expr inner) cursor.old) }
 {

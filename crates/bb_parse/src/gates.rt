@@ -1,9 +1,9 @@
 ghost use Rattle.std.specs.Prelude.{◌≡◌, ℕ, List, [], ◌∷◌, map, IfOk, IfErr};
-ghost use Rattle.bb_ast.specs.Views.{expression, gate_view, body_view};
+ghost use Rattle.bb_ast.specs.Inside.Views.{expression, gate_view, body_view};
 ghost use Rattle.bb_parse.specs.declared.stop.Stop.{Stop};
-ghost use Rattle.bb_parse.specs.Reading.Steps.{Gives, read_list};
-ghost use Rattle.bb_parse.specs.Reading.Items.{read_optional_name, read_two_terms, read_terms, read_gate, read_gates, gate_of};
-ghost use Rattle.bb_parse.specs.Reading.Items.{gates_at};
+ghost use Rattle.bb_parse.specs.Inside.Steps.{Gives, read_list};
+ghost use Rattle.bb_parse.specs.Inside.Items.{read_optional_name, read_two_terms, read_terms, read_gate, read_gates, gate_of};
+ghost use Rattle.bb_parse.specs.Inside.Items.{gates_at};
 
 use crate::cursor::Cursor;
 use crate::expr::expr;
@@ -40,7 +40,7 @@ fn both(alloc: Global, first: Expr, second: Expr) -> Result<SmallVec<Expr, 4>, S
 }
 
 /// The first two terminals of a gate, with a comma between.
-#[tactic(auto, unfolding(crate::specs::Reading::Items::read_two_terms))]
+#[tactic(auto, unfolding(crate::specs::Inside::Items::read_two_terms))]
 fn two_terms(alloc: Global, cursor: &mut Cursor<'_>, depth: u32) -> Result<SmallVec<Expr, 4>, Stop>
     ensures { Gives (λ terms. map expression terms.items) result cursor.new (read_two_terms depth cursor.old) }
 {
@@ -68,7 +68,7 @@ fn terms(alloc: Global, cursor: &mut Cursor<'_>, depth: u32) -> Result<SmallVec<
 }
 
 /// A gate's name, if it has one, and its terminals.
-#[tactic(auto, unfolding(crate::specs::Reading::Items::read_gate))]
+#[tactic(auto, unfolding(crate::specs::Inside::Items::read_gate))]
 fn gate(alloc: Global, cursor: &mut Cursor<'_>, depth: u32) -> Result<GateCall, Stop>
     ensures { Gives gate_view result cursor.new (read_gate depth cursor.old) }
 {
@@ -96,7 +96,7 @@ fn gate_list(alloc: Global, cursor: &mut Cursor<'_>, depth: u32) -> Result<Vec<G
 }
 
 /// Gates of one function, behind its word.
-#[tactic(auto, unfolding(crate::specs::Reading::Items::read_gates))]
+#[tactic(auto, unfolding(crate::specs::Inside::Items::read_gates))]
 fn gates(alloc: Global, cursor: &mut Cursor<'_>, depth: u32, gate: Gate) -> Result<Body, Stop>
     ensures { Gives body_view result cursor.new (read_gates gate depth cursor.old) }
 {

@@ -1,9 +1,9 @@
 ghost use Rattle.std.specs.Prelude.{◌≡◌, ℕ, List, map};
 ghost use Rattle.bb_ast.specs.declared.module.Head.{Head};
-ghost use Rattle.bb_ast.specs.Views.{head_view};
-ghost use Rattle.bb_parse.specs.Reading.Symbols.{next_kind};
-ghost use Rattle.bb_parse.specs.Reading.Steps.{Gives, read_list};
-ghost use Rattle.bb_parse.specs.Reading.Declarations.{read_head, read_next_port, read_ansi, read_ansi_heads, read_heads, read_header, header_at};
+ghost use Rattle.bb_ast.specs.Inside.Views.{head_view};
+ghost use Rattle.bb_parse.specs.Inside.Symbols.{next_kind};
+ghost use Rattle.bb_parse.specs.Inside.Steps.{Gives, read_list};
+ghost use Rattle.bb_parse.specs.Inside.Declarations.{read_head, read_next_port, read_ansi, read_ansi_heads, read_heads, read_header, header_at};
 
 use crate::cursor::Cursor;
 use crate::decl::{direction, port};
@@ -15,7 +15,7 @@ use bb_lex::{Keyword, Kind, Mark};
 use std::alloc::Global;
 
 /// A name of a header without declarations.
-#[tactic(auto, unfolding(crate::specs::Reading::Declarations::read_head))]
+#[tactic(auto, unfolding(crate::specs::Inside::Declarations::read_head))]
 fn head(alloc: Global, cursor: &mut Cursor<'_>) -> Result<Head, Stop>
     ensures { Gives head_view result cursor.new (read_head cursor.old) }
 {
@@ -40,7 +40,7 @@ fn plain_heads(alloc: Global, cursor: &mut Cursor<'_>) -> Result<Vec<Head>, Stop
 }
 
 /// A declaration, or else the one before it.
-#[tactic(auto, unfolding(crate::specs::Reading::Declarations::read_next_port))]
+#[tactic(auto, unfolding(crate::specs::Inside::Declarations::read_next_port))]
 fn next_port(cursor: &mut Cursor<'_>, before: Port) -> Result<Port, Stop>
     ensures { Gives (λ port. port) result cursor.new (read_next_port before cursor.old) }
 {
@@ -52,7 +52,7 @@ fn next_port(cursor: &mut Cursor<'_>, before: Port) -> Result<Port, Stop>
 }
 
 /// A name with its declaration, which may be the one before it.
-#[tactic(auto, unfolding(crate::specs::Reading::Declarations::read_ansi))]
+#[tactic(auto, unfolding(crate::specs::Inside::Declarations::read_ansi))]
 fn ansi(alloc: Global, cursor: &mut Cursor<'_>, before: Port) -> Result<(Port, Name), Stop>
     ensures { Gives (λ x. (x.0, x.1)) result cursor.new (read_ansi before cursor.old) }
 {
@@ -62,7 +62,7 @@ fn ansi(alloc: Global, cursor: &mut Cursor<'_>, before: Port) -> Result<(Port, N
 }
 
 /// The names of a header with their declarations.
-#[tactic(auto, unfolding(crate::specs::Reading::Declarations::read_ansi_heads))]
+#[tactic(auto, unfolding(crate::specs::Inside::Declarations::read_ansi_heads))]
 fn ansi_heads(alloc: Global, cursor: &mut Cursor<'_>) -> Result<Vec<Head>, Stop>
     ensures { Gives (λ heads. map head_view heads.items) result cursor.new (read_ansi_heads cursor.old) }
 {
@@ -88,7 +88,7 @@ fn ansi_heads(alloc: Global, cursor: &mut Cursor<'_>) -> Result<Vec<Head>, Stop>
 }
 
 /// The names of a header, behind `(`, and `)`.
-#[tactic(auto, unfolding(crate::specs::Reading::Declarations::read_heads))]
+#[tactic(auto, unfolding(crate::specs::Inside::Declarations::read_heads))]
 fn heads(alloc: Global, cursor: &mut Cursor<'_>) -> Result<Vec<Head>, Stop>
     ensures { Gives (λ heads. map head_view heads.items) result cursor.new (read_heads cursor.old) }
 {
@@ -105,7 +105,7 @@ fn heads(alloc: Global, cursor: &mut Cursor<'_>) -> Result<Vec<Head>, Stop>
 }
 
 /// A module's name and the names of its header, behind `module`.
-#[tactic(auto, unfolding(crate::specs::Reading::Declarations::read_header))]
+#[tactic(auto, unfolding(crate::specs::Inside::Declarations::read_header))]
 fn header(alloc: Global, cursor: &mut Cursor<'_>) -> Result<(Name, Vec<Head>), Stop>
     ensures { Gives (λ x. (x.0, map head_view x.1.items)) result cursor.new (read_header cursor.old) }
 {

@@ -1,7 +1,7 @@
 ghost use Rattle.std.specs.Prelude.{◌≡◌, ℕ, List, map};
-ghost use Rattle.bb_ast.specs.Views.{optional_view, named_view, conns_view, call_view, body_view};
-ghost use Rattle.bb_parse.specs.Reading.Steps.{Gives, read_list};
-ghost use Rattle.bb_parse.specs.Reading.Items.{read_place, read_named, read_conns, read_call, read_calls};
+ghost use Rattle.bb_ast.specs.Inside.Views.{optional_view, named_view, conns_view, call_view, body_view};
+ghost use Rattle.bb_parse.specs.Inside.Steps.{Gives, read_list};
+ghost use Rattle.bb_parse.specs.Inside.Items.{read_place, read_named, read_conns, read_call, read_calls};
 
 use crate::cursor::Cursor;
 use crate::expr::expr;
@@ -13,7 +13,7 @@ use bb_lex::Mark;
 use std::alloc::Global;
 
 /// A place of a list: an expression, or nothing before a comma or `)`.
-#[tactic(auto, unfolding(crate::specs::Reading::Items::read_place))]
+#[tactic(auto, unfolding(crate::specs::Inside::Items::read_place))]
 fn place(alloc: Global, cursor: &mut Cursor<'_>, depth: u32) -> Result<Option<Expr>, Stop>
     ensures { Gives optional_view result cursor.new (read_place depth cursor.old) }
 {
@@ -41,7 +41,7 @@ fn places(alloc: Global, cursor: &mut Cursor<'_>, depth: u32) -> Result<Vec<Opti
 }
 
 /// A connection by the name of a port.
-#[tactic(auto, unfolding(crate::specs::Reading::Items::read_named))]
+#[tactic(auto, unfolding(crate::specs::Inside::Items::read_named))]
 fn named(alloc: Global, cursor: &mut Cursor<'_>, depth: u32) -> Result<(Name, Option<Expr>), Stop>
     ensures { Gives named_view result cursor.new (read_named depth cursor.old) }
 {
@@ -74,7 +74,7 @@ fn named_list(
 }
 
 /// The connections of an instance, behind `(`.
-#[tactic(auto, unfolding(crate::specs::Reading::Items::read_conns))]
+#[tactic(auto, unfolding(crate::specs::Inside::Items::read_conns))]
 fn conns(alloc: Global, cursor: &mut Cursor<'_>, depth: u32) -> Result<Conns, Stop>
     ensures { Gives conns_view result cursor.new (read_conns depth cursor.old) }
 {
@@ -90,7 +90,7 @@ fn conns(alloc: Global, cursor: &mut Cursor<'_>, depth: u32) -> Result<Conns, St
 }
 
 /// An instance: its name and its connections.
-#[tactic(auto, unfolding(crate::specs::Reading::Items::read_call))]
+#[tactic(auto, unfolding(crate::specs::Inside::Items::read_call))]
 fn call(alloc: Global, cursor: &mut Cursor<'_>, depth: u32) -> Result<Call, Stop>
     ensures { Gives call_view result cursor.new (read_call depth cursor.old) }
 {
@@ -118,7 +118,7 @@ fn call_list(alloc: Global, cursor: &mut Cursor<'_>, depth: u32) -> Result<Vec<C
 }
 
 /// A module's name and instances of it.
-#[tactic(auto, unfolding(crate::specs::Reading::Items::read_calls))]
+#[tactic(auto, unfolding(crate::specs::Inside::Items::read_calls))]
 pub(crate) fn calls(alloc: Global, cursor: &mut Cursor<'_>, depth: u32) -> Result<Body, Stop>
     ensures { Gives body_view result cursor.new (read_calls depth cursor.old) }
 {

@@ -1,8 +1,8 @@
 ghost use Rattle.std.specs.Prelude.{◌≡◌, ℕ, List, map};
-ghost use Rattle.bb_ast.specs.Views.{expression, arm_view, named_view, body_view};
-ghost use Rattle.bb_parse.specs.Reading.Steps.{Gives, read_list};
-ghost use Rattle.bb_parse.specs.Reading.Items.{read_net, read_nets, read_sides, read_assignment, read_assign, edge_of};
-ghost use Rattle.bb_parse.specs.Reading.Items.{read_clock, read_event, read_clocked, read_always, worded, read_body};
+ghost use Rattle.bb_ast.specs.Inside.Views.{expression, arm_view, named_view, body_view};
+ghost use Rattle.bb_parse.specs.Inside.Steps.{Gives, read_list};
+ghost use Rattle.bb_parse.specs.Inside.Items.{read_net, read_nets, read_sides, read_assignment, read_assign, edge_of};
+ghost use Rattle.bb_parse.specs.Inside.Items.{read_clock, read_event, read_clocked, read_always, worded, read_body};
 
 use crate::cursor::Cursor;
 use crate::decl::{optional_range, ports, regs, supply};
@@ -18,7 +18,7 @@ use bb_lex::{Keyword, Kind, Mark};
 use std::alloc::Global;
 
 /// A net's name, with the expression that is assigned to it or none.
-#[tactic(auto, unfolding(crate::specs::Reading::Items::read_net))]
+#[tactic(auto, unfolding(crate::specs::Inside::Items::read_net))]
 fn net(alloc: Global, cursor: &mut Cursor<'_>, depth: u32) -> Result<(Name, Option<Expr>), Stop>
     ensures { Gives named_view result cursor.new (read_net depth cursor.old) }
 {
@@ -51,7 +51,7 @@ fn net_list(
 }
 
 /// Nets, behind `wire`.
-#[tactic(auto, unfolding(crate::specs::Reading::Items::read_nets))]
+#[tactic(auto, unfolding(crate::specs::Inside::Items::read_nets))]
 fn nets(alloc: Global, cursor: &mut Cursor<'_>, depth: u32) -> Result<Body, Stop>
     ensures { Gives body_view result cursor.new (read_nets depth cursor.old) }
 {
@@ -62,7 +62,7 @@ fn nets(alloc: Global, cursor: &mut Cursor<'_>, depth: u32) -> Result<Body, Stop
 }
 
 /// A left side, the mark and a right side.
-#[tactic(auto, unfolding(crate::specs::Reading::Items::read_sides))]
+#[tactic(auto, unfolding(crate::specs::Inside::Items::read_sides))]
 fn sides(
     alloc: Global,
     cursor: &mut Cursor<'_>,
@@ -98,7 +98,7 @@ fn assignments(
 }
 
 /// Assignments, behind `assign`.
-#[tactic(auto, unfolding(crate::specs::Reading::Items::read_assign))]
+#[tactic(auto, unfolding(crate::specs::Inside::Items::read_assign))]
 fn assign(alloc: Global, cursor: &mut Cursor<'_>, depth: u32) -> Result<Body, Stop>
     ensures { Gives body_view result cursor.new (read_assign depth cursor.old) }
 {
@@ -119,7 +119,7 @@ fn edge(kind: Option<Kind>) -> Option<bool>
 }
 
 /// A clock: a net or one bit of it.
-#[tactic(auto, unfolding(crate::specs::Reading::Items::read_clock))]
+#[tactic(auto, unfolding(crate::specs::Inside::Items::read_clock))]
 fn clock(alloc: Global, cursor: &mut Cursor<'_>) -> Result<Expr, Stop>
     ensures { Gives expression result cursor.new (read_clock cursor.old) }
 {
@@ -133,7 +133,7 @@ fn clock(alloc: Global, cursor: &mut Cursor<'_>) -> Result<Expr, Stop>
 }
 
 /// The edge and the clock, behind `always`: `@ ( posedge clock )`.
-#[tactic(auto, unfolding(crate::specs::Reading::Items::read_event))]
+#[tactic(auto, unfolding(crate::specs::Inside::Items::read_event))]
 fn event(alloc: Global, cursor: &mut Cursor<'_>) -> Result<(bool, Expr), Stop>
     ensures { Gives (λ x. (x.0, expression x.1)) result cursor.new (read_event cursor.old) }
 {
@@ -149,7 +149,7 @@ fn event(alloc: Global, cursor: &mut Cursor<'_>) -> Result<(bool, Expr), Stop>
 }
 
 /// What a register takes, behind its clock.
-#[tactic(auto, unfolding(crate::specs::Reading::Items::read_clocked))]
+#[tactic(auto, unfolding(crate::specs::Inside::Items::read_clocked))]
 fn clocked(alloc: Global, cursor: &mut Cursor<'_>, depth: u32) -> Result<(Expr, Expr), Stop>
     ensures { Gives arm_view result cursor.new (read_clocked depth cursor.old) }
 {
@@ -159,7 +159,7 @@ fn clocked(alloc: Global, cursor: &mut Cursor<'_>, depth: u32) -> Result<(Expr, 
 }
 
 /// A register, behind `always`.
-#[tactic(auto, unfolding(crate::specs::Reading::Items::read_always))]
+#[tactic(auto, unfolding(crate::specs::Inside::Items::read_always))]
 fn always(alloc: Global, cursor: &mut Cursor<'_>, depth: u32) -> Result<Body, Stop>
     ensures { Gives body_view result cursor.new (read_always depth cursor.old) }
 {
@@ -198,7 +198,7 @@ fn worded_item(
 }
 
 /// An item of a module.
-#[tactic(auto, unfolding(crate::specs::Reading::Items::read_body))]
+#[tactic(auto, unfolding(crate::specs::Inside::Items::read_body))]
 pub(crate) fn body(alloc: Global, cursor: &mut Cursor<'_>, depth: u32) -> Result<Body, Stop>
     ensures { Gives body_view result cursor.new (read_body depth cursor.old) }
 {

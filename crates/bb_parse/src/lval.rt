@@ -1,7 +1,7 @@
 ghost use Rattle.std.specs.Prelude.{◌≡◌, ℕ, List, map};
-ghost use Rattle.bb_ast.specs.Views.{expression};
-ghost use Rattle.bb_parse.specs.Reading.Steps.{Gives, read_list};
-ghost use Rattle.bb_parse.specs.Reading.Expressions.{read_lval, read_lvals};
+ghost use Rattle.bb_ast.specs.Inside.Views.{expression};
+ghost use Rattle.bb_parse.specs.Inside.Steps.{Gives, read_list};
+ghost use Rattle.bb_parse.specs.Inside.Expressions.{read_lval, read_lvals};
 
 use crate::cursor::Cursor;
 use crate::expr::select;
@@ -13,7 +13,7 @@ use std::alloc::Global;
 
 /// What may be assigned, in which braces nest to less than `depth` levels.
 #[cycle(lval)]
-#[tactic(auto, unfolding(crate::specs::Reading::Expressions::read_lval, crate::specs::Reading::Expressions::read_lvals))]
+#[tactic(auto, unfolding(crate::specs::Inside::Expressions::read_lval, crate::specs::Inside::Expressions::read_lvals))]
 pub(crate) fn lval(alloc: Global, cursor: &mut Cursor<'_>, depth: u32) -> Result<Expr, Stop>
     ensures { Gives expression result cursor.new (read_lval depth cursor.old) }
 {

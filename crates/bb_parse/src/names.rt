@@ -1,5 +1,5 @@
 ghost use Rattle.std.specs.Prelude.{◌≡◌, ℕ, List};
-ghost use Rattle.bb_parse.specs.Reading.Steps.{Gives, read_name, read_list};
+ghost use Rattle.bb_parse.specs.Inside.Steps.{Gives, read_name, read_list};
 
 use crate::cursor::Cursor;
 use crate::list::begun;

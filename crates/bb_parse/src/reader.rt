@@ -2,12 +2,12 @@ ghost use Rattle.std.specs.Prelude.{◌≡◌, ◌<◌, ◌^◌, ℕ, List, map,
 ghost use Rattle.std.specs.List.{AllByRecursion};
 ghost use Rattle.bb_ast.specs.declared.module.Module.{Module};
 ghost use Rattle.bb_ast.specs.Syntax.{PlainModule};
-ghost use Rattle.bb_ast.specs.Views.{module_view, source_view};
+ghost use Rattle.bb_ast.specs.Inside.Views.{module_view, source_view};
 ghost use Rattle.bb_lex.specs.Cut.{IsTokenOf, AreTokens};
 ghost use Rattle.bb_parse.specs.declared.fault.ParseFault.{ParseFault};
 ghost use Rattle.bb_parse.specs.Sources.{line_of, IsSource, IsFault};
-ghost use Rattle.bb_parse.specs.Reading.Symbols.{symbols, next_kind};
-ghost use Rattle.bb_parse.specs.Reading.Sources.{Answers, with_modules, at_end, is_endmodule, then_read, item_added, step_view, read_item_of, read_step, read_source};
+ghost use Rattle.bb_parse.specs.Inside.Symbols.{symbols, next_kind};
+ghost use Rattle.bb_parse.specs.Inside.Sources.{Answers, with_modules, at_end, is_endmodule, then_read, item_added, step_view, read_item_of, read_step, read_source};
 
 use crate::fault::ParseFault;
 use crate::statement::{first, header_of, item_of, line};
@@ -27,7 +27,7 @@ fn is_endmodule_statement(statement: &[Token]) -> bool
 }
 
 /// A statement in its place: the module that it ends, if any, and the open module behind it, if any.
-#[tactic(auto, unfolding(crate::specs::Reading::Sources::read_step))]
+#[tactic(auto, unfolding(crate::specs::Inside::Sources::read_step))]
 fn step(
     alloc: Global,
     statement: &[Token],
@@ -126,7 +126,7 @@ fn count(tokens: &[Token], text: &[u8]) -> usize
 }
 
 /// The source that the tokens mean.
-#[tactic(auto, using(crate::proofs::SourceLoop::source_looping), unfolding(crate::specs::Reading::Sources::read_source))]
+#[tactic(auto, using(crate::proofs::SourceLoop::source_looping), unfolding(crate::specs::Inside::Sources::read_source))]
 fn read(alloc: Global, tokens: &[Token], text: &[u8], count: usize) -> Result<Source, ParseFault>
     requires of_text { AllByRecursion (λ token. IsTokenOf token text.now) tokens.now }
     requires count { count ≡ length tokens.now }

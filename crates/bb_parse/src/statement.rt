@@ -1,11 +1,11 @@
 ghost use Rattle.std.specs.Prelude.{◌≡◌, ◌<◌, ◌≤◌, ◌+◌, ◌^◌, ℕ, List, map, max, length, option_map};
 ghost use Rattle.std.specs.List.{AllByRecursion};
 ghost use Rattle.bb_ast.specs.declared.module.Head.{Head};
-ghost use Rattle.bb_ast.specs.Views.{head_view, body_view};
+ghost use Rattle.bb_ast.specs.Inside.Views.{head_view, body_view};
 ghost use Rattle.bb_lex.specs.Cut.{IsTokenOf};
 ghost use Rattle.bb_parse.specs.Nesting.{nesting};
 ghost use Rattle.bb_parse.specs.Sources.{ends, line_of};
-ghost use Rattle.bb_parse.specs.Reading.Sources.{judged, Answers, count_at, square_at, first_statement, read_header_of, read_item_of};
+ghost use Rattle.bb_parse.specs.Inside.Sources.{judged, Answers, count_at, square_at, first_statement, read_header_of, read_item_of};
 
 use crate::cursor::Cursor;
 use crate::fault::ParseFault;
@@ -126,7 +126,7 @@ fn all_read<T: Drop>(read: Result<T, Stop>, left: usize, line: u32) -> Result<T,
 }
 
 /// The header of a module.
-#[tactic(auto, using(crate::proofs::Statements::judging), unfolding(crate::specs::Reading::Sources::read_header_of))]
+#[tactic(auto, using(crate::proofs::Statements::judging), unfolding(crate::specs::Inside::Sources::read_header_of))]
 pub(crate) fn header_of(
     alloc: Global,
     statement: &[Token],
@@ -146,7 +146,7 @@ pub(crate) fn header_of(
 }
 
 /// An item of a module.
-#[tactic(auto, using(crate::proofs::Statements::judging), unfolding(crate::specs::Reading::Sources::read_item_of))]
+#[tactic(auto, using(crate::proofs::Statements::judging), unfolding(crate::specs::Inside::Sources::read_item_of))]
 pub(crate) fn item_of(alloc: Global, statement: &[Token], text: &[u8]) -> Result<Body, ParseFault>
     requires of_text { AllByRecursion (λ token. IsTokenOf token text.now) statement.now }
     requires small { length statement.now < 2 ^ 32 }

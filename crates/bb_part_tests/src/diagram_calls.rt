@@ -1,7 +1,7 @@
 //! Calls of diagrams that try whether their operands are there, so that a test owes no proof of it.
 
 ghost use Rattle.std.specs.Prelude.{◌≡◌, ◌<◌, true, IfOk};
-ghost use Rattle.bb_uniq.specs.Nodes.{IsRef};
+ghost use Rattle.bb_uniq.specs.Inside.Nodes.{IsRef};
 
 use crate::words::{number, word};
 use bb_dd::{DdFault, Diagrams};

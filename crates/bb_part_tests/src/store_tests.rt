@@ -1,7 +1,7 @@
 //! Stores of nodes, through public calls.
 
 ghost use Rattle.std.specs.Prelude.{◌≡◌, ◌<◌, ◌≤◌, true};
-ghost use Rattle.bb_uniq.specs.Nodes.{IsBelow};
+ghost use Rattle.bb_uniq.specs.Inside.Nodes.{IsBelow};
 
 use crate::diagram_answers::told_view;
 use crate::words::{halves, number, word};

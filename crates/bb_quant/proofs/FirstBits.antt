@@ -5,7 +5,7 @@ use Rattle.std.proofs.lemmas.Slice.{take-put_mid}
 use borrow.Rule.Slice.PartMut.{put_mid, mid_of, same_len_mid}
 use Rattle.bb_bits.specs.Numbers.{number_of}
 use Rattle.bb_bits.specs.Truth.{Truth, truth_at}
-use Rattle.bb_quant.specs.LeastPoints.{BeginsAs, IsLeastPoint}
+use Rattle.bb_quant.specs.Inside.LeastPoints.{BeginsAs, IsLeastPoint}
 use Rattle.bb_quant.proofs.Given.{NumbersAreBelow}
 
 pub take_fewer : (k j : ℕ) (p q : List Bool) → k ≤ j → take j q ≡ take j p → take k q ≡ take k p

@@ -1,7 +1,7 @@
 -- the laws of tables and stores, as the lemmas here take them
 use Rattle.std.specs.Prelude.{◌<◌, ◌^◌, Bool, List, length}
 use Rattle.bb_bits.specs.Numbers.{number_of}
-use Rattle.bb_bits.specs.TruthLaws.{TableLaws, QuantifierLaws}
+use Rattle.bb_bits.specs.Laws.TruthLaws.{TableLaws, QuantifierLaws}
 use Rattle.bb_uniq.specs.Laws.{StoreLaws, GrowthLaws, StepLaws}
 
 pub record Given : Type 0 where

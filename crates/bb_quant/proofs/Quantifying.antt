@@ -4,10 +4,10 @@ use Rattle.std.proofs.lemmas.Bool.{cases_lt, eq-eqb, cond-true}
 use Rattle.bb_bits.specs.Truth.{Truth, Bit, Halves, IsTruthTable, lifted, joined, quantified}
 use Rattle.bb_uniq.specs.declared.store.Ref.{Ref}
 use Rattle.bb_uniq.specs.declared.store.View.TheVariants as seen
-use Rattle.bb_uniq.specs.Nodes.{NodeStore, IsRef, IsStore, view_of}
-use Rattle.bb_uniq.specs.Meaning.{Keeps, Adds, IsTooMany, truth_of, branch}
-use Rattle.bb_uniq.specs.Cofactors.{variable_seen, top_of, lo_seen, hi_seen, AreCofactors, IsReady}
-use Rattle.bb_dd.specs.Results.{quantifier}
+use Rattle.bb_uniq.specs.Inside.Nodes.{NodeStore, IsRef, IsStore, view_of}
+use Rattle.bb_uniq.specs.Inside.Meaning.{Keeps, Adds, IsTooMany, truth_of, branch}
+use Rattle.bb_uniq.specs.Inside.Cofactors.{variable_seen, top_of, lo_seen, hi_seen, AreCofactors, IsReady}
+use Rattle.bb_dd.specs.Inside.Results.{quantifier}
 use Rattle.bb_quant.proofs.Given.{Given}
 
 -- a bit joined with itself is that bit

@@ -3,11 +3,11 @@ use Rattle.std.proofs.Common.{◌≡◌, ◌≢◌, ◌<◌, ◌≤◌, ◌==◌
 use Rattle.bb_bits.specs.Truth.{truth_at}
 use Rattle.bb_uniq.specs.declared.store.Ref.{Ref}
 use Rattle.bb_uniq.specs.declared.store.View.TheVariants as seen
-use Rattle.bb_uniq.specs.Nodes.{NodeStore, IsRef, view_of}
-use Rattle.bb_uniq.specs.Meaning.{ViewMeans, truth_of}
-use Rattle.bb_uniq.specs.Cofactors.{variable_seen, top_of}
-use Rattle.bb_quant.specs.LeastPoints.{IsLeastPoint}
-use Rattle.bb_bits.specs.TruthLaws.{TableLaws}
+use Rattle.bb_uniq.specs.Inside.Nodes.{NodeStore, IsRef, view_of}
+use Rattle.bb_uniq.specs.Inside.Meaning.{ViewMeans, truth_of}
+use Rattle.bb_uniq.specs.Inside.Cofactors.{variable_seen, top_of}
+use Rattle.bb_quant.specs.Inside.LeastPoints.{IsLeastPoint}
+use Rattle.bb_bits.specs.Laws.TruthLaws.{TableLaws}
 use Rattle.bb_uniq.specs.Laws.{StoreLaws}
 use Rattle.bb_quant.proofs.Given.{NumbersAreBelow}
 use Rattle.bb_quant.proofs.FirstBits.{least_in_first, least_in_second, least_of_one}

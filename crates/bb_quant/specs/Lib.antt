@@ -1,1 +1,1 @@
-pub mod LeastPoints
+pub mod Inside

@@ -2,10 +2,10 @@
 
 ghost use Rattle.std.specs.Prelude.{◌≡◌, ◌≢◌, ◌≤◌, true, false, if◌then◌else◌, ℕ, List, Bool, length, take, slice_index_or};
 ghost use Rattle.bb_bits.specs.Truth.{truth_at};
-ghost use Rattle.bb_uniq.specs.Nodes.{IsRef};
-ghost use Rattle.bb_uniq.specs.Cofactors.{top_of};
-ghost use Rattle.bb_uniq.specs.Meaning.{truth_of};
-ghost use Rattle.bb_quant.specs.LeastPoints.{BeginsAs, IsLeastPoint};
+ghost use Rattle.bb_uniq.specs.Inside.Nodes.{IsRef};
+ghost use Rattle.bb_uniq.specs.Inside.Cofactors.{top_of};
+ghost use Rattle.bb_uniq.specs.Inside.Meaning.{truth_of};
+ghost use Rattle.bb_quant.specs.Inside.LeastPoints.{BeginsAs, IsLeastPoint};
 
 use bb_bits::{number_is_below, truth};
 use bb_dd::{Diagrams, Ref, View};

@@ -2,10 +2,10 @@
 
 ghost use Rattle.std.specs.Prelude.{◌≡◌, ◌<◌, ◌≤◌, ◌&&◌, ◌||◌, length, IfOk, IsErrOf};
 ghost use Rattle.bb_bits.specs.Truth.{joined, quantified};
-ghost use Rattle.bb_uniq.specs.Nodes.{IsRef, view_of};
-ghost use Rattle.bb_uniq.specs.Meaning.{truth_of, Adds, Keeps, IsTooMany};
+ghost use Rattle.bb_uniq.specs.Inside.Nodes.{IsRef, view_of};
+ghost use Rattle.bb_uniq.specs.Inside.Meaning.{truth_of, Adds, Keeps, IsTooMany};
 ghost use Rattle.bb_uniq.specs.declared.store.View.TheVariants as seen;
-ghost use Rattle.bb_dd.specs.Results.{quantifier};
+ghost use Rattle.bb_dd.specs.Inside.Results.{quantifier};
 
 use bb_bits::truth;
 use bb_dd::{DdFault, Diagrams, Ref, View};

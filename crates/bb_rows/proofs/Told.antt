@@ -3,7 +3,7 @@ use Rattle.std.proofs.Common.{◌≡◌, ◌<◌, ℕ, List, [], ◌∷◌, ◌+
 use Rattle.std.specs.Prelude.{option_map}
 use Rattle.std.specs.Io.KnownBytes.{Appends}
 use Rattle.bb_outside.specs.Counts.{Reads}
-use Rattle.bb_outside.specs.MemFiles.{HeldFiles, text_under, reads_of}
+use Rattle.bb_outside.specs.Inside.MemFiles.{HeldFiles, text_under, reads_of}
 use Rattle.bb_ladder.specs.Answers.{MayAnswer, AreTexts, FileTexts, MadeTexts, IsReport, Question, question}
 use Rattle.bb_ladder.specs.MadePairs.{head_of}
 use Rattle.bb_ladder.specs.CallRefusals.{AreTold, IsCallRefusal, IsFilesRefusal, OfComparison, OfImpLength, OfMadePair, OfRefutation, OfSpecLength, OfTexts, OfWords}

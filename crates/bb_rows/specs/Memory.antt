@@ -1,7 +1,7 @@
 -- Two files in memory, `s.v` with the specification and `i.v` with the implementation, and what may be answered to them.
 use Rattle.std.specs.Prelude.{ℕ, List, [], ◌∷◌, Option, None, Some, codes}
 use Rattle.bb_outside.specs.Counts.{Reads}
-use Rattle.bb_outside.specs.MemFiles.{text_under}
+use Rattle.bb_outside.specs.Inside.MemFiles.{text_under}
 use Rattle.bb_ladder.specs.Answers.{AreTexts, MayAnswer}
 use Rattle.bb_ladder.specs.CallRefusals.{IsCallRefusal}
 use Rattle.bb_ladder.specs.declared.asked.Asked.{Asked}

@@ -12,8 +12,8 @@ use Rattle.bb_net.specs.Netlists.{Netlist, Pins, IsNetlist, box_at}
 use Rattle.bb_net.specs.Ternary.{tern, tern_of}
 use Rattle.bb_net.specs.Values.{bit_of, flat, flat_with, free_bit, tabled_bit, value_of}
 use Rattle.bb_input.specs.InputFunctions.{in_places}
-use Rattle.bb_alike.specs.Alike.{AreAlike}
-use Rattle.bb_alike.specs.Formulas.{formula_at, pin_formulas}
+use Rattle.bb_alike.specs.Laws.Alike.{AreAlike}
+use Rattle.bb_alike.specs.Laws.Formulas.{formula_at, pin_formulas}
 use Rattle.bb_alike.specs.Laws.{FormulasAreOfCells, AlikeIsMutual, AlikeNetsHaveCells, AlikeCellsHaveOneBit, AlikeCellsAreKnownAlike}
 use Rattle.bb_rungs.proofs.AlikeBoxes.{AreAsMany, as_many, first_boxes_alike, output_pins_alike}
 

@@ -12,7 +12,7 @@ use Rattle.bb_net.specs.Pairs.{pin_count}
 use Rattle.bb_net.specs.Values.{output_pins}
 use Rattle.bb_sym.specs.Plain.{block_functions}
 use Rattle.bb_input.specs.InputFunctions.{pin_bits, in_places, box_quantified, boxes_quantified, box_functions, boxes_functions}
-use Rattle.bb_alike.specs.Formulas.{formula_at, pin_formulas}
+use Rattle.bb_alike.specs.Laws.Formulas.{formula_at, pin_formulas}
 
 abbrev pub AreAsMany : List Pins → List Pins → Type 0
 AreAsMany [] [] = Unit {0}

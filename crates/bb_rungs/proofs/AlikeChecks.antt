@@ -6,7 +6,7 @@ use Rattle.bb_tern.specs.Patterns.{patterns}
 use Rattle.bb_options.specs.declared.options.Options.{Options}
 use Rattle.bb_options.specs.declared.rung.Rung.{Rung}
 use Rattle.bb_options.specs.declared.rung.Rung.TheVariants.{Ternary, Symbolic, Local, Output, Input, Expand}
-use Rattle.bb_rungs.specs.AlikePairs.{AlikePairsAreLeftOpen, AlikePairsAreDecided}
+use Rattle.bb_rungs.specs.Laws.AlikePairs.{AlikePairsAreLeftOpen, AlikePairsAreDecided}
 use Rattle.bb_rungs.specs.LeftOpen.{LeavesOpen, Decides}
 use Rattle.bb_rungs.proofs.AlikeConditions.{right_among_alike, right_everywhere_alike, each_right_alike, all_right_alike, choices_alike}
 use Rattle.bb_rungs.proofs.AlikeShared.{PairLaws, Share, bits_alike, small_alike, finishable_alike, share, share_back}

@@ -4,7 +4,7 @@ use Rattle.std.proofs.Common.{◌≡◌, ◌<◌, ◌^◌, ◌&&◌, ◌||◌, n
 use Rattle.std.specs.Prelude.{codes}
 use Rattle.std.specs.List.{AllZip}
 use Rattle.bb_net.specs.Pairs.{NetPair, IsPair}
-use Rattle.bb_alike.specs.Alike.{ArePairsAlike}
+use Rattle.bb_alike.specs.Laws.Alike.{ArePairsAlike}
 use Rattle.bb_expand.specs.declared.expanded.Expanded.TheVariants as expanded
 use Rattle.bb_rungs.specs.declared.line.Evidence.TheVariants.{Vector, NoChoices, Refutation}
 use Rattle.bb_rungs.specs.declared.line.Line.{Line}
@@ -13,7 +13,7 @@ use Rattle.bb_rungs.specs.declared.line.Said.TheVariants.{Error, Nothing, Repair
 use Rattle.bb_options.specs.declared.options.Options.{Options}
 use Rattle.bb_options.specs.declared.rung.Rung.{Rung}
 use Rattle.bb_options.specs.declared.rung.Rung.TheVariants.{Expand}
-use Rattle.bb_rungs.specs.AlikePairs.{AreToldAlike, AlikeReportsAreOne, AlikeClimbsSayAlike}
+use Rattle.bb_rungs.specs.Laws.AlikePairs.{AreToldAlike, AlikeReportsAreOne, AlikeClimbsSayAlike}
 use Rattle.bb_rungs.specs.Laws.{ClimbsSayAlike}
 use Rattle.bb_rungs.specs.Reports.{details, input_line, rung_line, told_output}
 use Rattle.bb_options.specs.Rungs.{asked_rungs, rung_name}

@@ -10,8 +10,8 @@ use Rattle.bb_net.specs.declared.cell.Cell.{Cell}
 use Rattle.bb_net.specs.declared.cell.Cell.TheVariants as cell
 use Rattle.bb_net.specs.Netlists.{Netlist, Pins, IsNetlist, box_at, cell_at, first_cells}
 use Rattle.bb_expand.specs.ClauseCounts.{cell_clause_count, clause_total}
-use Rattle.bb_alike.specs.Alike.{AreAlike}
-use Rattle.bb_alike.specs.Formulas.{Formula, Const, Input, Not, And, Or, Xor, Mux, BoxOut, cell_formula, cell_formulas, formula_at}
+use Rattle.bb_alike.specs.Laws.Alike.{AreAlike}
+use Rattle.bb_alike.specs.Laws.Formulas.{Formula, Const, Input, Not, And, Or, Xor, Mux, BoxOut, cell_formula, cell_formulas, formula_at}
 use Rattle.bb_alike.specs.Laws.{FormulasAreOfCells}
 use Rattle.bb_rungs.proofs.AlikeBoxes.{AreAsMany, pins_at_alike}
 

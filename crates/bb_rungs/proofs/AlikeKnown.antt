@@ -9,8 +9,8 @@ use Rattle.bb_net.specs.Netlists.{Netlist, Pins, IsNetlist, ReadsBefore, cell_at
 use Rattle.bb_net.specs.Ternary.{tern, tern_of}
 use Rattle.bb_sym.specs.Functions.{spec_bit, is_one, is_zero, known_one, known_zero, sum_tables, cell_tables, high, low, wanted, mismatches, known_tables, symbolic_functions}
 use Rattle.bb_sym.specs.Plain.{tables, variables, places, outputs}
-use Rattle.bb_alike.specs.Alike.{AreAlike}
-use Rattle.bb_alike.specs.Formulas.{Formula, Const, Input, Not, And, Or, Xor, Mux, BoxOut, cell_formula, formula_at}
+use Rattle.bb_alike.specs.Laws.Alike.{AreAlike}
+use Rattle.bb_alike.specs.Laws.Formulas.{Formula, Const, Input, Not, And, Or, Xor, Mux, BoxOut, cell_formula, formula_at}
 use Rattle.bb_alike.specs.Laws.{FormulasAreOfCells, AlikeNetsHaveCells, AlikeCellsAreKnownAlike}
 use Rattle.bb_rungs.proofs.AlikeConditions.{AreKnownAlike}
 use Rattle.bb_rungs.proofs.AlikeFunctions.{ShareAll}

@@ -8,8 +8,8 @@ use Rattle.bb_sym.specs.Functions.{symbolic_functions, local_functions, output_f
 use Rattle.bb_input.specs.Answers.{IsFinishable}
 use Rattle.bb_input.specs.InputFunctions.{input_functions}
 use Rattle.bb_expand.specs.ClauseCounts.{clause_total}
-use Rattle.bb_alike.specs.Alike.{AreAlike, ArePairsAlike}
-use Rattle.bb_alike.specs.Formulas.{cell_formulas}
+use Rattle.bb_alike.specs.Laws.Alike.{AreAlike, ArePairsAlike}
+use Rattle.bb_alike.specs.Laws.Formulas.{cell_formulas}
 use Rattle.bb_alike.specs.Laws.{AlikeCellsAreKnownAlike}
 use Rattle.bb_rungs.proofs.AlikeBits.{BitLaws, known_outputs, share_bits}
 use Rattle.bb_rungs.proofs.AlikeBoxes.{box_count_alike, table_bits_alike}

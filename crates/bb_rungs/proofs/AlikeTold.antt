@@ -20,7 +20,7 @@ use Rattle.bb_rungs.specs.declared.line.Said.TheVariants.{Error}
 use Rattle.bb_options.specs.declared.options.Options.{Options}
 use Rattle.bb_options.specs.declared.rung.Rung.{Rung}
 use Rattle.bb_options.specs.declared.rung.Rung.TheVariants.{Ternary, Symbolic, Local, Output, Input, Expand}
-use Rattle.bb_rungs.specs.AlikePairs.{AlikePairsAreTold, IsNoRefutation}
+use Rattle.bb_rungs.specs.Laws.AlikePairs.{AlikePairsAreTold, IsNoRefutation}
 use Rattle.bb_rungs.specs.Rungs.{IsFirstOf, IsLeastOf, MaySay, MayHit, Hit, NoHit, MayFind, TooMany, Finding, Without, MayChoose, ChoicesTooMany, Answered, TooWide, ClausesTooMany, Decided}
 use Rattle.bb_rungs.proofs.AlikeConditions.{right_among_alike, right_everywhere_alike, each_right_alike, all_right_alike, choices_alike, may_be_right}
 use Rattle.bb_rungs.proofs.AlikeShared.{PairLaws, Share, bits_alike, small_alike, finishable_alike, share, share_back}

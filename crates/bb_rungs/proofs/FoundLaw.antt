@@ -17,7 +17,7 @@ use Rattle.bb_options.specs.declared.options.Options.{Options}
 use Rattle.bb_options.specs.declared.rung.Rung.{Rung}
 use Rattle.bb_options.specs.declared.rung.Rung.TheVariants.{Ternary, Symbolic, Local, Output, Input, Expand}
 use Rattle.bb_rungs.specs.Rungs.{MaySay, Hit, NoHit, TooMany, Finding, Without, ChoicesTooMany, Answered, TooWide, ClausesTooMany, Decided, tried}
-use Rattle.bb_rungs.specs.ShownVectors.{IsWrongAt, IsMistake, SaidIsMistake, FoundVectorsAreMistakes}
+use Rattle.bb_rungs.specs.Laws.ShownVectors.{IsWrongAt, IsMistake, SaidIsMistake, FoundVectorsAreMistakes}
 use Rattle.bb_rungs.proofs.ErrorLaw.{contained}
 use Rattle.bb_rungs.proofs.ToldLaw.{climb_each}
 

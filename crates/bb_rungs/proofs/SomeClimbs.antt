@@ -4,7 +4,7 @@ use Rattle.std.proofs.lemmas.Bool.{cases_lt}
 use Rattle.std.proofs.lemmas.List.{length-take}
 use Rattle.std.proofs.lemmas.List.Elements.{All-contains, Contains-append_right}
 use Rattle.bb_bits.specs.Truth.{Truth}
-use Rattle.bb_bits.specs.TruthLaws.{SizeLaws}
+use Rattle.bb_bits.specs.Laws.TruthLaws.{SizeLaws}
 use Rattle.bb_expand.specs.ClauseCounts.{clause_total}
 use Rattle.bb_expand.specs.Laws.{AnswersExist}
 use Rattle.bb_input.specs.InputFunctions.{input_functions}
@@ -30,7 +30,7 @@ use Rattle.bb_rungs.specs.declared.line.Line.{Line}
 use Rattle.bb_rungs.specs.declared.line.Said.{Said}
 use Rattle.bb_rungs.specs.declared.line.Said.TheVariants.{Error, Nothing, Nodes, Clauses, Wide}
 use Rattle.bb_rungs.specs.Rungs.{told_answer, told_expanded, AreTooMany, MayFind, TooMany, Finding, Without, tried, Hit, NoHit, ChoicesTooMany, Answered, TooWide, ClausesTooMany, Decided, MaySay, ends, Climbs, Top, End, Step}
-use Rattle.bb_rungs.specs.SomeClimbs.{IsProvable, ClimbsExist}
+use Rattle.bb_rungs.specs.Laws.SomeClimbs.{IsProvable, ClimbsExist}
 
 -- the laws of crates below on which this rests
 pub record LawsBelow : Type 0 where

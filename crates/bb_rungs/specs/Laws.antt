@@ -1,4 +1,7 @@
 -- Laws of what checks say.
+pub mod AlikePairs
+pub mod ShownVectors
+pub mod SomeClimbs
 use Rattle.std.specs.Prelude.{map, ◌≡◌, true, false, List, ◌∷◌, ◌++◌, All, ℕ}
 use Rattle.std.specs.List.{list_any}
 use Rattle.bb_bits.specs.Tables.{TableBits}

@@ -1,6 +1,6 @@
 //! Laws of pairs that are alike. Each function has a law as its contract and does nothing.
 
-ghost use Rattle.bb_rungs.specs.AlikePairs.{AlikePairsAreLeftOpen, AlikePairsAreDecided, AlikePairsAreTold, AlikeReportsAreOne, AlikeClimbsSayAlike};
+ghost use Rattle.bb_rungs.specs.Laws.AlikePairs.{AlikePairsAreLeftOpen, AlikePairsAreDecided, AlikePairsAreTold, AlikeReportsAreOne, AlikeClimbsSayAlike};
 
 use bb_alike::laws::{
     alike_cells_are_known_alike, alike_cells_have_one_bit, alike_is_mutual, alike_nets_have_cells,

@@ -1,8 +1,8 @@
 //! Laws of what checks say. Each function has a law as its contract and does nothing.
 
 ghost use Rattle.bb_rungs.specs.Laws.{ErrorsExcludeTables, RepairsAgree, LinesFixTables, TextsFixTables, ClimbsAreTold, ClimbsLeaveOpen, LeftOpenIsTold, DecidersDecide, ErrorsStay, ClimbsSayAlike};
-ghost use Rattle.bb_rungs.specs.SomeClimbs.{ClimbsExist};
-ghost use Rattle.bb_rungs.specs.ShownVectors.{FoundVectorsAreMistakes, InputLinesFixVectors};
+ghost use Rattle.bb_rungs.specs.Laws.SomeClimbs.{ClimbsExist};
+ghost use Rattle.bb_rungs.specs.Laws.ShownVectors.{FoundVectorsAreMistakes, InputLinesFixVectors};
 
 use crate::alike_laws::alike_climbs_say_alike;
 use bb_bits::truth;

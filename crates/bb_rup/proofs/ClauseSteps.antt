@@ -12,7 +12,7 @@ use Rattle.bb_rup.specs.TextWords.{Word}
 use Rattle.bb_rup.specs.Dimacs.{and_then, is_end, is_mark, literal_in, literals_in, clause_in, clauses_in, clauses_of}
 use Rattle.smallvec.specs.SmallVec.{SmallVec}
 use Rattle.bb_cnf.specs.Clauses.{lists_of}
-use Rattle.bb_rup.specs.Ahead.{literals_to_end, prepended, IsFaultOf}
+use Rattle.bb_rup.specs.Inside.Ahead.{literals_to_end, prepended, IsFaultOf}
 use Rattle.bb_rup.proofs.WordSteps.{first_part, other_parts, split_more, has_part}
 
 abbrev pub Clauses : Type 0

@@ -9,8 +9,8 @@ use Rattle.bb_rup.specs.declared.fault.RupFault.TheVariants.{Token, Literal, Unc
 use Rattle.bb_rup.specs.TextWords.{Word}
 use Rattle.bb_rup.specs.Numerals.{literal_of}
 use Rattle.bb_rup.specs.Dimacs.{and_then, is_end, is_mark, within, literal_in, clauses_of}
-use Rattle.bb_rup.specs.Ahead.{literals_to_end, prepended}
-use Rattle.bb_rup.specs.TableOfFaults.{is_sign, IsSound, IsFault, AreSound, IsFirstFault, is_closed, ClauseTable, IsNoLiteral, IsAbove}
+use Rattle.bb_rup.specs.Inside.Ahead.{literals_to_end, prepended}
+use Rattle.bb_rup.specs.Inside.TableOfFaults.{is_sign, IsSound, IsFault, AreSound, IsFirstFault, is_closed, ClauseTable, IsNoLiteral, IsAbove}
 use Rattle.bb_rup.proofs.ClauseSteps.{and_then-assoc, Clauses, kept, onward, clauses_of-clause, clauses_of-deletion, mark_is_no_end}
 
 -- a literal that a word says, or its fault

@@ -10,7 +10,7 @@ use Rattle.bb_rup.specs.declared.fault.RupFault.TheVariants.{Count}
 use Rattle.bb_rup.specs.TextWords.{Word, words_of}
 use Rattle.bb_rup.specs.Numerals.{number_of}
 use Rattle.bb_rup.specs.Dimacs.{and_then, clauses_of, Sizes, size_of, sizes_of, header_of, first_line, formula_behind, dimacs_of}
-use Rattle.bb_rup.specs.TableOfFaults.{IsHeader, BeginsWithHeader, HasNoHeader, IsFaultBehind, IsToldFormula, FormulaTable}
+use Rattle.bb_rup.specs.Inside.TableOfFaults.{IsHeader, BeginsWithHeader, HasNoHeader, IsFaultBehind, IsToldFormula, FormulaTable}
 
 -- a number of a header
 size-known : (word : List ℕ) (n : ℕ) → number_of word ≡ Some n → n ≤ 8000000 → size_of word ≡ Some n

@@ -2,7 +2,7 @@
 use Rattle.std.proofs.Common.{◌≡◌, ℕ, ◌-◌, ◌<◌, ◌≤◌, Bool, false, List, [], ◌∷◌, ◌++◌, length, take, drop, refl, sym, ap, ◌∙◌, ⊎_elim, arith, length-append}
 use Rattle.std.proofs.lemmas.Bool.{cases_Bool, cond-true, cond-false}
 use Rattle.std.proofs.lemmas.List.{take_at, drop_at}
-use Rattle.bb_rup.specs.Ahead.{from_first, before_first}
+use Rattle.bb_rup.specs.Inside.Ahead.{from_first, before_first}
 
 pub before-from : (p : ℕ → Bool) (text : List ℕ) → before_first p text ++ from_first p text ≡ text
 before-from p [] = refl

@@ -6,7 +6,7 @@ use Rattle.std.proofs.lemmas.List.Folds.{Any-from_list_any}
 use Rattle.bb_cnf.specs.declared.clauses.Lit.{Lit}
 use Rattle.bb_cnf.specs.Clauses.{literals_of, same_literal}
 use Rattle.bb_rup.specs.Propagation.{complement}
-use Rattle.bb_rup.specs.Trails.{mark_place, marked, HasMarks, unmarked}
+use Rattle.bb_rup.specs.Inside.Trails.{mark_place, marked, HasMarks, unmarked}
 use Rattle.bb_rup.proofs.Literals.{either, clash, or_false, same_literal-is, same_literal-itself, same_number, number_itself}
 
 one_place : (x y : ℕ) (s t : Bool) → 2 * x + (if s then 1 else 0) ≡ 2 * y + (if t then 1 else 0) → (x ≡ y) × (s ≡ t)

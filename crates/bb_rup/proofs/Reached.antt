@@ -6,8 +6,8 @@ use Rattle.bb_lists.proofs.Places.{some_same}
 use Rattle.bb_cnf.specs.declared.clauses.Lit.{Lit}
 use Rattle.bb_cnf.specs.Clauses.{Literals, literals_of, same_literal}
 use Rattle.bb_rup.specs.Propagation.{complement, false_after, IsFalseClause, IsUnitClause, IsOpen, IsPropagation, Follows}
-use Rattle.bb_rup.specs.Trails.{mark_place, marked_by, unmarked, IsTrail, Makes, IsReached, HasMarks, HaveMarks, Propagates}
-use Rattle.bb_rup.specs.Standings.{IsImplied}
+use Rattle.bb_rup.specs.Inside.Trails.{mark_place, marked_by, unmarked, IsTrail, Makes, IsReached, HasMarks, HaveMarks, Propagates}
+use Rattle.bb_rup.specs.Inside.Standings.{IsImplied}
 use Rattle.bb_rup.specs.declared.trail.Trail.{Trail}
 use Rattle.bb_rup.proofs.Splits.{any_weaker}
 use Rattle.bb_rup.proofs.Falses.{false_push}

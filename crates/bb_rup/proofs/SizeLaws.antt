@@ -14,8 +14,8 @@ use Rattle.bb_rup.specs.declared.fault.RupFault.TheVariants.{Literal, Unclosed, 
 use Rattle.bb_rup.specs.TextWords.{Word, is_comment, words_in, on_line, words_from, words_of}
 use Rattle.bb_rup.specs.Numerals.{variable_of, literal_of, number_of}
 use Rattle.bb_rup.specs.Dimacs.{and_then, is_end, is_mark, within, literal_in, literals_in, clause_in, clauses_in, clauses_of, Sizes, sizes_of, header_of, first_line, formula_behind, dimacs_of, additions_of}
-use Rattle.bb_rup.specs.Ahead.{prepended}
-use Rattle.bb_rup.specs.SizeLaws.{SizeLaws}
+use Rattle.bb_rup.specs.Inside.Ahead.{prepended}
+use Rattle.bb_rup.specs.Laws.SizeLaws.{SizeLaws}
 use Rattle.bb_rup.proofs.ClauseSteps.{prepended-none}
 
 -- the length of lists together

@@ -10,8 +10,8 @@ use Rattle.bb_cnf.specs.Clauses.{Literals, literals_of, same_literal, IsWithin}
 use Rattle.bb_cnf.specs.Truth.{HaveNoModel}
 use Rattle.bb_rup.specs.Propagation.{IsFalseClause, IsOpen, Follows, Stays}
 use Rattle.bb_rup.specs.Additions.{with_empty, Succeed, EachFollows, IsFirstWithout, IsAnswer}
-use Rattle.bb_rup.specs.Trails.{marked_by, IsTrail, Makes, IsReached, HasMarks, HaveMarks, Propagates}
-use Rattle.bb_rup.specs.Steps.{FollowsThere, StaysThere}
+use Rattle.bb_rup.specs.Inside.Trails.{marked_by, IsTrail, Makes, IsReached, HasMarks, HaveMarks, Propagates}
+use Rattle.bb_rup.specs.Inside.Steps.{FollowsThere, StaysThere}
 use Rattle.bb_rup.specs.declared.trail.Trail.{Trail}
 use Rattle.bb_rup.specs.declared.refutation.RupAnswer.{RupAnswer}
 use Rattle.bb_rup.specs.declared.refutation.RupAnswer.TheVariants as answers

@@ -3,7 +3,7 @@ use Rattle.std.proofs.Common.{◌≡◌, ◌<◌, Bool, true, false, not, ◌&&�
 use Rattle.std.proofs.lemmas.List.{length-set}
 use Rattle.bb_cnf.specs.declared.clauses.Lit.{Lit}
 use Rattle.bb_cnf.specs.Clauses.{Literals, literals_of, same_literal}
-use Rattle.bb_rup.specs.Trails.{mark_place, marked, marked_by, AreOnce, IsTrail, Makes}
+use Rattle.bb_rup.specs.Inside.Trails.{mark_place, marked, marked_by, AreOnce, IsTrail, Makes}
 use Rattle.bb_rup.specs.declared.trail.Trail.{Trail}
 use Rattle.bb_rup.proofs.Literals.{clash, either, or_false, or_true_right, same_literal-is, literals_of-push}
 use Rattle.bb_rup.proofs.Splits.{split_push}

@@ -8,7 +8,7 @@ use Rattle.std.proofs.lemmas.Bool.{cases_Bool, cond-true, cond-false}
 use Rattle.std.proofs.lemmas.Bool.Decides.{nat_tests}
 use Rattle.std.proofs.lemmas.List.Splits.{slice_split-cons_yes, slice_split-cons_no, length-slice_split}
 use Rattle.bb_rup.specs.TextWords.{Word, is_comment, words_in, on_line, words_from, words_of}
-use Rattle.bb_rup.specs.Ahead.{is_newline, from_first, before_first, line_ahead, lines_ahead, words_ahead}
+use Rattle.bb_rup.specs.Inside.Ahead.{is_newline, from_first, before_first, line_ahead, lines_ahead, words_ahead}
 use Rattle.bb_rup.proofs.Fronts.{length-from, take-before, drop-before, from-less}
 
 -- the first part, and the others

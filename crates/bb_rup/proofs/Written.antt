@@ -9,9 +9,9 @@ use Rattle.bb_cnf.specs.Clauses.{IsWithin}
 use Rattle.bb_rup.specs.declared.fault.RupFault.TheVariants.{Literal}
 use Rattle.bb_rup.specs.TextWords.{Word, words_of}
 use Rattle.bb_rup.specs.Dimacs.{and_then, is_end, is_mark, within, literal_in, clauses_of, Sizes}
-use Rattle.bb_rup.specs.Ahead.{words_ahead, literals_to_end, prepended}
-use Rattle.bb_rup.specs.TableOfFaults.{BeginsWithHeader}
-use Rattle.bb_rup.specs.Written.{Entry, comment_line, literal_text, entry_text, proof_text, formula_text, all_clauses, added_clauses, AreLines, HaveLines, WrittenLaws}
+use Rattle.bb_rup.specs.Inside.Ahead.{words_ahead, literals_to_end, prepended}
+use Rattle.bb_rup.specs.Inside.TableOfFaults.{BeginsWithHeader}
+use Rattle.bb_rup.specs.Laws.Written.{Entry, comment_line, literal_text, entry_text, proof_text, formula_text, all_clauses, added_clauses, AreLines, HaveLines, WrittenLaws}
 use Rattle.bb_rup.proofs.WordSteps.{word_on, ahead-start, ahead-end}
 use Rattle.bb_rup.proofs.ClauseSteps.{kept, onward, clauses_of-clause, clauses_of-deletion}
 use Rattle.bb_rup.proofs.FormulaTable.{formula_table}

@@ -11,8 +11,8 @@ use Rattle.std.proofs.lemmas.Str.Parse.{digit_from_value}
 use Rattle.bb_cnf.specs.declared.clauses.Lit.{Lit}
 use Rattle.bb_cnf.specs.Clauses.{positive, negated}
 use Rattle.bb_rup.specs.Numerals.{number_of, variable_of, literal_of}
-use Rattle.bb_rup.specs.Ahead.{is_newline, from_first, before_first, words_ahead}
-use Rattle.bb_rup.specs.Written.{comment_line, AreLines}
+use Rattle.bb_rup.specs.Inside.Ahead.{is_newline, from_first, before_first, words_ahead}
+use Rattle.bb_rup.specs.Laws.Written.{comment_line, AreLines}
 use Rattle.bb_rup.proofs.WordSteps.{word_on, ahead-word, ahead-white, ahead-newline, ahead-comment}
 use Rattle.bb_rup.proofs.Digits.{number-read}
 

@@ -1,4 +1,6 @@
 -- What a reader expects of propagation and of additions.
+pub mod SizeLaws
+pub mod Written
 use Rattle.std.specs.Prelude.{ℕ, ◌≡◌, ◌⊎◌, Bool, true, List, All, Contains}
 use Rattle.bb_cnf.specs.declared.clauses.Lit.{Lit}
 use Rattle.bb_cnf.specs.Clauses.{literals_of}

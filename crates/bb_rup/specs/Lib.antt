@@ -1,13 +1,7 @@
 pub mod Additions
-pub mod Ahead
 pub mod Dimacs
 pub mod Laws
 pub mod Numerals
 pub mod Propagation
-pub mod SizeLaws
-pub mod Standings
-pub mod Steps
-pub mod TableOfFaults
 pub mod TextWords
-pub mod Trails
-pub mod Written
+pub mod Inside

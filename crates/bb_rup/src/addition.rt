@@ -3,8 +3,8 @@
 ghost use Rattle.std.specs.Prelude.{◌≡◌, ◌+◌, ◌<◌, ◌≤◌, ◌++◌, [], true, false, length, take, slice_get, Some, All, IfOk, OnOk};
 ghost use Rattle.bb_cnf.specs.Clauses.{lists_of};
 ghost use Rattle.bb_rup.specs.Propagation.{Follows, Stays};
-ghost use Rattle.bb_rup.specs.Trails.{marked_by, IsTrail, IsReached, HasMarks, HaveMarks};
-ghost use Rattle.bb_rup.specs.Steps.{Comes};
+ghost use Rattle.bb_rup.specs.Inside.Trails.{marked_by, IsTrail, IsReached, HasMarks, HaveMarks};
+ghost use Rattle.bb_rup.specs.Inside.Steps.{Comes};
 
 use crate::NoMemory;
 use crate::propagation::{propagate, settle};

@@ -1,7 +1,7 @@
 //! What a clause says where the marked literals are false.
 
-ghost use Rattle.bb_rup.specs.Trails.{marked};
-ghost use Rattle.bb_rup.specs.Standings.{Stands};
+ghost use Rattle.bb_rup.specs.Inside.Trails.{marked};
+ghost use Rattle.bb_rup.specs.Inside.Standings.{Stands};
 
 use crate::marks::{is_false, is_same};
 use bb_cnf::Lit;

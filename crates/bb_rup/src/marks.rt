@@ -5,7 +5,7 @@ ghost use Rattle.std.specs.Prelude.{◌≡◌, ◌<◌, ◌||◌, ◌&&◌, not,
 ghost use Rattle.bb_cnf.specs.Clauses.{same_literal};
 ghost use Rattle.bb_cnf.specs.declared.clauses.Lit.{Lit as Literal};
 ghost use Rattle.bb_rup.specs.Propagation.{complement};
-ghost use Rattle.bb_rup.specs.Trails.{mark_place, marked};
+ghost use Rattle.bb_rup.specs.Inside.Trails.{mark_place, marked};
 
 use bb_cnf::Lit;
 

@@ -1,6 +1,6 @@
 // Numbers and literals of the format.
 ghost use Rattle.std.specs.Prelude.{◌≡◌, ◌==◌, slice_index, drop, if◌then◌else◌};
-ghost use Rattle.bb_rup.specs.Ahead.{seen};
+ghost use Rattle.bb_rup.specs.Inside.Ahead.{seen};
 ghost use Rattle.bb_rup.specs.Numerals.{number_of, variable_of};
 ghost use Rattle.bb_rup.specs.Dimacs.{literal_in, size_of};
 

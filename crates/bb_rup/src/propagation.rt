@@ -3,8 +3,8 @@
 
 ghost use Rattle.std.specs.Prelude.{◌≡◌, ◌<◌, true, false, All, Any, IfOk, OnOk, length};
 ghost use Rattle.bb_rup.specs.Propagation.{IsFalseClause, IsOpen};
-ghost use Rattle.bb_rup.specs.Trails.{marked_by, IsTrail, HaveMarks, Propagates, unmarked};
-ghost use Rattle.bb_rup.specs.Standings.{IsImplied};
+ghost use Rattle.bb_rup.specs.Inside.Trails.{marked_by, IsTrail, HaveMarks, Propagates, unmarked};
+ghost use Rattle.bb_rup.specs.Inside.Standings.{IsImplied};
 
 use crate::NoMemory;
 use crate::marks::negation;

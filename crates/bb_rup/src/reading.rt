@@ -5,7 +5,7 @@ ghost use Rattle.bb_cnf.specs.Clauses.{IsWithin, lists_of};
 ghost use Rattle.bb_rup.specs.declared.fault.RupFault.TheVariants.{Header as HeaderFault, NoMemory};
 ghost use Rattle.bb_rup.specs.TextWords.{words_of};
 ghost use Rattle.bb_rup.specs.Dimacs.{is_end, is_mark, header_of, first_line, clauses_of, dimacs_of, additions_of};
-ghost use Rattle.bb_rup.specs.Ahead.{seen, words_at, words_with, IsCounted, literals_to_end, prepended, header_seen, IsFaultOf};
+ghost use Rattle.bb_rup.specs.Inside.Ahead.{seen, words_at, words_with, IsCounted, literals_to_end, prepended, header_seen, IsFaultOf};
 
 use crate::fault::RupFault;
 use crate::numerals::{literal, size};

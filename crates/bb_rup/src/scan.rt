@@ -1,8 +1,8 @@
 //! What comes of the clauses: one is false, one makes a literal true, or nothing new comes.
 
 ghost use Rattle.std.specs.Prelude.{◌<◌, length};
-ghost use Rattle.bb_rup.specs.Standings.{Comes, IfQuiet, IfOpen};
-ghost use Rattle.bb_rup.specs.Trails.{HaveMarks};
+ghost use Rattle.bb_rup.specs.Inside.Standings.{Comes, IfQuiet, IfOpen};
+ghost use Rattle.bb_rup.specs.Inside.Trails.{HaveMarks};
 
 use crate::examination::{Standing, examine};
 use crate::marks::{is_false, negation, place};

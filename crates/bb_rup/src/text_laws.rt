@@ -1,8 +1,8 @@
 //! What a reader expects of the definitions. Each function has laws as its contract and does nothing.
 
-ghost use Rattle.bb_rup.specs.SizeLaws.{SizeLaws};
-ghost use Rattle.bb_rup.specs.TableOfFaults.{ClauseTable, FormulaTable};
-ghost use Rattle.bb_rup.specs.Written.{WrittenLaws};
+ghost use Rattle.bb_rup.specs.Laws.SizeLaws.{SizeLaws};
+ghost use Rattle.bb_rup.specs.Inside.TableOfFaults.{ClauseTable, FormulaTable};
+ghost use Rattle.bb_rup.specs.Laws.Written.{WrittenLaws};
 
 /// Words say clauses exactly where none is at fault and the last ends a clause; else they have the fault of the first
 /// word that has one, or no end.

@@ -3,7 +3,7 @@
 
 ghost use Rattle.std.specs.Prelude.{◌≡◌, ◌-◌, ◌+◌, ◌*◌, ◌<◌, ◌≤◌, ◌++◌, ◌∷◌, [], true, false, length, take, set, All, IfOk, OnOk};
 ghost use Rattle.bb_cnf.specs.Clauses.{literals_of, same_literal};
-ghost use Rattle.bb_rup.specs.Trails.{mark_place, marked_by, IsTrail, Makes, HasMarks};
+ghost use Rattle.bb_rup.specs.Inside.Trails.{mark_place, marked_by, IsTrail, Makes, HasMarks};
 
 use crate::NoMemory;
 use crate::marks::{is_false, place, unmark};

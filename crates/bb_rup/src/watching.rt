@@ -2,7 +2,7 @@
 //! on it that all such clauses are found.
 
 ghost use Rattle.std.specs.Prelude.{IfOk};
-ghost use Rattle.bb_rup.specs.Standings.{Comes};
+ghost use Rattle.bb_rup.specs.Inside.Standings.{Comes};
 
 use crate::NoMemory;
 use crate::marks::{is_false, negation};

@@ -2,7 +2,7 @@
 ghost use Rattle.std.specs.Prelude.{◌≡◌, ◌<◌, ◌≤◌, length, IfSome, IfNone};
 ghost use Rattle.std.specs.Char.{is_ascii_whitespace};
 ghost use Rattle.bb_rup.specs.TextWords.{words_of};
-ghost use Rattle.bb_rup.specs.Ahead.{is_newline, from_first, words_at, words_if, IsCounted, BeginsWord};
+ghost use Rattle.bb_rup.specs.Inside.Ahead.{is_newline, from_first, words_at, words_if, IsCounted, BeginsWord};
 
 /// A word, and the number of its line.
 #[derive(Clone, Copy)]

@@ -1,6 +1,6 @@
 -- the laws, each from its lemma
 use Rattle.std.proofs.Common.{◌≡◌, ◌<◌, ℕ, Bool, true, List, inl, inr, arith}
-use Rattle.bb_bits.specs.TruthLaws.{SizeLaws}
+use Rattle.bb_bits.specs.Laws.TruthLaws.{SizeLaws}
 use Rattle.bb_uniq.specs.Laws.{SequenceLaws}
 use Rattle.bb_sym.specs.Laws.{FunctionLaws, MakingLaws, PointLaws}
 use Rattle.bb_sym.specs.Plain.{Function, one_of}

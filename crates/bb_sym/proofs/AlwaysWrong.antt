@@ -4,11 +4,11 @@ use Rattle.bb_bits.specs.Truth.{Truth, quantified_block}
 use Rattle.bb_net.specs.Netlists.{Netlist}
 use Rattle.bb_net.specs.Values.{output_pins}
 use Rattle.bb_uniq.specs.declared.store.Ref.{Ref}
-use Rattle.bb_uniq.specs.Nodes.{NodeStore}
-use Rattle.bb_uniq.specs.Meaning.{truth_of, Adds, IsTooMany}
+use Rattle.bb_uniq.specs.Inside.Nodes.{NodeStore}
+use Rattle.bb_uniq.specs.Inside.Meaning.{truth_of, Adds, IsTooMany}
 use Rattle.bb_sym.specs.Functions.{is_wrong, always_wrong, wrong_for_all_pins}
 use Rattle.bb_sym.specs.Plain.{block_functions, table}
-use Rattle.bb_sym.specs.Made.{Makes, AreTooMany, StandsFor}
+use Rattle.bb_sym.specs.Inside.Made.{Makes, AreTooMany, StandsFor}
 use Rattle.bb_sym.proofs.OutputLoop.{first_refused, rest_refused, first_makes}
 
 module _ (spec imp : Netlist) (inputs pins j : ℕ) (i : inputs ≡ imp.inputs) (k : pins ≡ output_pins imp.boxes) (old : NodeStore) (v : inputs + pins ≡ old.vars) where

@@ -3,10 +3,10 @@ use Rattle.std.proofs.Common.{◌≡◌, ◌≤◌, ℕ, zero, suc, ◌+◌, ◌
 use Rattle.std.specs.List.{range_with_len}
 use Rattle.bb_bits.specs.Truth.{Truth, quantified, quantified_block}
 use Rattle.bb_uniq.specs.declared.store.Ref.{Ref}
-use Rattle.bb_uniq.specs.Nodes.{NodeStore}
-use Rattle.bb_uniq.specs.Meaning.{truth_of, Adds, IsTooMany}
+use Rattle.bb_uniq.specs.Inside.Nodes.{NodeStore}
+use Rattle.bb_uniq.specs.Inside.Meaning.{truth_of, Adds, IsTooMany}
 use Rattle.bb_sym.specs.Plain.{block_functions}
-use Rattle.bb_sym.specs.Made.{Makes, AreTooMany, StandsFor}
+use Rattle.bb_sym.specs.Inside.Made.{Makes, AreTooMany, StandsFor}
 use Rattle.bb_sym.proofs.MadeLemmas.{AreWithin, Makes-one, Makes-then, Makes-same, refused, listed, within_none, within_one, within_append, within_append_left, within_append_right}
 
 swapped : (x : Truth) (ts : List Truth) → AreWithin (ts ++ x ∷ []) (x ∷ ts)

@@ -3,11 +3,11 @@ use Rattle.std.proofs.Common.{◌≡◌, List, [], refl, sym, subst, inl, inr, a
 use Rattle.std.proofs.lemmas.List.Elements.{All-weaker}
 use Rattle.bb_bits.specs.Truth.{Truth, IsBeadOfAny}
 use Rattle.bb_bits.specs.TruthSets.{HasMoreThan}
-use Rattle.bb_bits.specs.TruthLaws.{SizeLaws}
+use Rattle.bb_bits.specs.Laws.TruthLaws.{SizeLaws}
 use Rattle.bb_uniq.specs.Laws.{SequenceLaws}
-use Rattle.bb_uniq.specs.Nodes.{NodeStore, IsStore, empty_store}
-use Rattle.bb_uniq.specs.Meaning.{IsHeld, HoldsBeadsOf}
-use Rattle.bb_sym.specs.Made.{Makes, AreTooMany, IsHeldWithAny}
+use Rattle.bb_uniq.specs.Inside.Nodes.{NodeStore, IsStore, empty_store}
+use Rattle.bb_uniq.specs.Inside.Meaning.{IsHeld, HoldsBeadsOf}
+use Rattle.bb_sym.specs.Inside.Made.{Makes, AreTooMany, IsHeldWithAny}
 
 none_held : SequenceLaws → (s : NodeStore) → s.nodes ≡ [] → (b : Truth) → IsHeld s b → ⊥
 none_held laws s e b h =

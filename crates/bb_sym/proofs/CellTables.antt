@@ -9,7 +9,7 @@ use Rattle.bb_net.specs.declared.cell.Cell.TheVariants.{Const, Input, Not, And, 
 use Rattle.bb_net.specs.Netlists.{Netlist, Pins, IsNetlist, IsOrdered, IsPinAt, ReadsBefore, cell_at, box_at}
 use Rattle.bb_net.specs.Values.{bit_of, gate, value_of, free_bit, output_pins, IsValue}
 use Rattle.bb_sym.specs.Plain.{Function, Reading, AreVariables, IsReadSo, cell_bit, table}
-use Rattle.bb_sym.specs.Made.{cell_table}
+use Rattle.bb_sym.specs.Inside.Made.{cell_table}
 use Rattle.bb_sym.proofs.FunctionTables.{table_same, combined-table, constant-table, variable-table}
 
 -- a netlist has a value

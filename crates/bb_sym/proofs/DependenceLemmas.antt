@@ -4,11 +4,11 @@ use Rattle.std.specs.Prelude.{slice_set, if◌then◌else◌}
 use Rattle.std.proofs.lemmas.Bool.{cases_eq, false≢true}
 use Rattle.std.proofs.lemmas.List.{set-get_or, set-set, set_comm, length-set, get_or-set_other}
 use Rattle.bb_bits.specs.Truth.{Truth, IsTruthTable, truth_at, quantified, quantified_block}
-use Rattle.bb_bits.specs.TruthLaws.{TableLaws, QuantifierLaws}
+use Rattle.bb_bits.specs.Laws.TruthLaws.{TableLaws, QuantifierLaws}
 use Rattle.bb_uniq.specs.Laws.{StoreLaws}
-use Rattle.bb_uniq.specs.Nodes.{NodeStore}
-use Rattle.bb_uniq.specs.Meaning.{truth_of, branch}
-use Rattle.bb_sym.specs.Dependence.{IsIndependent, DependsAtMost, AreSeen}
+use Rattle.bb_uniq.specs.Inside.Nodes.{NodeStore}
+use Rattle.bb_uniq.specs.Inside.Meaning.{truth_of, branch}
+use Rattle.bb_sym.specs.Inside.Dependence.{IsIndependent, DependsAtMost, AreSeen}
 
 module _ (tables : TableLaws) (quantifiers : QuantifierLaws) where
   -- such a variable quantified leaves the table

@@ -7,10 +7,10 @@ use Rattle.std.proofs.lemmas.Simd.{map-map}
 use Rattle.bb_bits.specs.Truth.{joined}
 use Rattle.bb_uniq.specs.declared.store.Ref.{Ref}
 use Rattle.bb_uniq.specs.Laws.{StoreLaws}
-use Rattle.bb_uniq.specs.Nodes.{NodeStore}
-use Rattle.bb_uniq.specs.Meaning.{truth_of, Adds, IsTooMany}
+use Rattle.bb_uniq.specs.Inside.Nodes.{NodeStore}
+use Rattle.bb_uniq.specs.Inside.Meaning.{truth_of, Adds, IsTooMany}
 use Rattle.bb_sym.specs.Plain.{Function, table, tables, one_of, first_of}
-use Rattle.bb_sym.specs.Made.{Makes, AreTooMany, StandsFor, StandForAll, ref_at}
+use Rattle.bb_sym.specs.Inside.Made.{Makes, AreTooMany, StandsFor, StandForAll, ref_at}
 use Rattle.bb_sym.proofs.FunctionTables.{table_same, combined-table, constant-table}
 use Rattle.bb_sym.proofs.MadeLemmas.{Makes-none, Makes-more, refused_more}
 

@@ -5,10 +5,10 @@ use Rattle.bb_net.specs.Netlists.{Netlist}
 use Rattle.bb_net.specs.Values.{bit_of}
 use Rattle.bb_net.specs.Pairs.{NetPair, IsPair}
 use Rattle.bb_uniq.specs.declared.store.Ref.{Ref}
-use Rattle.bb_uniq.specs.Nodes.{NodeStore}
+use Rattle.bb_uniq.specs.Inside.Nodes.{NodeStore}
 use Rattle.bb_sym.specs.Functions.{spec_bit, known_tables, high, low, mismatches, symbolic_functions}
 use Rattle.bb_sym.specs.Plain.{Reading, AreVariables, IsReadSo, cell_bit, table, tables, variables, places, outputs}
-use Rattle.bb_sym.specs.Made.{Makes, AreTooMany, StandForAll, HaveKnown}
+use Rattle.bb_sym.specs.Inside.Made.{Makes, AreTooMany, StandForAll, HaveKnown}
 use Rattle.bb_sym.proofs.MadeLemmas.{within_append_left, too_many_within, too_many_then, Makes-then, StandForAll-kept}
 use Rattle.bb_sym.proofs.PlainCells.{no_pin}
 

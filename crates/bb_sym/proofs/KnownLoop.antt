@@ -5,11 +5,11 @@ use Rattle.bb_bits.specs.Truth.{Truth}
 use Rattle.bb_net.specs.declared.cell.Cell.{Cell}
 use Rattle.bb_net.specs.Netlists.{Netlist, Pins, IsNetlist, ReadsBefore, cell_at}
 use Rattle.bb_uniq.specs.declared.store.Ref.{Ref}
-use Rattle.bb_uniq.specs.Nodes.{NodeStore}
-use Rattle.bb_uniq.specs.Meaning.{truth_of}
+use Rattle.bb_uniq.specs.Inside.Nodes.{NodeStore}
+use Rattle.bb_uniq.specs.Inside.Meaning.{truth_of}
 use Rattle.bb_sym.specs.Functions.{high, low, known_tables, cell_tables}
 use Rattle.bb_sym.specs.Plain.{places}
-use Rattle.bb_sym.specs.Made.{Makes, AreTooMany, StandsFor, StandForAll, known_one_table, known_zero_table, ref_at}
+use Rattle.bb_sym.specs.Inside.Made.{Makes, AreTooMany, StandsFor, StandForAll, known_one_table, known_zero_table, ref_at}
 use Rattle.bb_sym.proofs.MadeLemmas.{StandForAll-push}
 use Rattle.bb_sym.proofs.OutputLoop.{flat_makes, flat_refused}
 use Rattle.bb_sym.proofs.PairLemmas.{stands_same}

@@ -6,13 +6,13 @@ use Rattle.bb_net.specs.Agreement.{IsVector, wanted_bit}
 use Rattle.bb_net.specs.Conditions.{IsKnownWrong, MayBeRight, MayBeRightEverywhere}
 use Rattle.bb_net.specs.Ternary.{tern, tern_of}
 use Rattle.bb_uniq.specs.declared.store.Ref.{Ref}
-use Rattle.bb_uniq.specs.Nodes.{NodeStore}
-use Rattle.bb_uniq.specs.Meaning.{truth_of}
-use Rattle.bb_quant.specs.LeastPoints.{IsLeastPoint}
+use Rattle.bb_uniq.specs.Inside.Nodes.{NodeStore}
+use Rattle.bb_uniq.specs.Inside.Meaning.{truth_of}
+use Rattle.bb_quant.specs.Inside.LeastPoints.{IsLeastPoint}
 use Rattle.bb_sym.specs.Functions.{is_one, is_zero, known_one, known_zero, spec_bit, high, low, sum_table, mismatch}
 use Rattle.bb_sym.specs.Plain.{Function, table}
 use Rattle.bb_sym.specs.Finds.{IsLeastVector, IsFirstFound}
-use Rattle.bb_sym.specs.Made.{IsNowhereTrue, StandForAll, ref_at}
+use Rattle.bb_sym.specs.Inside.Made.{IsNowhereTrue, StandForAll, ref_at}
 use Rattle.bb_sym.proofs.FunctionTables.{truth_at-table, combined-table}
 use Rattle.bb_sym.proofs.KnownTables.{sum-table}
 use Rattle.bb_sym.proofs.LeastVectors.{bit_cases}

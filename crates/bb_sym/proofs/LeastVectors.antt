@@ -3,9 +3,9 @@ use Rattle.std.proofs.Common.{◌≡◌, ◌<◌, ◌≤◌, ℕ, zero, suc, ◌
 use Rattle.std.proofs.lemmas.List.{length-replicate}
 use Rattle.bb_bits.specs.Numbers.{number_of}
 use Rattle.bb_bits.specs.Truth.{Truth, IsTruthTable, truth_at, quantified_block}
-use Rattle.bb_bits.specs.TruthLaws.{QuantifierLaws}
+use Rattle.bb_bits.specs.Laws.TruthLaws.{QuantifierLaws}
 use Rattle.bb_net.specs.Netlists.{Netlist}
-use Rattle.bb_quant.specs.LeastPoints.{IsLeastPoint}
+use Rattle.bb_quant.specs.Inside.LeastPoints.{IsLeastPoint}
 use Rattle.bb_sym.specs.Plain.{Function, table}
 use Rattle.bb_sym.specs.Finds.{IsLeastVector}
 use Rattle.bb_sym.proofs.FunctionTables.{truth_at-table, table_size}

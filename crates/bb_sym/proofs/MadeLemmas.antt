@@ -10,9 +10,9 @@ use Rattle.bb_bits.specs.Truth.{Truth, IsBeadOf, IsBeadOfAny, constant}
 use Rattle.bb_bits.specs.TruthSets.{HasMoreThan}
 use Rattle.bb_uniq.specs.declared.store.Ref.{Ref}
 use Rattle.bb_uniq.specs.Laws.{StoreLaws, GrowthLaws}
-use Rattle.bb_uniq.specs.Nodes.{NodeStore, IsStore, IsRef}
-use Rattle.bb_uniq.specs.Meaning.{IsHeldWith, Keeps, Adds, IsTooMany}
-use Rattle.bb_sym.specs.Made.{IsHeldWithAny, Makes, AreTooMany, StandsFor, StandForAll, AreRefs, ref_at}
+use Rattle.bb_uniq.specs.Inside.Nodes.{NodeStore, IsStore, IsRef}
+use Rattle.bb_uniq.specs.Inside.Meaning.{IsHeldWith, Keeps, Adds, IsTooMany}
+use Rattle.bb_sym.specs.Inside.Made.{IsHeldWithAny, Makes, AreTooMany, StandsFor, StandForAll, AreRefs, ref_at}
 
 -- every bead of the first list is one of the second
 abbrev pub AreWithin : List Truth → List Truth → Type 0

@@ -4,11 +4,11 @@ use Rattle.bb_bits.specs.Truth.{Truth, complement}
 use Rattle.bb_net.specs.Netlists.{Netlist}
 use Rattle.bb_net.specs.Pairs.{NetPair, IsPair}
 use Rattle.bb_uniq.specs.declared.store.Ref.{Ref}
-use Rattle.bb_uniq.specs.Nodes.{NodeStore, IsRef}
-use Rattle.bb_uniq.specs.Meaning.{truth_of, Keeps, Adds}
+use Rattle.bb_uniq.specs.Inside.Nodes.{NodeStore, IsRef}
+use Rattle.bb_uniq.specs.Inside.Meaning.{truth_of, Keeps, Adds}
 use Rattle.bb_sym.specs.Functions.{spec_bit, high, low, wanted, mismatch, mismatches, sum_table, sum_tables}
 use Rattle.bb_sym.specs.Plain.{table}
-use Rattle.bb_sym.specs.Made.{Makes, AreTooMany, StandsFor, HaveKnown}
+use Rattle.bb_sym.specs.Inside.Made.{Makes, AreTooMany, StandsFor, HaveKnown}
 use Rattle.bb_sym.proofs.MadeLemmas.{StandForAll-kept}
 use Rattle.bb_sym.proofs.OutputLoop.{rest_refused, first_makes}
 use Rattle.bb_sym.proofs.PairLemmas.{same_four, stands_same}

@@ -5,10 +5,10 @@ use Rattle.std.proofs.lemmas.Simd.{map-map}
 use Rattle.bb_bits.specs.Truth.{Truth}
 use Rattle.bb_net.specs.Netlists.{Netlist, IsNetlist, cell_at}
 use Rattle.bb_uniq.specs.declared.store.Ref.{Ref}
-use Rattle.bb_uniq.specs.Nodes.{NodeStore}
-use Rattle.bb_uniq.specs.Meaning.{truth_of, Adds, IsTooMany}
+use Rattle.bb_uniq.specs.Inside.Nodes.{NodeStore}
+use Rattle.bb_uniq.specs.Inside.Meaning.{truth_of, Adds, IsTooMany}
 use Rattle.bb_sym.specs.Plain.{Reading, AreVariables, IsReadSo, cell_bit, table, tables, places}
-use Rattle.bb_sym.specs.Made.{Makes, AreTooMany, StandForAll, cell_table, ref_at}
+use Rattle.bb_sym.specs.Inside.Made.{Makes, AreTooMany, StandForAll, cell_table, ref_at}
 use Rattle.bb_sym.proofs.MadeLemmas.{Makes-more, refused_more, StandForAll-push, StandsFor-added}
 use Rattle.bb_sym.proofs.CellTables.{ValueExists, cell_table-is}
 

@@ -2,9 +2,9 @@
 use Rattle.std.proofs.Common.{◌≡◌, ◌<◌, ℕ, zero, suc, ◌+◌, ◌-◌, List, [], ◌∷◌, ◌++◌, sym, ap, ap₂, ◌∙◌, subst, arith, append_assoc, append-nil}
 use Rattle.std.specs.List.{flat_map, range_with_len}
 use Rattle.bb_bits.specs.Truth.{Truth}
-use Rattle.bb_uniq.specs.Nodes.{NodeStore}
-use Rattle.bb_uniq.specs.Meaning.{Adds, IsTooMany}
-use Rattle.bb_sym.specs.Made.{Makes, AreTooMany}
+use Rattle.bb_uniq.specs.Inside.Nodes.{NodeStore}
+use Rattle.bb_uniq.specs.Inside.Meaning.{Adds, IsTooMany}
+use Rattle.bb_sym.specs.Inside.Made.{Makes, AreTooMany}
 use Rattle.bb_sym.proofs.MadeLemmas.{Makes-then, Makes-one, too_many_within, too_many_then, too_many_one, within_append_left}
 
 -- the lists of the first numbers and of those behind

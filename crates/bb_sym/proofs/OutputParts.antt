@@ -4,11 +4,11 @@ use Rattle.bb_bits.specs.Truth.{Truth, quantified_block}
 use Rattle.bb_net.specs.Netlists.{Netlist}
 use Rattle.bb_net.specs.Values.{output_pins}
 use Rattle.bb_uniq.specs.declared.store.Ref.{Ref}
-use Rattle.bb_uniq.specs.Nodes.{NodeStore}
-use Rattle.bb_uniq.specs.Meaning.{truth_of}
+use Rattle.bb_uniq.specs.Inside.Nodes.{NodeStore}
+use Rattle.bb_uniq.specs.Inside.Meaning.{truth_of}
 use Rattle.bb_sym.specs.Functions.{plain_functions, is_wrong, some_wrong, first_some_wrong, all_always_wrong, inputs_and_pins, for_all_pins, output_functions}
 use Rattle.bb_sym.specs.Plain.{block_functions, table, tables, outputs}
-use Rattle.bb_sym.specs.Made.{Makes, AreTooMany, StandsFor}
+use Rattle.bb_sym.specs.Inside.Made.{Makes, AreTooMany, StandsFor}
 use Rattle.bb_sym.proofs.MadeLemmas.{Makes-then, too_many_within, too_many_then, within_append_left}
 
 -- where each output is wrong, and where one of the first is

@@ -2,9 +2,9 @@
 use Rattle.std.proofs.Common.{◌≡◌, List, [], ◌∷◌, ◌++◌, ap₂, subst, ◌∙◌}
 use Rattle.bb_bits.specs.Truth.{Truth}
 use Rattle.bb_uniq.specs.declared.store.Ref.{Ref}
-use Rattle.bb_uniq.specs.Nodes.{NodeStore}
-use Rattle.bb_uniq.specs.Meaning.{Adds, IsTooMany}
-use Rattle.bb_sym.specs.Made.{Makes, AreTooMany, StandsFor}
+use Rattle.bb_uniq.specs.Inside.Nodes.{NodeStore}
+use Rattle.bb_uniq.specs.Inside.Meaning.{Adds, IsTooMany}
+use Rattle.bb_sym.specs.Inside.Made.{Makes, AreTooMany, StandsFor}
 use Rattle.bb_sym.proofs.MadeLemmas.{Makes-then, Makes-one, too_many_then, too_many_one}
 use Rattle.bb_sym.proofs.OutputLoop.{rest_refused, first_makes}
 

@@ -6,9 +6,9 @@ use Rattle.bb_bits.specs.Truth.{Truth}
 use Rattle.bb_net.specs.Netlists.{Netlist, IsNetlist}
 use Rattle.bb_net.specs.Pairs.{NetPair, IsPair}
 use Rattle.bb_uniq.specs.declared.store.Ref.{Ref}
-use Rattle.bb_uniq.specs.Nodes.{NodeStore, IsRef}
+use Rattle.bb_uniq.specs.Inside.Nodes.{NodeStore, IsRef}
 use Rattle.bb_sym.specs.Plain.{Reading, cell_bit, without_pins, table}
-use Rattle.bb_sym.specs.Made.{AreRefs, StandsFor, StandForAll, AreCells, HaveCells, ref_at}
+use Rattle.bb_sym.specs.Inside.Made.{AreRefs, StandsFor, StandForAll, AreCells, HaveCells, ref_at}
 
 picked_at : (refs : List Ref) (places : List ℕ) (j : ℕ) → j < length places → ref_at (map (ref_at refs) places) j ≡ ref_at refs (slice_index places j)
 picked_at refs places j l = get_or-map (ref_at refs) places j 0 (record { 0 = 0 }) l

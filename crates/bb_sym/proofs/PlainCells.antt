@@ -7,10 +7,10 @@ use Rattle.bb_net.specs.Netlists.{Netlist, Pins, box_at}
 use Rattle.bb_net.specs.Values.{output_pins}
 use Rattle.bb_net.specs.Pairs.{NetPair, IsPair, pin_count}
 use Rattle.bb_uniq.specs.declared.store.Ref.{Ref}
-use Rattle.bb_uniq.specs.Nodes.{NodeStore}
+use Rattle.bb_uniq.specs.Inside.Nodes.{NodeStore}
 use Rattle.bb_sym.specs.Functions.{inputs_and_pins}
 use Rattle.bb_sym.specs.Plain.{Reading, AreVariables, IsReadSo, cell_bit, without_pins, plain_functions_at, table, tables, variables, places}
-use Rattle.bb_sym.specs.Made.{Makes, AreTooMany, StandForAll, HaveCells}
+use Rattle.bb_sym.specs.Inside.Made.{Makes, AreTooMany, StandForAll, HaveCells}
 use Rattle.bb_sym.proofs.MadeLemmas.{within_append_left, too_many_within, too_many_then, Makes-then, StandForAll-kept}
 
 pub few_variables : (p : NetPair) → IsPair p → inputs_and_pins p.imp ≤ 2048

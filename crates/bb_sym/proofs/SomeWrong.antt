@@ -3,15 +3,15 @@ use Rattle.std.proofs.Common.{◌≡◌, ◌<◌, ℕ, zero, suc, ◌+◌, Bool,
 use Rattle.std.specs.List.{list_any, range_with_len}
 use Rattle.std.proofs.lemmas.List.FromFn.{length-range_with_len, get_or-range_with_len}
 use Rattle.std.proofs.lemmas.List.Folds.{list_any_at}
-use Rattle.bb_bits.specs.TruthLaws.{QuantifierLaws}
+use Rattle.bb_bits.specs.Laws.TruthLaws.{QuantifierLaws}
 use Rattle.bb_net.specs.Netlists.{Netlist}
 use Rattle.bb_net.specs.Values.{flat, output_pins}
 use Rattle.bb_net.specs.Agreement.{wanted_bit, out_bit}
 use Rattle.bb_net.specs.Conditions.{HasAlwaysWrong, AllSometimesRight}
-use Rattle.bb_quant.specs.LeastPoints.{IsLeastPoint}
+use Rattle.bb_quant.specs.Inside.LeastPoints.{IsLeastPoint}
 use Rattle.bb_sym.specs.Functions.{is_wrong, some_wrong, all_always_wrong, inputs_and_pins}
 use Rattle.bb_sym.specs.Finds.{IsLeastVector}
-use Rattle.bb_sym.specs.Made.{IsNowhereTrue}
+use Rattle.bb_sym.specs.Inside.Made.{IsNowhereTrue}
 use Rattle.bb_sym.proofs.LeastVectors.{least_inputs, one_of_none, bit_cases, never_both}
 use Rattle.bb_sym.proofs.WrongOutputs.{wrong_bit, xor_differ, differ_xor, xor_same}
 

@@ -1,18 +1,18 @@
 -- what a check that quantifies the output pins finds, as a condition on vectors
 use Rattle.std.proofs.Common.{◌≡◌, ◌≢◌, ◌<◌, ℕ, zero, suc, Bool, true, false, List, [], ◌∷◌, ◌++◌, length, take, drop, refl, sym, ap, ap₂, ◌∙◌, subst, subst₂, arith, append-nil, slice_index}
 use Rattle.bb_bits.specs.Bits.{xor}
-use Rattle.bb_bits.specs.TruthLaws.{QuantifierLaws}
+use Rattle.bb_bits.specs.Laws.TruthLaws.{QuantifierLaws}
 use Rattle.bb_net.specs.Netlists.{Netlist}
 use Rattle.bb_net.specs.Values.{bit_of, flat, output_pins}
 use Rattle.bb_net.specs.Agreement.{IsVector, out_bit, wanted_bit}
 use Rattle.bb_net.specs.Conditions.{IsAlwaysWrong, EachSometimesRight}
 use Rattle.bb_uniq.specs.declared.store.Ref.{Ref}
-use Rattle.bb_uniq.specs.Nodes.{NodeStore}
-use Rattle.bb_uniq.specs.Meaning.{truth_of}
-use Rattle.bb_quant.specs.LeastPoints.{IsLeastPoint}
+use Rattle.bb_uniq.specs.Inside.Nodes.{NodeStore}
+use Rattle.bb_uniq.specs.Inside.Meaning.{truth_of}
+use Rattle.bb_quant.specs.Inside.LeastPoints.{IsLeastPoint}
 use Rattle.bb_sym.specs.Functions.{is_wrong, always_wrong, inputs_and_pins}
 use Rattle.bb_sym.specs.Finds.{IsLeastVector, IsFirstFound, IsSometimesRight}
-use Rattle.bb_sym.specs.Made.{IsNowhereTrue, StandForAll, ref_at}
+use Rattle.bb_sym.specs.Inside.Made.{IsNowhereTrue, StandForAll, ref_at}
 use Rattle.bb_sym.proofs.LeastVectors.{least_inputs, one_of_none}
 
 front : (x w : List Bool) (n : ℕ) → length x ≡ n → take n (x ++ w) ≡ x

@@ -6,10 +6,10 @@ use Rattle.bb_bits.specs.Truth.{Truth, joined}
 use Rattle.bb_net.specs.Netlists.{Netlist, IsNetlist}
 use Rattle.bb_net.specs.Pairs.{NetPair, IsPair}
 use Rattle.bb_uniq.specs.declared.store.Ref.{Ref}
-use Rattle.bb_uniq.specs.Nodes.{NodeStore}
-use Rattle.bb_uniq.specs.Meaning.{truth_of, Keeps}
+use Rattle.bb_uniq.specs.Inside.Nodes.{NodeStore}
+use Rattle.bb_uniq.specs.Inside.Meaning.{truth_of, Keeps}
 use Rattle.bb_sym.specs.Plain.{Reading, table, cell_bit, without_pins, is_wrong_at}
-use Rattle.bb_sym.specs.Made.{StandForAll, HaveCells}
+use Rattle.bb_sym.specs.Inside.Made.{StandForAll, HaveCells}
 use Rattle.bb_sym.proofs.FunctionTables.{combined-table}
 use Rattle.bb_sym.proofs.MadeLemmas.{StandForAll-kept}
 

@@ -6,9 +6,9 @@ use Rattle.bb_bits.specs.TruthSets.{HasMoreThan}
 use Rattle.bb_net.specs.Netlists.{Netlist, IsNetlist}
 use Rattle.bb_net.specs.Values.{bit_of}
 use Rattle.bb_uniq.specs.declared.store.Ref.{Ref}
-use Rattle.bb_uniq.specs.Nodes.{NodeStore, IsStore}
-use Rattle.bb_uniq.specs.Meaning.{Keeps, Adds, IsTooMany}
-use Rattle.bb_sym.specs.Made.{Makes, AreTooMany, AreRefs, StandsFor, StandForAll, HaveCells, ref_at}
+use Rattle.bb_uniq.specs.Inside.Nodes.{NodeStore, IsStore}
+use Rattle.bb_uniq.specs.Inside.Meaning.{Keeps, Adds, IsTooMany}
+use Rattle.bb_sym.specs.Inside.Made.{Makes, AreTooMany, AreRefs, StandsFor, StandForAll, HaveCells, ref_at}
 use Rattle.bb_sym.specs.Functions.{high, low, known_tables}
 use Rattle.bb_sym.specs.Plain.{Function, Reading, table, one_of}
 

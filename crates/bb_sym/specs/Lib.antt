@@ -1,6 +1,5 @@
-pub mod Dependence
 pub mod Finds
 pub mod Functions
 pub mod Laws
-pub mod Made
 pub mod Plain
+pub mod Inside

@@ -7,7 +7,7 @@ ghost use Rattle.bb_net.specs.Conditions.{HasAlwaysWrong, AllSometimesRight};
 ghost use Rattle.bb_net.specs.Values.{output_pins};
 ghost use Rattle.bb_sym.specs.Functions.{output_functions, all_always_wrong};
 ghost use Rattle.bb_sym.specs.Finds.{IsLeastVector};
-ghost use Rattle.bb_sym.specs.Made.{Makes, AreTooMany, StandsFor, StandForAll};
+ghost use Rattle.bb_sym.specs.Inside.Made.{Makes, AreTooMany, StandsFor, StandForAll};
 
 use crate::blocks::quantify_block;
 use crate::differences::some_wrong;

@@ -2,12 +2,12 @@
 
 ghost use Rattle.std.specs.Prelude.{◌≡◌, ◌+◌, ◌<◌, ◌≤◌, false, IfOk, OnOk, IsErrOf};
 ghost use Rattle.bb_bits.specs.Truth.{quantified, quantified_block};
-ghost use Rattle.bb_dd.specs.Results.{quantifier};
-ghost use Rattle.bb_uniq.specs.Nodes.{IsRef};
-ghost use Rattle.bb_uniq.specs.Meaning.{truth_of, Adds, Keeps, IsTooMany};
-ghost use Rattle.bb_sym.specs.Dependence.{IsIndependent};
+ghost use Rattle.bb_dd.specs.Inside.Results.{quantifier};
+ghost use Rattle.bb_uniq.specs.Inside.Nodes.{IsRef};
+ghost use Rattle.bb_uniq.specs.Inside.Meaning.{truth_of, Adds, Keeps, IsTooMany};
+ghost use Rattle.bb_sym.specs.Inside.Dependence.{IsIndependent};
 ghost use Rattle.bb_sym.specs.Plain.{block_functions};
-ghost use Rattle.bb_sym.specs.Made.{Makes, AreTooMany, StandsFor};
+ghost use Rattle.bb_sym.specs.Inside.Made.{Makes, AreTooMany, StandsFor};
 
 use crate::RungFault;
 use crate::variables::variables_of;

@@ -2,12 +2,12 @@
 
 ghost use Rattle.std.specs.Prelude.{if◌then◌else◌, ◌≡◌, ◌+◌, ◌<◌, ◌≤◌, ℕ, [], length, map, IfOk, OnOk, IsErrOf, slice_index_or};
 ghost use Rattle.bb_bits.specs.Truth.{variable};
-ghost use Rattle.bb_uniq.specs.Nodes.{IsRef};
-ghost use Rattle.bb_uniq.specs.Meaning.{truth_of, Adds, Keeps, IsTooMany};
+ghost use Rattle.bb_uniq.specs.Inside.Nodes.{IsRef};
+ghost use Rattle.bb_uniq.specs.Inside.Meaning.{truth_of, Adds, Keeps, IsTooMany};
 ghost use Rattle.bb_net.specs.declared.cell.Cell.TheVariants as cells;
 ghost use Rattle.bb_net.specs.Netlists.{ReadsBefore};
 ghost use Rattle.bb_sym.specs.Plain.{Reading, IsReadSo, AreVariables, cell_bit, places, table, tables, variables, plain_functions_at};
-ghost use Rattle.bb_sym.specs.Made.{Makes, AreTooMany, StandForAll, AreRefs, AreCells, HaveCells, cell_table, ref_at};
+ghost use Rattle.bb_sym.specs.Inside.Made.{Makes, AreTooMany, StandForAll, AreRefs, AreCells, HaveCells, cell_table, ref_at};
 
 use crate::RungFault;
 use bb_dd::{DdFault, Diagrams, Ref};

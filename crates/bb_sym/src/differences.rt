@@ -2,11 +2,11 @@
 
 ghost use Rattle.std.specs.Prelude.{◌≡◌, ◌<◌, ◌++◌, ℕ, All, length, map, IfOk, OnOk, IsErrOf};
 ghost use Rattle.std.specs.List.{range_with_len};
-ghost use Rattle.bb_uniq.specs.Nodes.{IsRef};
-ghost use Rattle.bb_uniq.specs.Meaning.{Adds, Keeps, IsTooMany};
+ghost use Rattle.bb_uniq.specs.Inside.Nodes.{IsRef};
+ghost use Rattle.bb_uniq.specs.Inside.Meaning.{Adds, Keeps, IsTooMany};
 ghost use Rattle.bb_sym.specs.Plain.{Function, Reading, differ, is_wrong_at, one_of, first_of, outputs, table, tables};
 ghost use Rattle.bb_sym.specs.Functions.{inputs_first, is_wrong};
-ghost use Rattle.bb_sym.specs.Made.{Makes, AreTooMany, AreRefs, StandsFor, StandForAll, AreCells, HaveCells, ref_at};
+ghost use Rattle.bb_sym.specs.Inside.Made.{Makes, AreTooMany, AreRefs, StandsFor, StandForAll, AreCells, HaveCells, ref_at};
 
 use crate::RungFault;
 use crate::cells::PlainCells;

@@ -9,7 +9,7 @@ ghost use Rattle.bb_net.specs.Values.{output_pins};
 ghost use Rattle.bb_sym.specs.Functions.{inputs_first, local_functions, always_wrong, wrong_for_all_pins};
 ghost use Rattle.bb_sym.specs.Plain.{outputs};
 ghost use Rattle.bb_sym.specs.Finds.{IsFirstFound, IsSometimesRight};
-ghost use Rattle.bb_sym.specs.Made.{Makes, AreTooMany, StandsFor, StandForAll, HaveCells};
+ghost use Rattle.bb_sym.specs.Inside.Made.{Makes, AreTooMany, StandsFor, StandForAll, HaveCells};
 
 use crate::blocks::quantify_block;
 use crate::cells::PlainCells;

@@ -2,9 +2,9 @@
 
 ghost use Rattle.std.specs.Prelude.{◌≡◌, ℕ, length, map, IfOk, OnOk, IsErrOf};
 ghost use Rattle.std.specs.List.{range_with_len};
-ghost use Rattle.bb_uniq.specs.Meaning.{Keeps};
+ghost use Rattle.bb_uniq.specs.Inside.Meaning.{Keeps};
 ghost use Rattle.bb_sym.specs.Plain.{Function, one_of, first_of, table, tables};
-ghost use Rattle.bb_sym.specs.Made.{Makes, AreTooMany, AreRefs, StandsFor, StandForAll};
+ghost use Rattle.bb_sym.specs.Inside.Made.{Makes, AreTooMany, AreRefs, StandsFor, StandForAll};
 
 use crate::RungFault;
 use bb_dd::{Diagrams, Ref};

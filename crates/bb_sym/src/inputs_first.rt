@@ -3,7 +3,7 @@
 ghost use Rattle.std.specs.Prelude.{◌≡◌, ◌+◌, ◌<◌, ◌≤◌, ℕ, length, take, IfOk, OnOk, IsErrOf, slice_index_or};
 ghost use Rattle.bb_net.specs.Values.{output_pins};
 ghost use Rattle.bb_sym.specs.Functions.{inputs_first, plain_functions, inputs_and_pins};
-ghost use Rattle.bb_sym.specs.Made.{Makes, AreTooMany, AreCells, HaveCells};
+ghost use Rattle.bb_sym.specs.Inside.Made.{Makes, AreTooMany, AreCells, HaveCells};
 
 use crate::RungFault;
 use crate::cells::{PlainCells, plain_cells};

@@ -2,10 +2,10 @@
 
 ghost use Rattle.std.specs.Prelude.{◌<◌, [], ◌∷◌, ◌++◌, IfOk, OnOk, IsErrOf};
 ghost use Rattle.bb_bits.specs.Truth.{variable, complement};
-ghost use Rattle.bb_uniq.specs.Nodes.{IsRef};
-ghost use Rattle.bb_uniq.specs.Meaning.{truth_of};
+ghost use Rattle.bb_uniq.specs.Inside.Nodes.{IsRef};
+ghost use Rattle.bb_uniq.specs.Inside.Meaning.{truth_of};
 ghost use Rattle.bb_sym.specs.Functions.{both, either, sum_table, sum_tables, choice_table, choice_tables};
-ghost use Rattle.bb_sym.specs.Made.{Makes, AreTooMany, StandsFor};
+ghost use Rattle.bb_sym.specs.Inside.Made.{Makes, AreTooMany, StandsFor};
 
 use crate::RungFault;
 use crate::sums::{choice, sum_of_products};

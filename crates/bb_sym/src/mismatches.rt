@@ -3,11 +3,11 @@
 ghost use Rattle.std.specs.Prelude.{◌≡◌, ◌<◌, ◌∷◌, ◌++◌, length, map, IfOk, OnOk, IsErrOf};
 ghost use Rattle.std.specs.List.{flat_map};
 ghost use Rattle.bb_bits.specs.Truth.{complement};
-ghost use Rattle.bb_uniq.specs.Nodes.{IsRef};
-ghost use Rattle.bb_uniq.specs.Meaning.{truth_of};
+ghost use Rattle.bb_uniq.specs.Inside.Nodes.{IsRef};
+ghost use Rattle.bb_uniq.specs.Inside.Meaning.{truth_of};
 ghost use Rattle.bb_sym.specs.Functions.{known_tables, mismatch, mismatches, spec_bit, sum_table, sum_tables};
 ghost use Rattle.bb_sym.specs.Plain.{outputs, places, tables, variables};
-ghost use Rattle.bb_sym.specs.Made.{Makes, AreTooMany, StandsFor, StandForAll, HaveKnown};
+ghost use Rattle.bb_sym.specs.Inside.Made.{Makes, AreTooMany, StandsFor, StandForAll, HaveKnown};
 
 use crate::RungFault;
 use crate::cells::{make_variables, net_cells};

@@ -2,10 +2,10 @@
 
 ghost use Rattle.std.specs.Prelude.{◌≡◌, ◌<◌, ℕ, true, List, Bool, length, IfSome, IfNone};
 ghost use Rattle.bb_bits.specs.Truth.{truth_at};
-ghost use Rattle.bb_uniq.specs.Nodes.{IsRef};
-ghost use Rattle.bb_uniq.specs.Meaning.{truth_of};
-ghost use Rattle.bb_quant.specs.LeastPoints.{IsLeastPoint};
-ghost use Rattle.bb_sym.specs.Made.{ref_at, IsNowhereTrue};
+ghost use Rattle.bb_uniq.specs.Inside.Nodes.{IsRef};
+ghost use Rattle.bb_uniq.specs.Inside.Meaning.{truth_of};
+ghost use Rattle.bb_quant.specs.Inside.LeastPoints.{IsLeastPoint};
+ghost use Rattle.bb_sym.specs.Inside.Made.{ref_at, IsNowhereTrue};
 
 use bb_dd::{Diagrams, Ref};
 use bb_quant::least;

@@ -1,10 +1,10 @@
 //! "`a` and `b`, or `c` and `e`", and the choice by a bit of which it may be known that it is 1 or that it is 0.
 
 ghost use Rattle.std.specs.Prelude.{◌≡◌, IfOk, OnOk, IsErrOf};
-ghost use Rattle.bb_uniq.specs.Nodes.{IsRef};
-ghost use Rattle.bb_uniq.specs.Meaning.{truth_of};
+ghost use Rattle.bb_uniq.specs.Inside.Nodes.{IsRef};
+ghost use Rattle.bb_uniq.specs.Inside.Meaning.{truth_of};
 ghost use Rattle.bb_sym.specs.Functions.{sum_table, sum_tables, choice_table, choice_tables};
-ghost use Rattle.bb_sym.specs.Made.{Makes, AreTooMany, StandsFor};
+ghost use Rattle.bb_sym.specs.Inside.Made.{Makes, AreTooMany, StandsFor};
 
 use crate::RungFault;
 use bb_dd::{Diagrams, Ref};

@@ -6,7 +6,7 @@ ghost use Rattle.bb_bits.specs.TruthSets.{HasMoreThan};
 ghost use Rattle.bb_net.specs.Conditions.{IsKnownWrong, MayBeRight, MayBeRightEverywhere};
 ghost use Rattle.bb_sym.specs.Functions.{mismatch, symbolic_functions};
 ghost use Rattle.bb_sym.specs.Finds.{IsFirstFound};
-ghost use Rattle.bb_sym.specs.Made.{Makes, AreTooMany, StandForAll};
+ghost use Rattle.bb_sym.specs.Inside.Made.{Makes, AreTooMany, StandForAll};
 
 use crate::mismatches::{input_cells, known_wrong_outputs};
 use crate::searching::first_true;

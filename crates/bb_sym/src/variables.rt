@@ -1,9 +1,9 @@
 //! The variables on which a diagram depends, by one walk that goes through each node once.
 
 ghost use Rattle.std.specs.Prelude.{◌≡◌, ◌<◌, ◌+◌, ◌≤◌, ℕ, true, false, length, slice_index_or, IfOk};
-ghost use Rattle.bb_uniq.specs.Nodes.{IsRef};
-ghost use Rattle.bb_uniq.specs.Meaning.{truth_of};
-ghost use Rattle.bb_sym.specs.Dependence.{DependsAtMost, AreSeen};
+ghost use Rattle.bb_uniq.specs.Inside.Nodes.{IsRef};
+ghost use Rattle.bb_uniq.specs.Inside.Meaning.{truth_of};
+ghost use Rattle.bb_sym.specs.Inside.Dependence.{DependsAtMost, AreSeen};
 
 use bb_bits::{NoMemory, truth};
 use bb_dd::{Diagrams, Ref, View};

@@ -5,7 +5,7 @@ use Rattle.std.proofs.lemmas.List.{length-take-le, get_or_default, length-map}
 use Rattle.bb_net.specs.Netlists.{Netlist}
 use Rattle.bb_net.specs.Agreement.{IsOutput}
 use Rattle.bb_net.specs.Conditions.{MayBeRight, IsKnownWrong, MayBeRightAmong, IsFirstHit}
-use Rattle.bb_tern.specs.Lanes.{pattern_at, IsHitAt, NoneIsHit}
+use Rattle.bb_tern.specs.Inside.Lanes.{pattern_at, IsHitAt, NoneIsHit}
 
 -- no pattern below a number is a hit
 abbrev pub NoneBelow : Netlist → Netlist → List (List Bool) → ℕ → Type 0

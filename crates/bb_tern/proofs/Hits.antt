@@ -11,7 +11,7 @@ use Rattle.bb_net.specs.Ternary.{tern_of, tern}
 use Rattle.bb_net.specs.Conditions.{MayBeRight}
 use Rattle.bb_net.specs.Agreement.{IsOutput}
 use Rattle.bb_tern.specs.declared.lanes.Known.{Known}
-use Rattle.bb_tern.specs.Lanes.{lane, AreBitsOf, is_known_wrong, wrong_at, TellsAll, FindsFirst, pattern_at, AreFilled, IsHitAt}
+use Rattle.bb_tern.specs.Inside.Lanes.{lane, AreBitsOf, is_known_wrong, wrong_at, TellsAll, FindsFirst, pattern_at, AreFilled, IsHitAt}
 use Rattle.bb_tern.proofs.LaneLemmas.{lane_zero}
 
 -- without bits for the boxes a box output is 0

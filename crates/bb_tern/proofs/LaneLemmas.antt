@@ -4,7 +4,7 @@ use Rattle.std.specs.Int.{bit_at, bit_not}
 use Rattle.std.proofs.lemmas.Nat.Bits.{bit_at-lt, bit_at_and, bit_at_or, bit_at_xor, bit_at_not, bit_at-zero, bit_at_ones, bit_at_set_same, bit_at_set_other}
 use Rattle.bb_bits.specs.Bits.{xor}
 use Rattle.bb_net.specs.Ternary.{and3, or3, xor3, mux3}
-use Rattle.bb_tern.specs.Lanes.{lane, is_one, is_zero}
+use Rattle.bb_tern.specs.Inside.Lanes.{lane, is_one, is_zero}
 
 -- a digit below 2 is 0 or 1
 by_digits : (P : ℕ → ℕ → Type 0) → P 0 0 → P 0 1 → P 1 0 → P 1 1 → (m n : ℕ) → m < 2 → n < 2 → P m n

@@ -5,7 +5,7 @@ use Rattle.std.proofs.lemmas.Bool.{cases_eq}
 use Rattle.bb_net.specs.declared.cell.Cell.{Cell}
 use Rattle.bb_net.specs.Netlists.{ReadsBefore, cell_at}
 use Rattle.bb_tern.specs.declared.lanes.Known.{Known}
-use Rattle.bb_tern.specs.Lanes.{lane, word_at, known_at, Holds, GivesWord, GivesKnown, AreWords, AreKnowns, wrong_at, TellsWrong}
+use Rattle.bb_tern.specs.Inside.Lanes.{lane, word_at, known_at, Holds, GivesWord, GivesKnown, AreWords, AreKnowns, wrong_at, TellsWrong}
 
 pub words_more : (cells : List Cell) (ins out : List ℕ) (place word : ℕ) → place < length cells → place < length out → ReadsBefore (length ins) [] place (cell_at cells place) →
     GivesWord ins out (cell_at cells place) word → AreWords cells ins out place → AreWords cells ins (set out place word) (place + 1)

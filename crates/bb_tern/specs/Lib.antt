@@ -1,2 +1,2 @@
 pub mod Patterns
-pub mod Lanes
+pub mod Inside

@@ -4,7 +4,7 @@ ghost use Rattle.std.specs.Prelude.{◌≡◌, ◌<◌, ◌^◌, ℕ, Bool, true
 ghost use Rattle.bb_net.specs.Netlists.{ReadsBefore};
 ghost use Rattle.bb_net.specs.Values.{xor};
 ghost use Rattle.bb_net.specs.Ternary.{not3, and3, or3, xor3, mux3};
-ghost use Rattle.bb_tern.specs.Lanes.{lane, Holds, GivesWord, GivesKnown};
+ghost use Rattle.bb_tern.specs.Inside.Lanes.{lane, Holds, GivesWord, GivesKnown};
 
 use bb_net::Cell;
 

@@ -2,7 +2,7 @@
 
 ghost use Rattle.std.specs.Prelude.{◌≡◌, ◌≢◌, ◌<◌, ◌≤◌, ℕ, true, length, map, All, vec_items};
 ghost use Rattle.bb_net.specs.Values.{bit_of};
-ghost use Rattle.bb_tern.specs.Lanes.{lane, pattern_at, HasPattern};
+ghost use Rattle.bb_tern.specs.Inside.Lanes.{lane, pattern_at, HasPattern};
 
 /// Writes the word of each input.
 pub fn pack(patterns: &[Vec<bool>], ins: &mut [u64])

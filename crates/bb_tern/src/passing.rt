@@ -2,7 +2,7 @@
 
 ghost use Rattle.std.specs.Prelude.{◌≡◌, ◌<◌, ◌≤◌, ℕ, Bool, true, false, [], Option, length, map, vec_items, All, IfSome, IfNone};
 ghost use Rattle.bb_net.specs.Netlists.{ReadsBefore, cell_at};
-ghost use Rattle.bb_tern.specs.Lanes.{lane, Holds, AreWords, AreKnowns, is_known_wrong, TellsAll, FindsFirst, HasRoom, AreFilled, IsHitAt, NoneIsHit};
+ghost use Rattle.bb_tern.specs.Inside.Lanes.{lane, Holds, AreWords, AreKnowns, is_known_wrong, TellsAll, FindsFirst, HasRoom, AreFilled, IsHitAt, NoneIsHit};
 
 use crate::lanes::{Known, and_word, cell_known, cell_word, not_word, or_word};
 use crate::packing::pack;

@@ -2,7 +2,7 @@
 
 ghost use Rattle.std.specs.Prelude.{◌≡◌, length, map, vec_items, All, IfOk, IfSome, IfNone};
 ghost use Rattle.bb_net.specs.Conditions.{IsFirstHit, MayBeRightAmong};
-ghost use Rattle.bb_tern.specs.Lanes.{HasRoom, IsHitAt, NoneIsHit};
+ghost use Rattle.bb_tern.specs.Inside.Lanes.{HasRoom, IsHitAt, NoneIsHit};
 
 use crate::lanes::Known;
 use crate::passing::pass;

@@ -5,9 +5,9 @@ use Rattle.std.specs.Prelude.{Contains, IsSomeAnd, slice_get}
 use Rattle.std.specs.List.{flat_map}
 use Rattle.bb_ast.specs.declared.expr.Expr.{Expr}
 use Rattle.bb_ast.specs.Syntax.{Expression, PlainItem, Assign}
-use Rattle.bb_ast.specs.Views.{expression, arm_view}
-use Rattle.bb_names.specs.Checked.{ModuleFacts, syntax}
-use Rattle.bb_expr.specs.Standing.{StandsAt, expressions_in, item_expressions}
+use Rattle.bb_ast.specs.Inside.Views.{expression, arm_view}
+use Rattle.bb_names.specs.Inside.Checked.{ModuleFacts, syntax}
+use Rattle.bb_expr.specs.Inside.Standing.{StandsAt, expressions_in, item_expressions}
 
 none_in_nil : {A : Type 0} (x : A) → Contains [] x → ⊥
 none_in_nil x has = omega (arith, has.1)

@@ -1,8 +1,8 @@
 //! The source that a text reads as.
 
 ghost use Rattle.std.specs.Prelude.{◌≤◌, length, IfOk};
-ghost use Rattle.bb_ast.specs.Views.{source_view};
-ghost use Rattle.bb_names.specs.Checked.{AreFormedAndSmall};
+ghost use Rattle.bb_ast.specs.Inside.Views.{source_view};
+ghost use Rattle.bb_names.specs.Inside.Checked.{AreFormedAndSmall};
 
 use bb_ast::Source;
 use bb_parse::laws::{sources_are_formed, texts_are_long};

@@ -1,9 +1,9 @@
 //! The values of the right sides of a module's assignments, by the steps into which they are lowered.
 
 ghost use Rattle.std.specs.Prelude.{◌≡◌, Contains, IsSomeAnd, slice_get};
-ghost use Rattle.bb_ast.specs.Views.{expression, item_view};
-ghost use Rattle.bb_names.specs.Checked.{syntax};
-ghost use Rattle.bb_expr.specs.Standing.{StandsAt};
+ghost use Rattle.bb_ast.specs.Inside.Views.{expression, item_view};
+ghost use Rattle.bb_names.specs.Inside.Checked.{syntax};
+ghost use Rattle.bb_expr.specs.Inside.Standing.{StandsAt};
 
 use bb_ast::{Body, Expr, Item};
 use bb_expr::{BitStep, Lowered, cells, lower, own_width};

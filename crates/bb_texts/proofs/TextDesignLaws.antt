@@ -24,7 +24,7 @@ use Rattle.bb_parse.specs.Sources.{IsFault, IsSource, ReadsAs}
 use Rattle.bb_texts.specs.declared.side_fault.SideFault.{SideFault}
 use Rattle.bb_texts.specs.declared.side_fault.SideFault.TheVariants.{Token, Statement, Deep, Unended, Named, Elaborated, NoMemory}
 use Rattle.bb_texts.specs.Refusals.{HasFault}
-use Rattle.bb_texts.specs.SideFaults.{of_parse, of_elab}
+use Rattle.bb_texts.specs.Inside.SideFaults.{of_parse, of_elab}
 use Rattle.bb_texts.specs.TextDesigns.{IsDesignOf, IsSideFault, TextDesignsAreOne, SideFaultsAreOne, NotDesignAndFault, DesignOrFault}
 
 pub text_designs_are_one : TextsReadOnce → TextDesignsAreOne

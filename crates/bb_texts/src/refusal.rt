@@ -2,7 +2,7 @@
 //! as a pair.
 
 ghost use Rattle.std.specs.Prelude.{◌≡◌};
-ghost use Rattle.bb_texts.specs.TextRefusals.{of_spec, of_imp, of_pair};
+ghost use Rattle.bb_texts.specs.Inside.TextRefusals.{of_spec, of_imp, of_pair};
 
 use crate::side_fault::SideFault;
 use bb_match::MatchFault;

@@ -4,10 +4,10 @@
 //! is made.
 
 ghost use Rattle.std.specs.Prelude.{◌≡◌, ◌<◌, ◌⊎◌, ℕ, List, Option, map, length, IfOk, IfErr, MatchResult, option_copied};
-ghost use Rattle.bb_ast.specs.Views.{source_view};
+ghost use Rattle.bb_ast.specs.Inside.Views.{source_view};
 ghost use Rattle.bb_design.specs.Hierarchy.{Design};
 ghost use Rattle.bb_cells.specs.Stands.{StandsFor};
-ghost use Rattle.bb_names.specs.Checked.{syntax};
+ghost use Rattle.bb_names.specs.Inside.Checked.{syntax};
 ghost use Rattle.bb_names.specs.Faults.{IsSound};
 ghost use Rattle.bb_parse.specs.Sources.{ReadsAs};
 ghost use Rattle.bb_texts.specs.declared.limit.TheConstants.{READ_LIMIT};

@@ -37,7 +37,7 @@ impl From<NoMemory> for SideFault {
 
 impl From<LexFault> for SideFault {
     ghost use Rattle.std.specs.Prelude.{◌≡◌};
-    ghost use Rattle.bb_texts.specs.SideFaults.{of_lex};
+    ghost use Rattle.bb_texts.specs.Inside.SideFaults.{of_lex};
 
     ghost from_gives = { λ fault e. e ≡ of_lex fault };
 
@@ -51,7 +51,7 @@ impl From<LexFault> for SideFault {
 
 impl From<ParseFault> for SideFault {
     ghost use Rattle.std.specs.Prelude.{◌≡◌};
-    ghost use Rattle.bb_texts.specs.SideFaults.{of_parse};
+    ghost use Rattle.bb_texts.specs.Inside.SideFaults.{of_parse};
 
     ghost from_gives = { λ fault e. e ≡ of_parse fault };
 
@@ -67,7 +67,7 @@ impl From<ParseFault> for SideFault {
 
 impl From<NameFault> for SideFault {
     ghost use Rattle.std.specs.Prelude.{◌≡◌};
-    ghost use Rattle.bb_texts.specs.SideFaults.{of_name};
+    ghost use Rattle.bb_texts.specs.Inside.SideFaults.{of_name};
 
     ghost from_gives = { λ fault e. e ≡ of_name fault };
 
@@ -81,7 +81,7 @@ impl From<NameFault> for SideFault {
 
 impl From<ElabFault> for SideFault {
     ghost use Rattle.std.specs.Prelude.{◌≡◌};
-    ghost use Rattle.bb_texts.specs.SideFaults.{of_elab};
+    ghost use Rattle.bb_texts.specs.Inside.SideFaults.{of_elab};
 
     ghost from_gives = { λ fault e. e ≡ of_elab fault };
 

@@ -5,8 +5,8 @@ use Rattle.std.proofs.lemmas.Bool.{cases_lt}
 use Rattle.std.proofs.lemmas.Option.{slice_get_read}
 use Rattle.bb_bits.specs.Truth.{Halves}
 use Rattle.bb_uniq.specs.declared.store.Node.{Node}
-use Rattle.bb_uniq.specs.Nodes.{NodeStore, node_at, IsRef, IsBelow, IsStore, IsNew, with_node, view_by}
-use Rattle.bb_uniq.specs.Meaning.{Keeps}
+use Rattle.bb_uniq.specs.Inside.Nodes.{NodeStore, node_at, IsRef, IsBelow, IsStore, IsNew, with_node, view_by}
+use Rattle.bb_uniq.specs.Inside.Meaning.{Keeps}
 use Rattle.bb_uniq.proofs.Tables.{IsWithin, table, table-zero, table-here, table-later, Shape, Here, Later, shape_of, ref_from_within, within_from_ref, node_ref}
 
 slice_get-append : (xs ys : List Node) (k : ℕ) → k < length xs → slice_get (xs ++ ys) k ≡ slice_get xs k

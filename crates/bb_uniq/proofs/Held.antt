@@ -9,8 +9,8 @@ use Rattle.bb_bits.specs.Truth.{Truth, Bit, Halves, IsTruthTable, lifted, IsBead
 use Rattle.bb_bits.specs.TruthSets.{HasSize}
 use Rattle.bb_uniq.proofs.Given.{Given}
 use Rattle.bb_uniq.specs.declared.store.Node.{Node}
-use Rattle.bb_uniq.specs.Nodes.{NodeStore, node_at, IsStore}
-use Rattle.bb_uniq.specs.Meaning.{truth_of, IsHeld}
+use Rattle.bb_uniq.specs.Inside.Nodes.{NodeStore, node_at, IsStore}
+use Rattle.bb_uniq.specs.Inside.Meaning.{truth_of, IsHeld}
 use Rattle.bb_uniq.proofs.Tables.{IsWithin, table, table-zero, table-here, table-lifted, Shape, Here, Later, shape_of, within_from_ref, within_from_below, node_ref, canonical, IsTruthTable-table, option_cases, match_from_some}
 
 -- b is the table of the node r over its own variable and the m that follow

@@ -3,8 +3,8 @@ use Rattle.std.proofs.Common.{◌↔◌, ◌<◌, ◌==◌, ℕ, List, ◌∷◌
 use Rattle.std.specs.Prelude.{All, Contains}
 use Rattle.std.proofs.lemmas.List.Elements.{All-contains, All-weaker}
 use Rattle.bb_bits.specs.Truth.{Truth, Bit, IsBeadOf, IsBeadOfAny, constant}
-use Rattle.bb_uniq.specs.Nodes.{NodeStore, empty_store}
-use Rattle.bb_uniq.specs.Meaning.{truth_of, IsHeldWith, HoldsBeadsOf}
+use Rattle.bb_uniq.specs.Inside.Nodes.{NodeStore, empty_store}
+use Rattle.bb_uniq.specs.Inside.Meaning.{truth_of, IsHeldWith, HoldsBeadsOf}
 use Rattle.bb_uniq.specs.Laws.{StoreLaws, GrowthLaws, StepLaws, SequenceLaws}
 use Rattle.bb_uniq.proofs.Given.{Given}
 use Rattle.bb_uniq.proofs.Tables.{IsTruthTable-table}

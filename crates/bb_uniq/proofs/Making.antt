@@ -7,11 +7,11 @@ use Rattle.std.proofs.lemmas.List.Quantifiers.{all_pairs_push}
 use Rattle.bb_bits.specs.Truth.{Truth, Bit, Halves, IsTruthTable, lifted, constant, variable, chosen, combined, IsBeadOf}
 use Rattle.bb_uniq.proofs.Given.{Given}
 use Rattle.bb_uniq.specs.declared.store.Node.{Node}
-use Rattle.bb_uniq.specs.Nodes.{NodeStore, node_at, IsRef, IsBelow, IsStore, IsNew, Gives, Same, Found, Made, with_node, view_of, view_by}
+use Rattle.bb_uniq.specs.Inside.Nodes.{NodeStore, node_at, IsRef, IsBelow, IsStore, IsNew, Gives, Same, Found, Made, with_node, view_of, view_by}
 use Rattle.bb_uniq.specs.declared.store.View.{View}
-use Rattle.bb_uniq.specs.Places.{IsAbsent, Stands, Before, Last}
+use Rattle.bb_uniq.specs.Inside.Places.{IsAbsent, Stands, Before, Last}
 use Rattle.std.proofs.lemmas.Option.{slice_get_within}
-use Rattle.bb_uniq.specs.Meaning.{truth_of, IsHeld, IsHeldWith, Keeps, Adds, IsTooMany, branch, ViewMeans, table_of}
+use Rattle.bb_uniq.specs.Inside.Meaning.{truth_of, IsHeld, IsHeldWith, Keeps, Adds, IsTooMany, branch, ViewMeans, table_of}
 use Rattle.bb_uniq.proofs.Tables.{table, table-here, table-none, table-zero, ref_node, table-lifted, within_from_ref, within_from_below, node_ref, canonical, IsTruthTable-table}
 use Rattle.bb_uniq.proofs.Growth.{Keeps-grown, Keeps-same, IsStore-with_node, node_at_push, node_at-last, table-grown, below_ref}
 use Rattle.bb_uniq.proofs.Held.{HeldAt, held_from_at, at_from_held, within_own, one_depth, size_of_held, bead_of_at}

@@ -7,8 +7,8 @@ use Rattle.std.proofs.lemmas.Bool.{cases_lt, cases_eq}
 use Rattle.std.proofs.lemmas.Nat.{pow_pos, div-mul-add, mod-mul-add}
 use Rattle.std.proofs.lemmas.List.{get_or-set_same, get_or-set_other, length-replicate, length-set}
 use Rattle.bb_uniq.specs.declared.store.Node.{Node}
-use Rattle.bb_uniq.specs.Places.{IsAbsent}
-use Rattle.bb_uniq.specs.Probes.{hash_of, place_after, mark_of, at_place, taken, IsMet, ArePlaces}
+use Rattle.bb_uniq.specs.Inside.Places.{IsAbsent}
+use Rattle.bb_uniq.specs.Inside.Probes.{hash_of, place_after, mark_of, at_place, taken, IsMet, ArePlaces}
 
 -- a sum in the word, whose parts were cut to the word before
 pub sum_in_word : (a b c m : ℕ) → ((a % m + b % m) % m + c % m) % m ≡ (a + b + c) % m

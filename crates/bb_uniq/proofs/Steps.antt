@@ -3,9 +3,9 @@ use Rattle.std.proofs.Common.{◌≡◌, ℕ, suc, ◌+◌, refl, sym, ap, ap₂
 use Rattle.std.proofs.lemmas.List.Elements.{All-weaker}
 use Rattle.bb_bits.specs.Truth.{Truth, Halves, IsTruthTable, lifted, chosen, variable, IsBeadOf}
 use Rattle.bb_uniq.proofs.Given.{Given}
-use Rattle.bb_uniq.specs.Nodes.{NodeStore, IsRef, IsBelow, IsStore}
-use Rattle.bb_uniq.specs.Meaning.{truth_of, IsHeld, IsHeldWith, Adds, IsTooMany, branch}
-use Rattle.bb_uniq.specs.Cofactors.{AreCofactors, IsReady}
+use Rattle.bb_uniq.specs.Inside.Nodes.{NodeStore, IsRef, IsBelow, IsStore}
+use Rattle.bb_uniq.specs.Inside.Meaning.{truth_of, IsHeld, IsHeldWith, Adds, IsTooMany, branch}
+use Rattle.bb_uniq.specs.Inside.Cofactors.{AreCofactors, IsReady}
 use Rattle.bb_uniq.proofs.Tables.{IsWithin, table, table-lifted, within_from_ref, within_from_below, below_from_within, IsTruthTable-table, settled}
 use Rattle.bb_uniq.proofs.Growth.{Keeps-then}
 use Rattle.bb_uniq.proofs.Making.{adds, table-branch, chosen-variable}

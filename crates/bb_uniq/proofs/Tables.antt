@@ -5,8 +5,8 @@ use Rattle.std.proofs.lemmas.Bool.{cases_eq, eq-eqb, ne_eqb, cond_both, cond-tru
 use Rattle.std.proofs.lemmas.Option.{slice_get_within}
 use Rattle.bb_bits.specs.Truth.{Truth, Bit, Halves, IsTruthTable, lifted}
 use Rattle.bb_uniq.specs.declared.store.Node.{Node}
-use Rattle.bb_uniq.specs.Nodes.{NodeStore, node_at, IsRef, IsBelow, IsStore}
-use Rattle.bb_uniq.specs.Meaning.{halves_by, table_of}
+use Rattle.bb_uniq.specs.Inside.Nodes.{NodeStore, node_at, IsRef, IsBelow, IsStore}
+use Rattle.bb_uniq.specs.Inside.Meaning.{halves_by, table_of}
 
 pub option_cases : {X : Type 0} (o : Option X) → (o ≡ None) ⊎ ((x : X) × (o ≡ Some x))
 option_cases None = inl refl

@@ -5,9 +5,9 @@ use Rattle.std.proofs.lemmas.Bool.{cases_eq, eq-eqb, ne_eqb, cond-true, cond-fal
 use Rattle.bb_uniq.specs.declared.store.Node.{Node}
 use Rattle.bb_uniq.specs.declared.store.View.{View}
 use Rattle.bb_uniq.specs.declared.store.View.TheVariants as seen
-use Rattle.bb_uniq.specs.Nodes.{NodeStore, node_at, view_by, view_of, IsRef, IsBelow, IsStore}
-use Rattle.bb_uniq.specs.Meaning.{ViewMeans}
-use Rattle.bb_uniq.specs.Cofactors.{variable_seen, top_of, lo_seen, hi_seen, AreCofactors}
+use Rattle.bb_uniq.specs.Inside.Nodes.{NodeStore, node_at, view_by, view_of, IsRef, IsBelow, IsStore}
+use Rattle.bb_uniq.specs.Inside.Meaning.{ViewMeans}
+use Rattle.bb_uniq.specs.Inside.Cofactors.{variable_seen, top_of, lo_seen, hi_seen, AreCofactors}
 use Rattle.bb_uniq.proofs.Given.{Given}
 use Rattle.bb_uniq.proofs.Tables.{ref_node, match_from_none, match_from_some}
 use Rattle.bb_uniq.proofs.Making.{view_means}

@@ -5,8 +5,8 @@ use Rattle.bb_uniq.specs.declared.store.Node.{Node}
 use Rattle.bb_uniq.specs.declared.store.Ref.{Ref}
 use Rattle.bb_uniq.specs.declared.store.View.{View}
 use Rattle.bb_uniq.specs.declared.store.View.TheVariants as seen
-use Rattle.bb_uniq.specs.Nodes.{NodeStore, node_at, view_by, view_of, IsRef, IsStore}
-use Rattle.bb_uniq.specs.Meaning.{truth_of, branch}
+use Rattle.bb_uniq.specs.Inside.Nodes.{NodeStore, node_at, view_by, view_of, IsRef, IsStore}
+use Rattle.bb_uniq.specs.Inside.Meaning.{truth_of, branch}
 use Rattle.bb_uniq.proofs.Given.{Given}
 use Rattle.bb_uniq.proofs.Tables.{IsTruthTable-table, ref_node}
 

@@ -5,9 +5,9 @@ use Rattle.bb_bits.specs.Truth.{Truth, Halves, IsTruthTable, truth_at, lifted, c
 use Rattle.bb_bits.specs.TruthSets.{HasMoreThan, HasAtMost}
 use Rattle.bb_uniq.specs.declared.store.Ref.{Ref}
 use Rattle.bb_uniq.specs.declared.store.View.TheVariants as seen
-use Rattle.bb_uniq.specs.Nodes.{NodeStore, IsStore, IsRef, IsBelow, view_of, empty_store}
-use Rattle.bb_uniq.specs.Meaning.{truth_of, branch, IsHeld, HoldsBeadsOf, Keeps, Adds, IsTooMany, ViewMeans}
-use Rattle.bb_uniq.specs.Cofactors.{top_of, lo_seen, hi_seen, AreCofactors, IsReady}
+use Rattle.bb_uniq.specs.Inside.Nodes.{NodeStore, IsStore, IsRef, IsBelow, view_of, empty_store}
+use Rattle.bb_uniq.specs.Inside.Meaning.{truth_of, branch, IsHeld, HoldsBeadsOf, Keeps, Adds, IsTooMany, ViewMeans}
+use Rattle.bb_uniq.specs.Inside.Cofactors.{top_of, lo_seen, hi_seen, AreCofactors, IsReady}
 
 -- one store
 pub record StoreLaws : Type 0 where

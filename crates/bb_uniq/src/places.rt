@@ -4,8 +4,8 @@
 ghost use Rattle.std.specs.Prelude.{◌≡◌, ◌≢◌, ◌<◌, ◌≤◌, ◌+◌, ◌*◌, ◌/◌, ◌%◌, ◌^◌, ℕ, ◌∷◌, ◌++◌, [], true, length, replicate, slice_get, Some, IfSome, IfNone, IfOk, max, vec_capacity};
 ghost use Rattle.std.specs.Int.{IsPowerOfTwo};
 ghost use Rattle.bb_uniq.specs.declared.store.Node.{Node as Triple};
-ghost use Rattle.bb_uniq.specs.Places.{IsAbsent};
-ghost use Rattle.bb_uniq.specs.Probes.{hash_of, place_after, mark_of, ArePlaces, HasRoom};
+ghost use Rattle.bb_uniq.specs.Inside.Places.{IsAbsent};
+ghost use Rattle.bb_uniq.specs.Inside.Probes.{hash_of, place_after, mark_of, ArePlaces, HasRoom};
 
 use crate::store::Node;
 use bb_bits::NoMemory;

@@ -1,9 +1,9 @@
 ghost use Rattle.std.specs.Prelude.{◌≡◌, ◌<◌, ◌≤◌, ℕ, IfOk, OnErr, IsErrOf, length, [], vec_capacity};
 ghost use Rattle.bb_bits.specs.TruthSets.{HasSize};
-ghost use Rattle.bb_uniq.specs.Nodes.{NodeStore, IsRef, IsBelow, view_of, IsStore, IsNew, Gives};
-ghost use Rattle.bb_uniq.specs.Meaning.{IsHeld, Adds, IsTooMany, branch, truth_of, ViewMeans};
-ghost use Rattle.bb_uniq.specs.Places.{Stands, IsAbsent};
-ghost use Rattle.bb_uniq.specs.Probes.{ArePlaces, HasRoom};
+ghost use Rattle.bb_uniq.specs.Inside.Nodes.{NodeStore, IsRef, IsBelow, view_of, IsStore, IsNew, Gives};
+ghost use Rattle.bb_uniq.specs.Inside.Meaning.{IsHeld, Adds, IsTooMany, branch, truth_of, ViewMeans};
+ghost use Rattle.bb_uniq.specs.Inside.Places.{Stands, IsAbsent};
+ghost use Rattle.bb_uniq.specs.Inside.Probes.{ArePlaces, HasRoom};
 
 use crate::places::{find, free_places, make_room, put};
 use bb_bits::{NoMemory, truth};
@@ -79,8 +79,8 @@ pub struct Store {
 
 impl Model for Store {
     ghost use Rattle.std.specs.Prelude.{◌≤◌, length, vec_capacity};
-    ghost use Rattle.bb_uniq.specs.Nodes.{NodeStore, IsStore};
-    ghost use Rattle.bb_uniq.specs.Probes.{ArePlaces, HasRoom};
+    ghost use Rattle.bb_uniq.specs.Inside.Nodes.{NodeStore, IsStore};
+    ghost use Rattle.bb_uniq.specs.Inside.Probes.{ArePlaces, HasRoom};
 
     ghost Value = { NodeStore };
 

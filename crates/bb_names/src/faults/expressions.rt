@@ -2,10 +2,10 @@
 ghost use Rattle.std.specs.Prelude.{◌≡◌, ◌+◌, ◌*◌, ◌++◌, ◌∷◌, [], ◌≤◌, ◌^◌, List, Some, None, map, sum, OnOk, IfOk};
 ghost use Rattle.std.specs.List.{flat_map};
 ghost use Rattle.bb_ast.specs.Syntax.{PlainModule};
-ghost use Rattle.bb_ast.specs.Views.{expression, operand_view, arm_view, module_view};
+ghost use Rattle.bb_ast.specs.Inside.Views.{expression, operand_view, arm_view, module_view};
 ghost use Rattle.bb_names.specs.Declarations.{direction_of, range_of};
 ghost use Rattle.bb_names.specs.Faults.{is_input_port, width_in};
-ghost use Rattle.bb_names.specs.Firsts.{noted, noted_width, use_of, inner_spots, spots_of_part, saturated};
+ghost use Rattle.bb_names.specs.Inside.Firsts.{noted, noted_width, use_of, inner_spots, spots_of_part, saturated};
 ghost use Rattle.bb_names.specs.Ranges.{distance, range_width};
 ghost use Rattle.bb_names.specs.Spots.{Used, is_plain, spots_in};
 ghost use Rattle.bb_names.specs.Widths.{greatest};

@@ -1,7 +1,7 @@
 //! The leftmost fault of each kind in a statement.
 ghost use Rattle.std.specs.Prelude.{◌≡◌, if◌then◌else◌, Some, None, option_map, OnOk};
 ghost use Rattle.std.specs.Option.{option_or};
-ghost use Rattle.bb_names.specs.Firsts.{nothing, first_fault};
+ghost use Rattle.bb_names.specs.Inside.Firsts.{nothing, first_fault};
 
 use crate::fault::NameFault;
 use bb_bits::{Name, NoMemory};

@@ -3,8 +3,8 @@ ghost use Rattle.std.specs.Prelude.{◌≡◌, List, map, min, OnOk};
 ghost use Rattle.std.specs.List.{flat_map};
 ghost use Rattle.bb_ast.specs.Syntax.{PlainModule};
 ghost use Rattle.bb_ast.specs.Gates.{output_count};
-ghost use Rattle.bb_ast.specs.Views.{expression, gate_view, module_view};
-ghost use Rattle.bb_names.specs.Firsts.{noted, terminal_spots};
+ghost use Rattle.bb_ast.specs.Inside.Views.{expression, gate_view, module_view};
+ghost use Rattle.bb_names.specs.Inside.Firsts.{noted, terminal_spots};
 ghost use Rattle.bb_names.specs.Spots.{Read, Driven, gate_spots};
 
 use crate::faults::expressions::look_at_width;

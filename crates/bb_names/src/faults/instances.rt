@@ -3,13 +3,13 @@ ghost use Rattle.std.specs.Prelude.{◌≡◌, ◌≤◌, ◌^◌, ◌++◌, ◌
 ghost use Rattle.std.specs.Option.{option_map_or};
 ghost use Rattle.bb_ast.specs.Syntax.{PlainModule, Order, Named, Calls};
 ghost use Rattle.bb_ast.specs.Assignable.{is_assignable};
-ghost use Rattle.bb_ast.specs.Views.{expression, optional_view, named_view, conns_view, call_view, module_view};
+ghost use Rattle.bb_ast.specs.Inside.Views.{expression, optional_view, named_view, conns_view, call_view, module_view};
 ghost use Rattle.bb_names.specs.Declarations.{Declaration, declared_by, instance_declaration};
 ghost use Rattle.bb_names.specs.Faults.{is_input};
-ghost use Rattle.bb_names.specs.Firsts.{noted, use_of, call_spots, AreSame};
+ghost use Rattle.bb_names.specs.Inside.Firsts.{noted, use_of, call_spots, AreSame};
 ghost use Rattle.bb_bits.specs.Earlier.{has_name};
 ghost use Rattle.bb_names.specs.Spots.{PortName, use_at, joined_spots, conns_spots, place_count, item_spots};
-ghost use Rattle.bb_names.specs.Summaries.{Describes};
+ghost use Rattle.bb_names.specs.Inside.Summaries.{Describes};
 
 use crate::faults::expressions::{look, look_at_width};
 use crate::faults::found::{Found, note};

@@ -2,11 +2,11 @@
 ghost use Rattle.std.specs.Prelude.{◌≡◌, ◌++◌, List, Some, None, Option, map, OnOk};
 ghost use Rattle.std.specs.List.{flat_map};
 ghost use Rattle.bb_ast.specs.Syntax.{PlainModule, Nets};
-ghost use Rattle.bb_ast.specs.Views.{arm_view, optional_view, named_view, body_view, module_view};
+ghost use Rattle.bb_ast.specs.Inside.Views.{arm_view, optional_view, named_view, body_view, module_view};
 ghost use Rattle.bb_names.specs.Declarations.{Declaration, declared_by};
-ghost use Rattle.bb_names.specs.Firsts.{noted};
+ghost use Rattle.bb_names.specs.Inside.Firsts.{noted};
 ghost use Rattle.bb_names.specs.Spots.{Read, Driven, initial_spots, spots_in, item_spots};
-ghost use Rattle.bb_names.specs.Summaries.{Describes};
+ghost use Rattle.bb_names.specs.Inside.Summaries.{Describes};
 
 use crate::faults::expressions::{look, look_at_name};
 use crate::faults::found::Found;

@@ -2,11 +2,11 @@
 ghost use Rattle.std.specs.Prelude.{◌≡◌, ◌++◌, ◌∷◌, [], List, map, take, OnOk};
 ghost use Rattle.std.specs.List.{flat_map};
 ghost use Rattle.bb_ast.specs.Syntax.{PlainHead, PlainModule};
-ghost use Rattle.bb_ast.specs.Views.{module_view, head_view};
+ghost use Rattle.bb_ast.specs.Inside.Views.{module_view, head_view};
 ghost use Rattle.bb_names.specs.Declarations.{Declaration, declared_by_head};
-ghost use Rattle.bb_names.specs.Firsts.{noted, head_spots};
+ghost use Rattle.bb_names.specs.Inside.Firsts.{noted, head_spots};
 ghost use Rattle.bb_names.specs.Spots.{HeadName, Declared as DeclaredSpot, declared_spots};
-ghost use Rattle.bb_names.specs.Summaries.{named, Describes};
+ghost use Rattle.bb_names.specs.Inside.Summaries.{named, Describes};
 ghost use Rattle.bb_bits.specs.Earlier.{each_after};
 
 use crate::faults::found::{Found, note};

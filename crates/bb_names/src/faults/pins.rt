@@ -1,7 +1,7 @@
 //! Ports with a direction, as an instance sees them.
 ghost use Rattle.std.specs.Prelude.{◌≡◌, ◌≤◌, ◌^◌, Some, Option, option_map, IfSome};
 ghost use Rattle.std.specs.Option.{option_and_then};
-ghost use Rattle.bb_ast.specs.Views.{module_view};
+ghost use Rattle.bb_ast.specs.Inside.Views.{module_view};
 ghost use Rattle.bb_names.specs.Spots.{pin_named, pin_at};
 
 use crate::faults::widths::width_of;

@@ -3,8 +3,8 @@ ghost use Rattle.std.specs.Prelude.{◌≡◌, ◌++◌, ◌∷◌, List, Some, 
 ghost use Rattle.std.specs.List.{flat_map};
 ghost use Rattle.bb_ast.specs.Syntax.{PlainModule};
 ghost use Rattle.bb_ast.specs.Names.{names_in};
-ghost use Rattle.bb_ast.specs.Views.{expression, operand_view, arm_view, always_view, module_view};
-ghost use Rattle.bb_names.specs.Firsts.{noted, first_of, register_spots};
+ghost use Rattle.bb_ast.specs.Inside.Views.{expression, operand_view, arm_view, always_view, module_view};
+ghost use Rattle.bb_names.specs.Inside.Firsts.{noted, first_of, register_spots};
 ghost use Rattle.bb_names.specs.Spots.{Read, Clock, spots_in};
 
 use crate::faults::expressions::{look, look_at_width};

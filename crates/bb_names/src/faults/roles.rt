@@ -1,14 +1,14 @@
 //! Role: what may not stand where it stands.
 ghost use Rattle.std.specs.Prelude.{◌≡◌, ◌&&◌, ◌||◌, not, is_some, ℕ, List, Option, map};
 ghost use Rattle.std.specs.List.{list_all};
-ghost use Rattle.bb_ast.specs.Views.{expression};
+ghost use Rattle.bb_ast.specs.Inside.Views.{expression};
 ghost use Rattle.bb_ast.specs.Assignable.{is_assignable};
 ghost use Rattle.bb_ast.specs.Syntax.{PlainModule};
 ghost use Rattle.bb_names.specs.Declarations.{Declaration, kind_of, is_instance, is_port};
 ghost use Rattle.bb_names.specs.Faults.{told_if, declares_reg, declares_supply, is_supply, is_input_port, wrong_role};
-ghost use Rattle.bb_names.specs.Firsts.{use_of};
+ghost use Rattle.bb_names.specs.Inside.Firsts.{use_of};
 ghost use Rattle.bb_names.specs.Spots.{Used, Declared};
-ghost use Rattle.bb_names.specs.Summaries.{named};
+ghost use Rattle.bb_names.specs.Inside.Summaries.{named};
 
 use crate::indexed::NetFacts;
 use crate::net::NetKind;

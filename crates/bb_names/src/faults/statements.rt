@@ -1,12 +1,12 @@
 //! The first fault of a statement and of a module.
 ghost use Rattle.std.specs.Prelude.{◌≡◌, ◌++◌, [], List, Some, None, map, take, slice_get, MatchResult, OnOk};
 ghost use Rattle.std.specs.List.{flat_map};
-ghost use Rattle.bb_ast.specs.Views.{body_view, module_view};
+ghost use Rattle.bb_ast.specs.Inside.Views.{body_view, module_view};
 ghost use Rattle.bb_names.specs.Declarations.{Declaration, declared_by, declared_by_head};
 ghost use Rattle.bb_names.specs.Faults.{statement_faults, module_faults};
-ghost use Rattle.bb_names.specs.Firsts.{noted, first_fault, Answers};
+ghost use Rattle.bb_names.specs.Inside.Firsts.{noted, first_fault, Answers};
 ghost use Rattle.bb_names.specs.Spots.{header_spots, item_spots};
-ghost use Rattle.bb_names.specs.Summaries.{Describes};
+ghost use Rattle.bb_names.specs.Inside.Summaries.{Describes};
 
 use crate::fault::NameFault;
 use crate::faults::found::{Found, note};

@@ -1,10 +1,10 @@
 //! Width: too wide, or not as wide as it has to be.
 ghost use Rattle.std.specs.Prelude.{◌≡◌, ◌+◌, ◌≤◌, ◌^◌, ◌==◌, not, ℕ, List, max, option_map};
 ghost use Rattle.bb_ast.specs.Syntax.{PlainModule};
-ghost use Rattle.bb_ast.specs.Views.{expression};
+ghost use Rattle.bb_ast.specs.Inside.Views.{expression};
 ghost use Rattle.bb_ast.specs.Gates.{gate_bytes};
 ghost use Rattle.bb_names.specs.Faults.{is_no_copy, told_if, width_in, wrong_width};
-ghost use Rattle.bb_names.specs.Firsts.{first_of, saturated};
+ghost use Rattle.bb_names.specs.Inside.Firsts.{first_of, saturated};
 ghost use Rattle.bb_names.specs.Spots.{Whole};
 ghost use Rattle.bb_names.specs.Ranges.{distance, range_width};
 

@@ -1,9 +1,9 @@
 use Rattle.std.proofs.Common.{map}
 use Rattle.std.specs.Prelude.{All}
 use Rattle.std.specs.List.{flat_map}
-use Rattle.bb_ast.specs.Views.{named_view}
+use Rattle.bb_ast.specs.Inside.Views.{named_view}
 use Rattle.bb_design.specs.Constructs.{initial_construct}
-use Rattle.bb_blast.specs.Outlining.{IsMakeable, IsPartAt}
+use Rattle.bb_blast.specs.Inside.Outlining.{IsMakeable, IsPartAt}
 use Rattle.bb_lists.proofs.Turns.{all_here, zip_flat, zip_begin, zip_end}
 use Rattle.bb_blast.proofs.assigning.add_all_declared.Goals as goal
 

@@ -1,8 +1,8 @@
 use Rattle.std.proofs.Common.{map}
-use Rattle.bb_ast.specs.Views.{arm_view}
-use Rattle.bb_expr.specs.Standing.{StandsAt}
+use Rattle.bb_ast.specs.Inside.Views.{arm_view}
+use Rattle.bb_expr.specs.Inside.Standing.{StandsAt}
 use Rattle.bb_design.specs.Constructs.{Assignment}
-use Rattle.bb_blast.specs.Outlining.{IsMakeable, IsPartAt}
+use Rattle.bb_blast.specs.Inside.Outlining.{IsMakeable, IsPartAt}
 use Rattle.bb_lists.proofs.Turns.{all_here, zip_turn, zip_begin, zip_end}
 use Rattle.bb_blast.proofs.assigning.add_assignments.Goals as goal
 

@@ -2,9 +2,9 @@ use Rattle.bb_blast.specs.declared.outline.Part.{Part}
 use Rattle.std.proofs.Common.{◌≡◌, List, ◌++◌, [], ◌∷◌, sym, ap, subst}
 use Rattle.std.specs.List.{AllZip}
 use Rattle.bb_ast.specs.Syntax.{Net}
-use Rattle.bb_ast.specs.Views.{expression, optional_view, named_view}
+use Rattle.bb_ast.specs.Inside.Views.{expression, optional_view, named_view}
 use Rattle.bb_design.specs.Constructs.{Assignment, initial_construct}
-use Rattle.bb_blast.specs.Outlining.{IsPartAt}
+use Rattle.bb_blast.specs.Inside.Outlining.{IsPartAt}
 use Rattle.bb_lists.proofs.Turns.{zip_both}
 use Rattle.bb_blast.proofs.assigning.add_declared.Goals as goal
 

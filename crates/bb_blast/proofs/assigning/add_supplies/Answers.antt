@@ -2,11 +2,11 @@ use Rattle.std.proofs.Common.{map, refl}
 use Rattle.std.specs.Prelude.{slice_get}
 use Rattle.std.proofs.lemmas.Option.{slice_get_within}
 use Rattle.bb_ast.specs.Syntax.{Net}
-use Rattle.bb_names.specs.Checked.{module_facts}
-use Rattle.bb_expr.specs.Fit.{AreFit, IsFit}
+use Rattle.bb_names.specs.Inside.Checked.{module_facts}
+use Rattle.bb_expr.specs.Inside.Fit.{AreFit, IsFit}
 use Rattle.bb_design.specs.Constructs.{SupplyNet}
 use Rattle.bb_design.specs.NetBits.{bits_named}
-use Rattle.bb_blast.specs.Outlining.{IsMakeable, IsPartAt}
+use Rattle.bb_blast.specs.Inside.Outlining.{IsMakeable, IsPartAt}
 use Rattle.bb_blast.proofs.LeftBits.{fit_here}
 use Rattle.bb_blast.proofs.ModulePlaces.{at_some, some_and, bits_meant}
 use Rattle.bb_lists.proofs.Turns.{all_here, zip_next, zip_begin, zip_end}

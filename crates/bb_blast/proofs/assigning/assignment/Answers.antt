@@ -1,6 +1,6 @@
 use Rattle.std.proofs.Common.{ap, ◌∙◌}
-use Rattle.bb_ast.specs.Views.{expression}
-use Rattle.bb_names.specs.Checked.{module_facts}
+use Rattle.bb_ast.specs.Inside.Views.{expression}
+use Rattle.bb_names.specs.Inside.Checked.{module_facts}
 use Rattle.bb_names.specs.Widths.{Ranges, own_width}
 use Rattle.bb_design.specs.NetBits.{written_bits}
 use Rattle.bb_blast.proofs.ModulePlaces.{ranges-are, beside_context, bits_meant}

@@ -2,15 +2,15 @@ use Rattle.std.proofs.Common.{◌≡◌, ◌≤◌, ℕ, List, length, sym, ap, 
 use Rattle.std.specs.Prelude.{max, slice_get, Some}
 use Rattle.std.specs.Vec.{vec_len}
 use Rattle.bb_ast.specs.Syntax.{Expression, Net}
-use Rattle.bb_ast.specs.Views.{expression}
-use Rattle.bb_names.specs.Checked.{ModuleFacts, module_facts, syntax}
+use Rattle.bb_ast.specs.Inside.Views.{expression}
+use Rattle.bb_names.specs.Inside.Checked.{ModuleFacts, module_facts, syntax}
 use Rattle.bb_names.specs.Declarations.{range_of}
 use Rattle.bb_names.specs.Ranges.{range_width}
-use Rattle.bb_expr.specs.Fit.{AreFit}
+use Rattle.bb_expr.specs.Inside.Fit.{AreFit}
 use Rattle.bb_design.specs.Contexts.{width_of, made_in}
 use Rattle.bb_design.specs.NetBits.{bits_named, Bit}
-use Rattle.bb_blast.specs.Outlines.{AreBitsIn}
-use Rattle.bb_blast.specs.Outlining.{module_in, scope_of, IsMakeable}
+use Rattle.bb_blast.specs.Inside.Outlines.{AreBitsIn}
+use Rattle.bb_blast.specs.Inside.Outlining.{module_in, scope_of, IsMakeable}
 use Rattle.bb_design.specs.Constructs.{Assignment}
 use Rattle.bb_blast.proofs.LeftBits.{bits_long, fit_here}
 use Rattle.bb_blast.proofs.ModulePlaces.{at_some, module-is, beside_context, bits_meant}

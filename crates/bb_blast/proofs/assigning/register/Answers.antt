@@ -1,10 +1,10 @@
 use Rattle.std.proofs.Common.{◌≡◌, ◌∷◌, [], length, refl, sym, ap, ◌∙◌, subst}
-use Rattle.bb_ast.specs.Views.{expression}
-use Rattle.bb_names.specs.Checked.{module_facts}
+use Rattle.bb_ast.specs.Inside.Views.{expression}
+use Rattle.bb_names.specs.Inside.Checked.{module_facts}
 use Rattle.bb_names.specs.Widths.{Ranges, own_width}
 use Rattle.bb_design.specs.NetBits.{written_bits}
-use Rattle.bb_blast.specs.Outlines.{AreBitsIn}
-use Rattle.bb_blast.specs.Outlining.{module_in}
+use Rattle.bb_blast.specs.Inside.Outlines.{AreBitsIn}
+use Rattle.bb_blast.specs.Inside.Outlining.{module_in}
 use Rattle.bb_blast.proofs.LeftBits.{bits_long}
 use Rattle.bb_lists.proofs.Places.{only_one}
 use Rattle.bb_blast.proofs.ModulePlaces.{ranges-are, beside_context, bits_meant}

@@ -1,6 +1,6 @@
 use Rattle.std.proofs.Common.{◌≡◌, take}
 use Rattle.std.specs.List.{fold}
-use Rattle.bb_blast.specs.Listing.{boxed_view, with_box}
+use Rattle.bb_blast.specs.Inside.Listing.{boxed_view, with_box}
 use Rattle.bb_blast.proofs.box_cells.add_boxes.Given as goal
 
 abbrev pub invariant-loop-scope : goal.invariant-loop-scope

@@ -1,5 +1,5 @@
 use Rattle.std.proofs.Common.{◌≡◌, ◌++◌, map, take}
-use Rattle.bb_blast.specs.Counting.{behind}
+use Rattle.bb_blast.specs.Inside.Counting.{behind}
 use Rattle.bb_blast.proofs.box_cells.add_moved.Given as goal
 
 abbrev pub invariant-loop-number : goal.invariant-loop-number

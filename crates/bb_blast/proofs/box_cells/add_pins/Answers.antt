@@ -1,7 +1,7 @@
 use Rattle.std.proofs.Common.{length, ap, ap₂, ◌∙◌, arith, ◌++◌, ◌∷◌, []}
 use Rattle.std.proofs.lemmas.List.{with_items_is}
-use Rattle.bb_blast.specs.Counting.{capped, behind}
-use Rattle.bb_blast.specs.Listing.{boxed_view, given_all, in_row}
+use Rattle.bb_blast.specs.Inside.Counting.{capped, behind}
+use Rattle.bb_blast.specs.Inside.Listing.{boxed_view, given_all, in_row}
 use Rattle.bb_blast.proofs.ListingLoops.{box_put}
 use Rattle.bb_blast.proofs.box_cells.add_pins.Goals as goal
 

@@ -1,5 +1,5 @@
 use Rattle.std.proofs.Common.{◌++◌, ap, ◌∙◌, map}
-use Rattle.bb_blast.specs.Counting.{behind}
+use Rattle.bb_blast.specs.Inside.Counting.{behind}
 use Rattle.bb_blast.proofs.CappedNumbers.{moved_small}
 use Rattle.bb_blast.proofs.box_cells.moved.Goals as goal
 

@@ -1,5 +1,5 @@
 use Rattle.std.proofs.Common.{[], ◌∷◌, ◌++◌, refl, ap, ◌∙◌}
-use Rattle.bb_blast.specs.Counting.{behind}
+use Rattle.bb_blast.specs.Inside.Counting.{behind}
 use Rattle.bb_blast.proofs.ListingLoops.{cells_grow}
 use Rattle.bb_blast.proofs.box_cells.row.Goals as goal
 

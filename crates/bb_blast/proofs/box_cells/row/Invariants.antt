@@ -1,6 +1,6 @@
 use Rattle.std.proofs.Common.{◌≡◌, map}
 use Rattle.std.specs.List.{range_with_len}
-use Rattle.bb_blast.specs.Counting.{behind}
+use Rattle.bb_blast.specs.Inside.Counting.{behind}
 use Rattle.bb_blast.proofs.box_cells.row.Given as goal
 
 abbrev pub invariant-loop-k : goal.invariant-loop-k

@@ -2,9 +2,9 @@ use Rattle.std.proofs.Common.{◌≡◌, ◌++◌, Some, map, sym, ap, ◌∙◌
 use Rattle.std.specs.List.{AllZip}
 use Rattle.std.specs.Result.{OnOk}
 use Rattle.bb_ast.specs.Syntax.{PlainConns, Order, Named}
-use Rattle.bb_ast.specs.Views.{optional_view, named_view, conns_view}
+use Rattle.bb_ast.specs.Inside.Views.{optional_view, named_view, conns_view}
 use Rattle.bb_design.specs.Constructs.{connections}
-use Rattle.bb_blast.specs.Outlining.{module_in, IsPartAt}
+use Rattle.bb_blast.specs.Inside.Outlining.{module_in, IsPartAt}
 use Rattle.bb_blast.proofs.calling.add_conns.Goals as goal
 
 pub returns-in-Order : goal.returns-in-Order

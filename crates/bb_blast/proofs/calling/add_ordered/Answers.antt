@@ -3,10 +3,10 @@ use Rattle.std.specs.Prelude.{option_to_list}
 use Rattle.std.specs.List.{enumerate_from}
 use Rattle.std.proofs.lemmas.Option.{slice_get_read}
 use Rattle.bb_ast.specs.Syntax.{Order}
-use Rattle.bb_ast.specs.Views.{optional_view}
+use Rattle.bb_ast.specs.Inside.Views.{optional_view}
 use Rattle.bb_names.specs.Spots.{pin_at}
 use Rattle.bb_design.specs.Constructs.{connection, connections}
-use Rattle.bb_blast.specs.Outlining.{module_in, IsMakeable, IsPartAt}
+use Rattle.bb_blast.specs.Inside.Outlining.{module_in, IsMakeable, IsPartAt}
 use Rattle.bb_lists.proofs.Places.{got-map}
 use Rattle.bb_lists.proofs.Turns.{all_flat, zip_numbered, zip_added, zip_begin, zip_end}
 use Rattle.bb_lists.proofs.Numbered.{at-place}

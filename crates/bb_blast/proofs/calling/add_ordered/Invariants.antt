@@ -1,10 +1,10 @@
 use Rattle.std.proofs.Common.{◌++◌, List, Some, map, take}
 use Rattle.std.specs.List.{AllZip}
 use Rattle.bb_ast.specs.Syntax.{Order}
-use Rattle.bb_ast.specs.Views.{optional_view}
+use Rattle.bb_ast.specs.Inside.Views.{optional_view}
 use Rattle.bb_design.specs.Constructs.{Construct, connections}
 use Rattle.bb_design.specs.Hierarchy.{Instance}
-use Rattle.bb_blast.specs.Outlining.{IsCallAt, IsPartAt, module_in}
+use Rattle.bb_blast.specs.Inside.Outlining.{IsCallAt, IsPartAt, module_in}
 use Rattle.bb_blast.proofs.calling.add_ordered.Given as goal
 
 abbrev pub invariant-loop-k : goal.invariant-loop-k

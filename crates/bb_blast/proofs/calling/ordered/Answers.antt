@@ -5,11 +5,11 @@ use Rattle.std.proofs.lemmas.Option.{slice_get-map, slice_get_read, slice_get_pa
 use Rattle.std.proofs.lemmas.Result.{IfOk-weaker}
 use Rattle.bb_ast.specs.declared.module.Head.{Head}
 use Rattle.bb_ast.specs.Syntax.{PlainModule}
-use Rattle.bb_ast.specs.Views.{head_view, optional_view}
-use Rattle.bb_names.specs.Checked.{module_facts, syntax}
+use Rattle.bb_ast.specs.Inside.Views.{head_view, optional_view}
+use Rattle.bb_names.specs.Inside.Checked.{module_facts, syntax}
 use Rattle.bb_names.specs.Spots.{Pin, pin_named, pin_at}
 use Rattle.bb_design.specs.Constructs.{connection}
-use Rattle.bb_blast.specs.Outlining.{module_in, IsMakeable, IsPartAt}
+use Rattle.bb_blast.specs.Inside.Outlining.{module_in, IsMakeable, IsPartAt}
 use Rattle.bb_lists.proofs.Places.{got-map}
 use Rattle.bb_blast.proofs.Connections.{pin-at, pin-past}
 use Rattle.bb_blast.proofs.calling.ordered.Goals as goal

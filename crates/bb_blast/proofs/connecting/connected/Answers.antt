@@ -1,14 +1,14 @@
 use Rattle.std.proofs.Common.{◌≡◌, [], ◌∷◌, Some, sym, ap, ◌∙◌, subst}
 use Rattle.std.specs.List.{AllZip}
 use Rattle.bb_ast.specs.declared.module.Dir.TheVariants as dirs
-use Rattle.bb_ast.specs.Views.{expression, optional_view}
-use Rattle.bb_names.specs.Checked.{module_facts}
+use Rattle.bb_ast.specs.Inside.Views.{expression, optional_view}
+use Rattle.bb_names.specs.Inside.Checked.{module_facts}
 use Rattle.bb_names.specs.Declarations.{port_direction}
 use Rattle.bb_names.specs.Spots.{pin_named}
 use Rattle.bb_blast.specs.declared.outline.Part.TheVariants as part
 use Rattle.bb_design.specs.Constructs.{connection}
 use Rattle.bb_design.specs.NetBits.{bits_named, written_bits}
-use Rattle.bb_blast.specs.Outlining.{module_in, IsPartAt}
+use Rattle.bb_blast.specs.Inside.Outlining.{module_in, IsPartAt}
 use Rattle.bb_blast.proofs.Connections.{input_part, output_part}
 use Rattle.bb_blast.proofs.ModulePlaces.{bits_meant}
 use Rattle.bb_blast.proofs.connecting.connected.Goals as goal

@@ -2,7 +2,7 @@ use Rattle.std.proofs.Common.{◌∙◌, Option, Some, None, sym, ap, arith}
 use Rattle.std.specs.Prelude.{IfSome}
 use Rattle.std.proofs.lemmas.Option.{slice_get_within, get_or_from_slice_get}
 use Rattle.bb_names.specs.declared.net.NetInfo.{NetInfo}
-use Rattle.bb_names.specs.Checked.{module_facts, syntax}
+use Rattle.bb_names.specs.Inside.Checked.{module_facts, syntax}
 use Rattle.bb_names.specs.Nets.{net_of}
 use Rattle.bb_blast.proofs.PortNets.{net_found, net_has, no_port}
 use Rattle.bb_blast.proofs.connecting.port_direction.Goals as goal

@@ -1,9 +1,9 @@
 use Rattle.std.proofs.Common.{ap, ◌∙◌, arith}
 use Rattle.std.specs.Prelude.{max, slice_get}
 use Rattle.std.proofs.lemmas.Result.{IfOk-weaker}
-use Rattle.bb_ast.specs.Views.{expression}
-use Rattle.bb_names.specs.Checked.{syntax}
-use Rattle.bb_expr.specs.Standing.{StandsIn}
+use Rattle.bb_ast.specs.Inside.Views.{expression}
+use Rattle.bb_names.specs.Inside.Checked.{syntax}
+use Rattle.bb_expr.specs.Inside.Standing.{StandsIn}
 use Rattle.bb_blast.proofs.ModulePlaces.{some_and, standing_bounded, cells_few, steps_are}
 use Rattle.bb_blast.proofs.expression_steps.steps_beside.Goals as goal
 

@@ -1,6 +1,6 @@
 use Rattle.std.proofs.Common.{◌≡◌, take}
 use Rattle.std.specs.List.{fold}
-use Rattle.bb_blast.specs.Listing.{Joining, joined_to}
+use Rattle.bb_blast.specs.Inside.Listing.{Joining, joined_to}
 use Rattle.bb_blast.proofs.gate_cells.add_joins.Given as goal
 
 abbrev pub invariant-loop-terminal : goal.invariant-loop-terminal

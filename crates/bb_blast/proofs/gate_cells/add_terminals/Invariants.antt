@@ -1,5 +1,5 @@
 use Rattle.std.proofs.Common.{◌≡◌, take}
-use Rattle.bb_blast.specs.Listing.{Terminals, with_terminals}
+use Rattle.bb_blast.specs.Inside.Listing.{Terminals, with_terminals}
 use Rattle.bb_blast.proofs.gate_cells.add_terminals.Given as goal
 
 abbrev pub invariant-loop-lowered : goal.invariant-loop-lowered

@@ -1,11 +1,11 @@
 use Rattle.std.proofs.Common.{◌≤◌, [], length}
 use Rattle.bb_ast.specs.Syntax.{Expression}
-use Rattle.bb_ast.specs.Views.{expression}
+use Rattle.bb_ast.specs.Inside.Views.{expression}
 use Rattle.bb_expr.specs.declared.step.Lowered.{Lowered}
-use Rattle.bb_expr.specs.Standing.{StandsAt}
+use Rattle.bb_expr.specs.Inside.Standing.{StandsAt}
 use Rattle.bb_design.specs.Contexts.{width_of, made_in}
-use Rattle.bb_blast.specs.Outlines.{IsMadeIn}
-use Rattle.bb_blast.specs.Outlining.{module_in, scope_of}
+use Rattle.bb_blast.specs.Inside.Outlines.{IsMadeIn}
+use Rattle.bb_blast.specs.Inside.Outlining.{module_in, scope_of}
 use Rattle.bb_lists.proofs.Turns.{all_here, zip_next}
 use Rattle.bb_blast.proofs.gating.gate_inputs.Goals as goal
 

@@ -1,9 +1,9 @@
 use Rattle.std.proofs.Common.{map, take}
 use Rattle.std.specs.List.{AllZip}
-use Rattle.bb_ast.specs.Views.{expression}
+use Rattle.bb_ast.specs.Inside.Views.{expression}
 use Rattle.bb_design.specs.Contexts.{width_of}
-use Rattle.bb_blast.specs.Outlines.{IsMadeIn}
-use Rattle.bb_blast.specs.Outlining.{module_in}
+use Rattle.bb_blast.specs.Inside.Outlines.{IsMadeIn}
+use Rattle.bb_blast.specs.Inside.Outlining.{module_in}
 use Rattle.bb_blast.proofs.gating.gate_inputs.Given as goal
 
 abbrev pub invariant-loop-term : goal.invariant-loop-term

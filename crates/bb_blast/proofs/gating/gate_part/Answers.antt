@@ -7,18 +7,18 @@ use Rattle.bb_ast.specs.declared.module.Gate.{Gate}
 use Rattle.bb_ast.specs.declared.expr.Expr.{Expr}
 use Rattle.bb_ast.specs.Gates.{output_count}
 use Rattle.bb_ast.specs.Syntax.{Expression}
-use Rattle.bb_ast.specs.Views.{expression}
-use Rattle.bb_names.specs.Checked.{module_facts}
+use Rattle.bb_ast.specs.Inside.Views.{expression}
+use Rattle.bb_names.specs.Inside.Checked.{module_facts}
 use Rattle.bb_expr.specs.declared.step.Lowered.{Lowered}
-use Rattle.bb_expr.specs.Fit.{AreFit}
-use Rattle.bb_expr.specs.Standing.{StandsAt}
+use Rattle.bb_expr.specs.Inside.Fit.{AreFit}
+use Rattle.bb_expr.specs.Inside.Standing.{StandsAt}
 use Rattle.bb_design.specs.Contexts.{width_of, made_in}
 use Rattle.bb_design.specs.Drivers.{terminal_terms}
 use Rattle.bb_design.specs.GateFunctions.{gate_cells}
 use Rattle.bb_design.specs.Hierarchy.{Scope}
 use Rattle.bb_design.specs.NetBits.{written_bits}
-use Rattle.bb_blast.specs.Outlines.{AreBitsIn, IsMadeIn}
-use Rattle.bb_blast.specs.Outlining.{module_in, scope_of}
+use Rattle.bb_blast.specs.Inside.Outlines.{AreBitsIn, IsMadeIn}
+use Rattle.bb_blast.specs.Inside.Outlining.{module_in, scope_of}
 use Rattle.bb_blast.proofs.ModulePlaces.{at_some, bits_meant}
 use Rattle.bb_blast.proofs.gating.gate_part.Goals as goal
 

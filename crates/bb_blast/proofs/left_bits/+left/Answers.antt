@@ -6,13 +6,13 @@ use Rattle.std.proofs.lemmas.List.{take_all}
 use Rattle.std.proofs.lemmas.Result.{on_ok_weaker}
 use Rattle.bb_ast.specs.declared.expr.Expr.{the_lemmas}
 use Rattle.bb_ast.specs.Syntax.{Expression, Concat, listed_parts}
-use Rattle.bb_ast.specs.Views.{expression}
-use Rattle.bb_names.specs.Checked.{module_facts, syntax}
+use Rattle.bb_ast.specs.Inside.Views.{expression}
+use Rattle.bb_names.specs.Inside.Checked.{module_facts, syntax}
 use Rattle.bb_names.specs.Declarations.{range_of}
 use Rattle.bb_names.specs.Ranges.{place_of, distance}
-use Rattle.bb_expr.specs.Fit.{AreFit}
+use Rattle.bb_expr.specs.Inside.Fit.{AreFit}
 use Rattle.bb_design.specs.NetBits.{bits_from, written_bits}
-use Rattle.bb_blast.specs.Outlines.{AreBitsIn}
+use Rattle.bb_blast.specs.Inside.Outlines.{AreBitsIn}
 use Rattle.bb_blast.proofs.LeftBits.{expression-net, expression-bit, expression-part, expression-concat, written-concat, fit_parts, bits_same}
 use Rattle.bb_lists.proofs.Turns.{all_here, flat-more}
 use Rattle.bb_blast.proofs.left_bits.+left.Goals as goal

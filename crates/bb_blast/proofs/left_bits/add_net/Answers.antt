@@ -1,10 +1,10 @@
 use Rattle.std.proofs.Common.{◌≡◌, ◌++◌, ℕ, ◌∙◌, ap, subst, arith}
 use Rattle.std.specs.Result.{OnOk}
-use Rattle.bb_names.specs.Checked.{module_facts, syntax}
+use Rattle.bb_names.specs.Inside.Checked.{module_facts, syntax}
 use Rattle.bb_names.specs.Ranges.{range_width}
-use Rattle.bb_expr.specs.Fit.{ranges_in}
+use Rattle.bb_expr.specs.Inside.Fit.{ranges_in}
 use Rattle.bb_design.specs.NetBits.{bits_from}
-use Rattle.bb_blast.specs.Outlines.{AreBitsIn}
+use Rattle.bb_blast.specs.Inside.Outlines.{AreBitsIn}
 use Rattle.bb_blast.proofs.LeftBits.{start_fits}
 use Rattle.bb_blast.proofs.left_bits.add_net.Goals as goal
 

@@ -1,10 +1,10 @@
 use Rattle.std.proofs.Common.{◌≡◌, ◌++◌, ◌+◌, ℕ, ◌∙◌, ap, subst}
 use Rattle.std.specs.Result.{OnOk}
-use Rattle.bb_names.specs.Checked.{module_facts, syntax}
+use Rattle.bb_names.specs.Inside.Checked.{module_facts, syntax}
 use Rattle.bb_names.specs.Ranges.{place_of, distance}
-use Rattle.bb_expr.specs.Fit.{ranges_in}
+use Rattle.bb_expr.specs.Inside.Fit.{ranges_in}
 use Rattle.bb_design.specs.NetBits.{bits_from}
-use Rattle.bb_blast.specs.Outlines.{AreBitsIn}
+use Rattle.bb_blast.specs.Inside.Outlines.{AreBitsIn}
 use Rattle.bb_blast.proofs.left_bits.add_selected.Goals as goal
 
 pub returns : goal.returns

@@ -1,5 +1,5 @@
 use Rattle.std.proofs.Common.{[]}
-use Rattle.bb_names.specs.Checked.{module_facts, syntax}
+use Rattle.bb_names.specs.Inside.Checked.{module_facts, syntax}
 use Rattle.bb_blast.proofs.LeftBits.{bits_none}
 use Rattle.bb_blast.proofs.left_bits.net_bits.Goals as goal
 

@@ -2,8 +2,8 @@ use Rattle.std.proofs.Common.{◌≡◌, ◌+◌, take, sym, ap, ◌∙◌, arit
 use Rattle.std.specs.Prelude.{slice_get}
 use Rattle.std.specs.Option.{option_map_or}
 use Rattle.bb_blast.specs.declared.outline.Outline.{Outline}
-use Rattle.bb_blast.specs.Counting.{capped}
-use Rattle.bb_blast.specs.Listing.{bit_count}
+use Rattle.bb_blast.specs.Inside.Counting.{capped}
+use Rattle.bb_blast.specs.Inside.Listing.{bit_count}
 use Rattle.bb_blast.proofs.CappedNumbers.{capped_small, capped_first}
 use Rattle.bb_blast.proofs.ListingLoops.{fold_next}
 use Rattle.bb_blast.proofs.listing.bit_count.Goals as goal

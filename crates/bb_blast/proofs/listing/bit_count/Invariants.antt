@@ -1,6 +1,6 @@
 use Rattle.std.proofs.Common.{◌≡◌, take}
-use Rattle.bb_blast.specs.Counting.{capped}
-use Rattle.bb_blast.specs.Listing.{bit_count}
+use Rattle.bb_blast.specs.Inside.Counting.{capped}
+use Rattle.bb_blast.specs.Inside.Listing.{bit_count}
 use Rattle.bb_blast.proofs.listing.bit_count.Given as goal
 
 abbrev pub invariant-loop-scope : goal.invariant-loop-scope

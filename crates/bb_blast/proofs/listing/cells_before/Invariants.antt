@@ -1,7 +1,7 @@
 use Rattle.std.proofs.Common.{◌≡◌, ◌∷◌, true, false, map, take}
 use Rattle.std.specs.List.{range_with_len}
 use Rattle.bb_net.specs.declared.loose.LooseCell.TheVariants as cell
-use Rattle.bb_blast.specs.Listing.{cells_before}
+use Rattle.bb_blast.specs.Inside.Listing.{cells_before}
 use Rattle.bb_blast.proofs.listing.cells_before.Given as goal
 
 abbrev pub invariant-loop-input : goal.invariant-loop-input

@@ -1,5 +1,5 @@
 use Rattle.std.proofs.Common.{◌≡◌, take}
-use Rattle.bb_blast.specs.Listing.{input_numbers}
+use Rattle.bb_blast.specs.Inside.Listing.{input_numbers}
 use Rattle.bb_blast.proofs.listing.input_numbers.Given as goal
 
 abbrev pub invariant-loop-register : goal.invariant-loop-register

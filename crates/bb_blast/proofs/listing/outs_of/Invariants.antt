@@ -1,5 +1,5 @@
 use Rattle.std.proofs.Common.{◌≡◌, take}
-use Rattle.bb_blast.specs.Listing.{outs_of}
+use Rattle.bb_blast.specs.Inside.Listing.{outs_of}
 use Rattle.bb_blast.proofs.listing.outs_of.Given as goal
 
 abbrev pub invariant-loop-register : goal.invariant-loop-register

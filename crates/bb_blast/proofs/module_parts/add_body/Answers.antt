@@ -3,12 +3,12 @@ use Rattle.std.specs.Prelude.{All}
 use Rattle.std.specs.List.{AllZip, flat_map}
 use Rattle.std.specs.Result.{OnOk}
 use Rattle.bb_ast.specs.Syntax.{Expression, PlainBody, Nets, Supply, Assign, Gates, Calls}
-use Rattle.bb_ast.specs.Views.{always_view, arm_view, body_view, call_view, gate_view, named_view}
-use Rattle.bb_names.specs.Checked.{syntax}
-use Rattle.bb_expr.specs.Standing.{StandsAt, item_expressions}
+use Rattle.bb_ast.specs.Inside.Views.{always_view, arm_view, body_view, call_view, gate_view, named_view}
+use Rattle.bb_names.specs.Inside.Checked.{syntax}
+use Rattle.bb_expr.specs.Inside.Standing.{StandsAt, item_expressions}
 use Rattle.bb_design.specs.Constructs.{Assignment, Register, initial_construct, gate_construct, body_constructs}
 use Rattle.bb_design.specs.Hierarchy.{instances_in}
-use Rattle.bb_blast.specs.Outlining.{AreCallsAt, IsMakeable, IsPartAt}
+use Rattle.bb_blast.specs.Inside.Outlining.{AreCallsAt, IsMakeable, IsPartAt}
 use Rattle.std.proofs.lemmas.List.Elements.{All-contains}
 use Rattle.bb_lists.proofs.Members.{all_from, into_flat, contains_here}
 use Rattle.bb_lists.proofs.Turns.{all_each, all_mapped, zip_added}

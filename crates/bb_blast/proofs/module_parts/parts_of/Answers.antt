@@ -4,11 +4,11 @@ use Rattle.std.proofs.lemmas.List.{take-map}
 use Rattle.std.proofs.lemmas.Option.{slice_get_read}
 use Rattle.bb_ast.specs.declared.module.Item.{Item}
 use Rattle.bb_ast.specs.Syntax.{PlainItem, PlainModule}
-use Rattle.bb_ast.specs.Views.{body_view, item_view}
-use Rattle.bb_names.specs.Checked.{module_facts, syntax}
+use Rattle.bb_ast.specs.Inside.Views.{body_view, item_view}
+use Rattle.bb_names.specs.Inside.Checked.{module_facts, syntax}
 use Rattle.bb_design.specs.Constructs.{body_constructs}
 use Rattle.bb_design.specs.Hierarchy.{instances_in}
-use Rattle.bb_blast.specs.Outlining.{AreCallsAt, IsMakeable, IsPartAt, module_in}
+use Rattle.bb_blast.specs.Inside.Outlining.{AreCallsAt, IsMakeable, IsPartAt, module_in}
 use Rattle.bb_lists.proofs.Places.{got-map}
 use Rattle.bb_blast.proofs.ModuleItems.{calls_in_item, item_stands}
 use Rattle.bb_lists.proofs.Turns.{all_flat, seen_there, flat-more, zip_flat, zip_end}

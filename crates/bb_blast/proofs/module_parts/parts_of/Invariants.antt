@@ -1,10 +1,10 @@
 use Rattle.std.proofs.Common.{◌≡◌, map, take, length}
 use Rattle.std.specs.List.{AllZip, flat_map}
-use Rattle.bb_ast.specs.Views.{item_view}
-use Rattle.bb_names.specs.Checked.{syntax}
+use Rattle.bb_ast.specs.Inside.Views.{item_view}
+use Rattle.bb_names.specs.Inside.Checked.{syntax}
 use Rattle.bb_design.specs.Constructs.{body_constructs}
 use Rattle.bb_design.specs.Hierarchy.{instances_in}
-use Rattle.bb_blast.specs.Outlining.{IsPartAt}
+use Rattle.bb_blast.specs.Inside.Outlining.{IsPartAt}
 use Rattle.bb_blast.proofs.module_parts.parts_of.Given as goal
 
 abbrev pub invariant-loop-item : goal.invariant-loop-item

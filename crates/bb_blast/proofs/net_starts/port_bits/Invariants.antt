@@ -3,8 +3,8 @@ use Rattle.std.specs.Prelude.{filter}
 use Rattle.std.specs.List.{flat_map}
 use Rattle.bb_design.specs.Hierarchy.{Path}
 use Rattle.bb_design.specs.NetBits.{bits_of_net}
-use Rattle.bb_bits.specs.Places.{AreAt}
-use Rattle.bb_blast.specs.Outlining.{is_port_of}
+use Rattle.bb_bits.specs.Inside.Places.{AreAt}
+use Rattle.bb_blast.specs.Inside.Outlining.{is_port_of}
 use Rattle.bb_blast.proofs.net_starts.port_bits.Given as goal
 
 abbrev pub invariant-loop-k : goal.invariant-loop-k

@@ -3,9 +3,9 @@ use Rattle.std.specs.Prelude.{IfSome, slice_get}
 use Rattle.std.proofs.lemmas.List.{length-map}
 use Rattle.std.proofs.lemmas.Option.{slice_get_read, slice_get_within, slice_get-get_or, get_or_from_slice_get}
 use Rattle.bb_names.specs.declared.checked.CheckedModule.{CheckedModule}
-use Rattle.bb_names.specs.Checked.{ModuleFacts, module_facts, IsChecked}
+use Rattle.bb_names.specs.Inside.Checked.{ModuleFacts, module_facts, IsChecked}
 use Rattle.bb_names.specs.Nets.{nets_of}
-use Rattle.bb_blast.specs.Outlining.{AreStarts, bit_count, module_in}
+use Rattle.bb_blast.specs.Inside.Outlining.{AreStarts, bit_count, module_in}
 use Rattle.bb_lists.proofs.Places.{got-map, got_left, got_right}
 use Rattle.bb_lists.proofs.Orders.{less_or_same}
 use Rattle.bb_blast.proofs.ModulePlaces.{has_nets, module-is}

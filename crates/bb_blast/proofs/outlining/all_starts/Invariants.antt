@@ -1,7 +1,7 @@
 use Rattle.std.proofs.Common.{◌≡◌, ◌<◌, ℕ, Some, length, Vec, Global}
 use Rattle.std.specs.Prelude.{slice_get}
 use Rattle.bb_names.specs.Nets.{nets_of}
-use Rattle.bb_blast.specs.Outlining.{AreStarts, module_in}
+use Rattle.bb_blast.specs.Inside.Outlining.{AreStarts, module_in}
 use Rattle.bb_blast.proofs.outlining.all_starts.Given as goal
 
 abbrev pub invariant-loop-k : goal.invariant-loop-k

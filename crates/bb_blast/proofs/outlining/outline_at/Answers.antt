@@ -3,10 +3,10 @@ use Rattle.std.specs.Prelude.{All, IfSome, IsSomeAnd, slice_get}
 use Rattle.std.specs.List.{slice_index_or}
 use Rattle.std.proofs.lemmas.List.{length-map}
 use Rattle.std.proofs.lemmas.Option.{get_or_from_slice_get}
-use Rattle.bb_names.specs.Checked.{syntax}
+use Rattle.bb_names.specs.Inside.Checked.{syntax}
 use Rattle.bb_blast.specs.declared.placed.Placed.{Placed}
 use Rattle.bb_design.specs.Hierarchy.{instances_of}
-use Rattle.bb_blast.specs.Outlining.{module_in, module_number, IsStarted, AreCallsAt, IsModest, IsSited}
+use Rattle.bb_blast.specs.Inside.Outlining.{module_in, module_number, IsStarted, AreCallsAt, IsModest, IsSited}
 use Rattle.bb_blast.proofs.ModulePlaces.{some_and}
 use Rattle.bb_blast.proofs.SitedScopes.{all_at, children_there, targets_started, targets_called}
 use Rattle.bb_blast.proofs.outlining.outline_at.Goals as goal

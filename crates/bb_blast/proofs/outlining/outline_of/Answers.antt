@@ -4,12 +4,12 @@ use Rattle.std.specs.List.{flat_map, slice_index_or}
 use Rattle.std.proofs.lemmas.List.{length-map}
 use Rattle.std.proofs.lemmas.Option.{slice_get_read, get_or_from_slice_get}
 use Rattle.bb_names.specs.declared.net.NetInfo.{NetInfo}
-use Rattle.bb_names.specs.Checked.{module_facts}
+use Rattle.bb_names.specs.Inside.Checked.{module_facts}
 use Rattle.bb_names.specs.Nets.{nets_of}
 use Rattle.bb_design.specs.Hierarchy.{Path}
 use Rattle.bb_design.specs.NetBits.{bits_of_net}
-use Rattle.bb_bits.specs.Places.{AreAt}
-use Rattle.bb_blast.specs.Outlining.{module_in, bit_count, is_port_of}
+use Rattle.bb_bits.specs.Inside.Places.{AreAt}
+use Rattle.bb_blast.specs.Inside.Outlining.{module_in, bit_count, is_port_of}
 use Rattle.bb_lists.proofs.Places.{got-map}
 use Rattle.bb_blast.proofs.MakeableConstructs.{all_makeable}
 use Rattle.bb_blast.proofs.outlining.outline_of.Goals as goal

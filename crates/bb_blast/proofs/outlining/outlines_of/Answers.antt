@@ -2,11 +2,11 @@ use Rattle.std.proofs.Common.{◌≡◌, ◌≤◌, ◌++◌, ◌∷◌, [], ℕ
 use Rattle.std.specs.Prelude.{All, IfSome, IsSomeAnd, slice_get}
 use Rattle.std.proofs.lemmas.List.{length-map}
 use Rattle.std.proofs.lemmas.Option.{slice_get-get_or, slice_get_within, slice_get_read, get_or_from_slice_get}
-use Rattle.bb_names.specs.Checked.{ModuleFacts, module_facts, syntax}
+use Rattle.bb_names.specs.Inside.Checked.{ModuleFacts, module_facts, syntax}
 use Rattle.bb_names.specs.Nets.{nets_of}
 use Rattle.bb_blast.specs.declared.placed.Placed.{Placed}
-use Rattle.bb_blast.specs.Outlines.{IsOutline}
-use Rattle.bb_blast.specs.Outlining.{module_in, bit_count, AreCopies, IsStarted, IsSited}
+use Rattle.bb_blast.specs.Inside.Outlines.{IsOutline}
+use Rattle.bb_blast.specs.Inside.Outlining.{module_in, bit_count, AreCopies, IsStarted, IsSited}
 use Rattle.bb_lists.proofs.Orders.{less_or_same}
 use Rattle.bb_blast.proofs.ModulePlaces.{some_and}
 use Rattle.bb_lists.proofs.Places.{got_left, got_right}

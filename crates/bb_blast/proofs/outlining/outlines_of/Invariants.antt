@@ -1,9 +1,9 @@
 use Rattle.std.proofs.Common.{◌≡◌, ◌<◌, ℕ, Some, map, length}
 use Rattle.std.specs.Prelude.{slice_get}
-use Rattle.bb_names.specs.Checked.{syntax}
+use Rattle.bb_names.specs.Inside.Checked.{syntax}
 use Rattle.bb_blast.specs.declared.outline.Outline.{Outline}
-use Rattle.bb_blast.specs.Outlines.{IsOutline}
-use Rattle.bb_blast.specs.Outlining.{module_in}
+use Rattle.bb_blast.specs.Inside.Outlines.{IsOutline}
+use Rattle.bb_blast.specs.Inside.Outlining.{module_in}
 use Rattle.bb_blast.proofs.outlining.outlines_of.Given as goal
 
 abbrev pub invariant-loop-k : goal.invariant-loop-k

@@ -2,7 +2,7 @@ use Rattle.std.proofs.Common.{◌≡◌, ◌++◌, ◌∷◌, ◌<◌, [], ℕ, 
 use Rattle.std.specs.Option.{option_map_or}
 use Rattle.std.proofs.lemmas.Option.{slice_get-get_or, get_or_from_slice_get}
 use Rattle.bb_blast.specs.declared.placed.Placed.{Placed}
-use Rattle.bb_blast.specs.Outlining.{module_number}
+use Rattle.bb_blast.specs.Inside.Outlining.{module_number}
 use Rattle.bb_lists.proofs.Turns.{taken-more}
 use Rattle.bb_blast.proofs.outlining.targets_of.Goals as goal
 

@@ -1,5 +1,5 @@
 use Rattle.std.proofs.Common.{◌≡◌, map, take}
-use Rattle.bb_blast.specs.Outlining.{module_number}
+use Rattle.bb_blast.specs.Inside.Outlining.{module_number}
 use Rattle.bb_blast.proofs.outlining.targets_of.Given as goal
 
 abbrev pub invariant-loop-child : goal.invariant-loop-child

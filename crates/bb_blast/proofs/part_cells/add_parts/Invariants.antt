@@ -1,6 +1,6 @@
 use Rattle.std.proofs.Common.{◌≡◌, take}
 use Rattle.std.specs.List.{fold}
-use Rattle.bb_blast.specs.Listing.{sheet_view, with_part, site_of}
+use Rattle.bb_blast.specs.Inside.Listing.{sheet_view, with_part, site_of}
 use Rattle.bb_blast.proofs.part_cells.add_parts.Given as goal
 
 abbrev pub invariant-loop-part : goal.invariant-loop-part

@@ -1,6 +1,6 @@
 use Rattle.std.proofs.Common.{◌≡◌, take}
 use Rattle.std.specs.List.{fold}
-use Rattle.bb_blast.specs.Listing.{sheet_view, with_scope}
+use Rattle.bb_blast.specs.Inside.Listing.{sheet_view, with_scope}
 use Rattle.bb_blast.proofs.part_cells.add_scopes.Given as goal
 
 abbrev pub invariant-loop-scope : goal.invariant-loop-scope

@@ -1,5 +1,5 @@
 use Rattle.std.proofs.Common.{◌≡◌, take}
-use Rattle.bb_blast.specs.Listing.{given_all, all_given_by}
+use Rattle.bb_blast.specs.Inside.Listing.{given_all, all_given_by}
 use Rattle.bb_blast.proofs.sources.give_all.Given as goal
 
 abbrev pub invariant-loop-bit : goal.invariant-loop-bit

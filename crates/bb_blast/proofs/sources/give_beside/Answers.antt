@@ -1,5 +1,5 @@
 use Rattle.std.proofs.Common.{get_or, refl, ap, ◌∙◌, arith}
-use Rattle.bb_blast.specs.Listing.{given_one, given_all}
+use Rattle.bb_blast.specs.Inside.Listing.{given_one, given_all}
 use Rattle.bb_blast.proofs.ListingLoops.{beside_next, beside_all}
 use Rattle.bb_blast.proofs.sources.give_beside.Goals as goal
 

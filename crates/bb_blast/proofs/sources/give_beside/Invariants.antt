@@ -1,5 +1,5 @@
 use Rattle.std.proofs.Common.{◌≡◌, take}
-use Rattle.bb_blast.specs.Listing.{given_all, beside}
+use Rattle.bb_blast.specs.Inside.Listing.{given_all, beside}
 use Rattle.bb_blast.proofs.sources.give_beside.Given as goal
 
 abbrev pub invariant-loop-k : goal.invariant-loop-k

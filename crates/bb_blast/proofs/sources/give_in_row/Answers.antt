@@ -1,6 +1,6 @@
 use Rattle.std.proofs.Common.{ap, refl, sym, ◌∙◌, arith}
-use Rattle.bb_blast.specs.Counting.{capped}
-use Rattle.bb_blast.specs.Listing.{given_one}
+use Rattle.bb_blast.specs.Inside.Counting.{capped}
+use Rattle.bb_blast.specs.Inside.Listing.{given_one}
 use Rattle.bb_blast.proofs.CappedNumbers.{capped_small}
 use Rattle.bb_blast.proofs.ListingLoops.{place_next, row_next}
 use Rattle.bb_blast.proofs.sources.give_in_row.Goals as goal

@@ -1,6 +1,6 @@
 use Rattle.std.proofs.Common.{◌≡◌, take}
-use Rattle.bb_blast.specs.Counting.{behind}
-use Rattle.bb_blast.specs.Listing.{given_all, in_row}
+use Rattle.bb_blast.specs.Inside.Counting.{behind}
+use Rattle.bb_blast.specs.Inside.Listing.{given_all, in_row}
 use Rattle.bb_blast.proofs.sources.give_in_row.Given as goal
 
 abbrev pub invariant-loop-bit : goal.invariant-loop-bit

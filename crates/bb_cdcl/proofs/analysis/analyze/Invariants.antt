@@ -1,7 +1,7 @@
 use Rattle.std.proofs.Common.{◌≤◌, length, take}
 use Rattle.bb_cnf.specs.Clauses.{Literals}
-use Rattle.bb_cnf.specs.PartialResolvent.{held, AreListed}
-use Rattle.bb_cdcl.specs.Analysis.{AreFalsified, IsResolved}
+use Rattle.bb_cnf.specs.Inside.PartialResolvent.{held, AreListed}
+use Rattle.bb_cdcl.specs.Inside.Analysis.{AreFalsified, IsResolved}
 use Rattle.bb_cdcl.proofs.analysis.analyze.Given as goal
 
 abbrev pub invariant-loop-place : goal.invariant-loop-place

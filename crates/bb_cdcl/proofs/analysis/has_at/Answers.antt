@@ -1,5 +1,5 @@
 use Rattle.std.proofs.Common.{ap, ◌∙◌, sym}
-use Rattle.bb_cnf.specs.PartialResolvent.{held}
+use Rattle.bb_cnf.specs.Inside.PartialResolvent.{held}
 use Rattle.bb_cdcl.proofs.Analyzed.{covered_start, covered_down, passed}
 use Rattle.bb_cdcl.proofs.analysis.has_at.Goals as goal
 

@@ -1,6 +1,6 @@
 use Rattle.std.proofs.Common.{◌≤◌, IfSome}
-use Rattle.bb_cnf.specs.PartialResolvent.{held}
-use Rattle.bb_cdcl.specs.Analysis.{IsCovered, IsJump}
+use Rattle.bb_cnf.specs.Inside.PartialResolvent.{held}
+use Rattle.bb_cdcl.specs.Inside.Analysis.{IsCovered, IsJump}
 use Rattle.bb_cdcl.proofs.analysis.jump_back.Given as goal
 
 abbrev pub invariant-loop-at : goal.invariant-loop-at

@@ -1,7 +1,7 @@
 use Rattle.std.proofs.Common.{refl, subst, sym}
 use Rattle.bb_cnf.specs.Clauses.{literals_of}
-use Rattle.bb_cnf.specs.PartialResolvent.{held}
-use Rattle.bb_cdcl.specs.Analysis.{AreFalsified, IsResolved}
+use Rattle.bb_cnf.specs.Inside.PartialResolvent.{held}
+use Rattle.bb_cdcl.specs.Inside.Analysis.{AreFalsified, IsResolved}
 use Rattle.bb_cdcl.proofs.Analyzed.{take_entry, covered_has}
 use Rattle.bb_cdcl.proofs.Resolved.{resolves, resolved_falsified, resolved_more, reason_has, reason_below}
 use Rattle.bb_cdcl.proofs.analysis.resolve_at.Goals as goal

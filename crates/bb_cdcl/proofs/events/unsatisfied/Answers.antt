@@ -3,7 +3,7 @@ use Rattle.std.proofs.lemmas.List.{take_all}
 use Rattle.std.proofs.lemmas.List.Elements.{All-map, All-more}
 use Rattle.smallvec.specs.SmallVec.{SmallVec}
 use Rattle.bb_cnf.specs.declared.clauses.Lit.{Lit}
-use Rattle.bb_cdcl.specs.Events.{IsSatisfied}
+use Rattle.bb_cdcl.specs.Inside.Events.{IsSatisfied}
 use Rattle.bb_cdcl.proofs.Happens.{satisfied_at, member_in_range}
 use Rattle.bb_cdcl.proofs.events.unsatisfied.Goals as goal
 

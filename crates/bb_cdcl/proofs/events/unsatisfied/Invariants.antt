@@ -1,5 +1,5 @@
 use Rattle.std.proofs.Common.{All, take}
-use Rattle.bb_cdcl.specs.Events.{IsSatisfied}
+use Rattle.bb_cdcl.specs.Inside.Events.{IsSatisfied}
 use Rattle.bb_cdcl.proofs.events.unsatisfied.Given as goal
 
 abbrev pub invariant-loop-number : goal.invariant-loop-number

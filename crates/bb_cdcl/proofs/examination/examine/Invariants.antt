@@ -1,5 +1,5 @@
 use Rattle.std.proofs.Common.{take}
-use Rattle.bb_cdcl.specs.Events.{IsSoFar}
+use Rattle.bb_cdcl.specs.Inside.Events.{IsSoFar}
 use Rattle.bb_cdcl.proofs.examination.examine.Given as goal
 
 abbrev pub invariant-loop-lit : goal.invariant-loop-lit

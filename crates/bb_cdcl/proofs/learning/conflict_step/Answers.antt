@@ -2,10 +2,10 @@ use Rattle.std.proofs.Common.{◌≡◌, ◌++◌, false, Option, IfSome, IfNone
 use Rattle.bb_cnf.specs.declared.clauses.Lit.{Lit}
 use Rattle.bb_cnf.specs.Clauses.{literals_of, lists_of}
 use Rattle.bb_cnf.specs.Chains.{made_by}
-use Rattle.bb_cnf.specs.PartialResolvent.{held}
+use Rattle.bb_cnf.specs.Inside.PartialResolvent.{held}
 use Rattle.bb_cdcl.specs.declared.analysis.Jump.{Jump}
-use Rattle.bb_cdcl.specs.Analysis.{IsJump}
-use Rattle.bb_cdcl.specs.States.{all_clauses}
+use Rattle.bb_cdcl.specs.Inside.Analysis.{IsJump}
+use Rattle.bb_cdcl.specs.Inside.States.{all_clauses}
 use Rattle.bb_cdcl.proofs.learning.conflict_step.Goals as goal
 
 pub resolve_low-requires : goal.resolve_low-requires

@@ -1,6 +1,6 @@
 use Rattle.std.proofs.Common.{sym, ap, subst, ◌∙◌}
 use Rattle.bb_cnf.specs.declared.partial_resolvent.PartialResolvent.{PartialResolvent}
-use Rattle.bb_cnf.specs.PartialResolvent.{held, AreListed}
+use Rattle.bb_cnf.specs.Inside.PartialResolvent.{held, AreListed}
 use Rattle.bb_cdcl.proofs.Derived.{learned_last}
 use Rattle.bb_cdcl.proofs.learning.learn.Goals as goal
 

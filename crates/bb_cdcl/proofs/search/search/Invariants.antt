@@ -1,6 +1,6 @@
 use Rattle.std.proofs.Common.{◌≡◌, length}
 use Rattle.bb_cnf.specs.Clauses.{lists_of}
-use Rattle.bb_cdcl.specs.States.{IsDerived, IsReady}
+use Rattle.bb_cdcl.specs.Inside.States.{IsDerived, IsReady}
 use Rattle.bb_cdcl.proofs.search.search.Given as goal
 
 abbrev pub invariant-loop : goal.invariant-loop

@@ -1,8 +1,8 @@
 use Rattle.std.proofs.Common.{◌≡◌, true, IfSome, take, subst, sym, ap, ◌∙◌, arith}
 use Rattle.bb_cnf.specs.Clauses.{literals_of}
-use Rattle.bb_cnf.specs.PartialResolvent.{held}
-use Rattle.bb_cdcl.specs.Trails.{IsReason}
-use Rattle.bb_cdcl.specs.Analysis.{IsResolved}
+use Rattle.bb_cnf.specs.Inside.PartialResolvent.{held}
+use Rattle.bb_cdcl.specs.Inside.Trails.{IsReason}
+use Rattle.bb_cdcl.specs.Inside.Analysis.{IsResolved}
 use Rattle.bb_cdcl.proofs.Resolved.{resolves, resolved_more, reason_has, reason_below}
 use Rattle.bb_cdcl.proofs.Shortened.{covered_resolved}
 use Rattle.bb_cdcl.proofs.shortening.resolve_before.Goals as goal

@@ -1,6 +1,6 @@
 use Rattle.bb_cnf.specs.Clauses.{Literals}
-use Rattle.bb_cnf.specs.PartialResolvent.{held, AreListed}
-use Rattle.bb_cdcl.specs.Analysis.{IsCovered, IsResolved}
+use Rattle.bb_cnf.specs.Inside.PartialResolvent.{held, AreListed}
+use Rattle.bb_cdcl.specs.Inside.Analysis.{IsCovered, IsResolved}
 use Rattle.bb_cdcl.proofs.shortening.shorten.Given as goal
 
 abbrev pub invariant-loop-at : goal.invariant-loop-at

@@ -1,7 +1,7 @@
 use Rattle.std.proofs.Common.{◌≡◌, ◌+◌, ◌-◌, subst, sym, ap, ◌∙◌, length, All, arith}
 use Rattle.bb_cnf.specs.Clauses.{lists_of, IsWithin}
-use Rattle.bb_cdcl.specs.Events.{IsSatisfied}
-use Rattle.bb_cdcl.specs.States.{Ends}
+use Rattle.bb_cdcl.specs.Inside.Events.{IsSatisfied}
+use Rattle.bb_cdcl.specs.Inside.States.{Ends}
 use Rattle.bb_cdcl.proofs.solver.decide.Goals as goal
 
 pub returns-in_ok-bits-clause-sat : goal.returns-in_ok-bits-clause-sat

@@ -1,6 +1,6 @@
 use Rattle.std.proofs.Common.{◌≡◌, ap, subst, ◌∙◌}
 use Rattle.bb_cnf.specs.Clauses.{lists_of}
-use Rattle.bb_cdcl.specs.Outcomes.{IfSat, IfUnsat, formula}
+use Rattle.bb_cdcl.specs.Inside.Outcomes.{IfSat, IfUnsat, formula}
 use Rattle.bb_cdcl.proofs.Decided.{sat_exactly}
 use Rattle.bb_cdcl.proofs.solver.solve.Goals as goal
 

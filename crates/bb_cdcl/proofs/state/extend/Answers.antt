@@ -1,5 +1,5 @@
 use Rattle.std.proofs.Common.{sym, subst}
-use Rattle.bb_cdcl.specs.Trails.{AreNew}
+use Rattle.bb_cdcl.specs.Inside.Trails.{AreNew}
 use Rattle.bb_cdcl.proofs.Extended.{new_push, free_is_new}
 use Rattle.bb_cdcl.proofs.state.extend.Goals as goal
 

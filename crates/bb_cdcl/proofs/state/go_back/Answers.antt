@@ -1,5 +1,5 @@
 use Rattle.std.proofs.Common.{◌≡◌, ◌≤◌, Some, [], ◌∷◌, ◌++◌, slice_get, sym, subst, ap, ◌∙◌, length, arith, refl}
-use Rattle.bb_cdcl.specs.Trails.{opposite, IsNew, AreNew}
+use Rattle.bb_cdcl.specs.Inside.Trails.{opposite, IsNew, AreNew}
 use Rattle.bb_cdcl.proofs.Extended.{new_front, new_is_free, still_new, entry_in_range}
 use Rattle.bb_cdcl.proofs.Measured.{jump_less}
 use Rattle.bb_cdcl.proofs.state.go_back.Goals as goal

@@ -1,5 +1,5 @@
 use Rattle.std.proofs.Common.{subst, arith}
-use Rattle.bb_cdcl.specs.Trails.{AreNew, AreValues, HasRoom}
+use Rattle.bb_cdcl.specs.Inside.Trails.{AreNew, AreValues, HasRoom}
 use Rattle.bb_cdcl.proofs.Assigned.{last_in_range, last_is_new, pop_values, pop_room}
 use Rattle.bb_cdcl.proofs.trail.pop.Goals as goal
 

@@ -1,5 +1,5 @@
 use Rattle.std.proofs.Common.{◌≡◌, ◌≤◌, length, take}
-use Rattle.bb_cdcl.specs.Trails.{AreValues, HasRoom}
+use Rattle.bb_cdcl.specs.Inside.Trails.{AreValues, HasRoom}
 use Rattle.bb_cdcl.proofs.trail.pop_to.Given as goal
 
 abbrev pub invariant-loop-trail : goal.invariant-loop-trail

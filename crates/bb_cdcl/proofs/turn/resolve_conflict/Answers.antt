@@ -1,8 +1,8 @@
 use Rattle.std.proofs.Common.{◌≡◌, ◌-◌, subst, sym, length, ap, ◌∙◌, ◌++◌, slice_get}
 use Rattle.bb_cnf.specs.Clauses.{literals_of, lists_of}
 use Rattle.bb_cdcl.specs.declared.trail.Trail.{Trail}
-use Rattle.bb_cdcl.specs.Analysis.{IsJump}
-use Rattle.bb_cdcl.specs.States.{all_clauses, Learns}
+use Rattle.bb_cdcl.specs.Inside.Analysis.{IsJump}
+use Rattle.bb_cdcl.specs.Inside.States.{all_clauses, Learns}
 use Rattle.bb_cdcl.proofs.Derived.{learned_ready, derived_jumped, advances_learned}
 use Rattle.bb_cdcl.proofs.turn.resolve_conflict.Goals as goal
 

@@ -1,7 +1,7 @@
 use Rattle.std.proofs.Common.{◌≡◌, ◌++◌, Some, map, sym, ap, ◌∙◌}
 use Rattle.bb_cnf.specs.Clauses.{Literals, literals_of, lists_of}
 use Rattle.bb_cnf.specs.Chains.{made_by}
-use Rattle.bb_cdcl.specs.States.{all_clauses}
+use Rattle.bb_cdcl.specs.Inside.States.{all_clauses}
 use Rattle.bb_cdcl.proofs.Derived.{grows_by}
 use Rattle.bb_cdcl.proofs.units.make_unit.Goals as goal
 

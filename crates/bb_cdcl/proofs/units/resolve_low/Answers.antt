@@ -1,10 +1,10 @@
 use Rattle.std.proofs.Common.{◌≡◌, ◌++◌, Some, slice_get, refl, sym, ap, subst, ◌∙◌}
 use Rattle.bb_cnf.specs.declared.partial_resolvent.PartialResolvent.{PartialResolvent}
 use Rattle.bb_cnf.specs.Clauses.{Literals, lists_of}
-use Rattle.bb_cnf.specs.PartialResolvent.{held, AreListed}
+use Rattle.bb_cnf.specs.Inside.PartialResolvent.{held, AreListed}
 use Rattle.bb_cdcl.specs.declared.trail.Trail.{Trail}
-use Rattle.bb_cdcl.specs.Analysis.{IsJump, IsResolved}
-use Rattle.bb_cdcl.specs.States.{all_clauses}
+use Rattle.bb_cdcl.specs.Inside.Analysis.{IsJump, IsResolved}
+use Rattle.bb_cdcl.specs.Inside.States.{all_clauses}
 use Rattle.bb_cdcl.proofs.Unitary.{jump_kept, made_longer, made_with_more}
 use Rattle.bb_cdcl.proofs.units.resolve_low.Goals as goal
 

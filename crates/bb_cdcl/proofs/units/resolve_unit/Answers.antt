@@ -1,6 +1,6 @@
 use Rattle.std.proofs.Common.{◌≡◌, ◌==◌, true, false, subst, sym, ap, ◌∙◌, arith}
-use Rattle.bb_cnf.specs.PartialResolvent.{held}
-use Rattle.bb_cdcl.specs.Analysis.{IsResolved}
+use Rattle.bb_cnf.specs.Inside.PartialResolvent.{held}
+use Rattle.bb_cdcl.specs.Inside.Analysis.{IsResolved}
 use Rattle.bb_cdcl.proofs.Resolved.{resolved_more}
 use Rattle.bb_cdcl.proofs.Unitary.{unit_resolves, unit_covered}
 use Rattle.bb_cdcl.proofs.units.resolve_unit.Goals as goal

@@ -1,8 +1,8 @@
 use Rattle.std.proofs.Common.{◌≡◌, ℕ, List, Some, slice_get}
 use Rattle.bb_cnf.specs.Clauses.{Literals}
-use Rattle.bb_cnf.specs.PartialResolvent.{held, AreListed}
+use Rattle.bb_cnf.specs.Inside.PartialResolvent.{held, AreListed}
 use Rattle.bb_cdcl.specs.declared.trail.Entry.{Entry}
-use Rattle.bb_cdcl.specs.Analysis.{IsCovered, IsResolved}
+use Rattle.bb_cdcl.specs.Inside.Analysis.{IsCovered, IsResolved}
 use Rattle.bb_cdcl.proofs.units.resolve_units.Given as goal
 
 abbrev pub invariant-loop-lit : goal.invariant-loop-lit

@@ -1,7 +1,7 @@
 use Rattle.std.proofs.Common.{◌≡◌, length, [], ◌∙◌, sym, ap, subst, drop, ◌++◌, IfNone, None, arith, true, false}
 use Rattle.std.proofs.Math.ListN.{drop_of_length-le}
 use Rattle.bb_cnf.specs.Chains.{derived, made_by}
-use Rattle.bb_cnf.specs.PartialResolvent.{sets_of}
+use Rattle.bb_cnf.specs.Inside.PartialResolvent.{sets_of}
 use Rattle.bb_cnf.proofs.Refuted.{derived_none, not_refutation, refutation_made, refutation_ends, EndsInEmpty}
 use Rattle.bb_cnf.proofs.checker.refutes.Goals as goal
 

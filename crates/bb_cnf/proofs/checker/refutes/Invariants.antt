@@ -1,7 +1,7 @@
 use Rattle.std.proofs.Common.{◌≡◌, ◌++◌, false, drop, length}
 use Rattle.bb_cnf.specs.declared.clauses.Lit.{Lit}
 use Rattle.bb_cnf.specs.Chains.{derived}
-use Rattle.bb_cnf.specs.PartialResolvent.{held, AreListed, sets_of}
+use Rattle.bb_cnf.specs.Inside.PartialResolvent.{held, AreListed, sets_of}
 use Rattle.bb_cnf.proofs.checker.refutes.Given as goal
 
 abbrev pub invariant-loop-step : goal.invariant-loop-step

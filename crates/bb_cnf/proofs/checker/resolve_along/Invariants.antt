@@ -1,6 +1,6 @@
 use Rattle.std.proofs.Common.{◌≡◌, ◌++◌, drop}
 use Rattle.bb_cnf.specs.Chains.{chain}
-use Rattle.bb_cnf.specs.PartialResolvent.{held, AreListed, sets_of}
+use Rattle.bb_cnf.specs.Inside.PartialResolvent.{held, AreListed, sets_of}
 use Rattle.bb_cnf.proofs.checker.resolve_along.Given as goal
 
 abbrev pub invariant-loop-number : goal.invariant-loop-number

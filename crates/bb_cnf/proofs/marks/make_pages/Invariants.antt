@@ -1,5 +1,5 @@
 use Rattle.std.proofs.Common.{◌≡◌, ◌+◌, ◌-◌, ℕ, vec_len}
-use Rattle.bb_cnf.specs.Marks.{mark_at}
+use Rattle.bb_cnf.specs.Inside.Marks.{mark_at}
 use Rattle.bb_cnf.proofs.marks.make_pages.Given as goal
 
 abbrev pub invariant-loop-alloc : goal.invariant-loop-alloc

@@ -2,14 +2,14 @@ use Rattle.std.proofs.Common.{rules, ◌<◌, ◌-◌, ℕ, min, refl, sym, ap, 
 use Rattle.std.specs.Prelude.{IsErrOf, Contains}
 use Rattle.lru.specs.LruCache.{LruCache}
 use Rattle.bb_uniq.specs.declared.store.Ref.{Ref}
-use Rattle.bb_uniq.specs.Nodes.{NodeStore, IsRef, IsBelow}
-use Rattle.bb_uniq.specs.Meaning.{Adds, IsTooMany, branch}
-use Rattle.bb_uniq.specs.Cofactors.{top_of, IsReady}
+use Rattle.bb_uniq.specs.Inside.Nodes.{NodeStore, IsRef, IsBelow}
+use Rattle.bb_uniq.specs.Inside.Meaning.{Adds, IsTooMany, branch}
+use Rattle.bb_uniq.specs.Inside.Cofactors.{top_of, IsReady}
 use Rattle.bb_dd.specs.declared.fault.DdFault.TheVariants.{Full}
 use Rattle.bb_dd.specs.declared.key.Key.{Key}
 use Rattle.bb_dd.specs.declared.key.Key.TheVariants.{Apply, Quantify}
-use Rattle.bb_dd.specs.Operations.{value_of}
-use Rattle.bb_dd.specs.Results.{result_table, AreRight, Leaves, IsRight}
+use Rattle.bb_dd.specs.Inside.Operations.{value_of}
+use Rattle.bb_dd.specs.Inside.Results.{result_table, AreRight, Leaves, IsRight}
 use Rattle.bb_dd.proofs.Given.{Given}
 use Rattle.bb_dd.proofs.Halving.{adds_terminal, Halved, halved, falls, refused_first, refused_second, both, result_kept}
 use Rattle.bb_dd.proofs.Recalled.{IsRight-found, AreRight-kept, AreRight-put}

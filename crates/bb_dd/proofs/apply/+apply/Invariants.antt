@@ -1,5 +1,5 @@
 use Rattle.std.proofs.Common.{◌-◌, min}
-use Rattle.bb_uniq.specs.Cofactors.{top_of}
+use Rattle.bb_uniq.specs.Inside.Cofactors.{top_of}
 use Rattle.bb_dd.proofs.apply.+apply.Given as goal
 
 -- how many variables stand from the first one of the three on

@@ -1,8 +1,8 @@
 use Rattle.std.proofs.Common.{◌≡◌, ◌-◌}
 use Rattle.bb_bits.specs.Truth.{truth_at}
-use Rattle.bb_uniq.specs.Nodes.{IsRef}
-use Rattle.bb_uniq.specs.Meaning.{truth_of}
-use Rattle.bb_uniq.specs.Cofactors.{top_of}
+use Rattle.bb_uniq.specs.Inside.Nodes.{IsRef}
+use Rattle.bb_uniq.specs.Inside.Meaning.{truth_of}
+use Rattle.bb_uniq.specs.Inside.Cofactors.{top_of}
 use Rattle.bb_dd.proofs.apply.bit_at.Given as goal
 
 abbrev pub invariant-loop-bit : goal.invariant-loop-bit

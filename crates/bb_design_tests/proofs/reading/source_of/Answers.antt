@@ -1,5 +1,5 @@
 use Rattle.std.proofs.Common.{arith, rules}
-use Rattle.bb_ast.specs.Views.{source_view}
+use Rattle.bb_ast.specs.Inside.Views.{source_view}
 use Rattle.bb_parse.specs.Sources.{ReadsAs}
 use Rattle.bb_design_tests.proofs.reading.source_of.Goals as goal
 

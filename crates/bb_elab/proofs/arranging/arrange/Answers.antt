@@ -1,9 +1,9 @@
 use Rattle.std.proofs.Common.{◌≡◌, ◌⊎◌, map}
-use Rattle.bb_names.specs.Checked.{syntax}
+use Rattle.bb_names.specs.Inside.Checked.{syntax}
 use Rattle.bb_design.specs.declared.fault.ElabFault.TheVariants.{NoMemory}
 use Rattle.bb_design.specs.Hierarchy.{Design}
 use Rattle.bb_design.specs.Refusals.{IsRefusalOf}
-use Rattle.bb_elab.specs.Stages.{HasGrown}
+use Rattle.bb_elab.specs.Inside.Stages.{HasGrown}
 use Rattle.bb_elab.proofs.ArrangedLists.{for_list, listed_at, first_undriven_cause, first_loop_cause, told_on, if_err}
 use Rattle.bb_elab.proofs.arranging.arrange.Goals as goal
 

@@ -1,11 +1,11 @@
 use Rattle.std.proofs.Common.{◌≡◌, Some, map, length, inr, sym, ◌∙◌, ap, subst, arith}
 use Rattle.std.specs.Prelude.{slice_get}
-use Rattle.bb_names.specs.Checked.{syntax}
-use Rattle.bb_elab.specs.DrivenNumbers.{IsFirstAt, AreCounts, AreReads}
+use Rattle.bb_names.specs.Inside.Checked.{syntax}
+use Rattle.bb_elab.specs.Inside.DrivenNumbers.{IsFirstAt, AreCounts, AreReads}
 use Rattle.bb_design.specs.Hierarchy.{Design}
-use Rattle.bb_design.specs.Allowed.{IsBounded}
+use Rattle.bb_design.specs.Inside.Allowed.{IsBounded}
 use Rattle.bb_design.specs.NetBits.{Bit, net_order}
-use Rattle.bb_blast.specs.Placements.{ArePlaced, AreOutlined}
+use Rattle.bb_blast.specs.Inside.Placements.{ArePlaced, AreOutlined}
 use Rattle.bb_design.specs.Refusals.{IsUndriven, AreDriven}
 use Rattle.bb_design.specs.Texts.{bit_text}
 use Rattle.bb_elab.proofs.ArrangedLists.{for_reads, reads_seen, as_many, few, number_there, for_name, undriven, all_are}

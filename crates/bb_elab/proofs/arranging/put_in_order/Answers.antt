@@ -1,10 +1,10 @@
 use Rattle.std.proofs.Common.{◌≡◌, ◌-◌, Some, map, inr, subst, arith}
 use Rattle.std.specs.Prelude.{slice_get}
-use Rattle.bb_names.specs.Checked.{syntax}
-use Rattle.bb_net.specs.NetFaults.{IsFaultOf}
+use Rattle.bb_names.specs.Inside.Checked.{syntax}
+use Rattle.bb_net.specs.Inside.NetFaults.{IsFaultOf}
 use Rattle.bb_design.specs.Hierarchy.{Design}
 use Rattle.bb_design.specs.NetBits.{Bit, net_order}
-use Rattle.bb_blast.specs.Placements.{ArePlaced, AreOutlined}
+use Rattle.bb_blast.specs.Inside.Placements.{ArePlaced, AreOutlined}
 use Rattle.bb_design.specs.Texts.{bit_text}
 use Rattle.bb_elab.proofs.ArrangedLists.{is_loose, acyclic, behind, loop_there, for_name, on_loop}
 use Rattle.bb_elab.proofs.arranging.put_in_order.Goals as goal

@@ -6,8 +6,8 @@ use Rattle.std.proofs.lemmas.List.Sums.{sum_by_more}
 use Rattle.std.proofs.lemmas.Option.{get_or_from_slice_get}
 use Rattle.bb_names.specs.declared.net.NetInfo.{NetInfo}
 use Rattle.bb_names.specs.Ranges.{range_width}
-use Rattle.bb_blast.specs.Outlines.{net_start}
-use Rattle.bb_blast.specs.Outlining.{bit_count}
+use Rattle.bb_blast.specs.Inside.Outlines.{net_start}
+use Rattle.bb_blast.specs.Inside.Outlining.{bit_count}
 use Rattle.bb_lists.proofs.Orders.{less_or_past}
 use Rattle.bb_elab.proofs.bit_places.net_of_bit.Goals as goal
 

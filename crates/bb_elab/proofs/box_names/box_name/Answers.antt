@@ -1,10 +1,10 @@
 use Rattle.std.proofs.Common.{length, map, refl, sym, ap, ◌∙◌, subst, arith}
 use Rattle.std.specs.Prelude.{slice_get}
 use Rattle.std.proofs.lemmas.Option.{slice_get_read}
-use Rattle.bb_names.specs.Checked.{syntax}
+use Rattle.bb_names.specs.Inside.Checked.{syntax}
 use Rattle.bb_design.specs.Hierarchy.{scopes}
 use Rattle.bb_design.specs.NetBits.{net_order, input_bits, output_bits}
-use Rattle.bb_blast.specs.Placements.{ArePlaced}
+use Rattle.bb_blast.specs.Inside.Placements.{ArePlaced}
 use Rattle.bb_elab.proofs.NamedScopes.{module_within, inputs_at, outputs_at, moved_at, box_is}
 use Rattle.bb_lists.proofs.AtPlaces.{at_below}
 use Rattle.bb_lists.proofs.Places.{some_at}

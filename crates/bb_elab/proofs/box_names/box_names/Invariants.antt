@@ -1,9 +1,9 @@
 use Rattle.std.proofs.Common.{◌≡◌, map, take}
 use Rattle.std.specs.List.{AllZip}
-use Rattle.bb_names.specs.Checked.{syntax}
+use Rattle.bb_names.specs.Inside.Checked.{syntax}
 use Rattle.bb_design.specs.Hierarchy.{Design, boxes}
-use Rattle.bb_blast.specs.Placements.{IsScopeAt}
-use Rattle.bb_elab.specs.Stages.{HasGrown}
+use Rattle.bb_blast.specs.Inside.Placements.{IsScopeAt}
+use Rattle.bb_elab.specs.Inside.Stages.{HasGrown}
 use Rattle.bb_cells.specs.Stands.{box_number, box_texts}
 use Rattle.bb_elab.proofs.box_names.box_names.Given as goal
 

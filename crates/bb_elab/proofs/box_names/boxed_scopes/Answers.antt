@@ -2,7 +2,7 @@ use Rattle.std.proofs.Common.{◌+◌, length, take, refl, sym, ap, ◌∙◌, s
 use Rattle.std.specs.List.{AllZip, filter}
 use Rattle.std.proofs.lemmas.Option.{slice_get_read}
 use Rattle.bb_design.specs.Hierarchy.{scopes, is_box}
-use Rattle.bb_blast.specs.Placements.{IsScopeAt}
+use Rattle.bb_blast.specs.Inside.Placements.{IsScopeAt}
 use Rattle.bb_elab.proofs.NamedBits.{boxed_kept, boxed_left}
 use Rattle.bb_elab.proofs.box_names.boxed_scopes.Goals.{then-at+in_ok-push, else-at}
 use Rattle.bb_elab.proofs.box_names.boxed_scopes.Goals as goal

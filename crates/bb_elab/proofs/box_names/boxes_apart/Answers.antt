@@ -1,7 +1,7 @@
 use Rattle.std.proofs.Common.{sym, subst}
 use Rattle.std.specs.List.{AllZip}
 use Rattle.bb_design.specs.Hierarchy.{boxes}
-use Rattle.bb_blast.specs.Placements.{IsScopeAt, ArePlaced}
+use Rattle.bb_blast.specs.Inside.Placements.{IsScopeAt, ArePlaced}
 use Rattle.bb_elab.proofs.NamedBits.{scopes_within}
 use Rattle.bb_elab.proofs.box_names.boxes_apart.Goals as goal
 

@@ -1,7 +1,7 @@
 use Rattle.std.proofs.Common.{◌≡◌, map, take}
 use Rattle.std.specs.List.{AllZip}
 use Rattle.bb_design.specs.Hierarchy.{Design, boxes}
-use Rattle.bb_blast.specs.Placements.{IsScopeAt, ArePlaced}
+use Rattle.bb_blast.specs.Inside.Placements.{IsScopeAt, ArePlaced}
 use Rattle.bb_design.specs.Texts.{path_text}
 use Rattle.bb_elab.proofs.box_names.path_names.Given as goal
 

@@ -1,4 +1,4 @@
-use Rattle.bb_elab.specs.CopyEnds.{EndsAt, AreEnds}
+use Rattle.bb_elab.specs.Inside.CopyEnds.{EndsAt, AreEnds}
 use Rattle.bb_elab.proofs.copy_ends.note.Given as goal
 
 abbrev pub invariant-loop-step : goal.invariant-loop-step

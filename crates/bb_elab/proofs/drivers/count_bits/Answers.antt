@@ -1,6 +1,6 @@
 use Rattle.std.proofs.Common.{◌+◌, ℕ, get_or, take, arith}
 use Rattle.std.proofs.lemmas.List.{length-map, get_or-map, get_or_default, take_all}
-use Rattle.bb_bits.specs.Places.{numbers_from}
+use Rattle.bb_bits.specs.Inside.Places.{numbers_from}
 use Rattle.bb_elab.proofs.Tallies.{tally_more, tally_whole, map_more}
 use Rattle.bb_elab.proofs.drivers.count_bits.Goals as goal
 

@@ -1,6 +1,6 @@
 use Rattle.std.proofs.Common.{[], refl}
 use Rattle.std.specs.List.{flat_map}
-use Rattle.bb_elab.specs.DrivenNumbers.{top_numbers, scope_numbers}
+use Rattle.bb_elab.specs.Inside.DrivenNumbers.{top_numbers, scope_numbers}
 use Rattle.bb_elab.proofs.Tallies.{tally_more}
 use Rattle.bb_elab.proofs.drivers.count_drivers.Goals as goal
 

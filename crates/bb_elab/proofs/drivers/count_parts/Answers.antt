@@ -2,7 +2,7 @@ use Rattle.std.proofs.Common.{◌<◌, length, take, subst, sym, arith}
 use Rattle.std.specs.Prelude.{All}
 use Rattle.std.specs.List.{flat_map}
 use Rattle.std.proofs.lemmas.List.{take_all}
-use Rattle.bb_elab.specs.DrivenNumbers.{part_numbers}
+use Rattle.bb_elab.specs.Inside.DrivenNumbers.{part_numbers}
 use Rattle.bb_elab.proofs.Tallies.{tally_more, tally_whole, flat_more, all_of_one}
 use Rattle.bb_elab.proofs.drivers.count_parts.Goals as goal
 

@@ -1,6 +1,6 @@
 use Rattle.std.proofs.Common.{ℕ, List, ◌++◌, take}
 use Rattle.std.specs.List.{flat_map}
-use Rattle.bb_elab.specs.DrivenNumbers.{part_numbers, IsTally}
+use Rattle.bb_elab.specs.Inside.DrivenNumbers.{part_numbers, IsTally}
 use Rattle.bb_elab.proofs.drivers.count_parts.Given as goal
 
 abbrev pub invariant-loop-part : goal.invariant-loop-part

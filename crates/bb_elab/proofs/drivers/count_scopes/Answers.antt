@@ -1,7 +1,7 @@
 use Rattle.std.proofs.Common.{take, arith}
 use Rattle.std.specs.List.{flat_map}
 use Rattle.std.proofs.lemmas.List.{take_all}
-use Rattle.bb_elab.specs.DrivenNumbers.{scope_numbers}
+use Rattle.bb_elab.specs.Inside.DrivenNumbers.{scope_numbers}
 use Rattle.bb_elab.proofs.Tallies.{tally_more, tally_whole, flat_more}
 use Rattle.bb_elab.proofs.drivers.count_scopes.Goals as goal
 

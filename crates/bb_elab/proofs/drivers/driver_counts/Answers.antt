@@ -1,6 +1,6 @@
 use Rattle.std.proofs.Common.{◌≡◌, length, subst, sym, ap, ◌∙◌}
 use Rattle.std.specs.Prelude.{All}
-use Rattle.bb_elab.specs.DrivenNumbers.{driven_numbers, MayCountInputs, MayBeCounted, AreCounts}
+use Rattle.bb_elab.specs.Inside.DrivenNumbers.{driven_numbers, MayCountInputs, MayBeCounted, AreCounts}
 use Rattle.bb_design.specs.NetBits.{net_order}
 use Rattle.bb_elab.proofs.DriverNumbers.{inputs_there, scopes_there, driven_at}
 use Rattle.bb_elab.proofs.Tallies.{written_back, none_counted, counts_told}

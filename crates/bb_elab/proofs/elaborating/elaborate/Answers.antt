@@ -2,7 +2,7 @@ use Rattle.std.proofs.Common.{◌≡◌, ◌<◌, ◌⊎◌, map, length, subst,
 use Rattle.std.specs.Prelude.{slice_get, option_copied, IfSome}
 use Rattle.std.specs.Option.{option_and_then}
 use Rattle.std.proofs.lemmas.List.{length-map}
-use Rattle.bb_names.specs.Checked.{syntax}
+use Rattle.bb_names.specs.Inside.Checked.{syntax}
 use Rattle.bb_design.specs.declared.fault.ElabFault.TheVariants.{NoMemory}
 use Rattle.bb_design.specs.Hierarchy.{top_of}
 use Rattle.bb_design.specs.Refusals.{IsFirstRefusal}

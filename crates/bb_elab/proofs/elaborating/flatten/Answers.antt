@@ -1,11 +1,11 @@
 use Rattle.std.proofs.Common.{◌≡◌, ◌⊎◌, map, refl, arith}
 use Rattle.std.proofs.lemmas.List.{length-map}
 use Rattle.std.proofs.lemmas.Result.{IfErr-weaker, IfOk-weaker}
-use Rattle.bb_names.specs.Checked.{syntax}
+use Rattle.bb_names.specs.Inside.Checked.{syntax}
 use Rattle.bb_design.specs.declared.fault.ElabFault.TheVariants.{NoMemory}
 use Rattle.bb_design.specs.Refusals.{IsRefusalOf, IsSoundDesign, design_on}
-use Rattle.bb_elab.specs.Stages.{HasGrown}
-use Rattle.bb_hier.specs.Finite.{AtTop}
+use Rattle.bb_elab.specs.Inside.Stages.{HasGrown}
+use Rattle.bb_hier.specs.Inside.Finite.{AtTop}
 use Rattle.bb_cells.specs.Stands.{StandsFor}
 use Rattle.bb_elab.proofs.ArrangedLists.{told_on, if_err}
 use Rattle.bb_lists.proofs.Places.{some_at}

@@ -1,11 +1,11 @@
 use Rattle.std.proofs.Common.{◌≡◌, ◌⊎◌, map, sym, ap, ◌∙◌, subst}
 use Rattle.std.specs.List.{AllZip}
-use Rattle.bb_names.specs.Checked.{syntax}
+use Rattle.bb_names.specs.Inside.Checked.{syntax}
 use Rattle.bb_design.specs.declared.fault.ElabFault.TheVariants.{NoMemory}
 use Rattle.bb_design.specs.Hierarchy.{Design, boxes}
-use Rattle.bb_blast.specs.Placements.{IsScopeAt}
+use Rattle.bb_blast.specs.Inside.Placements.{IsScopeAt}
 use Rattle.bb_design.specs.Refusals.{IsRefusalOf}
-use Rattle.bb_elab.specs.Stages.{HasGrown, AreArranged}
+use Rattle.bb_elab.specs.Inside.Stages.{HasGrown, AreArranged}
 use Rattle.bb_cells.specs.Stands.{StandsFor, box_number, box_texts}
 use Rattle.bb_elab.proofs.ArrangedLists.{told_on, if_err}
 use Rattle.bb_elab.proofs.FinishedNets.{boxes_refused, registers_refused, ports_refused, numbers_within, is_sound, stands, is_flat}

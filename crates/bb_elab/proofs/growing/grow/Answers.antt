@@ -1,13 +1,13 @@
 use Rattle.std.proofs.Common.{◌≡◌, ◌<◌, Some, inr, map, length, subst, arith}
 use Rattle.std.specs.Prelude.{slice_get, IfNone}
 use Rattle.std.proofs.lemmas.List.{length-map}
-use Rattle.bb_names.specs.Checked.{syntax}
-use Rattle.bb_elab.specs.DrivenNumbers.{IsFirstAt, AreCounts}
+use Rattle.bb_names.specs.Inside.Checked.{syntax}
+use Rattle.bb_elab.specs.Inside.DrivenNumbers.{IsFirstAt, AreCounts}
 use Rattle.bb_design.specs.Hierarchy.{Design}
 use Rattle.bb_design.specs.NetBits.{Bit, net_order}
 use Rattle.bb_design.specs.Texts.{bit_text}
-use Rattle.bb_blast.specs.Placements.{ArePlaced, AreOutlined, AreStored}
-use Rattle.bb_design.specs.Allowed.{IsBounded}
+use Rattle.bb_blast.specs.Inside.Placements.{ArePlaced, AreOutlined, AreStored}
+use Rattle.bb_design.specs.Inside.Allowed.{IsBounded}
 use Rattle.bb_design.specs.Refusals.{IsSmall, IsDrivenTwice, AreDrivenOnce}
 use Rattle.bb_elab.proofs.Growth.{for_outlines, for_counts, for_bits, for_registers, few, for_name, twice, grown}
 use Rattle.bb_elab.proofs.growing.grow.Goals as goal

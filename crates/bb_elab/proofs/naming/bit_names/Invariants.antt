@@ -1,9 +1,9 @@
 use Rattle.std.proofs.Common.{◌≡◌, List, map, take}
-use Rattle.bb_names.specs.Checked.{syntax}
+use Rattle.bb_names.specs.Inside.Checked.{syntax}
 use Rattle.bb_design.specs.Hierarchy.{Design}
 use Rattle.bb_design.specs.NetBits.{Bit}
-use Rattle.bb_elab.specs.DrivenNumbers.{AreBitsAt}
-use Rattle.bb_elab.specs.Stages.{HasGrown}
+use Rattle.bb_elab.specs.Inside.DrivenNumbers.{AreBitsAt}
+use Rattle.bb_elab.specs.Inside.Stages.{HasGrown}
 use Rattle.bb_design.specs.Texts.{bit_text}
 use Rattle.bb_elab.proofs.naming.bit_names.Given as goal
 

@@ -1,5 +1,5 @@
 use Rattle.std.proofs.Common.{map, ◌∙◌, refl}
-use Rattle.bb_names.specs.Checked.{syntax}
+use Rattle.bb_names.specs.Inside.Checked.{syntax}
 use Rattle.bb_design.specs.NetBits.{net_order}
 use Rattle.bb_design.specs.Texts.{pin_text}
 use Rattle.bb_elab.proofs.ArrangedLists.{for_name}

@@ -1,7 +1,7 @@
 use Rattle.std.proofs.Common.{map, sym, subst}
-use Rattle.bb_names.specs.Checked.{syntax}
+use Rattle.bb_names.specs.Inside.Checked.{syntax}
 use Rattle.bb_design.specs.NetBits.{net_order, top_inputs, top_outputs}
-use Rattle.bb_bits.specs.Places.{AreAt}
+use Rattle.bb_bits.specs.Inside.Places.{AreAt}
 use Rattle.bb_lists.proofs.AtPlaces.{at_below}
 use Rattle.bb_elab.proofs.port_names.port_names.Goals as goal
 

@@ -2,7 +2,7 @@ use Rattle.std.proofs.Common.{◌+◌, ◌<◌, false, List, Bool, length, map, 
 use Rattle.std.proofs.lemmas.List.Elements.{All-contains}
 use Rattle.std.specs.List.{Contains}
 use Rattle.bb_blast.specs.declared.stored.Stored.{Stored}
-use Rattle.bb_cells.specs.ReadPlaces.{AreClosed}
+use Rattle.bb_cells.specs.Inside.ReadPlaces.{AreClosed}
 use Rattle.bb_lists.proofs.Members.{all_from, from_map}
 use Rattle.bb_elab.proofs.CopyMarks.{all_marked}
 use Rattle.bb_lists.proofs.Turns.{written_back}

@@ -1,5 +1,5 @@
 use Rattle.std.proofs.Common.{◌≡◌, ◌+◌, map, ap}
-use Rattle.bb_names.specs.Checked.{syntax}
+use Rattle.bb_names.specs.Inside.Checked.{syntax}
 use Rattle.bb_elab.proofs.ReadDesigns.{clocks_there, clocks_few, bits_fit, loose, three, reads_are}
 use Rattle.bb_elab.proofs.reads.bits_read.Goals as goal
 

@@ -1,9 +1,9 @@
 use Rattle.std.proofs.Common.{◌≡◌, ◌+◌, length, map, refl, sym, ap, ◌∙◌, subst, arith}
 use Rattle.std.proofs.lemmas.List.{length-map}
 use Rattle.std.proofs.lemmas.Result.{IfOk-weaker}
-use Rattle.bb_names.specs.Checked.{syntax}
+use Rattle.bb_names.specs.Inside.Checked.{syntax}
 use Rattle.bb_design.specs.NetBits.{net_order, top_inputs}
-use Rattle.bb_blast.specs.Placements.{IsStoredAt, AreStored}
+use Rattle.bb_blast.specs.Inside.Placements.{IsStoredAt, AreStored}
 use Rattle.bb_design.specs.Registers.{RegisterBit, registers, cut_bits}
 use Rattle.bb_design.specs.Texts.{bit_text}
 use Rattle.bb_lists.proofs.Zips.{zip_length}

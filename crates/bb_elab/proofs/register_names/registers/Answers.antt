@@ -1,7 +1,7 @@
 use Rattle.std.proofs.Common.{◌≡◌, [], ◌∷◌, ◌++◌, length, rules, sym, ap, ◌∙◌, subst, arith, append_assoc, length-append}
 use Rattle.std.proofs.lemmas.Grind.{common_steps}
 use Rattle.std.proofs.lemmas.Option.{slice_get-get_or}
-use Rattle.bb_elab.specs.CopyEnds.{AreEnds}
+use Rattle.bb_elab.specs.Inside.CopyEnds.{AreEnds}
 use Rattle.bb_elab.proofs.NamedRegisters.{registers_turn, registers_end}
 use Rattle.bb_elab.proofs.Tallies.{written_back}
 use Rattle.bb_elab.proofs.register_names.registers.Goals as goal

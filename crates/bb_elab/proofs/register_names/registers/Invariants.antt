@@ -1,14 +1,14 @@
 use Rattle.std.proofs.Common.{◌≡◌, ◌+◌, ◌++◌, ℕ, List, take, length}
 use Rattle.std.specs.List.{AllZip}
 use Rattle.bb_net.specs.Netlists.{Netlist}
-use Rattle.bb_elab.specs.CopyEnds.{AreEnds}
+use Rattle.bb_elab.specs.Inside.CopyEnds.{AreEnds}
 use Rattle.bb_design.specs.Hierarchy.{Design}
-use Rattle.bb_design.specs.Allowed.{IsBounded}
+use Rattle.bb_design.specs.Inside.Allowed.{IsBounded}
 use Rattle.bb_design.specs.NetBits.{top_inputs}
-use Rattle.bb_blast.specs.Placements.{AreStored}
+use Rattle.bb_blast.specs.Inside.Placements.{AreStored}
 use Rattle.bb_design.specs.Refusals.{AreDrivenOnce, register_texts}
 use Rattle.bb_design.specs.Registers.{registers, cut_bits}
-use Rattle.bb_elab.specs.Stages.{AreArranged}
+use Rattle.bb_elab.specs.Inside.Stages.{AreArranged}
 use Rattle.bb_cells.specs.Stands.{IsRegister}
 use Rattle.bb_elab.proofs.register_names.registers.Given as goal
 

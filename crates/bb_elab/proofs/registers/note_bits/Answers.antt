@@ -1,6 +1,6 @@
 use Rattle.std.proofs.Common.{◌+◌, get_or, take, arith}
 use Rattle.std.proofs.lemmas.List.{get_or_default, take_all}
-use Rattle.bb_elab.specs.StoredNumbers.{stored_from}
+use Rattle.bb_elab.specs.Inside.StoredNumbers.{stored_from}
 use Rattle.bb_elab.proofs.StoredNotes.{notes_more, notes_whole, storable_at}
 use Rattle.bb_elab.proofs.Tallies.{map_more}
 use Rattle.bb_elab.proofs.registers.note_bits.Goals as goal

@@ -1,6 +1,6 @@
 use Rattle.std.proofs.Common.{List, ◌++◌, take}
 use Rattle.bb_blast.specs.declared.stored.Stored.{Stored}
-use Rattle.bb_elab.specs.StoredNumbers.{stored_from, AreNotes}
+use Rattle.bb_elab.specs.Inside.StoredNumbers.{stored_from, AreNotes}
 use Rattle.bb_elab.proofs.registers.note_bits.Given as goal
 
 abbrev pub invariant-loop-bit : goal.invariant-loop-bit

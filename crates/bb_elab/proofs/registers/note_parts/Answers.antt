@@ -2,7 +2,7 @@ use Rattle.std.proofs.Common.{length, take, subst, sym, arith}
 use Rattle.std.specs.Prelude.{All}
 use Rattle.std.specs.List.{flat_map}
 use Rattle.std.proofs.lemmas.List.{take_all}
-use Rattle.bb_elab.specs.StoredNumbers.{part_stored, IsStorable}
+use Rattle.bb_elab.specs.Inside.StoredNumbers.{part_stored, IsStorable}
 use Rattle.bb_elab.proofs.StoredNotes.{notes_more, notes_whole}
 use Rattle.bb_elab.proofs.Tallies.{flat_more, all_of_one}
 use Rattle.bb_elab.proofs.registers.note_parts.Goals as goal

@@ -1,7 +1,7 @@
 use Rattle.std.proofs.Common.{take, arith}
 use Rattle.std.specs.List.{flat_map}
 use Rattle.std.proofs.lemmas.List.{take_all}
-use Rattle.bb_elab.specs.StoredNumbers.{scope_stored}
+use Rattle.bb_elab.specs.Inside.StoredNumbers.{scope_stored}
 use Rattle.bb_elab.proofs.StoredNotes.{notes_more, notes_whole}
 use Rattle.bb_elab.proofs.Tallies.{flat_more}
 use Rattle.bb_elab.proofs.registers.note_scopes.Goals as goal

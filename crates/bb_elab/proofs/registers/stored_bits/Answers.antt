@@ -3,10 +3,10 @@ use Rattle.std.specs.Prelude.{All}
 use Rattle.std.specs.List.{filter_map}
 use Rattle.std.proofs.lemmas.Result.{IfOk-weaker}
 use Rattle.bb_design.specs.Hierarchy.{Design}
-use Rattle.bb_design.specs.Allowed.{IsBounded}
+use Rattle.bb_design.specs.Inside.Allowed.{IsBounded}
 use Rattle.bb_design.specs.NetBits.{net_order}
-use Rattle.bb_blast.specs.Placements.{ArePlaced, AreOutlined, AreStored}
-use Rattle.bb_elab.specs.StoredNumbers.{MayBeNoted}
+use Rattle.bb_blast.specs.Inside.Placements.{ArePlaced, AreOutlined, AreStored}
+use Rattle.bb_elab.specs.Inside.StoredNumbers.{MayBeNoted}
 use Rattle.bb_elab.proofs.RegisterNumbers.{notes_there, stored_told}
 use Rattle.bb_elab.proofs.StoredNotes.{no_notes_are}
 use Rattle.bb_elab.proofs.Tallies.{written_back}

@@ -1,7 +1,7 @@
 use Rattle.std.proofs.Common.{ap, ◌∙◌, arith}
 use Rattle.std.specs.Prelude.{slice_get, slice_set}
 use Rattle.std.proofs.lemmas.List.{length-map}
-use Rattle.bb_elab.specs.Placings.{with_children}
+use Rattle.bb_elab.specs.Inside.Placings.{with_children}
 use Rattle.bb_elab.proofs.ScopePlacing.{place_there, list_there, some_levels, fits, sketched_here, placing_starts, next_child, placing_goes, placing_ends, chosen, named_there, as_many}
 use Rattle.bb_elab.proofs.scopes.+place_scope.Goals as goal
 

@@ -1,6 +1,6 @@
 use Rattle.std.proofs.Common.{map, List}
 use Rattle.bb_design.specs.Hierarchy.{Design, Scope}
-use Rattle.bb_elab.specs.Placings.{IsNext}
+use Rattle.bb_elab.specs.Inside.Placings.{IsNext}
 use Rattle.bb_elab.proofs.ScopePlacing.{IsPlacing}
 use Rattle.bb_elab.proofs.scopes.+place_scope.Given as goal
 

@@ -1,10 +1,10 @@
 use Rattle.std.proofs.Common.{map, subst, sym, refl, arith}
 use Rattle.std.specs.List.{AllZip}
 use Rattle.std.proofs.lemmas.List.{length-map}
-use Rattle.bb_names.specs.Checked.{syntax}
+use Rattle.bb_names.specs.Inside.Checked.{syntax}
 use Rattle.bb_design.specs.Refusals.{design_on}
-use Rattle.bb_elab.specs.Placings.{AreSketched}
-use Rattle.bb_hier.specs.Sketches.{IsSketch}
+use Rattle.bb_elab.specs.Inside.Placings.{AreSketched}
+use Rattle.bb_hier.specs.Inside.Sketches.{IsSketch}
 use Rattle.bb_lists.proofs.Places.{there_at, some_at}
 use Rattle.bb_elab.proofs.ScopePlacing.{top_next, all_placed}
 use Rattle.bb_elab.proofs.scopes.place_scopes.Goals as goal

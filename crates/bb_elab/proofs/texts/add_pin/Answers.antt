@@ -2,16 +2,16 @@ use Rattle.std.proofs.Common.{◌≡◌, ◌-◌, ◌<◌, ◌++◌, ℕ, List, 
 use Rattle.std.specs.Prelude.{slice_get}
 use Rattle.std.proofs.lemmas.Option.{slice_get_read, slice_get_within, get_or_from_slice_get}
 use Rattle.std.proofs.lemmas.Result.{on_ok_weaker}
-use Rattle.bb_names.specs.Checked.{ModuleFacts, module_facts, syntax}
+use Rattle.bb_names.specs.Inside.Checked.{ModuleFacts, module_facts, syntax}
 use Rattle.bb_blast.specs.declared.placed.Placed.{Placed}
 use Rattle.bb_design.specs.Hierarchy.{Design, scopes}
 use Rattle.bb_design.specs.NetBits.{net_order}
-use Rattle.bb_blast.specs.Outlines.{net_start}
-use Rattle.bb_blast.specs.Placements.{ArePlaced}
+use Rattle.bb_blast.specs.Inside.Outlines.{net_start}
+use Rattle.bb_blast.specs.Inside.Placements.{ArePlaced}
 use Rattle.bb_elab.proofs.BitNames.{own_nets, starts_each, local_there, pin_named}
 use Rattle.bb_lists.proofs.Places.{some_at}
 use Rattle.bb_elab.proofs.texts.add_pin.Goals as goal
-use Rattle.bb_blast.specs.ModuleLaws.{ModuleLaws}
+use Rattle.bb_blast.specs.Laws.ModuleLaws.{ModuleLaws}
 
 module_below : ModuleLaws → (checked : List ModuleFacts) (all : List Placed) (d : Design) → d.text ≡ map syntax checked → ArePlaced d all → (k : ℕ) (p : Placed) → slice_get all k ≡ Some p → p.module < length checked
 module_below of_modules checked all d text are k p there =

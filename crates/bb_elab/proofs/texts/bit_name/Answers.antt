@@ -1,10 +1,10 @@
 use Rattle.std.proofs.Common.{◌≡◌, ◌-◌, ◌++◌, [], ℕ, List, Some, map, sym, ap, ◌∙◌, arith}
 use Rattle.std.specs.Prelude.{slice_get}
 use Rattle.std.proofs.lemmas.Result.{IfOk-weaker}
-use Rattle.bb_names.specs.Checked.{syntax}
+use Rattle.bb_names.specs.Inside.Checked.{syntax}
 use Rattle.bb_design.specs.Hierarchy.{Path, Design, scopes}
 use Rattle.bb_design.specs.NetBits.{Bit, net_order}
-use Rattle.bb_blast.specs.Placements.{ArePlaced, AreOutlined}
+use Rattle.bb_blast.specs.Inside.Placements.{ArePlaced, AreOutlined}
 use Rattle.bb_design.specs.Texts.{path_prefix, bit_text, pin_text}
 use Rattle.bb_elab.proofs.BitNames.{own_path}
 use Rattle.bb_elab.proofs.PlacedPaths.{are_rooted, path_there}

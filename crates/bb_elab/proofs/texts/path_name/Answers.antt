@@ -2,8 +2,8 @@ use Rattle.std.proofs.Common.{◌≡◌, ◌∙◌, ◌++◌, [], ℕ, List, ap}
 use Rattle.std.proofs.lemmas.Result.{IfOk-weaker}
 use Rattle.bb_blast.specs.declared.placed.Placed.{Placed}
 use Rattle.bb_design.specs.Hierarchy.{Path, Design, Scope}
-use Rattle.bb_elab.specs.PlacedPaths.{IsPathAt}
-use Rattle.bb_blast.specs.Placements.{IsScopeAt, ArePlaced}
+use Rattle.bb_elab.specs.Inside.PlacedPaths.{IsPathAt}
+use Rattle.bb_blast.specs.Inside.Placements.{IsScopeAt, ArePlaced}
 use Rattle.bb_design.specs.Texts.{path_text}
 use Rattle.bb_elab.proofs.PlacedPaths.{are_rooted, path_there}
 use Rattle.bb_elab.proofs.texts.path_name.Goals as goal

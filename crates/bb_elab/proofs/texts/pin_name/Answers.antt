@@ -1,10 +1,10 @@
 use Rattle.std.proofs.Common.{◌≡◌, ◌++◌, Some, map, ap, ◌∙◌}
 use Rattle.std.specs.Prelude.{slice_get}
 use Rattle.std.proofs.lemmas.Result.{IfOk-weaker}
-use Rattle.bb_names.specs.Checked.{syntax}
+use Rattle.bb_names.specs.Inside.Checked.{syntax}
 use Rattle.bb_design.specs.Hierarchy.{Design}
 use Rattle.bb_design.specs.NetBits.{Bit, net_order}
-use Rattle.bb_blast.specs.Placements.{ArePlaced, AreOutlined}
+use Rattle.bb_blast.specs.Inside.Placements.{ArePlaced, AreOutlined}
 use Rattle.bb_design.specs.Texts.{pin_text}
 use Rattle.bb_elab.proofs.texts.pin_name.Goals as goal
 

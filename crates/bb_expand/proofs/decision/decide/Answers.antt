@@ -1,7 +1,7 @@
 use Rattle.std.proofs.Common.{ap, ap₂, ◌∙◌, subst, sym, arith}
 use Rattle.bb_net.specs.Completions.{AreCompletion}
 use Rattle.bb_net.specs.Netlists.{Netlist}
-use Rattle.bb_expand.specs.ReadTables.{tables_in}
+use Rattle.bb_expand.specs.Inside.ReadTables.{tables_in}
 use Rattle.bb_expand.proofs.Decided.{sat_completes, unsat_is_error}
 use Rattle.bb_expand.proofs.ExpandedVectors.{few_inputs_left}
 use Rattle.bb_expand.proofs.decision.decide.Goals as goal

@@ -1,5 +1,5 @@
 use Rattle.std.proofs.Common.{ap, ap₂, sym, subst, arith}
-use Rattle.bb_cdcl.specs.Outcomes.{formula}
+use Rattle.bb_cdcl.specs.Inside.Outcomes.{formula}
 use Rattle.bb_cnf.specs.Clauses.{IsWithin, lists_of}
 use Rattle.bb_expand.specs.Expansions.{all_vectors}
 use Rattle.bb_expand.proofs.ExpandedVectors.{all_expanded, few_inputs_left, count_is, all_variables_fit, variables_are}

@@ -1,6 +1,6 @@
 use Rattle.std.proofs.Common.{Bool, List}
 use Rattle.bb_expand.specs.Expansions.{all_vectors}
-use Rattle.bb_expand.specs.ReadTables.{tables_in}
+use Rattle.bb_expand.specs.Inside.ReadTables.{tables_in}
 use Rattle.bb_expand.proofs.AllVectors.{agree_from_all, all_from_agree, vectors_rise, vectors_are_all}
 use Rattle.bb_expand.proofs.CellLaw.{cell_law}
 use Rattle.bb_expand.proofs.ClauseNumbers.{clauses_are_counted}

@@ -1,6 +1,6 @@
 use Rattle.std.proofs.Common.{◌≡◌, ◌++◌, drop, take}
 use Rattle.bb_net.specs.Completions.{table_bits}
-use Rattle.bb_expand.specs.ReadTables.{tables_in}
+use Rattle.bb_expand.specs.Inside.ReadTables.{tables_in}
 use Rattle.bb_expand.proofs.tables.read_tables.Given as goal
 
 abbrev pub invariant-loop-pins : goal.invariant-loop-pins

@@ -1,13 +1,13 @@
 -- What an operand needs, and that the cells of operands are added up.
 use Rattle.std.proofs.Common.{◌≡◌, ◌+◌, ◌-◌, ◌*◌, map, sym, ap, ◌∙◌, subst, arith, rules}
 use Rattle.std.specs.Prelude.{◌^◌, All, sum_by, min}
-use Rattle.bb_ast.specs.Views.{expression, operand_view, arm_view}
+use Rattle.bb_ast.specs.Inside.Views.{expression, operand_view, arm_view}
 use Rattle.bb_ast.specs.declared.expr.Expr.{the_lemmas}
-use Rattle.bb_names.specs.Checked.{module_facts}
+use Rattle.bb_names.specs.Inside.Checked.{module_facts}
 use Rattle.bb_names.specs.Widths.{own_width}
 use Rattle.bb_expr.specs.Cells.{op_cells, cell_count}
-use Rattle.bb_expr.specs.Fit.{AreFit, ranges_in}
-use Rattle.bb_expr.specs.Shares.{capped, own_cells, operand_cells, arm_cells}
+use Rattle.bb_expr.specs.Inside.Fit.{AreFit, ranges_in}
+use Rattle.bb_expr.specs.Inside.Shares.{capped, own_cells, operand_cells, arm_cells}
 use Rattle.bb_expr.proofs.ViewLemmas.{expression-not, expression-chain, expression-cond, expression-concat, expression-repeat}
 use Rattle.bb_expr.proofs.OperandLemmas.{fit-here, fit-not, fit-first, fit-operands, fit-arms, fit-last, fit-parts, fit-copied}
 use Rattle.bb_expr.proofs.ShareLemmas.{chain-cells, cond-cells, concat-cells, repeat-cells, two-shares, operand-share, arm-share, share-more, share-all, op-small}

@@ -1,9 +1,9 @@
 use Rattle.std.proofs.Common.{◌≡◌, map, take}
 use Rattle.std.specs.Prelude.{sum_by}
-use Rattle.bb_ast.specs.Views.{expression, operand_view, arm_view}
-use Rattle.bb_names.specs.Checked.{module_facts}
-use Rattle.bb_expr.specs.Fit.{ranges_in}
-use Rattle.bb_expr.specs.Shares.{capped, own_cells, operand_cells, arm_cells}
+use Rattle.bb_ast.specs.Inside.Views.{expression, operand_view, arm_view}
+use Rattle.bb_names.specs.Inside.Checked.{module_facts}
+use Rattle.bb_expr.specs.Inside.Fit.{ranges_in}
+use Rattle.bb_expr.specs.Inside.Shares.{capped, own_cells, operand_cells, arm_cells}
 use Rattle.bb_expr.proofs.cell_count.+cells.Given as goal
 
 abbrev pub invariant-operand_cells-loop-op : goal.invariant-operand_cells-loop-op

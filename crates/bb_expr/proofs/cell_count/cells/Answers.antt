@@ -1,7 +1,7 @@
 use Rattle.std.proofs.Common.{sym, ap, ◌∙◌}
-use Rattle.bb_ast.specs.Views.{expression}
+use Rattle.bb_ast.specs.Inside.Views.{expression}
 use Rattle.bb_expr.specs.Cells.{cell_count}
-use Rattle.bb_expr.specs.Shares.{capped}
+use Rattle.bb_expr.specs.Inside.Shares.{capped}
 use Rattle.bb_expr.proofs.ScopeLemmas.{stands-within, module-fit, ranges-are}
 use Rattle.bb_expr.proofs.cell_count.cells.Goals as goal
 

@@ -5,17 +5,17 @@ use Rattle.std.proofs.lemmas.List.{at_drop_all, take_all, map_more}
 use Rattle.std.proofs.lemmas.List.Sums.{sum-map}
 use Rattle.std.proofs.lemmas.Result.{IfOk-weaker}
 use Rattle.bb_ast.specs.Syntax.{Sized, Not, Chain, Cond, Concat, Repeat, operands, arms, listed_parts}
-use Rattle.bb_ast.specs.Views.{expression, operand_view, arm_view}
+use Rattle.bb_ast.specs.Inside.Views.{expression, operand_view, arm_view}
 use Rattle.bb_ast.specs.declared.expr.Expr.{the_lemmas}
 use Rattle.bb_bits.specs.Numbers.{bits_of}
-use Rattle.bb_names.specs.Checked.{module_facts}
+use Rattle.bb_names.specs.Inside.Checked.{module_facts}
 use Rattle.bb_names.specs.Ranges.{distance, place_of}
 use Rattle.bb_names.specs.Widths.{own_width}
 use Rattle.bb_expr.specs.Cells.{made, without_cells, net_terms, op_cells, cell_count}
-use Rattle.bb_expr.specs.Fit.{AreFit, ranges_in}
-use Rattle.bb_expr.specs.Growing.{Adds, beside, chained_on, arms_on}
+use Rattle.bb_expr.specs.Inside.Fit.{AreFit, ranges_in}
+use Rattle.bb_expr.specs.Inside.Growing.{Adds, beside, chained_on, arms_on}
 use Rattle.bb_expr.specs.Lists.{extended, copies}
-use Rattle.bb_expr.specs.Shares.{own_cells, operand_cells, arm_cells}
+use Rattle.bb_expr.specs.Inside.Shares.{own_cells, operand_cells, arm_cells}
 use Rattle.bb_expr.specs.Terms.{Const}
 use Rattle.bb_expr.proofs.ViewLemmas.{expression-net, expression-bit, expression-part, expression-sized, expression-plain, expression-not, expression-chain, expression-cond, expression-concat, expression-repeat}
 use Rattle.bb_expr.proofs.ValueLemmas.{length-copies}

@@ -1,13 +1,13 @@
 use Rattle.std.proofs.Common.{◌≡◌, ◌+◌, ◌-◌, ◌≤◌, List, map, take, drop, length}
 use Rattle.std.specs.Prelude.{◌*◌, ◌^◌, sum_by}
-use Rattle.bb_ast.specs.Views.{expression, operand_view, arm_view}
-use Rattle.bb_names.specs.Checked.{module_facts}
+use Rattle.bb_ast.specs.Inside.Views.{expression, operand_view, arm_view}
+use Rattle.bb_names.specs.Inside.Checked.{module_facts}
 use Rattle.bb_names.specs.Widths.{own_width}
 use Rattle.bb_expr.specs.declared.step.BitStep.{BitStep}
 use Rattle.bb_expr.specs.Cells.{Made}
-use Rattle.bb_expr.specs.Fit.{ranges_in}
-use Rattle.bb_expr.specs.Growing.{Adds, beside, chained_on, arms_on, most_steps}
-use Rattle.bb_expr.specs.Shares.{own_cells, operand_cells, arm_cells}
+use Rattle.bb_expr.specs.Inside.Fit.{ranges_in}
+use Rattle.bb_expr.specs.Inside.Growing.{Adds, beside, chained_on, arms_on, most_steps}
+use Rattle.bb_expr.specs.Inside.Shares.{own_cells, operand_cells, arm_cells}
 use Rattle.bb_expr.proofs.WalkLemmas.{IsChained}
 use Rattle.bb_expr.proofs.lowering.+lowering.Given as goal
 

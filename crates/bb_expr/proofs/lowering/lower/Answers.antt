@@ -1,11 +1,11 @@
 use Rattle.std.proofs.Common.{◌≤◌, length, sym, ap, subst, [], arith}
-use Rattle.bb_ast.specs.Views.{expression}
-use Rattle.bb_names.specs.Checked.{module_facts}
+use Rattle.bb_ast.specs.Inside.Views.{expression}
+use Rattle.bb_names.specs.Inside.Checked.{module_facts}
 use Rattle.bb_names.specs.Widths.{own_width}
 use Rattle.bb_expr.specs.Cells.{made, cell_count}
-use Rattle.bb_expr.specs.Fit.{ranges_in}
-use Rattle.bb_expr.specs.Growing.{Adds}
-use Rattle.bb_expr.specs.Standing.{nets_at, ranges_at}
+use Rattle.bb_expr.specs.Inside.Fit.{ranges_in}
+use Rattle.bb_expr.specs.Inside.Growing.{Adds}
+use Rattle.bb_expr.specs.Inside.Standing.{nets_at, ranges_at}
 use Rattle.bb_expr.proofs.ScopeLemmas.{stands-within, module-fit, ranges-are, nets-are}
 use Rattle.bb_expr.proofs.LoweredLemmas.{is-lowered, has-value}
 use Rattle.bb_expr.proofs.WalkLemmas.{steps-few}

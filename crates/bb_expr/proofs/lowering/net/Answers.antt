@@ -1,11 +1,11 @@
 use Rattle.std.proofs.Common.{◌≡◌, length, sym, ap, ◌∙◌, subst, arith, map}
 use Rattle.std.specs.List.{range_with_len}
-use Rattle.bb_names.specs.Checked.{module_facts}
+use Rattle.bb_names.specs.Inside.Checked.{module_facts}
 use Rattle.bb_names.specs.Ranges.{range_width}
 use Rattle.bb_expr.specs.declared.step.BitStep.TheVariants as of
 use Rattle.bb_expr.specs.Cells.{without_cells, net_terms}
-use Rattle.bb_expr.specs.Fit.{ranges_in}
-use Rattle.bb_expr.specs.Growing.{Adds, AddsRow}
+use Rattle.bb_expr.specs.Inside.Fit.{ranges_in}
+use Rattle.bb_expr.specs.Inside.Growing.{Adds, AddsRow}
 use Rattle.bb_expr.proofs.PlaceLemmas.{ranged-length, ranged-count}
 use Rattle.bb_expr.proofs.NetBitLemmas.{adds-net}
 use Rattle.bb_expr.proofs.lowering.net.Goals as goal

@@ -2,7 +2,7 @@ use Rattle.std.proofs.Common.{length, sym, ap, subst, arith, map}
 use Rattle.bb_expr.specs.declared.step.BitStep.TheVariants as of
 use Rattle.bb_expr.specs.Terms.{Const}
 use Rattle.bb_expr.specs.Cells.{without_cells}
-use Rattle.bb_expr.specs.Growing.{Adds}
+use Rattle.bb_expr.specs.Inside.Growing.{Adds}
 use Rattle.bb_expr.proofs.PlaceLemmas.{all-mapped-length}
 use Rattle.bb_expr.proofs.NetBitLemmas.{adds-constants}
 use Rattle.bb_expr.proofs.lowering.number.Goals as goal

@@ -2,7 +2,7 @@ use Rattle.std.proofs.Common.{◌≡◌, ◌+◌, ◌-◌, List, ◌∷◌, leng
 use Rattle.bb_names.specs.declared.net.NetInfo.{NetInfo}
 use Rattle.bb_expr.specs.declared.step.BitStep.{BitStep}
 use Rattle.bb_expr.specs.Cells.{Made}
-use Rattle.bb_expr.specs.Growing.{Adds}
+use Rattle.bb_expr.specs.Inside.Growing.{Adds}
 use Rattle.bb_expr.proofs.OperatorLemmas.{IsOnTheWay}
 use Rattle.bb_expr.proofs.operators.any_bit.Given as goal
 

@@ -1,5 +1,5 @@
 use Rattle.std.proofs.Common.{◌++◌, ◌∷◌, [], ◌∙◌, refl, sym, subst, take, get_or, arith}
-use Rattle.bb_expr.specs.Growing.{AddsRow, paired, gate_step}
+use Rattle.bb_expr.specs.Inside.Growing.{AddsRow, paired, gate_step}
 use Rattle.bb_expr.proofs.PlaceLemmas.{row-count, pairs-more, pairs-length, pairs-all}
 use Rattle.bb_expr.proofs.GateLemmas.{length-paired}
 use Rattle.bb_expr.proofs.OperatorLemmas.{adds-gated, read-at}

@@ -1,5 +1,5 @@
 use Rattle.std.proofs.Common.{take}
-use Rattle.bb_expr.specs.Growing.{AddsRow, paired, gate_step}
+use Rattle.bb_expr.specs.Inside.Growing.{AddsRow, paired, gate_step}
 use Rattle.bb_expr.proofs.operators.gates.Given as goal
 
 abbrev pub invariant-loop-i : goal.invariant-loop-i

@@ -2,7 +2,7 @@ use Rattle.std.proofs.Common.{◌≡◌, ◌+◌, ◌*◌, length, sym, ap, ◌�
 use Rattle.std.proofs.lemmas.Bool.{false≢true}
 use Rattle.std.proofs.lemmas.Result.{IfOk-weaker}
 use Rattle.bb_expr.specs.Cells.{op_cells}
-use Rattle.bb_expr.specs.Growing.{Adds, gated}
+use Rattle.bb_expr.specs.Inside.Growing.{Adds, gated}
 use Rattle.bb_expr.proofs.OperatorLemmas.{xnor-operated, plain-operated, op-some, op-once, xnor-twice}
 use Rattle.bb_expr.proofs.operators.operate.Goals as goal
 

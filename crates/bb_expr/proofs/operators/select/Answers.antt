@@ -1,6 +1,6 @@
 use Rattle.std.proofs.Common.{◌∙◌, refl, sym, take, get_or, arith}
 use Rattle.bb_expr.specs.declared.step.BitStep.TheVariants as of
-use Rattle.bb_expr.specs.Growing.{paired}
+use Rattle.bb_expr.specs.Inside.Growing.{paired}
 use Rattle.bb_expr.proofs.PlaceLemmas.{row-count, pairs-more, pairs-length, pairs-all}
 use Rattle.bb_expr.proofs.GateLemmas.{length-paired}
 use Rattle.bb_expr.proofs.ChoiceLemmas.{adds-arm}

@@ -1,6 +1,6 @@
 use Rattle.std.proofs.Common.{take}
 use Rattle.bb_expr.specs.declared.step.BitStep.TheVariants as of
-use Rattle.bb_expr.specs.Growing.{AddsRow, paired}
+use Rattle.bb_expr.specs.Inside.Growing.{AddsRow, paired}
 use Rattle.bb_expr.proofs.operators.select.Given as goal
 
 abbrev pub invariant-loop-i : goal.invariant-loop-i

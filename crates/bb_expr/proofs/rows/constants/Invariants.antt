@@ -1,6 +1,6 @@
 use Rattle.std.proofs.Common.{map, take}
 use Rattle.bb_expr.specs.declared.step.BitStep.TheVariants as of
-use Rattle.bb_expr.specs.Growing.{AddsRow}
+use Rattle.bb_expr.specs.Inside.Growing.{AddsRow}
 use Rattle.bb_expr.proofs.rows.constants.Given as goal
 
 abbrev pub invariant-loop-bit : goal.invariant-loop-bit

@@ -1,7 +1,7 @@
 use Rattle.std.proofs.Common.{false}
 use Rattle.std.specs.Prelude.{replicate}
 use Rattle.bb_expr.specs.declared.step.BitStep.TheVariants as of
-use Rattle.bb_expr.specs.Growing.{AddsRow}
+use Rattle.bb_expr.specs.Inside.Growing.{AddsRow}
 use Rattle.bb_expr.proofs.rows.extended.Given as goal
 
 abbrev pub invariant-loop-turn : goal.invariant-loop-turn

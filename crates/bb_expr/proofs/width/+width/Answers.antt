@@ -1,11 +1,11 @@
 -- What an operand needs, and what the widths of operands are together.
 use Rattle.std.proofs.Common.{◌*◌, ◌≤◌, map, sym, ap, ap₂, ◌∙◌, subst, arith, rules}
 use Rattle.std.specs.Prelude.{sum, max, All}
-use Rattle.bb_ast.specs.Views.{expression, operand_view, arm_view}
+use Rattle.bb_ast.specs.Inside.Views.{expression, operand_view, arm_view}
 use Rattle.bb_ast.specs.declared.expr.Expr.{the_lemmas}
-use Rattle.bb_names.specs.Checked.{module_facts}
+use Rattle.bb_names.specs.Inside.Checked.{module_facts}
 use Rattle.bb_names.specs.Widths.{own_width, greatest}
-use Rattle.bb_expr.specs.Fit.{AreFit, ranges_in}
+use Rattle.bb_expr.specs.Inside.Fit.{AreFit, ranges_in}
 use Rattle.bb_expr.proofs.ViewLemmas.{expression-not, expression-chain, expression-cond, expression-concat, expression-repeat}
 use Rattle.bb_expr.proofs.OperandLemmas.{fit-not, fit-first, fit-operands, fit-arms, fit-last, fit-parts, fit-copied, parts-bounded, copied-bounded, copies-bounded, chain-width, cond-width, concat-width, repeat-width}
 use Rattle.bb_expr.proofs.Loops.{All-here}

@@ -1,9 +1,9 @@
 use Rattle.std.proofs.Common.{◌≡◌, ◌+◌, map, drop}
 use Rattle.std.specs.Prelude.{max, sum}
-use Rattle.bb_ast.specs.Views.{expression, operand_view, arm_view}
-use Rattle.bb_names.specs.Checked.{module_facts}
+use Rattle.bb_ast.specs.Inside.Views.{expression, operand_view, arm_view}
+use Rattle.bb_names.specs.Inside.Checked.{module_facts}
 use Rattle.bb_names.specs.Widths.{own_width, greatest}
-use Rattle.bb_expr.specs.Fit.{ranges_in}
+use Rattle.bb_expr.specs.Inside.Fit.{ranges_in}
 use Rattle.bb_expr.proofs.width.+width.Given as goal
 
 abbrev pub invariant-widest_operand-loop-operand : goal.invariant-widest_operand-loop-operand

@@ -1,5 +1,5 @@
 use Rattle.std.proofs.Common.{sym, ap, ◌∙◌}
-use Rattle.bb_ast.specs.Views.{expression}
+use Rattle.bb_ast.specs.Inside.Views.{expression}
 use Rattle.bb_names.specs.Widths.{own_width}
 use Rattle.bb_expr.proofs.ScopeLemmas.{stands-within, module-fit, ranges-are}
 use Rattle.bb_expr.proofs.width.own_width.Goals as goal

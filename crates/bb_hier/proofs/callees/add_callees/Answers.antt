@@ -5,7 +5,7 @@ use Rattle.std.specs.Map.{lookup}
 use Rattle.std.specs.Vec.{vec_len}
 use Rattle.std.proofs.lemmas.List.{length-map}
 use Rattle.bb_bits.specs.Names.{same_name}
-use Rattle.bb_ast.specs.Views.{body_view, call_view}
+use Rattle.bb_ast.specs.Inside.Views.{body_view, call_view}
 use Rattle.bb_design.specs.Hierarchy.{Instance, instances_in}
 use Rattle.bb_hier.proofs.CalleeLemmas.{called-some, called-none}
 use Rattle.bb_hier.proofs.callees.add_callees.Goals as goal

@@ -2,7 +2,7 @@ use Rattle.std.proofs.Common.{◌≡◌, map, take}
 use Rattle.std.specs.List.{filter_map}
 use Rattle.std.specs.Map.{lookup}
 use Rattle.bb_bits.specs.Names.{same_name}
-use Rattle.bb_names.specs.Checked.{module_facts, syntax}
+use Rattle.bb_names.specs.Inside.Checked.{module_facts, syntax}
 use Rattle.bb_design.specs.Hierarchy.{instances_of}
 use Rattle.bb_hier.proofs.callees.all_callees.Given as goal
 

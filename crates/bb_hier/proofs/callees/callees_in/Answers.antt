@@ -1,7 +1,7 @@
 use Rattle.std.specs.Map.{lookup}
 use Rattle.bb_bits.specs.Names.{same_name}
 use Rattle.bb_ast.specs.Syntax.{PlainItem}
-use Rattle.bb_ast.specs.Views.{item_view}
+use Rattle.bb_ast.specs.Inside.Views.{item_view}
 use Rattle.bb_design.specs.Hierarchy.{Instance, instances_in}
 use Rattle.bb_hier.proofs.CalleeLemmas.{more-called}
 use Rattle.bb_hier.proofs.callees.callees_in.Goals as goal

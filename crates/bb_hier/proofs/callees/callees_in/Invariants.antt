@@ -2,7 +2,7 @@ use Rattle.std.proofs.Common.{◌≡◌, map, take}
 use Rattle.std.specs.List.{filter_map, flat_map}
 use Rattle.std.specs.Map.{lookup}
 use Rattle.bb_bits.specs.Names.{same_name}
-use Rattle.bb_ast.specs.Views.{item_view}
+use Rattle.bb_ast.specs.Inside.Views.{item_view}
 use Rattle.bb_design.specs.Hierarchy.{instances_in}
 use Rattle.bb_hier.proofs.callees.callees_in.Given as goal
 

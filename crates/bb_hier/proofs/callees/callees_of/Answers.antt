@@ -1,6 +1,6 @@
 use Rattle.std.proofs.Common.{◌∙◌, ap, map}
-use Rattle.bb_names.specs.Checked.{module_facts, syntax}
-use Rattle.bb_design.specs.Callees.{callees}
+use Rattle.bb_names.specs.Inside.Checked.{module_facts, syntax}
+use Rattle.bb_design.specs.Inside.Callees.{callees}
 use Rattle.bb_hier.proofs.CalleeLemmas.{callees-are}
 use Rattle.bb_hier.proofs.callees.callees_of.Goals as goal
 

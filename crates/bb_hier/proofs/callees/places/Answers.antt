@@ -4,7 +4,7 @@ use Rattle.std.specs.Map.{lookup}
 use Rattle.indexmap.proofs.CallerLemmas.{insert_entry-new}
 use Rattle.bb_bits.specs.Names.{same_name}
 use Rattle.bb_names.specs.declared.checked.CheckedModule.{CheckedModule}
-use Rattle.bb_names.specs.Checked.{module_facts, syntax}
+use Rattle.bb_names.specs.Inside.Checked.{module_facts, syntax}
 use Rattle.bb_hier.proofs.CalleeLemmas.{new-name, old-name, none_of}
 use Rattle.bb_hier.proofs.callees.places.Goals as goal
 use Rattle.bb_hier.proofs.callees.places.Goals.{then-not-contains_key+in_ok-clone+in_ok-insert, else-not-contains_key}

@@ -1,8 +1,8 @@
 use Rattle.std.proofs.Common.{◌-◌}
 use Rattle.std.specs.Prelude.{◌^◌}
-use Rattle.bb_ast.specs.Views.{expression}
-use Rattle.bb_expr.specs.Shares.{own_cells}
-use Rattle.bb_expr.specs.Standing.{StandsAt, ranges_at}
+use Rattle.bb_ast.specs.Inside.Views.{expression}
+use Rattle.bb_expr.specs.Inside.Shares.{own_cells}
+use Rattle.bb_expr.specs.Inside.Standing.{StandsAt, ranges_at}
 use Rattle.bb_hier.proofs.CellSums.{share_more, share_all, all_here}
 use Rattle.bb_hier.proofs.cells.all_cells.Goals as goal
 

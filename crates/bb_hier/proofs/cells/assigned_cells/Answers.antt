@@ -1,5 +1,5 @@
 use Rattle.std.proofs.Common.{arith}
-use Rattle.bb_ast.specs.Views.{expression}
+use Rattle.bb_ast.specs.Inside.Views.{expression}
 use Rattle.bb_hier.proofs.CellSums.{stands_narrow}
 use Rattle.bb_hier.proofs.cells.assigned_cells.Goals as goal
 

@@ -1,9 +1,9 @@
 use Rattle.std.proofs.Common.{◌-◌, [], ◌∷◌, arith}
 use Rattle.std.specs.Prelude.{◌^◌}
 use Rattle.bb_ast.specs.Syntax.{Expression}
-use Rattle.bb_ast.specs.Views.{expression, arm_view}
-use Rattle.bb_expr.specs.Standing.{StandsAt, ranges_at}
-use Rattle.bb_hier.specs.Weights.{assignment_cells}
+use Rattle.bb_ast.specs.Inside.Views.{expression, arm_view}
+use Rattle.bb_expr.specs.Inside.Standing.{StandsAt, ranges_at}
+use Rattle.bb_hier.specs.Inside.Weights.{assignment_cells}
 use Rattle.bb_hier.proofs.CellSums.{share_more, share_all, all_within}
 use Rattle.bb_hier.proofs.cells.assignments_cells.Goals as goal
 

@@ -1,9 +1,9 @@
 use Rattle.std.proofs.Common.{ℕ, ◌-◌, List}
 use Rattle.std.specs.Prelude.{◌^◌, sum_by}
 use Rattle.bb_ast.specs.Syntax.{PlainConns}
-use Rattle.bb_ast.specs.Views.{call_view}
-use Rattle.bb_expr.specs.Shares.{own_cells}
-use Rattle.bb_expr.specs.Standing.{StandsAt, ranges_at, conns_expressions}
+use Rattle.bb_ast.specs.Inside.Views.{call_view}
+use Rattle.bb_expr.specs.Inside.Shares.{own_cells}
+use Rattle.bb_expr.specs.Inside.Standing.{StandsAt, ranges_at, conns_expressions}
 use Rattle.bb_hier.proofs.CellSums.{share_more, share_all, all_within}
 use Rattle.bb_hier.proofs.cells.call_cells.Goals as goal
 

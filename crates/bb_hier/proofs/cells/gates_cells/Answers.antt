@@ -1,10 +1,10 @@
 use Rattle.std.proofs.Common.{ℕ, ◌-◌, List, map, Option, All, sym, ap, ◌∙◌, subst}
 use Rattle.std.specs.Prelude.{◌^◌}
 use Rattle.bb_ast.specs.Syntax.{Expression}
-use Rattle.bb_ast.specs.Views.{expression, gate_view}
-use Rattle.bb_expr.specs.Shares.{capped}
-use Rattle.bb_expr.specs.Standing.{StandsAt, ranges_at}
-use Rattle.bb_hier.specs.Weights.{gate_weight}
+use Rattle.bb_ast.specs.Inside.Views.{expression, gate_view}
+use Rattle.bb_expr.specs.Inside.Shares.{capped}
+use Rattle.bb_expr.specs.Inside.Standing.{StandsAt, ranges_at}
+use Rattle.bb_hier.specs.Inside.Weights.{gate_weight}
 use Rattle.bb_hier.proofs.CellSums.{share_more, share_all, all_within}
 use Rattle.bb_hier.proofs.cells.gates_cells.Goals as goal
 

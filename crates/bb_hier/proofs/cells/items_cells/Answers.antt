@@ -1,9 +1,9 @@
 use Rattle.std.proofs.Common.{◌-◌}
 use Rattle.std.specs.Prelude.{◌^◌}
 use Rattle.bb_ast.specs.Syntax.{PlainItem}
-use Rattle.bb_ast.specs.Views.{item_view}
-use Rattle.bb_expr.specs.Standing.{StandsAt, ranges_at, item_expressions}
-use Rattle.bb_hier.specs.Weights.{item_cells, AreNarrowNets}
+use Rattle.bb_ast.specs.Inside.Views.{item_view}
+use Rattle.bb_expr.specs.Inside.Standing.{StandsAt, ranges_at, item_expressions}
+use Rattle.bb_hier.specs.Inside.Weights.{item_cells, AreNarrowNets}
 use Rattle.bb_hier.proofs.CellSums.{share_more, share_all, all_here, all_within}
 use Rattle.bb_hier.proofs.cells.items_cells.Goals as goal
 

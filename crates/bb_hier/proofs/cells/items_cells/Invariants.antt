@@ -1,10 +1,10 @@
 use Rattle.std.proofs.Common.{◌≡◌, map, take}
 use Rattle.std.specs.Prelude.{sum_by}
 use Rattle.bb_ast.specs.Syntax.{PlainItem}
-use Rattle.bb_ast.specs.Views.{item_view}
-use Rattle.bb_expr.specs.Shares.{capped}
-use Rattle.bb_expr.specs.Standing.{ranges_at}
-use Rattle.bb_hier.specs.Weights.{item_cells}
+use Rattle.bb_ast.specs.Inside.Views.{item_view}
+use Rattle.bb_expr.specs.Inside.Shares.{capped}
+use Rattle.bb_expr.specs.Inside.Standing.{ranges_at}
+use Rattle.bb_hier.specs.Inside.Weights.{item_cells}
 use Rattle.bb_hier.proofs.cells.items_cells.Given as goal
 
 abbrev pub invariant-loop-item : goal.invariant-loop-item

@@ -1,9 +1,9 @@
 use Rattle.std.proofs.Common.{◌-◌, map, Option, sym, ap, ◌∙◌}
 use Rattle.std.specs.Prelude.{◌^◌, sum_by, option_to_list}
 use Rattle.bb_ast.specs.Syntax.{Expression}
-use Rattle.bb_ast.specs.Views.{optional_view}
-use Rattle.bb_expr.specs.Shares.{capped, own_cells}
-use Rattle.bb_expr.specs.Standing.{StandsAt, ranges_at}
+use Rattle.bb_ast.specs.Inside.Views.{optional_view}
+use Rattle.bb_expr.specs.Inside.Shares.{capped, own_cells}
+use Rattle.bb_expr.specs.Inside.Standing.{StandsAt, ranges_at}
 use Rattle.bb_hier.proofs.CellSums.{share_more, share_all, all_within, sum_flat}
 use Rattle.bb_hier.proofs.cells.ordered_cells.Goals as goal
 

@@ -1,9 +1,9 @@
 use Rattle.std.proofs.Common.{ℕ, ◌-◌, List, Option}
 use Rattle.std.specs.Prelude.{◌^◌, option_to_list, IfSome}
 use Rattle.bb_ast.specs.Syntax.{Expression}
-use Rattle.bb_ast.specs.Views.{named_view}
-use Rattle.bb_expr.specs.Standing.{StandsAt, ranges_at}
-use Rattle.bb_hier.specs.Weights.{initial_cells, IsNarrowNet}
+use Rattle.bb_ast.specs.Inside.Views.{named_view}
+use Rattle.bb_expr.specs.Inside.Standing.{StandsAt, ranges_at}
+use Rattle.bb_hier.specs.Inside.Weights.{initial_cells, IsNarrowNet}
 use Rattle.bb_hier.proofs.CellSums.{share_more, share_all, all_here, all_within}
 use Rattle.bb_hier.proofs.cells.wire_cells.Goals as goal
 

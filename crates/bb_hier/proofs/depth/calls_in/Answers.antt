@@ -1,6 +1,6 @@
 use Rattle.std.proofs.Common.{map, sym, ap, ◌∙◌}
 use Rattle.bb_ast.specs.declared.module.Call.{Call}
-use Rattle.bb_ast.specs.Views.{body_view}
+use Rattle.bb_ast.specs.Inside.Views.{body_view}
 use Rattle.bb_design.specs.Hierarchy.{Instance, instances_in}
 use Rattle.bb_hier.proofs.InstanceNames.{names_called}
 use Rattle.bb_hier.proofs.depth.calls_in.Goals as goal

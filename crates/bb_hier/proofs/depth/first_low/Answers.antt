@@ -6,11 +6,11 @@ use Rattle.std.proofs.lemmas.Option.{slice_get_read}
 use Rattle.std.proofs.lemmas.Result.{IfOk-weaker}
 use Rattle.bb_ast.specs.declared.module.Item.{Item}
 use Rattle.bb_ast.specs.Syntax.{PlainItem}
-use Rattle.bb_ast.specs.Views.{item_view, module_view}
+use Rattle.bb_ast.specs.Inside.Views.{item_view, module_view}
 use Rattle.bb_names.specs.declared.checked.CheckedModule.{CheckedModule}
-use Rattle.bb_names.specs.Checked.{module_facts, syntax}
-use Rattle.bb_design.specs.Callees.{callees}
-use Rattle.bb_hier.specs.Depths.{is_tall}
+use Rattle.bb_names.specs.Inside.Checked.{module_facts, syntax}
+use Rattle.bb_design.specs.Inside.Callees.{callees}
+use Rattle.bb_hier.specs.Inside.Depths.{is_tall}
 use Rattle.bb_design.specs.Hierarchy.{Instance, instances_in}
 use Rattle.bb_lists.proofs.Places.{got-map, list_here}
 use Rattle.bb_hier.proofs.DepthHeights.{callees_fit}

@@ -1,5 +1,5 @@
 use Rattle.std.proofs.Common.{map}
-use Rattle.bb_names.specs.Checked.{syntax}
+use Rattle.bb_names.specs.Inside.Checked.{syntax}
 use Rattle.bb_hier.proofs.DepthWalks.{IsOnWay}
 use Rattle.bb_hier.proofs.depth.first_low.Given as goal
 

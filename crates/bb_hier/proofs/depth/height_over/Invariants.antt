@@ -1,6 +1,6 @@
 use Rattle.std.proofs.Common.{◌≡◌, take}
 use Rattle.std.specs.List.{slice_index_or}
-use Rattle.bb_hier.specs.Depths.{height_over}
+use Rattle.bb_hier.specs.Inside.Depths.{height_over}
 use Rattle.bb_hier.proofs.depth.height_over.Given as goal
 
 abbrev pub invariant-loop-k : goal.invariant-loop-k

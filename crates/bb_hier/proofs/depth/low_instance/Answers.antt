@@ -1,8 +1,8 @@
 use Rattle.std.proofs.Common.{◌≡◌, ◌<◌, All, false, map, length, subst, sym, ap, ◌∙◌, arith}
 use Rattle.std.proofs.lemmas.List.{length-map}
-use Rattle.bb_names.specs.Checked.{syntax}
-use Rattle.bb_design.specs.Callees.{callees, called}
-use Rattle.bb_hier.specs.Depths.{is_tall}
+use Rattle.bb_names.specs.Inside.Checked.{syntax}
+use Rattle.bb_design.specs.Inside.Callees.{callees, called}
+use Rattle.bb_hier.specs.Inside.Depths.{is_tall}
 use Rattle.bb_hier.proofs.DepthHeights.{low_here}
 use Rattle.bb_hier.proofs.DepthWalks.{shallow_where_low}
 use Rattle.bb_hier.proofs.RecursiveNames.{all_there}

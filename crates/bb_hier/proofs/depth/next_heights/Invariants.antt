@@ -1,6 +1,6 @@
 use Rattle.std.proofs.Common.{◌≡◌, map, take}
 use Rattle.std.specs.List.{slice_index_or}
-use Rattle.bb_hier.specs.Depths.{height_over}
+use Rattle.bb_hier.specs.Inside.Depths.{height_over}
 use Rattle.bb_hier.proofs.depth.next_heights.Given as goal
 
 abbrev pub invariant-loop-called : goal.invariant-loop-called

@@ -1,8 +1,8 @@
 use Rattle.std.proofs.Common.{[], inr, map, refl, subst}
 use Rattle.std.specs.Prelude.{IfSome, IfNone}
-use Rattle.bb_names.specs.Checked.{syntax}
+use Rattle.bb_names.specs.Inside.Checked.{syntax}
 use Rattle.bb_design.specs.Refusals.{Recursion, Depth, Size, IsTold, IsAbsent, design_on}
-use Rattle.bb_hier.specs.Finite.{AtTop}
+use Rattle.bb_hier.specs.Inside.Finite.{AtTop}
 use Rattle.bb_hier.proofs.StageRefusals.{finite}
 use Rattle.bb_hier.proofs.finite.hierarchy.Goals as goal
 

@@ -2,9 +2,9 @@ use Rattle.std.proofs.Common.{◌≡◌, ◌+◌, ◌-◌, ◌<◌, ℕ, map, su
 use Rattle.std.proofs.lemmas.List.{length-map}
 use Rattle.bb_net.specs.Loose.{LooseList, IsLoose, IsLeastOnClosedWalk, IsOnClosedWalk}
 use Rattle.bb_net.specs.declared.ordering.NetFault.TheVariants.{Loop}
-use Rattle.bb_net.specs.NetFaults.{IsFaultOf}
+use Rattle.bb_net.specs.Inside.NetFaults.{IsFaultOf}
 use Rattle.bb_net.specs.Netlists.{IsNetlist}
-use Rattle.bb_hier.specs.Recursions.{ArePlacesThere, IsFirstRecursive, module_list}
+use Rattle.bb_hier.specs.Inside.Recursions.{ArePlacesThere, IsFirstRecursive, module_list}
 use Rattle.bb_hier.proofs.ModuleCells.{modules_are_loose, cells_long}
 use Rattle.bb_hier.proofs.RecursionLemmas.{kept_loose, marked_places, none_recursive, first_recursive_at, kept_there}
 use Rattle.bb_hier.proofs.recursion.first_recursive.Goals as goal

@@ -1,6 +1,6 @@
 use Rattle.std.proofs.Common.{◌≡◌, map, take}
 use Rattle.std.specs.List.{enumerate_from}
-use Rattle.bb_hier.specs.Recursions.{module_pins}
+use Rattle.bb_hier.specs.Inside.Recursions.{module_pins}
 use Rattle.bb_hier.proofs.recursion.module_boxes.Given as goal
 
 abbrev pub invariant-loop-place : goal.invariant-loop-place

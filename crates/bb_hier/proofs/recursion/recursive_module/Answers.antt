@@ -2,11 +2,11 @@ use Rattle.std.proofs.Common.{◌≡◌, ◌<◌, Some, map, length, refl, subst
 use Rattle.std.specs.Prelude.{slice_get, IfSome, IfNone}
 use Rattle.std.proofs.lemmas.List.{length-map}
 use Rattle.std.proofs.lemmas.Option.{slice_get_read}
-use Rattle.bb_ast.specs.Views.{module_view}
+use Rattle.bb_ast.specs.Inside.Views.{module_view}
 use Rattle.bb_names.specs.declared.checked.CheckedModule.{CheckedModule}
-use Rattle.bb_names.specs.Checked.{module_facts, syntax}
-use Rattle.bb_design.specs.Callees.{callees}
-use Rattle.bb_hier.specs.Recursions.{ArePlacesThere, IsRecursiveAt, IsFirstRecursive}
+use Rattle.bb_names.specs.Inside.Checked.{module_facts, syntax}
+use Rattle.bb_design.specs.Inside.Callees.{callees}
+use Rattle.bb_hier.specs.Inside.Recursions.{ArePlacesThere, IsRecursiveAt, IsFirstRecursive}
 use Rattle.bb_design.specs.Refusals.{Recursion, IsTold, design_on}
 use Rattle.bb_lists.proofs.Places.{got-map}
 use Rattle.bb_hier.proofs.RecursiveNames.{places_there, absent_where_none, told_where_first}

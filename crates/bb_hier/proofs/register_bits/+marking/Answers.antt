@@ -2,10 +2,10 @@ use Rattle.std.proofs.Common.{◌++◌, map, sym, ap, ◌∙◌, subst, rules}
 use Rattle.std.specs.List.{flat_map}
 use Rattle.std.proofs.lemmas.Result.{on_ok_weaker}
 use Rattle.bb_ast.specs.declared.expr.Expr.{the_lemmas}
-use Rattle.bb_ast.specs.Views.{expression}
-use Rattle.bb_names.specs.Checked.{module_facts, syntax}
+use Rattle.bb_ast.specs.Inside.Views.{expression}
+use Rattle.bb_names.specs.Inside.Checked.{module_facts, syntax}
 use Rattle.bb_design.specs.NetBits.{written_bits}
-use Rattle.bb_hier.specs.Weights.{any_scope, AreMarks}
+use Rattle.bb_hier.specs.Inside.Weights.{any_scope, AreMarks}
 use Rattle.bb_hier.proofs.MarkLemmas.{bit_written, parts_written, flat_more, flat_all}
 use Rattle.bb_hier.proofs.register_bits.+marking.Goals as goal
 

@@ -1,9 +1,9 @@
 use Rattle.std.proofs.Common.{◌++◌, List, map, take}
 use Rattle.std.specs.List.{flat_map}
-use Rattle.bb_ast.specs.Views.{expression}
-use Rattle.bb_names.specs.Checked.{module_facts, syntax}
+use Rattle.bb_ast.specs.Inside.Views.{expression}
+use Rattle.bb_names.specs.Inside.Checked.{module_facts, syntax}
 use Rattle.bb_design.specs.NetBits.{Bit, written_bits}
-use Rattle.bb_hier.specs.Weights.{any_scope, AreMarks}
+use Rattle.bb_hier.specs.Inside.Weights.{any_scope, AreMarks}
 use Rattle.bb_hier.proofs.register_bits.+marking.Given as goal
 
 abbrev pub invariant-mark_all-loop-part : goal.invariant-mark_all-loop-part

@@ -1,8 +1,8 @@
 use Rattle.std.proofs.Common.{map, subst}
 use Rattle.bb_ast.specs.Syntax.{PlainItem}
-use Rattle.bb_ast.specs.Views.{item_view}
-use Rattle.bb_names.specs.Checked.{module_facts, syntax}
-use Rattle.bb_hier.specs.Weights.{any_scope, stored_by, AreMarks}
+use Rattle.bb_ast.specs.Inside.Views.{item_view}
+use Rattle.bb_names.specs.Inside.Checked.{module_facts, syntax}
+use Rattle.bb_hier.specs.Inside.Weights.{any_scope, stored_by, AreMarks}
 use Rattle.bb_hier.proofs.MarkLemmas.{flat_more, flat_all}
 use Rattle.bb_hier.proofs.register_bits.mark_items.Goals as goal
 

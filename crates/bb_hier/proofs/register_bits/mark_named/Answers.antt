@@ -1,5 +1,5 @@
 use Rattle.std.proofs.Common.{sym, ◌∙◌, arith}
-use Rattle.bb_names.specs.Checked.{module_facts}
+use Rattle.bb_names.specs.Inside.Checked.{module_facts}
 use Rattle.bb_hier.proofs.MarkLemmas.{none_named, net_there, row_there, row_fits, one_marked}
 use Rattle.bb_hier.proofs.register_bits.mark_named.Goals as goal
 

@@ -3,10 +3,10 @@ use Rattle.std.specs.Prelude.{replicate, sum_by}
 use Rattle.std.specs.List.{flat_map}
 use Rattle.std.proofs.lemmas.List.{length-map}
 use Rattle.bb_ast.specs.Syntax.{PlainItem}
-use Rattle.bb_ast.specs.Views.{item_view}
-use Rattle.bb_names.specs.Checked.{module_facts, syntax}
-use Rattle.bb_expr.specs.Shares.{capped}
-use Rattle.bb_hier.specs.Weights.{any_scope, stored_by, AreMarks}
+use Rattle.bb_ast.specs.Inside.Views.{item_view}
+use Rattle.bb_names.specs.Inside.Checked.{module_facts, syntax}
+use Rattle.bb_expr.specs.Inside.Shares.{capped}
+use Rattle.bb_hier.specs.Inside.Weights.{any_scope, stored_by, AreMarks}
 use Rattle.bb_hier.proofs.MarkLemmas.{nothing_marked, all_counted}
 use Rattle.bb_lists.proofs.Turns.{written_back}
 use Rattle.bb_hier.proofs.register_bits.registers_in.Goals as goal

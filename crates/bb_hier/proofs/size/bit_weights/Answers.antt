@@ -2,9 +2,9 @@ use Rattle.std.proofs.Common.{◌<◌, ◌-◌, ◌+◌, ◌++◌, ◌∷◌, []
 use Rattle.std.specs.Prelude.{◌^◌, sum_by}
 use Rattle.std.proofs.lemmas.List.{length-map, take_all}
 use Rattle.bb_ast.specs.Syntax.{PlainModule}
-use Rattle.bb_names.specs.Checked.{module_facts, syntax}
-use Rattle.bb_expr.specs.Shares.{capped}
-use Rattle.bb_hier.specs.Weights.{bit_count, net_width}
+use Rattle.bb_names.specs.Inside.Checked.{module_facts, syntax}
+use Rattle.bb_expr.specs.Inside.Shares.{capped}
+use Rattle.bb_hier.specs.Inside.Weights.{bit_count, net_width}
 use Rattle.bb_hier.proofs.CellSums.{one_added, maps_more}
 use Rattle.bb_hier.proofs.ModulesAt.{nets_at_place}
 use Rattle.bb_hier.proofs.size.bit_weights.Goals as goal

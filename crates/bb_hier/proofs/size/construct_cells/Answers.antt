@@ -4,13 +4,13 @@ use Rattle.std.specs.List.{flat_map}
 use Rattle.std.proofs.lemmas.List.{length-map}
 use Rattle.bb_ast.specs.declared.module.Item.{Item}
 use Rattle.bb_ast.specs.Syntax.{PlainItem}
-use Rattle.bb_ast.specs.Views.{item_view}
-use Rattle.bb_names.specs.Checked.{module_facts, syntax}
+use Rattle.bb_ast.specs.Inside.Views.{item_view}
+use Rattle.bb_names.specs.Inside.Checked.{module_facts, syntax}
 use Rattle.bb_names.specs.Declarations.{range_of}
-use Rattle.bb_expr.specs.Shares.{capped}
-use Rattle.bb_expr.specs.Standing.{item_expressions, StandsAt, ranges_at}
-use Rattle.bb_design.specs.Callees.{callees}
-use Rattle.bb_hier.specs.Weights.{item_cells, register_count, construct_cells, AreNarrowNets}
+use Rattle.bb_expr.specs.Inside.Shares.{capped}
+use Rattle.bb_expr.specs.Inside.Standing.{item_expressions, StandsAt, ranges_at}
+use Rattle.bb_design.specs.Inside.Callees.{callees}
+use Rattle.bb_hier.specs.Inside.Weights.{item_cells, register_count, construct_cells, AreNarrowNets}
 use Rattle.bb_hier.proofs.CellSums.{two_shares, ranges_there}
 use Rattle.bb_hier.proofs.ModulesAt.{facts_at, module_stands, nets_at_place, module_is}
 use Rattle.bb_hier.proofs.NarrowNets.{all_narrow, all_stand}

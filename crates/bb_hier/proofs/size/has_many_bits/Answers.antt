@@ -1,10 +1,10 @@
 use Rattle.std.proofs.Common.{◌≡◌, ◌<◌, ◌-◌, All, map, length, refl, subst, sym, ap, ◌∙◌, arith}
 use Rattle.std.specs.Prelude.{◌^◌, slice_index_or}
 use Rattle.std.proofs.lemmas.List.{length-map, get_or_default}
-use Rattle.bb_names.specs.Checked.{syntax}
-use Rattle.bb_expr.specs.Shares.{capped}
-use Rattle.bb_design.specs.Callees.{callees}
-use Rattle.bb_hier.specs.Weights.{total_below}
+use Rattle.bb_names.specs.Inside.Checked.{syntax}
+use Rattle.bb_expr.specs.Inside.Shares.{capped}
+use Rattle.bb_design.specs.Inside.Callees.{callees}
+use Rattle.bb_hier.specs.Inside.Weights.{total_below}
 use Rattle.bb_hier.proofs.HierarchySums.{many_bits}
 use Rattle.bb_hier.proofs.RecursiveNames.{all_there}
 use Rattle.bb_hier.proofs.size.has_many_bits.Goals as goal

@@ -1,13 +1,13 @@
 use Rattle.std.proofs.Common.{◌≡◌, ◌<◌, ◌-◌, ◌+◌, ℕ, All, List, filter, map, length, subst, sym, ap, ◌∙◌, arith}
 use Rattle.std.specs.Prelude.{◌^◌, min, sum_by, slice_index_or}
 use Rattle.std.proofs.lemmas.List.{length-map, get_or_default}
-use Rattle.bb_names.specs.Checked.{syntax}
+use Rattle.bb_names.specs.Inside.Checked.{syntax}
 use Rattle.bb_names.specs.declared.checked.CheckedModule.{CheckedModule}
 use Rattle.bb_names.specs.Nets.{nets_of}
-use Rattle.bb_expr.specs.Shares.{capped}
+use Rattle.bb_expr.specs.Inside.Shares.{capped}
 use Rattle.bb_ast.specs.Syntax.{PlainModule}
-use Rattle.bb_design.specs.Callees.{callees, called}
-use Rattle.bb_hier.specs.Weights.{net_width, is_input_net, total_below}
+use Rattle.bb_design.specs.Inside.Callees.{callees, called}
+use Rattle.bb_hier.specs.Inside.Weights.{net_width, is_input_net, total_below}
 use Rattle.bb_hier.proofs.CellTotals.{many_cells}
 use Rattle.bb_hier.proofs.ModulesAt.{nets_at_place, module_is}
 use Rattle.bb_hier.proofs.RecursiveNames.{all_there}

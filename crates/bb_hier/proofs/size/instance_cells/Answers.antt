@@ -1,9 +1,9 @@
 use Rattle.std.proofs.Common.{filter, sym, ap, ◌∙◌}
 use Rattle.std.specs.Prelude.{if◌then◌else◌, sum_by}
-use Rattle.bb_names.specs.Checked.{module_facts, syntax}
+use Rattle.bb_names.specs.Inside.Checked.{module_facts, syntax}
 use Rattle.bb_names.specs.Nets.{nets_of}
-use Rattle.bb_expr.specs.Shares.{capped}
-use Rattle.bb_hier.specs.Weights.{construct_cells, instance_cells, net_width, is_output_net}
+use Rattle.bb_expr.specs.Inside.Shares.{capped}
+use Rattle.bb_hier.specs.Inside.Weights.{construct_cells, instance_cells, net_width, is_output_net}
 use Rattle.bb_hier.proofs.ModulesAt.{nets_at_place, module_is}
 use Rattle.bb_hier.proofs.size.instance_cells.Goals as goal
 

@@ -1,9 +1,9 @@
 use Rattle.std.proofs.Common.{◌≡◌, ◌<◌, ℕ, Some, map, length}
 use Rattle.std.specs.Prelude.{slice_get, slice_index_or}
 use Rattle.bb_ast.specs.Syntax.{PlainModule}
-use Rattle.bb_names.specs.Checked.{syntax}
-use Rattle.bb_expr.specs.Shares.{capped}
-use Rattle.bb_hier.specs.Weights.{construct_cells, instance_cells}
+use Rattle.bb_names.specs.Inside.Checked.{syntax}
+use Rattle.bb_expr.specs.Inside.Shares.{capped}
+use Rattle.bb_hier.specs.Inside.Weights.{construct_cells, instance_cells}
 use Rattle.bb_hier.proofs.size.instance_weights.Given as goal
 
 abbrev pub invariant-loop-place : goal.invariant-loop-place

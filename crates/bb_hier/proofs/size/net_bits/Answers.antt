@@ -1,6 +1,6 @@
 use Rattle.std.proofs.Common.{◌-◌}
 use Rattle.std.specs.Prelude.{◌^◌}
-use Rattle.bb_hier.specs.Weights.{net_width}
+use Rattle.bb_hier.specs.Inside.Weights.{net_width}
 use Rattle.bb_hier.proofs.CellSums.{share_step, share_end}
 use Rattle.bb_hier.proofs.MarkLemmas.{below_cap}
 use Rattle.bb_hier.proofs.size.net_bits.Goals as goal

@@ -1,6 +1,6 @@
 use Rattle.std.proofs.Common.{◌≡◌, ◌+◌, ℕ, List, map, take}
 use Rattle.std.specs.Prelude.{slice_index_or, sum_by}
-use Rattle.bb_expr.specs.Shares.{capped}
+use Rattle.bb_expr.specs.Inside.Shares.{capped}
 use Rattle.bb_hier.proofs.size.next_totals.Given as goal
 
 abbrev pub invariant-loop-called : goal.invariant-loop-called

@@ -1,8 +1,8 @@
 use Rattle.std.proofs.Common.{◌-◌, sym, ap, ◌∙◌}
 use Rattle.std.specs.Prelude.{◌^◌, if◌then◌else◌}
 use Rattle.bb_names.specs.declared.net.NetInfo.{NetInfo}
-use Rattle.bb_expr.specs.Shares.{capped}
-use Rattle.bb_hier.specs.Weights.{net_width, is_input_net, is_output_net}
+use Rattle.bb_expr.specs.Inside.Shares.{capped}
+use Rattle.bb_hier.specs.Inside.Weights.{net_width, is_input_net, is_output_net}
 use Rattle.bb_hier.proofs.CellSums.{share_step, share_end, sum_kept}
 use Rattle.bb_hier.proofs.MarkLemmas.{below_cap}
 use Rattle.bb_hier.proofs.size.port_bits.Goals as goal

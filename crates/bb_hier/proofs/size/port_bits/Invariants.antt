@@ -1,8 +1,8 @@
 use Rattle.std.proofs.Common.{◌≡◌, take}
 use Rattle.std.specs.Prelude.{if◌then◌else◌, sum_by}
 use Rattle.bb_names.specs.declared.net.NetInfo.{NetInfo}
-use Rattle.bb_expr.specs.Shares.{capped}
-use Rattle.bb_hier.specs.Weights.{net_width, is_input_net, is_output_net}
+use Rattle.bb_expr.specs.Inside.Shares.{capped}
+use Rattle.bb_hier.specs.Inside.Weights.{net_width, is_input_net, is_output_net}
 use Rattle.bb_hier.proofs.size.port_bits.Given as goal
 
 abbrev pub invariant-loop-net : goal.invariant-loop-net

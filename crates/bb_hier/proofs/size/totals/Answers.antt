@@ -1,6 +1,6 @@
 use Rattle.std.proofs.Common.{◌-◌, ◌+◌, ◌∙◌, ℕ, List, ap, map}
 use Rattle.std.specs.Prelude.{◌^◌, sum_by, slice_index_or}
-use Rattle.bb_expr.specs.Shares.{capped}
+use Rattle.bb_expr.specs.Inside.Shares.{capped}
 use Rattle.bb_hier.proofs.SizeTotals.{more_totals}
 use Rattle.bb_hier.proofs.size.totals.Goals as goal
 

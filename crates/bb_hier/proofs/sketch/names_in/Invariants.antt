@@ -1,6 +1,6 @@
 use Rattle.std.proofs.Common.{◌≡◌, map, take}
 use Rattle.std.specs.List.{flat_map}
-use Rattle.bb_ast.specs.Views.{item_view}
+use Rattle.bb_ast.specs.Inside.Views.{item_view}
 use Rattle.bb_design.specs.Hierarchy.{instances_in}
 use Rattle.bb_hier.proofs.sketch.names_in.Given as goal
 

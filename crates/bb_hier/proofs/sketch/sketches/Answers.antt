@@ -2,8 +2,8 @@ use Rattle.std.proofs.Common.{map, subst, sym}
 use Rattle.std.specs.List.{AllZip}
 use Rattle.std.proofs.lemmas.List.Elements.{All-contains}
 use Rattle.std.proofs.lemmas.Simd.{map-map}
-use Rattle.bb_names.specs.Checked.{module_facts, syntax, HasNets}
-use Rattle.bb_hier.specs.Sketches.{IsSketch}
+use Rattle.bb_names.specs.Inside.Checked.{module_facts, syntax, HasNets}
+use Rattle.bb_hier.specs.Inside.Sketches.{IsSketch}
 use Rattle.bb_lists.proofs.Members.{contains-map}
 use Rattle.bb_lists.proofs.Turns.{item_there, zip_more}
 use Rattle.bb_hier.proofs.sketch.sketches.Goals as goal

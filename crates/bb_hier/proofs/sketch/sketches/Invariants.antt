@@ -1,7 +1,7 @@
 use Rattle.std.proofs.Common.{map, take}
 use Rattle.std.specs.List.{AllZip}
-use Rattle.bb_names.specs.Checked.{module_facts, syntax}
-use Rattle.bb_hier.specs.Sketches.{IsSketch}
+use Rattle.bb_names.specs.Inside.Checked.{module_facts, syntax}
+use Rattle.bb_hier.specs.Inside.Sketches.{IsSketch}
 use Rattle.bb_hier.proofs.sketch.sketches.Given as goal
 
 abbrev pub invariant-loop-of : goal.invariant-loop-of

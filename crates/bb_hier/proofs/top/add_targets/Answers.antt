@@ -2,7 +2,7 @@ use Rattle.std.proofs.Common.{arith}
 use Rattle.std.specs.List.{list_any}
 use Rattle.bb_bits.specs.Names.{same_name}
 use Rattle.bb_ast.specs.Syntax.{PlainItem}
-use Rattle.bb_ast.specs.Views.{item_view}
+use Rattle.bb_ast.specs.Inside.Views.{item_view}
 use Rattle.bb_design.specs.Hierarchy.{Instance, instances_in}
 use Rattle.bb_hier.proofs.TopLemmas.{any-step}
 use Rattle.bb_hier.proofs.top.add_targets.Goals as goal

@@ -1,7 +1,7 @@
 use Rattle.std.proofs.Common.{◌≡◌, ◌||◌, ℕ, List, map, take}
 use Rattle.std.specs.List.{list_any}
 use Rattle.bb_bits.specs.Names.{same_name}
-use Rattle.bb_ast.specs.Views.{item_view}
+use Rattle.bb_ast.specs.Inside.Views.{item_view}
 use Rattle.bb_design.specs.Hierarchy.{instances_in}
 use Rattle.bb_hier.proofs.top.add_targets.Given as goal
 

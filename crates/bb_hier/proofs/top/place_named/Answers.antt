@@ -1,7 +1,7 @@
 use Rattle.std.proofs.Common.{◌∙◌, sym, ap, arith}
 use Rattle.bb_bits.specs.Names.{same_name}
 use Rattle.bb_names.specs.declared.checked.CheckedModule.{CheckedModule}
-use Rattle.bb_names.specs.Checked.{module_facts, syntax}
+use Rattle.bb_names.specs.Inside.Checked.{module_facts, syntax}
 use Rattle.bb_hier.proofs.TopLemmas.{next-found}
 use Rattle.bb_hier.proofs.top.place_named.Goals as goal
 

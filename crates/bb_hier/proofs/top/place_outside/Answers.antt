@@ -3,7 +3,7 @@ use Rattle.std.specs.Prelude.{not, IfSome}
 use Rattle.std.specs.List.{list_any}
 use Rattle.bb_bits.specs.Names.{same_name}
 use Rattle.bb_names.specs.declared.checked.CheckedModule.{CheckedModule}
-use Rattle.bb_names.specs.Checked.{module_facts, syntax}
+use Rattle.bb_names.specs.Inside.Checked.{module_facts, syntax}
 use Rattle.bb_hier.proofs.TopLemmas.{second-kept, first-kept, none-kept}
 use Rattle.bb_hier.proofs.top.place_outside.Goals as goal
 use Rattle.bb_hier.proofs.top.place_outside.Goals.{then-not-contains+else-is_some, else-not-contains}

@@ -3,7 +3,7 @@ use Rattle.std.specs.Prelude.{filter, not, slice_get, option_to_list, IfSome}
 use Rattle.std.specs.List.{list_any}
 use Rattle.std.specs.Option.{option_and_then}
 use Rattle.bb_bits.specs.Names.{same_name}
-use Rattle.bb_names.specs.Checked.{module_facts, syntax}
+use Rattle.bb_names.specs.Inside.Checked.{module_facts, syntax}
 use Rattle.bb_hier.proofs.top.place_outside.Given as goal
 
 abbrev pub invariant-loop-k : goal.invariant-loop-k

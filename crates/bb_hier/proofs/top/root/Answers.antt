@@ -1,6 +1,6 @@
 use Rattle.std.proofs.Common.{◌∙◌, ap, map}
 use Rattle.std.specs.Prelude.{not}
-use Rattle.bb_names.specs.Checked.{module_facts, syntax}
+use Rattle.bb_names.specs.Inside.Checked.{module_facts, syntax}
 use Rattle.bb_design.specs.Hierarchy.{the_only}
 use Rattle.bb_hier.proofs.TopLemmas.{filter-same}
 use Rattle.bb_hier.proofs.top.root.Goals as goal

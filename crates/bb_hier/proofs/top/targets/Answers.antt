@@ -3,8 +3,8 @@ use Rattle.std.specs.List.{flat_map, list_any}
 use Rattle.std.specs.Prelude.{map}
 use Rattle.bb_bits.specs.Names.{same_name}
 use Rattle.bb_ast.specs.Syntax.{PlainModule, PlainItem}
-use Rattle.bb_ast.specs.Views.{item_view}
-use Rattle.bb_names.specs.Checked.{module_facts, syntax}
+use Rattle.bb_ast.specs.Inside.Views.{item_view}
+use Rattle.bb_names.specs.Inside.Checked.{module_facts, syntax}
 use Rattle.bb_design.specs.Hierarchy.{Instance, instances_of, instances_in}
 use Rattle.bb_hier.proofs.TopLemmas.{target-step, any-instances}
 use Rattle.bb_hier.proofs.top.targets.Goals as goal

@@ -1,7 +1,7 @@
 use Rattle.std.proofs.Common.{◌≡◌, ℕ, List, map, take}
 use Rattle.std.specs.List.{list_any}
 use Rattle.bb_bits.specs.Names.{same_name}
-use Rattle.bb_names.specs.Checked.{module_facts, syntax}
+use Rattle.bb_names.specs.Inside.Checked.{module_facts, syntax}
 use Rattle.bb_design.specs.Hierarchy.{is_instantiated}
 use Rattle.bb_hier.proofs.top.targets.Given as goal
 

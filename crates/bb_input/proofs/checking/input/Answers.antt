@@ -1,9 +1,9 @@
 use Rattle.std.proofs.Common.{rules, IsErrOf, sym, ap, subst}
 use Rattle.bb_bits.specs.Truth.{IsBeadOfAny}
 use Rattle.bb_bits.specs.TruthSets.{HasMoreThan}
-use Rattle.bb_dd.specs.State.{DiagramState}
+use Rattle.bb_dd.specs.Inside.State.{DiagramState}
 use Rattle.bb_sym.specs.declared.fault.RungFault.TheVariants.{Nodes}
-use Rattle.bb_sym.specs.Made.{AreTooMany}
+use Rattle.bb_sym.specs.Inside.Made.{AreTooMany}
 use Rattle.bb_input.specs.InputFunctions.{input_functions}
 use Rattle.bb_input.proofs.checking.input.Goals as goal
 

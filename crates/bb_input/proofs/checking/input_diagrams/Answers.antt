@@ -1,8 +1,8 @@
 use Rattle.std.proofs.Common.{rules, IsErrOf, ◌||◌, ap, ◌∙◌}
 use Rattle.bb_net.specs.Netlists.{Netlist}
-use Rattle.bb_uniq.specs.Meaning.{truth_of}
+use Rattle.bb_uniq.specs.Inside.Meaning.{truth_of}
 use Rattle.bb_sym.specs.declared.fault.RungFault.TheVariants.{Nodes}
-use Rattle.bb_sym.specs.Made.{AreTooMany}
+use Rattle.bb_sym.specs.Inside.Made.{AreTooMany}
 use Rattle.bb_sym.specs.Plain.{block_functions}
 use Rattle.bb_input.specs.InputFunctions.{boxes_functions}
 use Rattle.bb_input.proofs.DiagramParts.{plain_part, refuting_part, refused_plain, refused_refuting, refused_inputs, refused_boxes, all_made, still_refuted, lost_stands}

@@ -4,7 +4,7 @@ use Rattle.bb_bits.specs.Tables.{TableBits, IsTable}
 use Rattle.bb_bits.specs.Truth.{Truth, truth_at}
 use Rattle.bb_net.specs.Netlists.{Netlist}
 use Rattle.bb_input.specs.Answers.{AreLeastTables}
-use Rattle.bb_input.specs.Rows.{HasLeastRows}
+use Rattle.bb_input.specs.Inside.Rows.{HasLeastRows}
 use Rattle.bb_input.proofs.OneBox.{some_point, rows_least, least_one, least_none, zeros_number, some_there, none_there, only_box}
 use Rattle.bb_input.proofs.checking.least_tables.Goals as goal
 

@@ -1,8 +1,8 @@
 use Rattle.std.proofs.Common.{rules, IsErrOf, ◌≡◌, ◌+◌, ◌-◌, ◌&&◌, ◌||◌, length, ap, subst, arith}
 use Rattle.bb_bits.specs.Truth.{quantified_block}
-use Rattle.bb_uniq.specs.Meaning.{truth_of}
+use Rattle.bb_uniq.specs.Inside.Meaning.{truth_of}
 use Rattle.bb_sym.specs.declared.fault.RungFault.TheVariants.{Nodes}
-use Rattle.bb_sym.specs.Made.{Makes, AreTooMany, StandsFor}
+use Rattle.bb_sym.specs.Inside.Made.{Makes, AreTooMany, StandsFor}
 use Rattle.bb_sym.specs.Plain.{block_functions}
 use Rattle.bb_input.proofs.ChoiceSteps.{box_refused_first, box_refused_later, box_made, box_stands}
 use Rattle.bb_input.proofs.choosing.quantify_box.Goals as goal

@@ -2,9 +2,9 @@ use Rattle.std.proofs.Common.{rules, IsErrOf, ◌≡◌, ◌<◌, ◌+◌, ◌-�
 use Rattle.std.proofs.lemmas.List.{get_or_default}
 use Rattle.bb_net.specs.Netlists.{Pins, box_at}
 use Rattle.bb_net.specs.Pairs.{pin_count}
-use Rattle.bb_uniq.specs.Meaning.{truth_of}
+use Rattle.bb_uniq.specs.Inside.Meaning.{truth_of}
 use Rattle.bb_sym.specs.declared.fault.RungFault.TheVariants.{Nodes}
-use Rattle.bb_sym.specs.Made.{Makes, AreTooMany, StandsFor}
+use Rattle.bb_sym.specs.Inside.Made.{Makes, AreTooMany, StandsFor}
 use Rattle.bb_input.specs.InputFunctions.{box_quantified, box_functions}
 use Rattle.bb_input.proofs.OrderLemmas.{fits_more}
 use Rattle.bb_input.proofs.ChoiceSteps.{from_box, functions_from, from_none, functions_none, boxes_made, boxes_stand, boxes_refused}

@@ -1,6 +1,6 @@
 use Rattle.std.proofs.Common.{◌≤◌, length}
-use Rattle.bb_uniq.specs.Meaning.{truth_of}
-use Rattle.bb_sym.specs.Made.{Makes, StandsFor}
+use Rattle.bb_uniq.specs.Inside.Meaning.{truth_of}
+use Rattle.bb_sym.specs.Inside.Made.{Makes, StandsFor}
 use Rattle.bb_input.proofs.ChoiceSteps.{from_box, functions_from}
 use Rattle.bb_input.proofs.choosing.quantify_boxes.Given as goal
 

@@ -5,10 +5,10 @@ use Rattle.bb_bits.specs.Truth.{Truth}
 use Rattle.bb_net.specs.Netlists.{Netlist}
 use Rattle.bb_uniq.specs.declared.store.Ref.{Ref}
 use Rattle.bb_sym.specs.declared.fault.RungFault.TheVariants.{Nodes}
-use Rattle.bb_sym.specs.Made.{Makes, AreTooMany, StandsFor, ref_at}
+use Rattle.bb_sym.specs.Inside.Made.{Makes, AreTooMany, StandsFor, ref_at}
 use Rattle.bb_sym.specs.Plain.{Function, table, tables, one_of, first_of}
 use Rattle.bb_input.specs.InputFunctions.{in_places, is_missed}
-use Rattle.bb_input.specs.Order.{in_variables}
+use Rattle.bb_input.specs.Inside.Order.{in_variables}
 use Rattle.bb_input.proofs.MissedParts.{bits, cells, variables_there, places_there, given_stand, there_stand, given_refs, there_refs, pin_count_is, same_count, picks_are}
 use Rattle.bb_input.proofs.missing.some_missed.Goals as goal
 

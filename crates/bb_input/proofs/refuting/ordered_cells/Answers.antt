@@ -2,7 +2,7 @@ use Rattle.std.proofs.Common.{rules, IsErrOf, ◌∙◌, sym, subst, arith}
 use Rattle.bb_bits.specs.Truth.{variable}
 use Rattle.bb_sym.specs.declared.fault.RungFault.TheVariants.{Nodes}
 use Rattle.bb_sym.specs.Plain.{AreVariables, IsReadSo, plain_functions_at}
-use Rattle.bb_sym.specs.Made.{Makes, AreTooMany, StandForAll}
+use Rattle.bb_sym.specs.Inside.Made.{Makes, AreTooMany, StandForAll}
 use Rattle.bb_input.specs.InputFunctions.{boxes_first}
 use Rattle.bb_input.proofs.Readings.{order_variables, order_read}
 use Rattle.bb_input.proofs.refuting.ordered_cells.Goals as goal

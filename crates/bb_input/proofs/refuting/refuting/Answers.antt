@@ -1,8 +1,8 @@
 use Rattle.std.proofs.Common.{rules, IsErrOf, ◌&&◌, sym, ◌∙◌, subst}
 use Rattle.bb_bits.specs.Truth.{variable, complement, joined}
-use Rattle.bb_uniq.specs.Meaning.{truth_of, IsTooMany}
+use Rattle.bb_uniq.specs.Inside.Meaning.{truth_of, IsTooMany}
 use Rattle.bb_sym.specs.declared.fault.RungFault.TheVariants.{Nodes}
-use Rattle.bb_sym.specs.Made.{AreTooMany, StandForAll}
+use Rattle.bb_sym.specs.Inside.Made.{AreTooMany, StandForAll}
 use Rattle.bb_input.specs.InputFunctions.{boxes_first, missed_functions}
 use Rattle.bb_input.proofs.RefutingParts.{wrong_over, refused_wrong, refused_missed, refused_not, refused_and, still_wrong, refuting_made, refuting_stands}
 use Rattle.bb_input.proofs.refuting.refuting.Goals as goal

@@ -1,7 +1,7 @@
 use Rattle.std.proofs.Common.{◌≡◌, ◌-◌, List, Bool, length, take, drop, sym, ap, ◌∙◌, subst, subst₂, arith, length-take, length-drop, take_all}
 use Rattle.bb_bits.specs.Tables.{row_of}
-use Rattle.bb_uniq.specs.Meaning.{truth_of}
-use Rattle.bb_input.specs.Rows.{IsLeastRow}
+use Rattle.bb_uniq.specs.Inside.Meaning.{truth_of}
+use Rattle.bb_input.specs.Inside.Rows.{IsLeastRow}
 use Rattle.bb_input.proofs.LeastRows.{yes, least_row}
 use Rattle.bb_input.proofs.rows.fill_row.Goals as goal
 

@@ -1,7 +1,7 @@
 use Rattle.std.proofs.Common.{◌≡◌, ◌<◌, ◌^◌, length, take}
 use Rattle.bb_bits.specs.Numbers.{number_of}
-use Rattle.bb_uniq.specs.Meaning.{truth_of}
-use Rattle.bb_input.specs.Rows.{HasLeastRows}
+use Rattle.bb_uniq.specs.Inside.Meaning.{truth_of}
+use Rattle.bb_input.specs.Inside.Rows.{HasLeastRows}
 use Rattle.bb_input.proofs.rows.fill_rows.Given as goal
 
 abbrev pub invariant-loop-row : goal.invariant-loop-row

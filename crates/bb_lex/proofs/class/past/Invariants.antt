@@ -1,6 +1,6 @@
 use Rattle.std.proofs.Common.{◌≡◌, length}
 use Rattle.bb_lex.specs.Bytes.{past}
-use Rattle.bb_lex.specs.Reading.Runs.{is_of}
+use Rattle.bb_lex.specs.Inside.Runs.{is_of}
 use Rattle.bb_lex.proofs.class.past.Given as goal
 
 abbrev pub invariant-loop-rest : goal.invariant-loop-rest

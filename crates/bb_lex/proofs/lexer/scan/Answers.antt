@@ -1,6 +1,6 @@
 use Rattle.std.proofs.Common.{◌+◌, ◌-◌, ◌<◌, length, ◌++◌, sym, ap, ◌∙◌, subst, arith, false-eqb}
-use Rattle.bb_lex.specs.Reading.Found.{seen}
-use Rattle.bb_lex.specs.Reading.Pieces.{tokens_at}
+use Rattle.bb_lex.specs.Inside.Found.{seen}
+use Rattle.bb_lex.specs.Inside.Pieces.{tokens_at}
 use Rattle.bb_lex.proofs.TokenLists.{IsScanned, scan_step, scanned_bad}
 use Rattle.bb_lex.proofs.lexer.scan.Goals as goal
 

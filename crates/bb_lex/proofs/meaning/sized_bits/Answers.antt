@@ -2,7 +2,7 @@ use Rattle.std.proofs.Common.{◌%◌, ◌^◌, List, Bool, ap, sym, ◌∙◌, 
 use Rattle.bb_lex.specs.Numbers.{low_bits}
 use Rattle.bb_lex.specs.Cut.{bytes_of}
 use Rattle.bb_lex.specs.Meaning.{SaysBits}
-use Rattle.bb_lex.specs.Reading.Numbers.{size_of, value_of}
+use Rattle.bb_lex.specs.Inside.Numbers.{size_of, value_of}
 use Rattle.bb_lex.proofs.Meanings.{low_bits-mod, says_read}
 use Rattle.bb_lex.proofs.meaning.sized_bits.Goals as goal
 

@@ -1,5 +1,5 @@
 use Rattle.std.proofs.Common.{◌≡◌, length}
-use Rattle.bb_lex.specs.Reading.Skips.{behind_parts}
+use Rattle.bb_lex.specs.Inside.Skips.{behind_parts}
 use Rattle.bb_lex.proofs.skip.behind_attribute.Given as goal
 
 abbrev pub invariant-parts : goal.invariant-parts

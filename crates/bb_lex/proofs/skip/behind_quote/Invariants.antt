@@ -1,5 +1,5 @@
 use Rattle.std.proofs.Common.{◌≡◌, length}
-use Rattle.bb_lex.specs.Reading.Skips.{behind_quote}
+use Rattle.bb_lex.specs.Inside.Skips.{behind_quote}
 use Rattle.bb_lex.proofs.skip.behind_quote.Given as goal
 
 abbrev pub invariant-loop-rest : goal.invariant-loop-rest

@@ -1,6 +1,6 @@
 use Rattle.std.proofs.Common.{◌≡◌, drop}
 use Rattle.bb_lex.specs.Words.{entry_of}
-use Rattle.bb_lex.specs.Reading.Words.{entries}
+use Rattle.bb_lex.specs.Inside.Words.{entries}
 use Rattle.bb_lex.proofs.word.keyword_in.Given as goal
 
 abbrev pub invariant-loop-entry : goal.invariant-loop-entry

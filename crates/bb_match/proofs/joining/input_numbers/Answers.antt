@@ -1,7 +1,7 @@
 use Rattle.std.proofs.Common.{◌≡◌, ◌+◌, ◌++◌, map, length, ◌∙◌, arith}
 use Rattle.bb_net.specs.CutPoints.{cut_inputs}
 use Rattle.bb_match.specs.Pairing.{Picks}
-use Rattle.bb_match.specs.Places.{text_place}
+use Rattle.bb_match.specs.Inside.Places.{text_place}
 use Rattle.bb_match.proofs.CheckLemmas.{if_ok_weaker}
 use Rattle.bb_match.proofs.PairLemmas.{ins_fit, ins_places_fit, states_places_fit, numbers_made}
 use Rattle.bb_match.proofs.joining.input_numbers.Goals as goal

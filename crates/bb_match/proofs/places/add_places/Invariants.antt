@@ -1,5 +1,5 @@
 use Rattle.std.proofs.Common.{◌≡◌, ◌+◌, ◌++◌, map, take}
-use Rattle.bb_match.specs.Places.{text_place}
+use Rattle.bb_match.specs.Inside.Places.{text_place}
 use Rattle.bb_match.proofs.places.add_places.Given as goal
 
 abbrev pub invariant-loop-text : goal.invariant-loop-text

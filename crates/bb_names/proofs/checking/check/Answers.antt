@@ -1,6 +1,6 @@
 use Rattle.std.proofs.Common.{◌≡◌, ap, map}
 use Rattle.std.specs.Prelude.{◌⊎◌}
-use Rattle.bb_ast.specs.Views.{module_view, source_view}
+use Rattle.bb_ast.specs.Inside.Views.{module_view, source_view}
 use Rattle.bb_names.specs.declared.fault.NameFault.TheVariants.{NoMemory}
 use Rattle.bb_names.specs.Faults.{IsFirstFault}
 use Rattle.bb_names.proofs.Answering.{if_err, first_fault_of}

@@ -1,10 +1,10 @@
 use Rattle.std.proofs.Common.{◌≡◌, [], ap, sym, refl, ◌∙◌, subst, map}
 use Rattle.std.specs.Prelude.{◌⊎◌, Some}
 use Rattle.std.specs.List.{take-map}
-use Rattle.bb_ast.specs.Views.{module_view}
+use Rattle.bb_ast.specs.Inside.Views.{module_view}
 use Rattle.bb_names.specs.declared.fault.NameFault.TheVariants.{NoMemory}
 use Rattle.bb_names.specs.Faults.{module_faults, faults_of}
-use Rattle.bb_names.specs.Firsts.{first_of}
+use Rattle.bb_names.specs.Inside.Firsts.{first_of}
 use Rattle.bb_names.proofs.Answering.{err_answers, item_answers, each-none}
 use Rattle.bb_names.proofs.checking.check_modules.Goals as goal
 

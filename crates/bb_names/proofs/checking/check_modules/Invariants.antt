@@ -1,5 +1,5 @@
 use Rattle.std.proofs.Common.{◌≡◌, [], take, map}
-use Rattle.bb_ast.specs.Views.{module_view}
+use Rattle.bb_ast.specs.Inside.Views.{module_view}
 use Rattle.bb_names.specs.Faults.{module_faults}
 use Rattle.bb_bits.specs.Earlier.{each_after}
 use Rattle.bb_names.proofs.checking.check_modules.Given as goal

@@ -1,8 +1,8 @@
 use Rattle.std.proofs.Common.{◌++◌, [], ap, sym, ◌∙◌, subst, map, take, append-nil}
 use Rattle.std.specs.List.{flat_map}
-use Rattle.bb_ast.specs.Views.{head_view, item_view}
+use Rattle.bb_ast.specs.Inside.Views.{head_view, item_view}
 use Rattle.bb_names.specs.Declarations.{declared_by, declared_by_head}
-use Rattle.bb_names.specs.Summaries.{Describes}
+use Rattle.bb_names.specs.Inside.Summaries.{Describes}
 use Rattle.bb_names.proofs.DeclaredLists.{none_described, turn-flat, end-flat}
 use Rattle.bb_names.proofs.declaring.declare_all.Goals as goal
 

@@ -1,7 +1,7 @@
 use Rattle.std.proofs.Common.{◌++◌, ◌∷◌, [], subst, map, take}
-use Rattle.bb_ast.specs.Views.{call_view}
+use Rattle.bb_ast.specs.Inside.Views.{call_view}
 use Rattle.bb_names.specs.Declarations.{instance_declaration}
-use Rattle.bb_names.specs.Summaries.{Describes}
+use Rattle.bb_names.specs.Inside.Summaries.{Describes}
 use Rattle.bb_names.proofs.DeclaredLists.{turn-map, end-map}
 use Rattle.bb_names.proofs.declaring.declare_calls.Goals as goal
 

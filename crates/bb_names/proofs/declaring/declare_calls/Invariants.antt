@@ -1,7 +1,7 @@
 use Rattle.std.proofs.Common.{◌++◌, List, take, map}
-use Rattle.bb_ast.specs.Views.{call_view}
+use Rattle.bb_ast.specs.Inside.Views.{call_view}
 use Rattle.bb_names.specs.Declarations.{Declaration, instance_declaration}
-use Rattle.bb_names.specs.Summaries.{Describes}
+use Rattle.bb_names.specs.Inside.Summaries.{Describes}
 use Rattle.bb_names.proofs.declaring.declare_calls.Given as goal
 
 abbrev pub invariant-loop-call : goal.invariant-loop-call

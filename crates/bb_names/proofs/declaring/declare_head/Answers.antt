@@ -1,8 +1,8 @@
 use Rattle.std.proofs.Common.{◌≡◌, ◌++◌, ◌∷◌, [], ap, sym, ◌∙◌, subst}
 use Rattle.std.specs.Prelude.{option_map, option_to_list, OnOk}
-use Rattle.bb_ast.specs.Views.{head_view}
+use Rattle.bb_ast.specs.Inside.Views.{head_view}
 use Rattle.bb_names.specs.Declarations.{declared_by_head, port_declaration}
-use Rattle.bb_names.specs.Summaries.{named, Describes}
+use Rattle.bb_names.specs.Inside.Summaries.{named, Describes}
 use Rattle.bb_names.proofs.declaring.declare_head.Goals as goal
 
 pub returns-in-Some : goal.returns-in-Some

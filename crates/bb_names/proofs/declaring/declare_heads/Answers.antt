@@ -1,6 +1,6 @@
 use Rattle.std.proofs.Common.{◌++◌, map, take}
 use Rattle.std.specs.List.{flat_map}
-use Rattle.bb_ast.specs.Views.{head_view}
+use Rattle.bb_ast.specs.Inside.Views.{head_view}
 use Rattle.bb_names.specs.Declarations.{declared_by_head}
 use Rattle.bb_names.proofs.DeclaredLists.{turn-flat, end-flat}
 use Rattle.bb_names.proofs.declaring.declare_heads.Goals as goal

@@ -1,9 +1,9 @@
 use Rattle.std.proofs.Common.{◌++◌, ap, sym, ◌∙◌, subst, map}
 use Rattle.std.specs.Prelude.{OnOk}
-use Rattle.bb_ast.specs.Views.{body_view, named_view, call_view}
+use Rattle.bb_ast.specs.Inside.Views.{body_view, named_view, call_view}
 use Rattle.bb_names.specs.declared.net.NetKind.TheVariants.{Wire}
 use Rattle.bb_names.specs.Declarations.{declared_by, net_declaration, instance_declaration}
-use Rattle.bb_names.specs.Summaries.{named, Describes}
+use Rattle.bb_names.specs.Inside.Summaries.{named, Describes}
 use Rattle.bb_names.proofs.declaring.declare_item.Goals as goal
 
 pub returns-in-Ports : goal.returns-in-Ports

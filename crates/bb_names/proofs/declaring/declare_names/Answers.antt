@@ -1,5 +1,5 @@
 use Rattle.std.proofs.Common.{◌++◌, map, take}
-use Rattle.bb_names.specs.Summaries.{named}
+use Rattle.bb_names.specs.Inside.Summaries.{named}
 use Rattle.bb_names.proofs.DeclaredLists.{turn-names, end-names}
 use Rattle.bb_names.proofs.declaring.declare_names.Goals as goal
 

@@ -1,6 +1,6 @@
 use Rattle.std.proofs.Common.{◌++◌, List, take, map}
 use Rattle.bb_names.specs.Declarations.{Declaration}
-use Rattle.bb_names.specs.Summaries.{named, Describes}
+use Rattle.bb_names.specs.Inside.Summaries.{named, Describes}
 use Rattle.bb_names.proofs.declaring.declare_names.Given as goal
 
 abbrev pub invariant-loop-name : goal.invariant-loop-name

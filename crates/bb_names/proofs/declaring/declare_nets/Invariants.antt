@@ -1,8 +1,8 @@
 use Rattle.std.proofs.Common.{◌++◌, List, take, map}
-use Rattle.bb_ast.specs.Views.{named_view}
+use Rattle.bb_ast.specs.Inside.Views.{named_view}
 use Rattle.bb_names.specs.Declarations.{Declaration, net_declaration}
 use Rattle.bb_names.specs.declared.net.NetKind.TheVariants.{Wire}
-use Rattle.bb_names.specs.Summaries.{Describes}
+use Rattle.bb_names.specs.Inside.Summaries.{Describes}
 use Rattle.bb_names.proofs.declaring.declare_nets.Given as goal
 
 abbrev pub invariant-loop-name : goal.invariant-loop-name

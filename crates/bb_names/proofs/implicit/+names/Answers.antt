@@ -2,10 +2,10 @@ use Rattle.std.proofs.Common.{◌++◌, ap, ◌∙◌, map}
 use Rattle.std.proofs.lemmas.Result.{on_ok_weaker}
 use Rattle.std.specs.List.{flat_map}
 use Rattle.bb_ast.specs.Names.{names_in}
-use Rattle.bb_ast.specs.Views.{expression, operand_view, arm_view}
+use Rattle.bb_ast.specs.Inside.Views.{expression, operand_view, arm_view}
 use Rattle.bb_ast.specs.declared.expr.Expr.TheVariants.{outs-Chain, outs-Concat, outs-Cond, outs-Repeat}
 use Rattle.bb_ast.specs.declared.expr.Expr.{out-Expr}
-use Rattle.bb_names.specs.Implicit.{grown}
+use Rattle.bb_names.specs.Inside.Implicit.{grown}
 use Rattle.bb_names.proofs.ExpressionViews.{view-of, names-chain, names-cond, names-concat, names-repeat}
 use Rattle.bb_names.proofs.OnceLemmas.{grown-then, grown-turn, grown-all}
 use Rattle.bb_names.proofs.implicit.+names.Goals as goal

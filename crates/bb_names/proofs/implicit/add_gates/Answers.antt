@@ -1,8 +1,8 @@
 use Rattle.std.proofs.Common.{ap, map, ◌∙◌}
 use Rattle.std.specs.List.{flat_map}
 use Rattle.bb_ast.specs.Names.{names_in}
-use Rattle.bb_ast.specs.Views.{expression, gate_view}
-use Rattle.bb_names.specs.Implicit.{grown}
+use Rattle.bb_ast.specs.Inside.Views.{expression, gate_view}
+use Rattle.bb_names.specs.Inside.Implicit.{grown}
 use Rattle.bb_names.proofs.OnceLemmas.{grown-turn, grown-all}
 use Rattle.bb_names.proofs.implicit.add_gates.Goals as goal
 

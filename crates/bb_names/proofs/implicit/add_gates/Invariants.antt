@@ -1,8 +1,8 @@
 use Rattle.std.proofs.Common.{◌≡◌, take, map}
 use Rattle.std.specs.List.{flat_map}
 use Rattle.bb_ast.specs.Names.{names_in}
-use Rattle.bb_ast.specs.Views.{gate_view}
-use Rattle.bb_names.specs.Implicit.{grown}
+use Rattle.bb_ast.specs.Inside.Views.{gate_view}
+use Rattle.bb_names.specs.Inside.Implicit.{grown}
 use Rattle.bb_names.proofs.implicit.add_gates.Given as goal
 
 abbrev pub invariant-loop-gate : goal.invariant-loop-gate

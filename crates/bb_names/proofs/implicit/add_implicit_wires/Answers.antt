@@ -1,4 +1,4 @@
-use Rattle.bb_ast.specs.Views.{item_view}
+use Rattle.bb_ast.specs.Inside.Views.{item_view}
 use Rattle.bb_names.specs.Declarations.{implicit_places}
 use Rattle.bb_names.proofs.OnceLemmas.{grown-turn, grown-all}
 use Rattle.bb_names.proofs.implicit.add_implicit_wires.Goals as goal

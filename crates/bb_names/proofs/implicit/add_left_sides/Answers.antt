@@ -1,5 +1,5 @@
 use Rattle.bb_ast.specs.Names.{names_in}
-use Rattle.bb_ast.specs.Views.{arm_view}
+use Rattle.bb_ast.specs.Inside.Views.{arm_view}
 use Rattle.bb_names.proofs.OnceLemmas.{grown-turn, grown-all}
 use Rattle.bb_names.proofs.implicit.add_left_sides.Goals as goal
 

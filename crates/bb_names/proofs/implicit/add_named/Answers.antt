@@ -1,4 +1,4 @@
-use Rattle.bb_ast.specs.Views.{named_view}
+use Rattle.bb_ast.specs.Inside.Views.{named_view}
 use Rattle.bb_names.specs.Declarations.{names_in_optional}
 use Rattle.bb_names.proofs.OnceLemmas.{grown-turn, grown-all}
 use Rattle.bb_names.proofs.implicit.add_named.Goals as goal

@@ -1,4 +1,4 @@
-use Rattle.bb_ast.specs.Views.{optional_view}
+use Rattle.bb_ast.specs.Inside.Views.{optional_view}
 use Rattle.bb_names.specs.Declarations.{names_in_optional}
 use Rattle.bb_names.proofs.OnceLemmas.{grown-turn, grown-all}
 use Rattle.bb_names.proofs.implicit.add_places.Goals as goal

@@ -1,8 +1,8 @@
 use Rattle.std.proofs.Common.{◌≡◌, take, map}
 use Rattle.std.specs.List.{flat_map}
-use Rattle.bb_ast.specs.Views.{optional_view}
+use Rattle.bb_ast.specs.Inside.Views.{optional_view}
 use Rattle.bb_names.specs.Declarations.{names_in_optional}
-use Rattle.bb_names.specs.Implicit.{grown}
+use Rattle.bb_names.specs.Inside.Implicit.{grown}
 use Rattle.bb_names.proofs.implicit.add_places.Given as goal
 
 abbrev pub invariant-loop-place : goal.invariant-loop-place

@@ -1,10 +1,10 @@
 use Rattle.std.proofs.Common.{ap, ◌∙◌, subst, map}
 use Rattle.std.proofs.lemmas.Result.{on_ok_weaker}
 use Rattle.std.specs.List.{flat_map}
-use Rattle.bb_ast.specs.Views.{head_view, item_view, module_view}
+use Rattle.bb_ast.specs.Inside.Views.{head_view, item_view, module_view}
 use Rattle.bb_names.specs.Declarations.{implicit_places, is_declared}
-use Rattle.bb_names.specs.Implicit.{grown}
-use Rattle.bb_names.specs.Indexed.{ArePlaces}
+use Rattle.bb_names.specs.Inside.Implicit.{grown}
+use Rattle.bb_names.specs.Inside.Indexed.{ArePlaces}
 use Rattle.bb_names.proofs.OnceLemmas.{grown-once}
 use Rattle.bb_names.proofs.indexed.note_names.Goals as goal
 

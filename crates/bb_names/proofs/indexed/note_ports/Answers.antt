@@ -1,4 +1,4 @@
-use Rattle.bb_ast.specs.Views.{head_view}
+use Rattle.bb_ast.specs.Inside.Views.{head_view}
 use Rattle.bb_names.proofs.IndexLemmas.{places-none, places-turn, places-all}
 use Rattle.bb_names.proofs.indexed.note_ports.Goals as goal
 

@@ -2,8 +2,8 @@ use Rattle.std.proofs.Common.{ap, sym, ◌∙◌, map, subst}
 use Rattle.std.proofs.lemmas.Result.{on_ok_weaker}
 use Rattle.std.specs.List.{flat_map, IsDistinct}
 use Rattle.bb_bits.specs.Names.{same_name}
-use Rattle.bb_ast.specs.Views.{module_view, head_view, item_view}
-use Rattle.bb_names.specs.NetLists.{all_placed, nets_declared_by}
+use Rattle.bb_ast.specs.Inside.Views.{module_view, head_view, item_view}
+use Rattle.bb_names.specs.Inside.NetLists.{all_placed, nets_declared_by}
 use Rattle.bb_names.proofs.NetLemmas.{placed_in_order}
 use Rattle.bb_names.proofs.nets.add_all.Goals as goal
 

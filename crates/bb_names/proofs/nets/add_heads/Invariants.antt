@@ -1,6 +1,6 @@
 use Rattle.std.proofs.Common.{◌≡◌, take, map}
-use Rattle.bb_ast.specs.Views.{head_view}
-use Rattle.bb_names.specs.NetLists.{all_placed}
+use Rattle.bb_ast.specs.Inside.Views.{head_view}
+use Rattle.bb_names.specs.Inside.NetLists.{all_placed}
 use Rattle.bb_names.proofs.nets.add_heads.Given as goal
 
 abbrev pub invariant-loop-head : goal.invariant-loop-head

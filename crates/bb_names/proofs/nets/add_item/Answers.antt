@@ -1,9 +1,9 @@
 use Rattle.std.proofs.Common.{ap, sym, ◌∙◌, refl, map, map-id}
 use Rattle.std.proofs.lemmas.Result.{on_ok_weaker}
-use Rattle.bb_ast.specs.Views.{body_view, named_view, call_view}
+use Rattle.bb_ast.specs.Inside.Views.{body_view, named_view, call_view}
 use Rattle.bb_names.specs.declared.net.NetKind.TheVariants.{Wire, Reg}
 use Rattle.bb_names.specs.Declarations.{port_declaration, net_declaration, supply_kind, instance_declaration}
-use Rattle.bb_names.specs.NetLists.{all_placed, nets_declared_by}
+use Rattle.bb_names.specs.Inside.NetLists.{all_placed, nets_declared_by}
 use Rattle.bb_names.proofs.NetLemmas.{declared-names, no_nets}
 use Rattle.bb_names.proofs.nets.add_item.Goals as goal
 

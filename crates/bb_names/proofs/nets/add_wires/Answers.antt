@@ -1,4 +1,4 @@
-use Rattle.bb_ast.specs.Views.{named_view}
+use Rattle.bb_ast.specs.Inside.Views.{named_view}
 use Rattle.bb_names.proofs.NetLemmas.{placed-turn, placed-all}
 use Rattle.bb_names.proofs.nets.add_wires.Goals as goal
 

@@ -1,6 +1,6 @@
 use Rattle.std.proofs.Common.{◌≡◌, take, map}
-use Rattle.bb_ast.specs.Views.{named_view}
-use Rattle.bb_names.specs.NetLists.{all_placed}
+use Rattle.bb_ast.specs.Inside.Views.{named_view}
+use Rattle.bb_names.specs.Inside.NetLists.{all_placed}
 use Rattle.bb_names.proofs.nets.add_wires.Given as goal
 
 abbrev pub invariant-loop-name : goal.invariant-loop-name

@@ -1,6 +1,6 @@
 use Rattle.std.proofs.Common.{◌≡◌, true, take}
 use Rattle.std.specs.List.{list_all}
-use Rattle.bb_ast.specs.Views.{module_view}
+use Rattle.bb_ast.specs.Inside.Views.{module_view}
 use Rattle.bb_names.specs.Declarations.{is_port}
 use Rattle.bb_names.proofs.nets.are_port_names.Given as goal
 

@@ -1,6 +1,6 @@
 use Rattle.std.proofs.Common.{◌&&◌, sym, ◌∙◌}
 use Rattle.std.specs.Prelude.{is_none}
-use Rattle.bb_ast.specs.Views.{module_view, named_view}
+use Rattle.bb_ast.specs.Inside.Views.{module_view, named_view}
 use Rattle.bb_names.specs.Declarations.{is_port}
 use Rattle.bb_names.proofs.NetLemmas.{all-fails, all-more, all-hold}
 use Rattle.bb_names.proofs.nets.are_ports.Goals as goal

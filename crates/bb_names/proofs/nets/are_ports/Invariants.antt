@@ -1,7 +1,7 @@
 use Rattle.std.proofs.Common.{◌≡◌, ◌&&◌, true, take, map}
 use Rattle.std.specs.Prelude.{is_none}
 use Rattle.std.specs.List.{list_all}
-use Rattle.bb_ast.specs.Views.{module_view, named_view}
+use Rattle.bb_ast.specs.Inside.Views.{module_view, named_view}
 use Rattle.bb_names.specs.Declarations.{is_port}
 use Rattle.bb_names.proofs.nets.are_ports.Given as goal
 

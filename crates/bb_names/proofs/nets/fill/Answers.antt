@@ -1,6 +1,6 @@
 use Rattle.std.proofs.Common.{ap, ◌∙◌, map}
 use Rattle.std.proofs.lemmas.Result.{on_ok_weaker}
-use Rattle.bb_ast.specs.Views.{module_view}
+use Rattle.bb_ast.specs.Inside.Views.{module_view}
 use Rattle.bb_names.specs.Nets.{net_of, net_names}
 use Rattle.bb_names.proofs.NetLemmas.{placed-names}
 use Rattle.bb_names.proofs.nets.fill.Goals as goal

@@ -1,5 +1,5 @@
 use Rattle.std.proofs.Common.{ap, sym, ◌∙◌}
-use Rattle.bb_ast.specs.Views.{module_view, item_view}
+use Rattle.bb_ast.specs.Inside.Views.{module_view, item_view}
 use Rattle.bb_names.specs.Nets.{is_of_empty}
 use Rattle.bb_names.proofs.NetLemmas.{all-fails}
 use Rattle.bb_names.proofs.nets.is_empty_module.Goals as goal

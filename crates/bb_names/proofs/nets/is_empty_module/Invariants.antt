@@ -1,6 +1,6 @@
 use Rattle.std.proofs.Common.{◌≡◌, true, take, map}
 use Rattle.std.specs.List.{list_all}
-use Rattle.bb_ast.specs.Views.{module_view, item_view}
+use Rattle.bb_ast.specs.Inside.Views.{module_view, item_view}
 use Rattle.bb_names.specs.Nets.{is_of_empty}
 use Rattle.bb_names.proofs.nets.is_empty_module.Given as goal
 

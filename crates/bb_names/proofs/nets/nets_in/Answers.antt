@@ -1,5 +1,5 @@
 use Rattle.std.proofs.Common.{ap, sym, ◌∙◌, map}
-use Rattle.bb_ast.specs.Views.{module_view}
+use Rattle.bb_ast.specs.Inside.Views.{module_view}
 use Rattle.bb_names.specs.Nets.{net_names}
 use Rattle.bb_bits.specs.Names.{placed}
 use Rattle.bb_names.proofs.NetLemmas.{names-of}

@@ -1,7 +1,7 @@
 use Rattle.std.proofs.Common.{◌++◌, ◌∷◌, [], ap, sym, ◌∙◌, map, subst, arith}
 use Rattle.std.proofs.lemmas.Grind.{common_steps}
 use Rattle.std.proofs.lemmas.List.{map-append, length-map}
-use Rattle.bb_names.specs.Indexed.{ArePlaces}
+use Rattle.bb_names.specs.Inside.Indexed.{ArePlaces}
 use Rattle.bb_names.proofs.sources.add_module.Goals as goal
 
 pub returns-clause-modules : goal.returns-clause-modules

@@ -2,7 +2,7 @@ use Rattle.std.proofs.Common.{cond, subst, sym, ap, ◌∙◌}
 use Rattle.std.specs.Prelude.{Some}
 use Rattle.std.specs.Map.{lookup}
 use Rattle.bb_bits.specs.Names.{same_name}
-use Rattle.bb_names.specs.Summaries.{IsSummary}
+use Rattle.bb_names.specs.Inside.Summaries.{IsSummary}
 use Rattle.bb_names.proofs.SummaryLemmas.{declared_more, none_there, put_again}
 use Rattle.bb_names.proofs.summary.declare_next.Goals as goal
 

@@ -1,5 +1,5 @@
 use Rattle.std.proofs.Common.{sym, ap, ◌∙◌, subst}
-use Rattle.bb_names.specs.Summaries.{named, leaves_no_room, IsSummary}
+use Rattle.bb_names.specs.Inside.Summaries.{named, leaves_no_room, IsSummary}
 use Rattle.bb_names.proofs.ClashLemmas.{clash_some, clash_none}
 use Rattle.bb_names.proofs.summary.is_clash.Goals as goal
 

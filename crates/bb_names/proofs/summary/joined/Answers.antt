@@ -1,5 +1,5 @@
 use Rattle.std.proofs.Common.{◌≡◌, ◌||◌, subst, arith}
-use Rattle.bb_names.specs.Summaries.{plain_ranges, IsSummary}
+use Rattle.bb_names.specs.Inside.Summaries.{plain_ranges, IsSummary}
 use Rattle.bb_names.proofs.SummaryLemmas.{joined_first, joined_more}
 use Rattle.bb_names.proofs.summary.joined.Goals.{then-s, else-s}
 use Rattle.bb_names.proofs.summary.joined.Goals as goal

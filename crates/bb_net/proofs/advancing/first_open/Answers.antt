@@ -1,6 +1,6 @@
 use Rattle.std.specs.Prelude.{slice_index}
 use borrow.Author.Count.{below_more}
-use Rattle.bb_net.specs.Placings.{IsPlaced}
+use Rattle.bb_net.specs.Inside.Placings.{IsPlaced}
 use Rattle.bb_net.proofs.LookedAt.{placed_some}
 use Rattle.bb_net.proofs.advancing.first_open.Goals as goal
 

@@ -1,6 +1,6 @@
 use Rattle.std.proofs.Common.{◌+◌, List, [], drop, subst, ◌∙◌, arith}
 use Rattle.std.proofs.lemmas.List.{drop_more}
-use Rattle.bb_net.specs.Placings.{IsPlacing}
+use Rattle.bb_net.specs.Inside.Placings.{IsPlacing}
 use Rattle.bb_net.specs.declared.placing.Waiter.{Waiter}
 use Rattle.bb_net.specs.declared.placing.Waiter.TheVariants as waiter
 use Rattle.bb_net.proofs.advancing.look_at_all.Goals as goal

@@ -1,5 +1,5 @@
 use Rattle.std.proofs.Common.{◌≡◌, ◌≤◌, [], drop}
-use Rattle.bb_net.specs.Placings.{IsPlacing, work}
+use Rattle.bb_net.specs.Inside.Placings.{IsPlacing, work}
 use Rattle.bb_net.proofs.advancing.look_at_all.Given as goal
 
 abbrev pub invariant-loop-waiter : goal.invariant-loop-waiter

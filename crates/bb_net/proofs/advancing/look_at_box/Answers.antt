@@ -2,7 +2,7 @@ use Rattle.std.proofs.Common.{◌≡◌, ℕ, ◌<◌, ◌≤◌, List, [], leng
 use Rattle.std.specs.Prelude.{slice_index}
 use Rattle.std.proofs.lemmas.List.Elements.{All-get_or}
 use Rattle.bb_net.specs.Netlists.{Pins, box_at}
-use Rattle.bb_net.specs.Placings.{IsPlaced, IsOpen}
+use Rattle.bb_net.specs.Inside.Placings.{IsPlaced, IsOpen}
 use Rattle.bb_net.proofs.LookedAt.{on_ok1, woken_box, IsPlacing-box_waits, IsPlacing-box_ready}
 use Rattle.bb_net.proofs.advancing.look_at_box.Goals as goal
 

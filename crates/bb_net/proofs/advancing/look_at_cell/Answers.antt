@@ -2,7 +2,7 @@ use Rattle.std.proofs.Common.{ℕ, ◌<◌, List, [], length, refl, sym, ap, sub
 use Rattle.std.specs.Prelude.{Contains}
 use Rattle.std.proofs.lemmas.List.{length_push}
 use Rattle.bb_net.specs.Loose.{loose_at, operands}
-use Rattle.bb_net.specs.Placings.{IsOpen, open_count}
+use Rattle.bb_net.specs.Inside.Placings.{IsOpen, open_count}
 use Rattle.bb_net.specs.declared.placing.Moved.TheVariants as what
 use Rattle.std.proofs.lemmas.List.Elements.{All-contains}
 use Rattle.bb_net.proofs.PlaceLists.{reads_there}

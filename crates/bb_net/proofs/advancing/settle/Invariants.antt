@@ -1,5 +1,5 @@
 use Rattle.std.proofs.Common.{◌≡◌, []}
-use Rattle.bb_net.specs.Placings.{IsPlacing, work}
+use Rattle.bb_net.specs.Inside.Placings.{IsPlacing, work}
 use Rattle.bb_net.proofs.advancing.settle.Given as goal
 
 abbrev pub invariant-loop-a : goal.invariant-loop-a

@@ -1,6 +1,6 @@
 use Rattle.std.proofs.Common.{◌≡◌, ◌∙◌, [], replicate, false, ap, subst, arith, rules}
 use Rattle.bb_net.specs.Netlists.{first_cells}
-use Rattle.bb_net.specs.Placings.{IsLeastFirst}
+use Rattle.bb_net.specs.Inside.Placings.{IsLeastFirst}
 use Rattle.bb_net.proofs.OrderedLists.{front_fits, IsPlacing-first}
 use Rattle.bb_net.proofs.beginning.begin.Goals as goal
 

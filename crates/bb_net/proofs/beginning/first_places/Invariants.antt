@@ -1,5 +1,5 @@
 use Rattle.std.proofs.Common.{◌≡◌, ℕ, ◌+◌, ◌<◌, ◌≤◌, length}
-use Rattle.bb_net.specs.Placings.{IsAt, IsOpen, open_count}
+use Rattle.bb_net.specs.Inside.Placings.{IsAt, IsOpen, open_count}
 use Rattle.bb_net.proofs.beginning.first_places.Given as goal
 
 abbrev pub invariant-loop-k : goal.invariant-loop-k

@@ -1,5 +1,5 @@
 use Rattle.std.proofs.Common.{◌≡◌, map, take}
-use Rattle.bb_net.specs.Placings.{given_place}
+use Rattle.bb_net.specs.Inside.Placings.{given_place}
 use Rattle.bb_net.proofs.numbering.moved_places.Given as goal
 
 abbrev pub invariant-loop-k : goal.invariant-loop-k

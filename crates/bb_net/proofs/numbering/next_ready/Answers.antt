@@ -2,7 +2,7 @@ use Rattle.std.proofs.Common.{◌≡◌, ◌<◌, true, length, refl, subst, inl
 use Rattle.std.specs.BinaryHeap.{heap_items}
 use Rattle.std.proofs.lemmas.List.Elements.{All-contains}
 use Rattle.bb_net.specs.Values.{bit_of}
-use Rattle.bb_net.specs.Placings.{boxes_of}
+use Rattle.bb_net.specs.Inside.Placings.{boxes_of}
 use Rattle.bb_net.proofs.BoxSteps.{top_box, least_box, popped}
 use Rattle.bb_net.proofs.numbering.next_ready.Goals as goal
 

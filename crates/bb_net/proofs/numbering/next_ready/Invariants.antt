@@ -2,7 +2,7 @@ use Rattle.std.proofs.Common.{◌≡◌, ◌⊎◌, ℕ, true}
 use Rattle.std.specs.Prelude.{Contains}
 use Rattle.std.specs.BinaryHeap.{heap_items, heap_len}
 use Rattle.bb_net.specs.Values.{bit_of}
-use Rattle.bb_net.specs.Placings.{boxes_of, IsLeastFirst}
+use Rattle.bb_net.specs.Inside.Placings.{boxes_of, IsLeastFirst}
 use Rattle.bb_net.proofs.numbering.next_ready.Given as goal
 
 abbrev pub invariant-loop-b : goal.invariant-loop-b

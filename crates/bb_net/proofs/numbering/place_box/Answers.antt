@@ -2,7 +2,7 @@ use Rattle.std.proofs.Common.{◌≡◌, ◌<◌, [], length, map, sym, ap, subs
 use Rattle.std.specs.Prelude.{All}
 use Rattle.std.specs.BinaryHeap.{heap_items}
 use Rattle.bb_net.specs.Netlists.{Pins, box_at, with_box}
-use Rattle.bb_net.specs.Placings.{given_place, IsPlacingBy}
+use Rattle.bb_net.specs.Inside.Placings.{given_place, IsPlacingBy}
 use Rattle.bb_net.proofs.PlacingSteps.{IsPlacing-number}
 use Rattle.bb_net.proofs.BoxSteps.{box_room, ins_there, IsComing-first}
 use Rattle.bb_net.proofs.numbering.place_box.Goals as goal

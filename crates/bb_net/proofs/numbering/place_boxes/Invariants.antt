@@ -1,5 +1,5 @@
 use Rattle.std.proofs.Common.{◌≡◌, ◌-◌, [], length}
-use Rattle.bb_net.specs.Placings.{IsPlacing}
+use Rattle.bb_net.specs.Inside.Placings.{IsPlacing}
 use Rattle.bb_net.proofs.numbering.place_boxes.Given as goal
 
 abbrev pub invariant-loop-b : goal.invariant-loop-b

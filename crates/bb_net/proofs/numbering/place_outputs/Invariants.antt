@@ -1,6 +1,6 @@
 use Rattle.std.proofs.Common.{◌≡◌, [], drop}
 use Rattle.bb_net.specs.Netlists.{box_at}
-use Rattle.bb_net.specs.Placings.{IsPlacing, IsComing}
+use Rattle.bb_net.specs.Inside.Placings.{IsPlacing, IsComing}
 use Rattle.bb_net.proofs.numbering.place_outputs.Given as goal
 
 abbrev pub invariant-loop-p : goal.invariant-loop-p

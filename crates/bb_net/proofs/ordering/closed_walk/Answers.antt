@@ -2,7 +2,7 @@ use Rattle.std.proofs.Common.{ℕ, [], Option, sym, subst}
 use Rattle.std.specs.Prelude.{IfNone}
 use Rattle.std.specs.BinaryHeap.{heap_items}
 use Rattle.bb_net.specs.Loose.{IsOnClosedWalk}
-use Rattle.bb_net.specs.Placings.{IsOpen, IsPlacingBy}
+use Rattle.bb_net.specs.Inside.Placings.{IsOpen, IsPlacingBy}
 use Rattle.bb_net.proofs.OrderedLists.{open_on_walk, stuck_walk}
 use Rattle.bb_net.proofs.ordering.closed_walk.Goals as goal
 

@@ -1,7 +1,7 @@
 use Rattle.std.proofs.Common.{◌≡◌, ◌∙◌, ◌++◌, [], map, length, sym, ap, subst, arith}
 use Rattle.std.specs.BinaryHeap.{heap_items}
 use Rattle.bb_net.specs.Orders.{IsOrderOf}
-use Rattle.bb_net.specs.Placings.{IsPlaced, IsPlacingBy, given_place}
+use Rattle.bb_net.specs.Inside.Placings.{IsPlaced, IsPlacingBy, given_place}
 use Rattle.bb_net.proofs.OrderedLists.{IsOrderOf-from}
 use Rattle.bb_net.proofs.ordering.finish.Goals as goal
 

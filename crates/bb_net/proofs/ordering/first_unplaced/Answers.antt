@@ -1,5 +1,5 @@
 use borrow.Author.Count.{below_more}
-use Rattle.bb_net.specs.Placings.{IsPlaced}
+use Rattle.bb_net.specs.Inside.Placings.{IsPlaced}
 use Rattle.bb_net.proofs.LookedAt.{placed_some}
 use Rattle.bb_net.proofs.ordering.first_unplaced.Goals as goal
 

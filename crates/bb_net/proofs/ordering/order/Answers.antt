@@ -1,5 +1,5 @@
 use Rattle.std.proofs.Common.{length, ap, subst, arith}
-use Rattle.bb_net.specs.Placings.{IsPlaced, IsOpen}
+use Rattle.bb_net.specs.Inside.Placings.{IsPlaced, IsOpen}
 use Rattle.bb_net.proofs.ordering.order.Goals as goal
 
 pub finish-requires-clause-whole : goal.finish-requires-clause-whole

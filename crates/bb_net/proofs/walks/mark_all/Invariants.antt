@@ -1,5 +1,5 @@
 use Rattle.std.proofs.Common.{take}
-use Rattle.bb_net.specs.Walks.{IsMarked}
+use Rattle.bb_net.specs.Inside.Walks.{IsMarked}
 use Rattle.bb_net.proofs.walks.mark_all.Given as goal
 
 abbrev pub invariant-loop-place : goal.invariant-loop-place

@@ -2,7 +2,7 @@ use Rattle.std.proofs.Common.{◌≡◌, ◌<◌, true, false, length, sym, ap, 
 use Rattle.std.proofs.lemmas.List.{get_or_read}
 use Rattle.bb_net.specs.Netlists.{Pins, box_at}
 use Rattle.bb_net.specs.Values.{bit_of}
-use Rattle.bb_net.specs.Walks.{IsMarked}
+use Rattle.bb_net.specs.Inside.Walks.{IsMarked}
 use Rattle.bb_net.proofs.WalkLemmas.{IsMarked-seen, AreDone-more, pins_among}
 use Rattle.bb_net.proofs.walks.mark_pins.Goals as goal
 

@@ -1,5 +1,5 @@
 use Rattle.std.proofs.Common.{◌+◌, length}
-use Rattle.bb_net.specs.Walks.{unseen, IsSearched, AreDone}
+use Rattle.bb_net.specs.Inside.Walks.{unseen, IsSearched, AreDone}
 use Rattle.bb_net.proofs.walks.mark_reached.Given as goal
 
 abbrev pub invariant-loop-place : goal.invariant-loop-place

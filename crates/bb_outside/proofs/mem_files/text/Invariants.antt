@@ -1,5 +1,5 @@
 use Rattle.std.proofs.Common.{◌≡◌, drop}
-use Rattle.bb_outside.specs.MemFiles.{text_under, entries}
+use Rattle.bb_outside.specs.Inside.MemFiles.{text_under, entries}
 use Rattle.bb_outside.proofs.mem_files.text.Given as goal
 
 -- no file that was looked at has the name

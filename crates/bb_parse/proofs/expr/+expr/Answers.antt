@@ -2,9 +2,9 @@
 use Rattle.std.proofs.Common.{◌∙◌, ◌-◌, Vec, Global, ap, map, sym, refl, arith}
 use Rattle.bb_ast.specs.declared.expr.Op.{Op}
 use Rattle.bb_ast.specs.declared.expr.Expr.{Expr}
-use Rattle.bb_ast.specs.Views.{expression, operand_view, arm_view}
-use Rattle.bb_parse.specs.Reading.Steps.{with_front}
-use Rattle.bb_parse.specs.Reading.Expressions.{read_expr, read_operand, read_operands, read_arms, with_arms, conditional_from}
+use Rattle.bb_ast.specs.Inside.Views.{expression, operand_view, arm_view}
+use Rattle.bb_parse.specs.Inside.Steps.{with_front}
+use Rattle.bb_parse.specs.Inside.Expressions.{read_expr, read_operand, read_operands, read_arms, with_arms, conditional_from}
 use Rattle.bb_parse.proofs.Loops.{loop_begins, loop_stops, loop_ends, loop_fails, loop_goes_on, one_more, operands_begin, operands_stop, operands_end, operands_fail, operands_go_on, arms_begin, arms_end, arms_none, arms_stop, arm_none, arms_go_on, makes_gives, fails_gives}
 use Rattle.bb_parse.proofs.expr.+expr.Goals as goal
 

@@ -1,7 +1,7 @@
 use Rattle.std.proofs.Common.{◌≡◌, ◌+◌, ◌-◌, ◌*◌, length, map}
-use Rattle.bb_ast.specs.Views.{expression, operand_view, arm_view}
-use Rattle.bb_parse.specs.Reading.Steps.{with_front, read_list, read_more}
-use Rattle.bb_parse.specs.Reading.Expressions.{read_expr, read_operand, read_operands, read_arms, read_conditional, with_arms, conditional_from}
+use Rattle.bb_ast.specs.Inside.Views.{expression, operand_view, arm_view}
+use Rattle.bb_parse.specs.Inside.Steps.{with_front, read_list, read_more}
+use Rattle.bb_parse.specs.Inside.Expressions.{read_expr, read_operand, read_operands, read_arms, read_conditional, with_arms, conditional_from}
 use Rattle.bb_parse.proofs.Measures.{tightness}
 use Rattle.bb_parse.proofs.expr.+expr.Given as goal
 

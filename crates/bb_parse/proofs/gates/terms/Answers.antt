@@ -1,7 +1,7 @@
 -- Two terminals come first, and each turn of the loop reads one more.
 use Rattle.std.proofs.Common.{map, refl, arith}
-use Rattle.bb_ast.specs.Views.{expression}
-use Rattle.bb_parse.specs.Reading.Expressions.{read_expr}
+use Rattle.bb_ast.specs.Inside.Views.{expression}
+use Rattle.bb_parse.specs.Inside.Expressions.{read_expr}
 use Rattle.bb_parse.proofs.Loops.{terms_begin, fails_gives, loop_stops, loop_ends, loop_fails, loop_goes_on, one_more}
 use Rattle.bb_parse.proofs.gates.terms.Goals as goal
 

@@ -1,8 +1,8 @@
 use Rattle.std.proofs.Common.{◌≡◌, ◌-◌, map}
-use Rattle.bb_ast.specs.Views.{expression}
-use Rattle.bb_parse.specs.Reading.Steps.{with_front, read_more}
-use Rattle.bb_parse.specs.Reading.Expressions.{read_expr}
-use Rattle.bb_parse.specs.Reading.Items.{read_terms}
+use Rattle.bb_ast.specs.Inside.Views.{expression}
+use Rattle.bb_parse.specs.Inside.Steps.{with_front, read_more}
+use Rattle.bb_parse.specs.Inside.Expressions.{read_expr}
+use Rattle.bb_parse.specs.Inside.Items.{read_terms}
 use Rattle.bb_parse.proofs.gates.terms.Given as goal
 
 abbrev pub invariant-loop-turn : goal.invariant-loop-turn

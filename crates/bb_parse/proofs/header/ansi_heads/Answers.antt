@@ -1,7 +1,7 @@
 -- The list begins with one name and its declaration, and each turn of the loop reads one more.
 use Rattle.std.proofs.Common.{ℕ, List, ap, map, refl, arith}
 use Rattle.bb_ast.specs.declared.module.Port.{Port}
-use Rattle.bb_ast.specs.Views.{head_view}
+use Rattle.bb_ast.specs.Inside.Views.{head_view}
 use Rattle.bb_parse.proofs.Loops.{fails_gives, ansi_begins, ansi_stops, ansi_ends, ansi_fails, ansi_goes_on}
 use Rattle.bb_parse.proofs.header.ansi_heads.Goals as goal
 

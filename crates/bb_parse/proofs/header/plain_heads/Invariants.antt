@@ -1,7 +1,7 @@
 use Rattle.std.proofs.Common.{◌≡◌, ◌-◌, map}
-use Rattle.bb_ast.specs.Views.{head_view}
-use Rattle.bb_parse.specs.Reading.Steps.{with_front, read_list, read_more}
-use Rattle.bb_parse.specs.Reading.Declarations.{read_head}
+use Rattle.bb_ast.specs.Inside.Views.{head_view}
+use Rattle.bb_parse.specs.Inside.Steps.{with_front, read_list, read_more}
+use Rattle.bb_parse.specs.Inside.Declarations.{read_head}
 use Rattle.bb_parse.proofs.header.plain_heads.Given as goal
 
 abbrev pub invariant-loop-turn : goal.invariant-loop-turn

@@ -1,7 +1,7 @@
 -- The list begins with one part, and each turn of the loop reads one more.
 use Rattle.std.proofs.Common.{ap, map, refl, arith}
-use Rattle.bb_ast.specs.Views.{named_view}
-use Rattle.bb_parse.specs.Reading.Items.{read_named}
+use Rattle.bb_ast.specs.Inside.Views.{named_view}
+use Rattle.bb_parse.specs.Inside.Items.{read_named}
 use Rattle.bb_parse.proofs.Loops.{loop_begins, loop_stops, fails_gives, loop_ends, loop_fails, loop_goes_on, one_more}
 use Rattle.bb_parse.proofs.instances.named_list.Goals as goal
 

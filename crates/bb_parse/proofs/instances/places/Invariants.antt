@@ -1,7 +1,7 @@
 use Rattle.std.proofs.Common.{◌≡◌, ◌-◌, map}
-use Rattle.bb_ast.specs.Views.{optional_view}
-use Rattle.bb_parse.specs.Reading.Steps.{with_front, read_list, read_more}
-use Rattle.bb_parse.specs.Reading.Items.{read_place}
+use Rattle.bb_ast.specs.Inside.Views.{optional_view}
+use Rattle.bb_parse.specs.Inside.Steps.{with_front, read_list, read_more}
+use Rattle.bb_parse.specs.Inside.Items.{read_place}
 use Rattle.bb_parse.proofs.instances.places.Given as goal
 
 abbrev pub invariant-loop-turn : goal.invariant-loop-turn

@@ -1,7 +1,7 @@
 use Rattle.std.proofs.Common.{◌≡◌, ◌+◌, ◌-◌, ◌*◌, map}
-use Rattle.bb_ast.specs.Views.{expression}
-use Rattle.bb_parse.specs.Reading.Steps.{with_front, read_list, read_more}
-use Rattle.bb_parse.specs.Reading.Expressions.{read_lval}
+use Rattle.bb_ast.specs.Inside.Views.{expression}
+use Rattle.bb_parse.specs.Inside.Steps.{with_front, read_list, read_more}
+use Rattle.bb_parse.specs.Inside.Expressions.{read_lval}
 use Rattle.bb_parse.proofs.lval.+lval.Given as goal
 
 abbrev pub decreases-lval : goal.decreases-lval

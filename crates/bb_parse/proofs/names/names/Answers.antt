@@ -1,6 +1,6 @@
 -- The list begins with one part, and each turn of the loop reads one more.
 use Rattle.std.proofs.Common.{refl, arith}
-use Rattle.bb_parse.specs.Reading.Steps.{read_name}
+use Rattle.bb_parse.specs.Inside.Steps.{read_name}
 use Rattle.bb_parse.proofs.Loops.{loop_begins, loop_stops, fails_gives, loop_ends, loop_fails, loop_goes_on}
 use Rattle.bb_parse.proofs.names.names.Goals as goal
 

@@ -1,5 +1,5 @@
 use Rattle.std.proofs.Common.{◌≡◌, ◌-◌}
-use Rattle.bb_parse.specs.Reading.Steps.{with_front, read_more, read_name, read_list}
+use Rattle.bb_parse.specs.Inside.Steps.{with_front, read_more, read_name, read_list}
 use Rattle.bb_parse.proofs.names.names.Given as goal
 
 abbrev pub invariant-loop-turn : goal.invariant-loop-turn

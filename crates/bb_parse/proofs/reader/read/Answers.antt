@@ -1,7 +1,7 @@
 -- One more statement has been read.
 use Rattle.std.proofs.Common.{◌≡◌, ◌∙◌, ◌+◌, ◌-◌, Some, sym, ap, arith, map, option_map, option_to_list}
-use Rattle.bb_ast.specs.Views.{module_view}
-use Rattle.bb_parse.specs.Reading.Sources.{first_statement, with_modules, read_from}
+use Rattle.bb_ast.specs.Inside.Views.{module_view}
+use Rattle.bb_parse.specs.Inside.Sources.{first_statement, with_modules, read_from}
 use Rattle.bb_parse.proofs.SourceLoop.{source_next, statement_of_text, rest_of_text, first_lengths}
 use Rattle.bb_parse.proofs.reader.read.Goals as goal
 

@@ -1,8 +1,8 @@
 use Rattle.std.proofs.Common.{◌≡◌, ◌-◌, ◌<◌, ◌^◌, length, map, option_map}
 use Rattle.std.specs.List.{AllByRecursion}
-use Rattle.bb_ast.specs.Views.{module_view}
+use Rattle.bb_ast.specs.Inside.Views.{module_view}
 use Rattle.bb_lex.specs.Cut.{IsTokenOf}
-use Rattle.bb_parse.specs.Reading.Sources.{with_modules, read_from, read_source}
+use Rattle.bb_parse.specs.Inside.Sources.{with_modules, read_from, read_source}
 use Rattle.bb_parse.proofs.reader.read.Given as goal
 
 abbrev pub invariant-loop-turn : goal.invariant-loop-turn

@@ -1,5 +1,5 @@
 use Rattle.std.proofs.Common.{◌≡◌, take, drop}
-use Rattle.bb_parse.specs.Reading.Sources.{first_statement}
+use Rattle.bb_parse.specs.Inside.Sources.{first_statement}
 use Rattle.bb_parse.proofs.Statements.{with_tokens}
 use Rattle.bb_parse.proofs.statement.first.Given as goal
 

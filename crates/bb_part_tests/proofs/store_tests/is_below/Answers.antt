@@ -5,7 +5,7 @@ use Rattle.bb_uniq.specs.declared.store.Node.{Node}
 use Rattle.bb_uniq.specs.declared.store.Ref.{Ref}
 use Rattle.bb_uniq.specs.declared.store.View.{View}
 use Rattle.bb_uniq.specs.declared.store.View.TheVariants as seen
-use Rattle.bb_uniq.specs.Nodes.{node_at, view_by}
+use Rattle.bb_uniq.specs.Inside.Nodes.{node_at, view_by}
 use Rattle.bb_part_tests.proofs.store_tests.is_below.Goals as goal
 
 leaf_below : (nodes : List Node) (v r : ℕ) → r < 2 → MatchOption (node_at nodes r) (r < 2) (λ node. v < node.var)

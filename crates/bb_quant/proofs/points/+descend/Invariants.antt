@@ -1,5 +1,5 @@
 use Rattle.std.proofs.Common.{◌-◌}
-use Rattle.bb_uniq.specs.Cofactors.{top_of}
+use Rattle.bb_uniq.specs.Inside.Cofactors.{top_of}
 use Rattle.bb_quant.proofs.points.+descend.Given as goal
 
 abbrev pub decreases-descend : goal.decreases-descend

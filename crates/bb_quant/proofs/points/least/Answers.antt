@@ -1,6 +1,6 @@
 use Rattle.std.proofs.Common.{◌≡◌, ◌∙◌, sym, cond}
-use Rattle.bb_uniq.specs.Meaning.{truth_of}
-use Rattle.bb_uniq.specs.Cofactors.{top_of}
+use Rattle.bb_uniq.specs.Inside.Meaning.{truth_of}
+use Rattle.bb_uniq.specs.Inside.Cofactors.{top_of}
 use Rattle.bb_quant.proofs.FirstBits.{least_by_fewer, least_given}
 use Rattle.bb_quant.proofs.Walks.{other_leaf, none_at_leaf}
 use Rattle.bb_quant.proofs.points.least.Goals as goal

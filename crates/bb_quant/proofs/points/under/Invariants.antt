@@ -1,9 +1,9 @@
 use Rattle.std.proofs.Common.{◌≡◌, ◌-◌, List, Bool}
 use Rattle.bb_bits.specs.Truth.{truth_at}
-use Rattle.bb_uniq.specs.Nodes.{IsRef}
-use Rattle.bb_uniq.specs.Cofactors.{top_of}
-use Rattle.bb_uniq.specs.Meaning.{truth_of}
-use Rattle.bb_quant.specs.LeastPoints.{BeginsAs}
+use Rattle.bb_uniq.specs.Inside.Nodes.{IsRef}
+use Rattle.bb_uniq.specs.Inside.Cofactors.{top_of}
+use Rattle.bb_uniq.specs.Inside.Meaning.{truth_of}
+use Rattle.bb_quant.specs.Inside.LeastPoints.{BeginsAs}
 use Rattle.bb_quant.proofs.points.under.Given as goal
 
 abbrev pub invariant-loop-var : goal.invariant-loop-var

@@ -1,11 +1,11 @@
 use Rattle.std.proofs.Common.{rules, ◌≡◌, ◌<◌, ◌-◌, sym, ap, ◌∙◌, subst, arith}
 use Rattle.std.specs.Prelude.{IsErrOf, IfOk}
 use Rattle.bb_bits.specs.Truth.{Truth, quantified}
-use Rattle.bb_uniq.specs.Nodes.{NodeStore, IsRef}
-use Rattle.bb_uniq.specs.Meaning.{truth_of, branch, Adds, Keeps, IsTooMany}
-use Rattle.bb_uniq.specs.Cofactors.{variable_seen, top_of}
+use Rattle.bb_uniq.specs.Inside.Nodes.{NodeStore, IsRef}
+use Rattle.bb_uniq.specs.Inside.Meaning.{truth_of, branch, Adds, Keeps, IsTooMany}
+use Rattle.bb_uniq.specs.Inside.Cofactors.{variable_seen, top_of}
 use Rattle.bb_dd.specs.declared.fault.DdFault.TheVariants.{Full}
-use Rattle.bb_dd.specs.Results.{quantifier}
+use Rattle.bb_dd.specs.Inside.Results.{quantifier}
 use Rattle.bb_quant.proofs.Quantifying.{adds_later, children, joined_here, Node, quantified_in, second_ref, second_falls, first_refused, second_refused, ready, node_refused, made}
 use Rattle.bb_quant.proofs.quantify.+quantify.Goals as goal
 

@@ -1,5 +1,5 @@
 use Rattle.std.proofs.Common.{◌+◌, ◌-◌, ◌*◌}
-use Rattle.bb_uniq.specs.Cofactors.{top_of}
+use Rattle.bb_uniq.specs.Inside.Cofactors.{top_of}
 use Rattle.bb_quant.proofs.quantify.+quantify.Given as goal
 
 -- a node of the variable u takes the step below that of a diagram that stands at u

@@ -1,6 +1,6 @@
 use Rattle.std.proofs.Common.{[], sym, subst}
 use Rattle.bb_cnf.specs.Clauses.{lists_of}
-use Rattle.bb_rup.specs.Trails.{marked_by, IsReached}
+use Rattle.bb_rup.specs.Inside.Trails.{marked_by, IsReached}
 use Rattle.bb_rup.proofs.Reached.{reached_same}
 use Rattle.bb_rup.proofs.Steps.{same_marks, reached_behind}
 use Rattle.bb_rup.proofs.addition.check_addition.Goals as goal

@@ -1,5 +1,5 @@
 use Rattle.std.proofs.Common.{[]}
-use Rattle.bb_rup.specs.Trails.{marked_by}
+use Rattle.bb_rup.specs.Inside.Trails.{marked_by}
 use Rattle.bb_rup.proofs.Reached.{reached_false}
 use Rattle.bb_rup.proofs.addition.keep.Goals as goal
 

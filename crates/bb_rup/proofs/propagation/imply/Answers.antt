@@ -1,6 +1,6 @@
 use Rattle.std.proofs.Common.{true, set, ap, ◌∙◌, [], ◌∷◌, ◌++◌}
 use Rattle.bb_rup.specs.Propagation.{complement}
-use Rattle.bb_rup.specs.Trails.{mark_place}
+use Rattle.bb_rup.specs.Inside.Trails.{mark_place}
 use Rattle.bb_rup.proofs.Trails.{makes_one}
 use Rattle.bb_rup.proofs.Reached.{propagates_one}
 use Rattle.bb_rup.proofs.propagation.imply.Goals as goal

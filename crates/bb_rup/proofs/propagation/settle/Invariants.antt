@@ -1,4 +1,4 @@
-use Rattle.bb_rup.specs.Trails.{Propagates, unmarked}
+use Rattle.bb_rup.specs.Inside.Trails.{Propagates, unmarked}
 use Rattle.bb_rup.proofs.propagation.settle.Given as goal
 
 abbrev pub invariant-loop-trail : goal.invariant-loop-trail

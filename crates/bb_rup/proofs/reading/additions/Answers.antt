@@ -1,7 +1,7 @@
 use Rattle.std.proofs.Common.{true, ap, arith}
 use Rattle.std.proofs.lemmas.List.{length-map}
 use Rattle.bb_cnf.specs.Clauses.{lists_of}
-use Rattle.bb_rup.specs.Ahead.{words_at}
+use Rattle.bb_rup.specs.Inside.Ahead.{words_at}
 use Rattle.bb_rup.proofs.SizeLaws.{read_within, read_few}
 use Rattle.bb_rup.proofs.reading.additions.Goals as goal
 

@@ -1,6 +1,6 @@
 use Rattle.std.proofs.Common.{◌≡◌, Ok, subst, ap, ◌∙◌}
 use Rattle.bb_cnf.specs.Clauses.{lists_of}
-use Rattle.bb_rup.specs.Ahead.{words_at, words_with, literals_to_end}
+use Rattle.bb_rup.specs.Inside.Ahead.{words_at, words_with, literals_to_end}
 use Rattle.bb_rup.proofs.ClauseSteps.{lists-push}
 use Rattle.bb_rup.proofs.reading.clause.Goals as goal
 

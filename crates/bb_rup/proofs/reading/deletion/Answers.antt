@@ -1,6 +1,6 @@
 use Rattle.std.proofs.Common.{[], sym, ap, ◌∙◌}
 use Rattle.std.proofs.lemmas.Result.{IfOk-weaker}
-use Rattle.bb_rup.specs.Ahead.{words_with, literals_to_end}
+use Rattle.bb_rup.specs.Inside.Ahead.{words_with, literals_to_end}
 use Rattle.bb_rup.proofs.reading.deletion.Goals as goal
 
 pub returns-clause-ok : goal.returns-clause-ok

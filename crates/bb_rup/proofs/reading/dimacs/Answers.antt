@@ -1,6 +1,6 @@
 use Rattle.std.proofs.Common.{false, true≢false, sym, ap}
 use Rattle.bb_cnf.specs.Clauses.{lists_of}
-use Rattle.bb_rup.specs.Ahead.{words_at}
+use Rattle.bb_rup.specs.Inside.Ahead.{words_at}
 use Rattle.bb_rup.proofs.SizeLaws.{read_within}
 use Rattle.bb_rup.proofs.reading.dimacs.Goals as goal
 

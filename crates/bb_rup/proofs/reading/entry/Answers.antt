@@ -3,7 +3,7 @@ use Rattle.std.proofs.lemmas.Bool.{and_left, and_right}
 use Rattle.std.proofs.lemmas.Result.{IfOk-weaker, IfErr-weaker}
 use Rattle.bb_cnf.specs.Clauses.{lists_of}
 use Rattle.bb_rup.specs.Dimacs.{is_mark}
-use Rattle.bb_rup.specs.Ahead.{seen, words_at}
+use Rattle.bb_rup.specs.Inside.Ahead.{seen, words_at}
 use Rattle.bb_rup.proofs.ClauseSteps.{entry_left, entry_left_fault, entry_kept, entry_kept_fault}
 use Rattle.bb_rup.proofs.reading.entry.Goals.{After-clause, else-deletions-via-then-deletions+else-is_mark, else-deletions-via-else-deletions}
 use Rattle.bb_rup.proofs.reading.entry.Goals as goal

@@ -1,5 +1,5 @@
 use Rattle.std.proofs.Common.{◌≡◌, ◌≤◌, length}
-use Rattle.bb_rup.specs.Ahead.{words_with, IsCounted, literals_to_end}
+use Rattle.bb_rup.specs.Inside.Ahead.{words_with, IsCounted, literals_to_end}
 use Rattle.bb_rup.proofs.reading.literals.Given as goal
 
 abbrev pub invariant-words : goal.invariant-words

@@ -1,7 +1,7 @@
 use Rattle.std.proofs.Common.{◌≡◌, length}
 use Rattle.bb_cnf.specs.Clauses.{lists_of}
 use Rattle.bb_rup.specs.Dimacs.{clauses_of}
-use Rattle.bb_rup.specs.Ahead.{words_at, IsCounted, prepended}
+use Rattle.bb_rup.specs.Inside.Ahead.{words_at, IsCounted, prepended}
 use Rattle.bb_rup.proofs.reading.read_clauses.Given as goal
 
 abbrev pub invariant-loop-first : goal.invariant-loop-first

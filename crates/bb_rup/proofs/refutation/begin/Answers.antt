@@ -1,7 +1,7 @@
 use Rattle.std.proofs.Common.{[], ◌∙◌, subst}
 use Rattle.bb_cnf.specs.Clauses.{lists_of}
 use Rattle.bb_rup.specs.Propagation.{Follows}
-use Rattle.bb_rup.specs.Trails.{IsReached, marked_by}
+use Rattle.bb_rup.specs.Inside.Trails.{IsReached, marked_by}
 use Rattle.bb_rup.proofs.Reached.{reached_first, reached_false, none_behind}
 use Rattle.bb_rup.proofs.refutation.begin.Goals as goal
 

@@ -3,8 +3,8 @@ use Rattle.std.proofs.lemmas.List.{length-map, take_all}
 use Rattle.bb_cnf.specs.Clauses.{lists_of}
 use Rattle.bb_rup.specs.Propagation.{Follows, Stays}
 use Rattle.bb_rup.specs.Additions.{EachFollows, IsFirstWithout}
-use Rattle.bb_rup.specs.Trails.{marked_by, IsReached, HaveMarks}
-use Rattle.bb_rup.specs.Steps.{Comes}
+use Rattle.bb_rup.specs.Inside.Trails.{marked_by, IsReached, HaveMarks}
+use Rattle.bb_rup.specs.Inside.Steps.{Comes}
 use Rattle.bb_rup.proofs.Successes.{each_none}
 use Rattle.bb_rup.proofs.Steps.{first_yes, stays_no, ends_yes, each_next, last_yes, last_no, marks_before}
 use Rattle.bb_rup.proofs.refutation.run.Goals as goal

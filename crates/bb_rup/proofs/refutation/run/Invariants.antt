@@ -1,7 +1,7 @@
 use Rattle.std.proofs.Common.{◌≡◌, ◌++◌, [], take, length}
 use Rattle.bb_cnf.specs.Clauses.{lists_of}
 use Rattle.bb_rup.specs.Additions.{EachFollows}
-use Rattle.bb_rup.specs.Trails.{IsTrail, IsReached, marked_by}
+use Rattle.bb_rup.specs.Inside.Trails.{IsTrail, IsReached, marked_by}
 use Rattle.bb_rup.proofs.refutation.run.Given as goal
 
 abbrev pub invariant-loop-number : goal.invariant-loop-number

@@ -1,6 +1,6 @@
 use Rattle.std.proofs.Common.{◌<◌, ◌≤◌, length, arith, ap, sym, ◌∙◌, subst}
 use Rattle.bb_rup.specs.Propagation.{complement}
-use Rattle.bb_rup.specs.Trails.{mark_place, marked}
+use Rattle.bb_rup.specs.Inside.Trails.{mark_place, marked}
 use Rattle.bb_rup.proofs.Reached.{open_unit, complement_in_range}
 use Rattle.bb_rup.proofs.scan.event_of.Goals as goal
 use Rattle.bb_rup.proofs.scan.event_of.Goals.{else-not-is_false-via-then-not-is_false+else-place-marks, else-not-is_false-via-else-not-is_false}

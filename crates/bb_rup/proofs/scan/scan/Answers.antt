@@ -3,7 +3,7 @@ use Rattle.std.proofs.lemmas.List.{take_all}
 use Rattle.std.proofs.lemmas.List.Elements.{All-more}
 use Rattle.std.proofs.lemmas.Option.{slice_get-get_or}
 use Rattle.bb_rup.specs.Propagation.{IsOpen}
-use Rattle.bb_rup.specs.Trails.{marked}
+use Rattle.bb_rup.specs.Inside.Trails.{marked}
 use Rattle.bb_rup.proofs.scan.scan.Goals as goal
 
 pub loop-number-preserved : goal.loop-number-preserved

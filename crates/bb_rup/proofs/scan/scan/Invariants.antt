@@ -1,6 +1,6 @@
 use Rattle.std.proofs.Common.{All, take}
 use Rattle.bb_rup.specs.Propagation.{IsOpen}
-use Rattle.bb_rup.specs.Trails.{marked}
+use Rattle.bb_rup.specs.Inside.Trails.{marked}
 use Rattle.bb_rup.proofs.scan.scan.Given as goal
 
 abbrev pub invariant-loop-number : goal.invariant-loop-number

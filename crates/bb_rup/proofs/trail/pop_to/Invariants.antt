@@ -1,5 +1,5 @@
 use Rattle.std.proofs.Common.{◌≡◌, ◌≤◌, length, take}
-use Rattle.bb_rup.specs.Trails.{IsTrail}
+use Rattle.bb_rup.specs.Inside.Trails.{IsTrail}
 use Rattle.bb_rup.proofs.trail.pop_to.Given as goal
 
 abbrev pub invariant-loop-trail : goal.invariant-loop-trail

@@ -1,5 +1,5 @@
 use Rattle.std.proofs.Common.{◌≡◌, length}
-use Rattle.bb_rup.specs.Ahead.{is_newline, from_first}
+use Rattle.bb_rup.specs.Inside.Ahead.{is_newline, from_first}
 use Rattle.bb_rup.proofs.words.from_newline.Given as goal
 
 abbrev pub invariant-loop-b : goal.invariant-loop-b

@@ -1,6 +1,6 @@
 use Rattle.std.proofs.Common.{◌≡◌, length}
 use Rattle.std.specs.Char.{is_ascii_whitespace}
-use Rattle.bb_rup.specs.Ahead.{from_first}
+use Rattle.bb_rup.specs.Inside.Ahead.{from_first}
 use Rattle.bb_rup.proofs.words.from_white.Given as goal
 
 abbrev pub invariant-loop-b : goal.invariant-loop-b

@@ -1,5 +1,5 @@
 use Rattle.std.proofs.Common.{◌≡◌, ◌≤◌, length}
-use Rattle.bb_rup.specs.Ahead.{words_at, IsCounted}
+use Rattle.bb_rup.specs.Inside.Ahead.{words_at, IsCounted}
 use Rattle.bb_rup.proofs.words.skip.Given as goal
 
 -- the same words are ahead

@@ -4,13 +4,13 @@ use Rattle.bb_bits.specs.TruthSets.{HasMoreThan}
 use Rattle.bb_net.specs.Netlists.{Netlist}
 use Rattle.bb_net.specs.Values.{output_pins}
 use Rattle.bb_net.specs.Conditions.{HasAlwaysWrong}
-use Rattle.bb_uniq.specs.Meaning.{truth_of}
-use Rattle.bb_quant.specs.LeastPoints.{IsLeastPoint}
+use Rattle.bb_uniq.specs.Inside.Meaning.{truth_of}
+use Rattle.bb_quant.specs.Inside.LeastPoints.{IsLeastPoint}
 use Rattle.bb_sym.specs.Finds.{IsLeastVector}
-use Rattle.bb_dd.specs.State.{DiagramState}
+use Rattle.bb_dd.specs.Inside.State.{DiagramState}
 use Rattle.bb_sym.specs.declared.fault.RungFault.TheVariants.{Nodes}
 use Rattle.bb_sym.specs.Functions.{output_functions, all_always_wrong, inputs_and_pins}
-use Rattle.bb_sym.specs.Made.{AreTooMany, IsNowhereTrue}
+use Rattle.bb_sym.specs.Inside.Made.{AreTooMany, IsNowhereTrue}
 use Rattle.bb_sym.proofs.PlainCells.{few_variables}
 use Rattle.bb_sym.proofs.Budget.{all_refused, all_fit}
 use Rattle.bb_sym.proofs.LeastVectors.{cut_written}

@@ -1,9 +1,9 @@
 use Rattle.std.proofs.Common.{rules, IsErrOf, ◌&&◌, arith}
-use Rattle.bb_uniq.specs.Meaning.{truth_of}
+use Rattle.bb_uniq.specs.Inside.Meaning.{truth_of}
 use Rattle.bb_sym.specs.declared.fault.RungFault.TheVariants.{Nodes}
 use Rattle.bb_sym.specs.Functions.{inputs_first, plain_functions}
 use Rattle.bb_sym.specs.Plain.{block_functions}
-use Rattle.bb_sym.specs.Made.{AreTooMany}
+use Rattle.bb_sym.specs.Inside.Made.{AreTooMany}
 use Rattle.bb_sym.proofs.OutputParts.{wrong_tables, refused_plain, refused_wrong, refused_last, output_makes, output_stands}
 use Rattle.bb_sym.proofs.all_outputs.output_diagram.Goals as goal
 

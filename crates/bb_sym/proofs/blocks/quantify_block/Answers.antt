@@ -1,11 +1,11 @@
 use Rattle.std.proofs.Common.{rules, IsErrOf, subst, sym, ◌∙◌, ◌≡◌, ◌+◌, ◌-◌, ◌≤◌, ◌<◌, ℕ, Bool, false, List, length, get_or, arith}
 use Rattle.std.proofs.lemmas.List.{get_or_default}
 use Rattle.bb_bits.specs.Truth.{quantified}
-use Rattle.bb_dd.specs.Results.{quantifier}
-use Rattle.bb_uniq.specs.Meaning.{truth_of, IsTooMany}
+use Rattle.bb_dd.specs.Inside.Results.{quantifier}
+use Rattle.bb_uniq.specs.Inside.Meaning.{truth_of, IsTooMany}
 use Rattle.bb_sym.specs.declared.fault.RungFault.TheVariants.{Nodes}
-use Rattle.bb_sym.specs.Made.{StandsFor, Makes}
-use Rattle.bb_sym.specs.Dependence.{IsIndependent}
+use Rattle.bb_sym.specs.Inside.Made.{StandsFor, Makes}
+use Rattle.bb_sym.specs.Inside.Dependence.{IsIndependent}
 use Rattle.bb_sym.proofs.DependenceLemmas.{independent_later}
 use Rattle.bb_sym.proofs.BlockLemmas.{from_each, functions_from, stands_earlier, makes_earlier, refused_earlier, block_whole}
 use Rattle.bb_sym.proofs.blocks.quantify_block.Goals as goal

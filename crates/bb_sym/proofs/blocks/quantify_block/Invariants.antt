@@ -1,7 +1,7 @@
 use Rattle.std.proofs.Common.{◌≤◌}
-use Rattle.bb_dd.specs.Results.{quantifier}
-use Rattle.bb_uniq.specs.Meaning.{truth_of}
-use Rattle.bb_sym.specs.Made.{Makes, StandsFor}
+use Rattle.bb_dd.specs.Inside.Results.{quantifier}
+use Rattle.bb_uniq.specs.Inside.Meaning.{truth_of}
+use Rattle.bb_sym.specs.Inside.Made.{Makes, StandsFor}
 use Rattle.bb_sym.proofs.BlockLemmas.{from_each, functions_from}
 use Rattle.bb_sym.proofs.blocks.quantify_block.Given as goal
 

@@ -1,7 +1,7 @@
 use Rattle.std.proofs.Common.{◌≡◌, Bool, true, false, IfOk, refl, rules, sym, subst}
 use Rattle.bb_bits.specs.Truth.{quantified}
-use Rattle.bb_dd.specs.Results.{quantifier}
-use Rattle.bb_uniq.specs.Meaning.{truth_of, Adds}
+use Rattle.bb_dd.specs.Inside.Results.{quantifier}
+use Rattle.bb_uniq.specs.Inside.Meaning.{truth_of, Adds}
 use Rattle.bb_sym.proofs.DependenceLemmas.{independent_stays}
 use Rattle.bb_sym.proofs.blocks.quantify_one.Goals as goal
 

@@ -1,7 +1,7 @@
 use Rattle.std.proofs.Common.{sym, subst}
 use Rattle.bb_net.specs.declared.cell.Cell.{Cell}
-use Rattle.bb_uniq.specs.Meaning.{truth_of, Adds}
-use Rattle.bb_sym.specs.Made.{cell_table, ref_at}
+use Rattle.bb_uniq.specs.Inside.Meaning.{truth_of, Adds}
+use Rattle.bb_sym.specs.Inside.Made.{cell_table, ref_at}
 use Rattle.bb_sym.proofs.MadeLemmas.{Adds-leaf}
 use Rattle.bb_sym.proofs.cells.cell_diagram.Goals as goal
 

@@ -1,9 +1,9 @@
 use Rattle.std.proofs.Common.{rules, IsErrOf, subst, sym, ◌∙◌, ◌≡◌, ◌+◌, map, length, arith}
 use Rattle.std.specs.List.{range_with_len}
 use Rattle.bb_bits.specs.Truth.{variable}
-use Rattle.bb_uniq.specs.Meaning.{Adds, IsTooMany}
+use Rattle.bb_uniq.specs.Inside.Meaning.{Adds, IsTooMany}
 use Rattle.bb_sym.specs.declared.fault.RungFault.TheVariants.{Nodes}
-use Rattle.bb_sym.specs.Made.{Makes, StandForAll}
+use Rattle.bb_sym.specs.Inside.Made.{Makes, StandForAll}
 use Rattle.bb_sym.proofs.MadeLemmas.{Makes-more, keeps_then, refused_more, StandForAll-push, StandsFor-added}
 use Rattle.bb_sym.proofs.cells.make_variables.Goals as goal
 

@@ -1,7 +1,7 @@
 use Rattle.std.proofs.Common.{◌≡◌, map, length}
 use Rattle.std.specs.List.{range_with_len}
 use Rattle.bb_bits.specs.Truth.{variable}
-use Rattle.bb_sym.specs.Made.{Makes, StandForAll}
+use Rattle.bb_sym.specs.Inside.Made.{Makes, StandForAll}
 use Rattle.bb_sym.proofs.cells.make_variables.Given as goal
 
 abbrev pub invariant-loop-v : goal.invariant-loop-v

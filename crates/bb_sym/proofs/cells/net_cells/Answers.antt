@@ -3,9 +3,9 @@ use Rattle.bb_net.specs.declared.cell.Cell.{Cell}
 use Rattle.bb_net.specs.declared.cell.Cell.TheVariants.{Input, BoxOut}
 use Rattle.bb_net.specs.Netlists.{ReadsBefore, cell_at}
 use Rattle.bb_uniq.specs.declared.store.Ref.{Ref}
-use Rattle.bb_uniq.specs.Meaning.{truth_of, Adds, IsTooMany}
+use Rattle.bb_uniq.specs.Inside.Meaning.{truth_of, Adds, IsTooMany}
 use Rattle.bb_sym.specs.declared.fault.RungFault.TheVariants.{Nodes}
-use Rattle.bb_sym.specs.Made.{AreRefs, cell_table, ref_at}
+use Rattle.bb_sym.specs.Inside.Made.{AreRefs, cell_table, ref_at}
 use Rattle.bb_sym.proofs.CellTables.{input_variable, pin_variable, reads_more}
 use Rattle.bb_sym.proofs.MadeLemmas.{AreRefs-push, keeps_then}
 use Rattle.bb_sym.proofs.NetLoop.{CellsMade, next_table, next_refused, next_made, whole_makes}

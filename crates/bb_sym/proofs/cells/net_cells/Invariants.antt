@@ -1,7 +1,7 @@
 use Rattle.std.proofs.Common.{◌≡◌, length}
-use Rattle.bb_uniq.specs.Meaning.{Keeps}
+use Rattle.bb_uniq.specs.Inside.Meaning.{Keeps}
 use Rattle.bb_sym.specs.Plain.{Reading, IsReadSo}
-use Rattle.bb_sym.specs.Made.{AreRefs}
+use Rattle.bb_sym.specs.Inside.Made.{AreRefs}
 use Rattle.bb_sym.proofs.NetLoop.{CellsMade}
 use Rattle.bb_sym.proofs.cells.net_cells.Given as goal
 

@@ -3,7 +3,7 @@ use Rattle.bb_bits.specs.Truth.{variable}
 use Rattle.bb_net.specs.Netlists.{Netlist}
 use Rattle.bb_sym.specs.declared.fault.RungFault.TheVariants.{Nodes}
 use Rattle.bb_sym.specs.Plain.{AreVariables, table, tables, variables, places, cell_bit, without_pins}
-use Rattle.bb_sym.specs.Made.{Makes, AreTooMany, StandForAll}
+use Rattle.bb_sym.specs.Inside.Made.{Makes, AreTooMany, StandForAll}
 use Rattle.bb_sym.proofs.MadeLemmas.{StandForAll-kept, AreRefs-kept}
 use Rattle.bb_sym.proofs.PlainCells.{spec_variables, spec_read, read_net, refused_variables, refused_spec, refused_imp, plain_made, plain_stand}
 use Rattle.bb_sym.proofs.cells.plain_cells.Goals as goal

@@ -3,10 +3,10 @@ use Rattle.std.specs.List.{range_with_len}
 use Rattle.bb_bits.specs.Bits.{xor}
 use Rattle.bb_bits.specs.Truth.{joined}
 use Rattle.bb_uniq.specs.declared.store.Ref.{Ref}
-use Rattle.bb_uniq.specs.Meaning.{truth_of, IsTooMany}
+use Rattle.bb_uniq.specs.Inside.Meaning.{truth_of, IsTooMany}
 use Rattle.bb_sym.specs.declared.fault.RungFault.TheVariants.{Nodes}
 use Rattle.bb_sym.specs.Plain.{differ, table}
-use Rattle.bb_sym.specs.Made.{Makes, AreRefs, ref_at}
+use Rattle.bb_sym.specs.Inside.Made.{Makes, AreRefs, ref_at}
 use Rattle.bb_sym.proofs.MadeLemmas.{AreRefs-push, Makes-none, keeps_self, keeps_then}
 use Rattle.bb_sym.proofs.DifferenceLoop.{AreDifferent, different_refused, different_made, different_tables}
 use Rattle.bb_sym.proofs.differences.differences.Goals as goal

@@ -1,7 +1,7 @@
 use Rattle.std.proofs.Common.{◌≡◌, ℕ, length}
-use Rattle.bb_uniq.specs.Meaning.{Keeps}
+use Rattle.bb_uniq.specs.Inside.Meaning.{Keeps}
 use Rattle.bb_sym.specs.Plain.{Function, table}
-use Rattle.bb_sym.specs.Made.{AreRefs, StandForAll}
+use Rattle.bb_sym.specs.Inside.Made.{AreRefs, StandForAll}
 use Rattle.bb_sym.proofs.DifferenceLoop.{AreDifferent}
 use Rattle.bb_sym.proofs.differences.differences.Given as goal
 

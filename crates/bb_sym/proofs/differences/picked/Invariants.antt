@@ -1,5 +1,5 @@
 use Rattle.std.proofs.Common.{◌≡◌, map, take}
-use Rattle.bb_sym.specs.Made.{ref_at}
+use Rattle.bb_sym.specs.Inside.Made.{ref_at}
 use Rattle.bb_sym.proofs.differences.picked.Given as goal
 
 abbrev pub invariant-loop-place : goal.invariant-loop-place

@@ -2,10 +2,10 @@ use Rattle.std.proofs.Common.{rules, IsErrOf, ℕ, subst, sym, ap, ap₂, ◌∙
 use Rattle.std.specs.List.{range_with_len}
 use Rattle.bb_bits.specs.Truth.{Truth}
 use Rattle.bb_uniq.specs.declared.store.Ref.{Ref}
-use Rattle.bb_uniq.specs.Nodes.{NodeStore}
+use Rattle.bb_uniq.specs.Inside.Nodes.{NodeStore}
 use Rattle.bb_sym.specs.declared.fault.RungFault.TheVariants.{Nodes}
 use Rattle.bb_sym.specs.Plain.{Function, differ, table, tables, one_of, first_of}
-use Rattle.bb_sym.specs.Made.{AreTooMany, StandsFor, StandForAll}
+use Rattle.bb_sym.specs.Inside.Made.{AreTooMany, StandsFor, StandForAll}
 use Rattle.bb_sym.proofs.MadeLemmas.{too_many_within, within_append_left}
 use Rattle.bb_sym.proofs.PairLemmas.{lists_refused, lists_made}
 use Rattle.bb_sym.proofs.differences.some_differ.Goals as goal

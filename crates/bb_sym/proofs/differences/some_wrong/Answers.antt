@@ -4,7 +4,7 @@ use Rattle.bb_bits.specs.Truth.{Truth}
 use Rattle.bb_net.specs.Netlists.{Netlist}
 use Rattle.bb_sym.specs.declared.fault.RungFault.TheVariants.{Nodes}
 use Rattle.bb_sym.specs.Plain.{Function, cell_bit, without_pins, is_wrong_at, one_of, first_of, table, tables}
-use Rattle.bb_sym.specs.Made.{Makes, AreTooMany, StandsFor}
+use Rattle.bb_sym.specs.Inside.Made.{Makes, AreTooMany, StandsFor}
 use Rattle.bb_sym.proofs.PickedRefs.{picks_are, wanted_refs, given_refs, wanted_count, given_count, wanted_stand, given_stand}
 use Rattle.bb_sym.proofs.differences.some_wrong.Goals as goal
 

@@ -2,7 +2,7 @@ use Rattle.std.proofs.Common.{◌≡◌, subst, ap, ◌∙◌, IfOk}
 use Rattle.bb_bits.specs.Bits.{xor}
 use Rattle.bb_bits.specs.Truth.{Truth, joined}
 use Rattle.bb_net.specs.Netlists.{Netlist}
-use Rattle.bb_uniq.specs.Meaning.{truth_of, Adds, IsTooMany}
+use Rattle.bb_uniq.specs.Inside.Meaning.{truth_of, Adds, IsTooMany}
 use Rattle.bb_sym.specs.Functions.{inputs_first, is_wrong}
 use Rattle.bb_sym.specs.Plain.{table}
 use Rattle.bb_sym.proofs.WrongTables.{wrong_table}

@@ -1,9 +1,9 @@
 use Rattle.std.proofs.Common.{rules, IsErrOf, ◌&&◌, arith}
-use Rattle.bb_uniq.specs.Meaning.{truth_of, IsTooMany}
+use Rattle.bb_uniq.specs.Inside.Meaning.{truth_of, IsTooMany}
 use Rattle.bb_sym.specs.declared.fault.RungFault.TheVariants.{Nodes}
 use Rattle.bb_sym.specs.Functions.{is_wrong}
 use Rattle.bb_sym.specs.Plain.{block_functions, table}
-use Rattle.bb_sym.specs.Made.{AreTooMany}
+use Rattle.bb_sym.specs.Inside.Made.{AreTooMany}
 use Rattle.bb_sym.proofs.AlwaysWrong.{wrong_refused, pins_refused, wrong_makes, wrong_stands}
 use Rattle.bb_sym.proofs.each_output.always_wrong_output.Goals as goal
 

@@ -1,7 +1,7 @@
 use Rattle.std.proofs.Common.{◌≡◌, flat_map, length}
 use Rattle.std.specs.List.{range_with_len}
 use Rattle.bb_sym.specs.Functions.{always_wrong, wrong_for_all_pins}
-use Rattle.bb_sym.specs.Made.{Makes, StandForAll}
+use Rattle.bb_sym.specs.Inside.Made.{Makes, StandForAll}
 use Rattle.bb_sym.proofs.each_output.always_wrong_outputs.Given as goal
 
 abbrev pub invariant-loop-j : goal.invariant-loop-j

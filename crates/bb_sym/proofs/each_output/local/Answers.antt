@@ -3,10 +3,10 @@ use Rattle.bb_bits.specs.Truth.{IsBeadOfAny}
 use Rattle.bb_bits.specs.TruthSets.{HasMoreThan}
 use Rattle.bb_net.specs.Netlists.{Netlist}
 use Rattle.bb_net.specs.Values.{output_pins}
-use Rattle.bb_dd.specs.State.{DiagramState}
+use Rattle.bb_dd.specs.Inside.State.{DiagramState}
 use Rattle.bb_sym.specs.declared.fault.RungFault.TheVariants.{Nodes}
 use Rattle.bb_sym.specs.Functions.{local_functions, always_wrong, inputs_and_pins}
-use Rattle.bb_sym.specs.Made.{AreTooMany, StandForAll}
+use Rattle.bb_sym.specs.Inside.Made.{AreTooMany, StandForAll}
 use Rattle.bb_sym.proofs.PlainCells.{few_variables}
 use Rattle.bb_sym.proofs.Budget.{all_refused, all_fit}
 use Rattle.bb_sym.proofs.LeastVectors.{cut_written}

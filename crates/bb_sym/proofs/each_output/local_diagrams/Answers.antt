@@ -2,7 +2,7 @@ use Rattle.std.proofs.Common.{rules, IsErrOf, ◌++◌, flat_map}
 use Rattle.bb_sym.specs.declared.fault.RungFault.TheVariants.{Nodes}
 use Rattle.bb_sym.specs.Functions.{plain_functions, wrong_for_all_pins}
 use Rattle.bb_sym.specs.Plain.{outputs}
-use Rattle.bb_sym.specs.Made.{AreTooMany}
+use Rattle.bb_sym.specs.Inside.Made.{AreTooMany}
 use Rattle.bb_sym.proofs.MadeLemmas.{Makes-then, too_many_within, too_many_then, within_append_left}
 use Rattle.bb_sym.proofs.each_output.local_diagrams.Goals as goal
 

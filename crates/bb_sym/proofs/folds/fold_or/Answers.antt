@@ -1,10 +1,10 @@
 use Rattle.std.proofs.Common.{rules, IsErrOf, ◌≡◌, ◌||◌, subst, map, length, arith}
 use Rattle.std.specs.List.{range_with_len}
 use Rattle.bb_bits.specs.Truth.{joined}
-use Rattle.bb_uniq.specs.Meaning.{truth_of, IsTooMany}
+use Rattle.bb_uniq.specs.Inside.Meaning.{truth_of, IsTooMany}
 use Rattle.bb_sym.specs.declared.fault.RungFault.TheVariants.{Nodes}
 use Rattle.bb_sym.specs.Plain.{table, one_of, first_of}
-use Rattle.bb_sym.specs.Made.{Makes, StandsFor, ref_at}
+use Rattle.bb_sym.specs.Inside.Made.{Makes, StandsFor, ref_at}
 use Rattle.bb_sym.proofs.MadeLemmas.{keeps_self, keeps_then}
 use Rattle.bb_sym.proofs.FoldLoop.{none_yet, fold_refused, fold_made, fold_tables}
 use Rattle.bb_sym.proofs.folds.fold_or.Goals as goal

@@ -1,8 +1,8 @@
 use Rattle.std.proofs.Common.{ℕ}
-use Rattle.bb_uniq.specs.Nodes.{IsRef}
-use Rattle.bb_uniq.specs.Meaning.{Keeps}
+use Rattle.bb_uniq.specs.Inside.Nodes.{IsRef}
+use Rattle.bb_uniq.specs.Inside.Meaning.{Keeps}
 use Rattle.bb_sym.specs.Plain.{Function, table}
-use Rattle.bb_sym.specs.Made.{StandForAll}
+use Rattle.bb_sym.specs.Inside.Made.{StandForAll}
 use Rattle.bb_sym.proofs.FoldLoop.{IsFold}
 use Rattle.bb_sym.proofs.folds.fold_or.Given as goal
 

@@ -5,7 +5,7 @@ use Rattle.bb_net.specs.Values.{output_pins}
 use Rattle.bb_sym.specs.declared.fault.RungFault.TheVariants.{Nodes}
 use Rattle.bb_sym.specs.Functions.{inputs_first, inputs_and_pins}
 use Rattle.bb_sym.specs.Plain.{plain_functions_at}
-use Rattle.bb_sym.specs.Made.{Makes, AreTooMany}
+use Rattle.bb_sym.specs.Inside.Made.{Makes, AreTooMany}
 use Rattle.bb_sym.proofs.PlainCells.{few_variables}
 use Rattle.bb_sym.proofs.InputsFirst.{order_variables, order_read}
 use Rattle.bb_sym.proofs.inputs_first.ordered_cells.Goals as goal

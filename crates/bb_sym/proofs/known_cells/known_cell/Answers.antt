@@ -2,9 +2,9 @@ use Rattle.std.proofs.Common.{not, [], ◌∷◌, ◌++◌, refl, sym, ap, ap₂
 use Rattle.bb_bits.specs.Truth.{Truth, constant}
 use Rattle.bb_net.specs.declared.cell.Cell.{Cell}
 use Rattle.bb_uniq.specs.declared.store.Ref.{Ref}
-use Rattle.bb_uniq.specs.Meaning.{truth_of}
+use Rattle.bb_uniq.specs.Inside.Meaning.{truth_of}
 use Rattle.bb_sym.specs.Functions.{both, either, sum_tables, choice_tables, cell_tables}
-use Rattle.bb_sym.specs.Made.{Makes, AreTooMany, ref_at}
+use Rattle.bb_sym.specs.Inside.Made.{Makes, AreTooMany, ref_at}
 use Rattle.bb_sym.proofs.MadeLemmas.{Adds-leaf}
 use Rattle.bb_sym.proofs.PairLemmas.{two_made, same_four}
 use Rattle.bb_sym.proofs.known_cells.known_cell.Goals as goal

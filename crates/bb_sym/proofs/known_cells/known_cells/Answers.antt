@@ -5,7 +5,7 @@ use Rattle.bb_net.specs.Netlists.{cell_at}
 use Rattle.bb_uniq.specs.declared.store.Ref.{Ref}
 use Rattle.bb_sym.specs.declared.fault.RungFault.TheVariants.{Nodes}
 use Rattle.bb_sym.specs.Functions.{high, low, known_tables, cell_tables}
-use Rattle.bb_sym.specs.Made.{Makes, AreTooMany, StandsFor, StandForAll, known_one_table, known_zero_table}
+use Rattle.bb_sym.specs.Inside.Made.{Makes, AreTooMany, StandsFor, StandForAll, known_one_table, known_zero_table}
 use Rattle.bb_sym.proofs.KnownLoop.{at_place, known_parts, known_refused, known_made, ones_next, zeros_next}
 use Rattle.bb_sym.proofs.known_cells.known_cells.Goals as goal
 

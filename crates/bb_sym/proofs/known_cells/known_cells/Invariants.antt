@@ -1,7 +1,7 @@
 use Rattle.std.proofs.Common.{◌≡◌, flat_map, length}
 use Rattle.std.specs.List.{range_with_len}
 use Rattle.bb_sym.specs.Functions.{high, low, known_tables}
-use Rattle.bb_sym.specs.Made.{Makes, StandForAll}
+use Rattle.bb_sym.specs.Inside.Made.{Makes, StandForAll}
 use Rattle.bb_sym.proofs.known_cells.known_cells.Given as goal
 
 abbrev pub invariant-loop-cell : goal.invariant-loop-cell

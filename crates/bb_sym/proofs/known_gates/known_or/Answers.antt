@@ -1,6 +1,6 @@
 use Rattle.std.proofs.Common.{rules, IsErrOf, ap₂, ◌||◌, [], ◌∷◌}
 use Rattle.bb_bits.specs.Truth.{Truth, joined}
-use Rattle.bb_uniq.specs.Meaning.{truth_of, IsTooMany}
+use Rattle.bb_uniq.specs.Inside.Meaning.{truth_of, IsTooMany}
 use Rattle.bb_sym.specs.declared.fault.RungFault.TheVariants.{Nodes}
 use Rattle.bb_sym.specs.Functions.{both, either}
 use Rattle.bb_sym.proofs.OutputLoop.{first_refused}

@@ -1,9 +1,9 @@
 use Rattle.std.proofs.Common.{rules, IsErrOf, ◌≡◌, ◌++◌, List}
 use Rattle.bb_bits.specs.Truth.{Truth}
-use Rattle.bb_uniq.specs.Meaning.{truth_of}
+use Rattle.bb_uniq.specs.Inside.Meaning.{truth_of}
 use Rattle.bb_sym.specs.declared.fault.RungFault.TheVariants.{Nodes}
 use Rattle.bb_sym.specs.Functions.{sum_table, sum_tables}
-use Rattle.bb_sym.specs.Made.{AreTooMany}
+use Rattle.bb_sym.specs.Inside.Made.{AreTooMany}
 use Rattle.bb_sym.proofs.MadeLemmas.{StandsFor-kept, too_many_within, within_append_left}
 use Rattle.bb_sym.proofs.PairLemmas.{lists_refused, lists_made, same_four, stands_same}
 use Rattle.bb_sym.proofs.known_gates.known_xor.Goals as goal

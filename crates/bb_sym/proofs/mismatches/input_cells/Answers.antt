@@ -3,7 +3,7 @@ use Rattle.bb_net.specs.Netlists.{Netlist}
 use Rattle.bb_sym.specs.declared.fault.RungFault.TheVariants.{Nodes}
 use Rattle.bb_sym.specs.Functions.{known_tables, high, low}
 use Rattle.bb_sym.specs.Plain.{AreVariables, cell_bit, table, tables, variables, places}
-use Rattle.bb_sym.specs.Made.{Makes, AreTooMany, StandForAll}
+use Rattle.bb_sym.specs.Inside.Made.{Makes, AreTooMany, StandForAll}
 use Rattle.bb_sym.proofs.PlainCells.{few_variables, read_net}
 use Rattle.bb_sym.proofs.InputCells.{inputs_only, inputs_read, refused_first, spec_fits, refused_bits, mid_vars, refused_known, input_cells_made, input_cells_stand}
 use Rattle.bb_sym.proofs.mismatches.input_cells.Goals as goal

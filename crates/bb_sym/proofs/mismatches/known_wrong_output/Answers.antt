@@ -1,9 +1,9 @@
 use Rattle.std.proofs.Common.{◌≡◌, List, slice_index, ap, subst, ◌∙◌, IfOk, OnOk}
 use Rattle.bb_bits.specs.Truth.{Truth}
 use Rattle.bb_net.specs.Netlists.{Netlist}
-use Rattle.bb_uniq.specs.Meaning.{truth_of}
+use Rattle.bb_uniq.specs.Inside.Meaning.{truth_of}
 use Rattle.bb_sym.specs.Functions.{wanted, high, low}
-use Rattle.bb_sym.specs.Made.{Makes, AreTooMany, StandsFor}
+use Rattle.bb_sym.specs.Inside.Made.{Makes, AreTooMany, StandsFor}
 use Rattle.bb_sym.proofs.MismatchTables.{wanted_is, one_is, zero_is, mismatch_is, mismatches_are}
 use Rattle.bb_sym.proofs.mismatches.known_wrong_output.Goals as goal
 

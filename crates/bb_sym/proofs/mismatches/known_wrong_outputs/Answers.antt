@@ -3,7 +3,7 @@ use Rattle.std.specs.List.{range_with_len}
 use Rattle.bb_net.specs.Netlists.{Netlist}
 use Rattle.bb_sym.specs.declared.fault.RungFault.TheVariants.{Nodes}
 use Rattle.bb_sym.specs.Functions.{mismatch, mismatches}
-use Rattle.bb_sym.specs.Made.{Makes, AreTooMany, StandForAll}
+use Rattle.bb_sym.specs.Inside.Made.{Makes, AreTooMany, StandForAll}
 use Rattle.bb_sym.proofs.MadeLemmas.{StandForAll-push}
 use Rattle.bb_sym.proofs.MismatchTables.{HaveKnown-kept}
 use Rattle.bb_sym.proofs.OutputLoop.{flat_makes, flat_refused}

@@ -1,9 +1,9 @@
 use Rattle.std.proofs.Common.{rules, IsErrOf}
 use Rattle.bb_bits.specs.Truth.{complement}
-use Rattle.bb_uniq.specs.Meaning.{truth_of, IsTooMany}
+use Rattle.bb_uniq.specs.Inside.Meaning.{truth_of, IsTooMany}
 use Rattle.bb_sym.specs.declared.fault.RungFault.TheVariants.{Nodes}
 use Rattle.bb_sym.specs.Functions.{sum_tables}
-use Rattle.bb_sym.specs.Made.{AreTooMany}
+use Rattle.bb_sym.specs.Inside.Made.{AreTooMany}
 use Rattle.bb_sym.proofs.OutputLoop.{first_refused}
 use Rattle.bb_sym.proofs.MismatchTables.{known_sum_refused, known_sum_makes, known_sum_stands}
 use Rattle.bb_sym.proofs.mismatches.wrong_where_known.Goals as goal

@@ -1,6 +1,6 @@
 use Rattle.std.proofs.Common.{◌≡◌, ◌<◌, ℕ}
-use Rattle.bb_uniq.specs.Meaning.{truth_of}
-use Rattle.bb_sym.specs.Made.{ref_at, IsNowhereTrue}
+use Rattle.bb_uniq.specs.Inside.Meaning.{truth_of}
+use Rattle.bb_sym.specs.Inside.Made.{ref_at, IsNowhereTrue}
 use Rattle.bb_sym.proofs.searching.first_true.Given as goal
 
 abbrev pub invariant-loop-j : goal.invariant-loop-j

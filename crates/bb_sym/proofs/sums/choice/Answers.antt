@@ -1,8 +1,8 @@
 use Rattle.std.proofs.Common.{rules, IsErrOf}
-use Rattle.bb_uniq.specs.Meaning.{truth_of, IsTooMany}
+use Rattle.bb_uniq.specs.Inside.Meaning.{truth_of, IsTooMany}
 use Rattle.bb_sym.specs.declared.fault.RungFault.TheVariants.{Nodes}
 use Rattle.bb_sym.specs.Functions.{both, either, sum_tables}
-use Rattle.bb_sym.specs.Made.{AreTooMany}
+use Rattle.bb_sym.specs.Inside.Made.{AreTooMany}
 use Rattle.bb_sym.proofs.SumLemmas.{choice_refused_first, choice_refused_second, choice_refused_last, choice_makes, choice_stands}
 use Rattle.bb_sym.proofs.sums.choice.Goals as goal
 

@@ -1,5 +1,5 @@
 use Rattle.std.proofs.Common.{rules, IsErrOf}
-use Rattle.bb_uniq.specs.Meaning.{truth_of, IsTooMany}
+use Rattle.bb_uniq.specs.Inside.Meaning.{truth_of, IsTooMany}
 use Rattle.bb_sym.specs.declared.fault.RungFault.TheVariants.{Nodes}
 use Rattle.bb_sym.specs.Functions.{both, either}
 use Rattle.bb_sym.proofs.SumLemmas.{sum_refused_first, sum_refused_second, sum_refused_last, sum_makes, sum_stands}

@@ -2,7 +2,7 @@ use Rattle.std.proofs.Common.{rules, IsErrOf, subst, ◌++◌, flat_map}
 use Rattle.bb_sym.specs.declared.fault.RungFault.TheVariants.{Nodes}
 use Rattle.bb_sym.specs.Functions.{mismatches}
 use Rattle.bb_sym.specs.Plain.{outputs}
-use Rattle.bb_sym.specs.Made.{Makes, AreTooMany}
+use Rattle.bb_sym.specs.Inside.Made.{Makes, AreTooMany}
 use Rattle.bb_sym.proofs.MadeLemmas.{Makes-then, too_many_within, too_many_then, within_append_left}
 use Rattle.bb_sym.proofs.InputCells.{input_functions, symbolic_are}
 use Rattle.bb_sym.proofs.unknown.symbolic_diagrams.Goals as goal

@@ -1,4 +1,4 @@
-use Rattle.bb_uniq.specs.Meaning.{truth_of}
+use Rattle.bb_uniq.specs.Inside.Meaning.{truth_of}
 use Rattle.bb_sym.proofs.DependenceLemmas.{node_depends, seen_more, seen_one, still_seen}
 use Rattle.bb_sym.proofs.variables.+mark.Goals as goal
 

@@ -1,5 +1,5 @@
 use Rattle.std.proofs.Common.{◌-◌}
-use Rattle.bb_uniq.specs.Cofactors.{top_of}
+use Rattle.bb_uniq.specs.Inside.Cofactors.{top_of}
 use Rattle.bb_sym.proofs.variables.+mark.Given as goal
 
 abbrev pub decreases-mark : goal.decreases-mark

@@ -1,6 +1,6 @@
 use Rattle.std.proofs.Common.{sym, subst}
 use Rattle.bb_net.specs.declared.cell.Cell.{Cell}
-use Rattle.bb_tern.specs.Lanes.{GivesKnown}
+use Rattle.bb_tern.specs.Inside.Lanes.{GivesKnown}
 use Rattle.bb_tern.proofs.lanes.cell_known.Goals as goal
 
 pub returns-in-Not : goal.returns-in-Not

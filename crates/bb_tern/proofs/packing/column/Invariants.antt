@@ -1,6 +1,6 @@
 use Rattle.std.proofs.Common.{◌≡◌, ◌<◌, ◌≤◌, ℕ, false, map, vec_items}
 use Rattle.bb_net.specs.Values.{bit_of}
-use Rattle.bb_tern.specs.Lanes.{lane, pattern_at}
+use Rattle.bb_tern.specs.Inside.Lanes.{lane, pattern_at}
 use Rattle.bb_tern.proofs.packing.column.Given as goal
 
 -- the lanes of the patterns that were read, and none behind them

@@ -1,6 +1,6 @@
 use Rattle.std.proofs.Common.{◌≡◌, ◌∙◌, length, map, vec_items, sym, ap, inl, inr, false, arith}
 use Rattle.std.proofs.lemmas.Bool.{cases_lt}
-use Rattle.bb_tern.specs.Lanes.{lane, pattern_at}
+use Rattle.bb_tern.specs.Inside.Lanes.{lane, pattern_at}
 use Rattle.bb_tern.proofs.LaneLemmas.{lane_zero}
 use Rattle.bb_tern.proofs.PackLemmas.{get_or-behind, pattern_long}
 use Rattle.bb_tern.proofs.packing.pack.Goals as goal

@@ -1,6 +1,6 @@
 use Rattle.std.proofs.Common.{◌≡◌, ◌<◌, ℕ, length, map, vec_items}
 use Rattle.bb_net.specs.Values.{bit_of}
-use Rattle.bb_tern.specs.Lanes.{lane, word_at, pattern_at}
+use Rattle.bb_tern.specs.Inside.Lanes.{lane, word_at, pattern_at}
 use Rattle.bb_tern.proofs.packing.pack.Given as goal
 
 abbrev pub invariant-loop-i : goal.invariant-loop-i

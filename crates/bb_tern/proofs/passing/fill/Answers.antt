@@ -4,7 +4,7 @@ use Rattle.bb_net.specs.declared.cell.Cell.{Cell}
 use Rattle.bb_net.specs.Netlists.{Netlist}
 use Rattle.bb_net.specs.Values.{free_bit, flat, bit_of}
 use Rattle.bb_net.specs.Ternary.{tern_of, tern}
-use Rattle.bb_tern.specs.Lanes.{AreWords, AreKnowns, pattern_at}
+use Rattle.bb_tern.specs.Inside.Lanes.{AreWords, AreKnowns, pattern_at}
 use Rattle.bb_tern.proofs.Hits.{bits_of_cells}
 use Rattle.bb_tern.proofs.passing.fill.Goals as goal
 

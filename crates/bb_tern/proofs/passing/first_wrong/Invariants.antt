@@ -1,5 +1,5 @@
 use Rattle.std.proofs.Common.{◌≡◌, ◌<◌, ℕ, Bool, false, Option, length}
-use Rattle.bb_tern.specs.Lanes.{HasBits, HasValues, wrong_at}
+use Rattle.bb_tern.specs.Inside.Lanes.{HasBits, HasValues, wrong_at}
 use Rattle.bb_tern.proofs.passing.first_wrong.Given as goal
 
 abbrev pub invariant-loop-j : goal.invariant-loop-j

@@ -2,7 +2,7 @@ use Rattle.std.proofs.Common.{◌≡◌, ℕ, List, length, map, vec_items, Some
 use Rattle.std.specs.Int.Count.{count_trailing_zeros}
 use Rattle.std.proofs.lemmas.List.{length-map}
 use Rattle.bb_net.specs.Netlists.{Netlist}
-use Rattle.bb_tern.specs.Lanes.{TellsAll, FindsFirst}
+use Rattle.bb_tern.specs.Inside.Lanes.{TellsAll, FindsFirst}
 use Rattle.bb_tern.proofs.Hits.{none_below, one_is_found, hit_there}
 use Rattle.bb_tern.proofs.passing.pass.Goals as goal
 

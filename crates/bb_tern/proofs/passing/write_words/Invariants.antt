@@ -1,4 +1,4 @@
-use Rattle.bb_tern.specs.Lanes.{AreWords}
+use Rattle.bb_tern.specs.Inside.Lanes.{AreWords}
 use Rattle.bb_tern.proofs.passing.write_words.Given as goal
 
 abbrev pub invariant-loop-place : goal.invariant-loop-place

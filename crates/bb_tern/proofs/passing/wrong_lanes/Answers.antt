@@ -1,5 +1,5 @@
 use Rattle.std.proofs.Common.{◌≡◌, length, slice_index, subst, arith}
-use Rattle.bb_tern.specs.Lanes.{TellsWrong}
+use Rattle.bb_tern.specs.Inside.Lanes.{TellsWrong}
 use Rattle.bb_tern.proofs.Passes.{tells_more}
 use Rattle.bb_tern.proofs.passing.wrong_lanes.Goals as goal
 

@@ -1,5 +1,5 @@
 use Rattle.std.proofs.Common.{◌<◌, ℕ, Bool, Option, length}
-use Rattle.bb_tern.specs.Lanes.{HasBits, HasValues, TellsWrong}
+use Rattle.bb_tern.specs.Inside.Lanes.{HasBits, HasValues, TellsWrong}
 use Rattle.bb_tern.proofs.passing.wrong_lanes.Given as goal
 
 abbrev pub invariant-loop-j : goal.invariant-loop-j

@@ -1,5 +1,5 @@
 use Rattle.std.proofs.Common.{◌≤◌, ◌-◌, length, map, vec_items}
-use Rattle.bb_tern.specs.Lanes.{HasRoom}
+use Rattle.bb_tern.specs.Inside.Lanes.{HasRoom}
 use Rattle.bb_tern.proofs.FirstHits.{NoneBelow}
 use Rattle.bb_tern.proofs.simulation.first_hit.Given as goal
 

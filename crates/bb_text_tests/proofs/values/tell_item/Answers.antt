@@ -1,6 +1,6 @@
 use Rattle.std.proofs.Common.{sym, subst, ap}
 use Rattle.std.specs.Prelude.{Contains}
-use Rattle.bb_ast.specs.Views.{body_view, item_view}
+use Rattle.bb_ast.specs.Inside.Views.{body_view, item_view}
 use Rattle.bb_text_tests.proofs.Stands.{right_stands}
 use Rattle.bb_text_tests.proofs.values.tell_item.Goals as goal
 

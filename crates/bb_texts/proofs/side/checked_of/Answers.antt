@@ -1,5 +1,5 @@
 use Rattle.std.proofs.Common.{arith}
-use Rattle.bb_ast.specs.Views.{source_view}
+use Rattle.bb_ast.specs.Inside.Views.{source_view}
 use Rattle.bb_texts.proofs.side.checked_of.Goals as goal
 
 pub check-requires : goal.check-requires

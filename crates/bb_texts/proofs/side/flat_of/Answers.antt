@@ -2,7 +2,7 @@ use Rattle.std.proofs.Common.{◌≡◌, ◌⊎◌, ℕ, List, Option, IfErr, op
 use Rattle.std.proofs.lemmas.Result.{IfErr-weaker}
 use Rattle.bb_texts.specs.declared.side_fault.SideFault.{SideFault}
 use Rattle.bb_texts.specs.declared.side_fault.SideFault.TheVariants.{NoMemory}
-use Rattle.bb_texts.specs.SideFaults.{of_elab}
+use Rattle.bb_texts.specs.Inside.SideFaults.{of_elab}
 use Rattle.bb_texts.specs.TextDesigns.{IsSideFault}
 use Rattle.bb_texts.proofs.TextDesignLaws.{design_fault, design_stands, fails_by_memory, fails_by_fault}
 use Rattle.bb_texts.proofs.side.flat_of.Goals as goal

@@ -1,5 +1,5 @@
 use Rattle.std.proofs.Common.{◌≡◌, ap, ◌∙◌, length, refl}
-use Rattle.bb_uniq.specs.Probes.{place_after, at_place}
+use Rattle.bb_uniq.specs.Inside.Probes.{place_after, at_place}
 use Rattle.bb_uniq.proofs.ProbeLemmas.{absent_at_free, absent_past_all}
 use Rattle.bb_uniq.proofs.places.find.Goals as goal
 

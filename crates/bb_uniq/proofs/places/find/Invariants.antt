@@ -1,5 +1,5 @@
 use Rattle.std.proofs.Common.{◌<◌, ℕ, length}
-use Rattle.bb_uniq.specs.Probes.{place_after}
+use Rattle.bb_uniq.specs.Inside.Probes.{place_after}
 use Rattle.bb_uniq.proofs.ProbeLemmas.{IsOther}
 use Rattle.bb_uniq.proofs.places.find.Given as goal
 

@@ -1,7 +1,7 @@
 use Rattle.std.proofs.Common.{◌≡◌, length, arith, sym, subst, ap, ◌∙◌, vec_len, []}
 use Rattle.std.specs.Prelude.{replicate}
 use Rattle.std.proofs.lemmas.List.{length-replicate}
-use Rattle.bb_uniq.specs.Probes.{ArePlaces}
+use Rattle.bb_uniq.specs.Inside.Probes.{ArePlaces}
 use Rattle.bb_uniq.proofs.ProbeLemmas.{ArePlaces-free, free_from_none, power_of_least}
 use Rattle.bb_uniq.proofs.places.free_places.Goals as goal
 use Rattle.bb_uniq.proofs.places.free_places.Goals.{In_ok-resize}

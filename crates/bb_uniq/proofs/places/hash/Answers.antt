@@ -1,5 +1,5 @@
 use Rattle.std.proofs.Common.{◌*◌, ◌^◌}
-use Rattle.bb_uniq.specs.Probes.{hash_of}
+use Rattle.bb_uniq.specs.Inside.Probes.{hash_of}
 use Rattle.bb_uniq.proofs.ProbeLemmas.{sum_in_word}
 use Rattle.bb_uniq.proofs.places.hash.Goals as goal
 

@@ -1,6 +1,6 @@
 use Rattle.std.proofs.Common.{◌≤◌, ◌<◌, ◌*◌, ◌+◌, ℕ, length, arith, vec_capacity}
 use Rattle.std.specs.Int.{IsPowerOfTwo}
-use Rattle.bb_uniq.specs.Probes.{HasRoom}
+use Rattle.bb_uniq.specs.Inside.Probes.{HasRoom}
 use Rattle.bb_uniq.proofs.ProbeLemmas.{may_double}
 use Rattle.bb_uniq.proofs.places.make_room.Goals as goal
 

@@ -1,6 +1,6 @@
 use Rattle.std.proofs.Common.{◌≡◌, ◌+◌, ◌*◌, ◌/◌, ◌%◌, ◌^◌, ◌∷◌, ◌++◌, [], ap, ap₂, sym, subst, ◌∙◌, length, ℕ, List, get_or, arith}
 use Rattle.std.specs.Prelude.{slice_set}
-use Rattle.bb_uniq.specs.Probes.{place_after, mark_of, ArePlaces}
+use Rattle.bb_uniq.specs.Inside.Probes.{place_after, mark_of, ArePlaces}
 use Rattle.bb_uniq.proofs.ProbeLemmas.{ArePlaces-put, ends_at_free}
 use Rattle.bb_uniq.proofs.places.put.Goals as goal
 

@@ -1,5 +1,5 @@
 use Rattle.std.proofs.Common.{◌≡◌, ◌≢◌, ◌<◌, ℕ, length}
-use Rattle.bb_uniq.specs.Probes.{place_after, at_place}
+use Rattle.bb_uniq.specs.Inside.Probes.{place_after, at_place}
 use Rattle.bb_uniq.proofs.places.put.Given as goal
 
 abbrev pub invariant-loop-steps : goal.invariant-loop-steps

@@ -1,5 +1,5 @@
 use Rattle.std.proofs.Common.{refl, sym, subst, length, []}
-use Rattle.bb_uniq.specs.Probes.{ArePlaces}
+use Rattle.bb_uniq.specs.Inside.Probes.{ArePlaces}
 use Rattle.bb_uniq.proofs.ProbeLemmas.{ArePlaces-free}
 use Rattle.bb_uniq.proofs.places.put_all.Goals as goal
 

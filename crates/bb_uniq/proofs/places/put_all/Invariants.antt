@@ -1,5 +1,5 @@
 use Rattle.std.proofs.Common.{◌≡◌, take, length}
-use Rattle.bb_uniq.specs.Probes.{ArePlaces}
+use Rattle.bb_uniq.specs.Inside.Probes.{ArePlaces}
 use Rattle.bb_uniq.proofs.places.put_all.Given as goal
 
 abbrev pub invariant-loop-k : goal.invariant-loop-k

@@ -1,7 +1,7 @@
 use Rattle.std.proofs.Common.{◌≡◌, ◌||◌, vec_len}
 use Rattle.bb_cnf.specs.declared.clauses.Lit.{Lit}
 use Rattle.bb_cnf.specs.Clauses.{literals_of}
-use Rattle.bb_cnf.specs.PartialResolvent.{held, AreListed}
+use Rattle.bb_cnf.specs.Inside.PartialResolvent.{held, AreListed}
 use Rattle.bb_cnf.proofs.partial_resolvent.PartialResolvent.drain.Given as goal
 
 abbrev pub invariant-loop-lit : goal.invariant-loop-lit

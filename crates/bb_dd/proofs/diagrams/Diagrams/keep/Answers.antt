@@ -1,9 +1,9 @@
 use Rattle.std.proofs.Common.{◌≡◌, sym, ap, subst}
-use Rattle.bb_uniq.specs.Nodes.{NodeStore}
+use Rattle.bb_uniq.specs.Inside.Nodes.{NodeStore}
 use Rattle.bb_dd.specs.declared.key.Key.{Key}
 use Rattle.bb_dd.specs.declared.key.Key.TheVariants.{Quantify}
-use Rattle.bb_dd.specs.Results.{IsRight}
-use Rattle.bb_dd.specs.State.{DiagramState}
+use Rattle.bb_dd.specs.Inside.Results.{IsRight}
+use Rattle.bb_dd.specs.Inside.State.{DiagramState}
 use Rattle.bb_dd.proofs.Recalled.{AreRight-after, found_after}
 use Rattle.bb_dd.proofs.diagrams.Diagrams.keep.Goals as goal
 

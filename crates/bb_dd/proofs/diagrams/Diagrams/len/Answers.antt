@@ -1,7 +1,7 @@
 use Rattle.std.proofs.Common.{subst}
 use Rattle.bb_bits.specs.TruthSets.{HasSize}
-use Rattle.bb_uniq.specs.Meaning.{IsHeld}
-use Rattle.bb_dd.specs.State.{DiagramState}
+use Rattle.bb_uniq.specs.Inside.Meaning.{IsHeld}
+use Rattle.bb_dd.specs.Inside.State.{DiagramState}
 use Rattle.bb_dd.proofs.diagrams.Diagrams.len.Goals as goal
 
 pub returns-clause-beads : goal.returns-clause-beads

@@ -2,13 +2,13 @@ use Rattle.std.proofs.Common.{sym, ◌≡◌, subst}
 use Rattle.std.specs.Prelude.{IfSome, IfNone, Contains}
 use Rattle.lru.specs.LruCache.{LruCache}
 use Rattle.bb_uniq.specs.declared.store.Ref.{Ref}
-use Rattle.bb_uniq.specs.Nodes.{IsRef}
-use Rattle.bb_uniq.specs.Meaning.{truth_of}
+use Rattle.bb_uniq.specs.Inside.Nodes.{IsRef}
+use Rattle.bb_uniq.specs.Inside.Meaning.{truth_of}
 use Rattle.bb_dd.specs.declared.key.Key.{Key}
 use Rattle.bb_dd.specs.declared.key.Key.TheVariants.{Quantify}
 use Rattle.bb_dd.specs.contracts.key.KeyPartialEq.TheImpl.{ghosts}
-use Rattle.bb_dd.specs.Results.{AreRight, table_of_key}
-use Rattle.bb_dd.specs.State.{DiagramState}
+use Rattle.bb_dd.specs.Inside.Results.{AreRight, table_of_key}
+use Rattle.bb_dd.specs.Inside.State.{DiagramState}
 use Rattle.bb_dd.proofs.Recalled.{AreRight-promoted, found_entry, absent_entry, right_entry}
 use Rattle.bb_dd.proofs.diagrams.Diagrams.recall.Goals as goal
 

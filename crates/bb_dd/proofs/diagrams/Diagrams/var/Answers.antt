@@ -2,9 +2,9 @@ use Rattle.std.proofs.Common.{◌≡◌, ◌<◌, subst, sym, ap}
 use Rattle.std.specs.Prelude.{IfOk}
 use Rattle.std.proofs.lemmas.Result.{IfOk-weaker}
 use Rattle.bb_bits.specs.Truth.{Truth, variable}
-use Rattle.bb_uniq.specs.Nodes.{NodeStore}
-use Rattle.bb_uniq.specs.Meaning.{Adds, IsTooMany, branch}
-use Rattle.bb_dd.specs.State.{DiagramState}
+use Rattle.bb_uniq.specs.Inside.Nodes.{NodeStore}
+use Rattle.bb_uniq.specs.Inside.Meaning.{Adds, IsTooMany, branch}
+use Rattle.bb_dd.specs.Inside.State.{DiagramState}
 use Rattle.bb_dd.proofs.Recalled.{AreRight-kept}
 use Rattle.bb_dd.proofs.Variables.{branch-leaves}
 use Rattle.bb_dd.proofs.diagrams.Diagrams.var.Goals as goal

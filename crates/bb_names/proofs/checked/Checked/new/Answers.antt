@@ -2,8 +2,8 @@ use Rattle.std.proofs.Common.{◌≡◌, ◌++◌, ◌∷◌, [], ap, sym, ◌�
 use Rattle.std.proofs.lemmas.Grind.{common_steps}
 use Rattle.std.proofs.lemmas.List.{map-append}
 use Rattle.std.proofs.lemmas.List.Elements.{All-push}
-use Rattle.bb_ast.specs.Views.{module_view}
-use Rattle.bb_names.specs.Checked.{module_facts, syntax, AreFormedAndSmall, HasNets}
+use Rattle.bb_ast.specs.Inside.Views.{module_view}
+use Rattle.bb_names.specs.Inside.Checked.{module_facts, syntax, AreFormedAndSmall, HasNets}
 use Rattle.bb_names.specs.Faults.{IsSound}
 use Rattle.bb_names.proofs.NetCounts.{few_nets}
 use Rattle.bb_names.proofs.checked.Checked.new.Goals as goal

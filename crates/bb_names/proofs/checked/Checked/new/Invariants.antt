@@ -1,6 +1,6 @@
 use Rattle.std.proofs.Common.{◌≡◌, ◌++◌, map, All}
-use Rattle.bb_ast.specs.Views.{module_view}
-use Rattle.bb_names.specs.Checked.{module_facts, syntax, HasNets}
+use Rattle.bb_ast.specs.Inside.Views.{module_view}
+use Rattle.bb_names.specs.Inside.Checked.{module_facts, syntax, HasNets}
 use Rattle.bb_names.proofs.checked.Checked.new.Given as goal
 
 abbrev pub invariant-loop-of : goal.invariant-loop-of

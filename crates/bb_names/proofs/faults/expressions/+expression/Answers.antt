@@ -4,11 +4,11 @@ use Rattle.std.specs.Option.{option_or}
 use Rattle.bb_names.specs.Declarations.{range_of}
 use Rattle.std.proofs.lemmas.Result.{on_ok_weaker}
 use Rattle.std.specs.List.{flat_map}
-use Rattle.bb_ast.specs.Views.{expression, operand_view, arm_view, module_view}
+use Rattle.bb_ast.specs.Inside.Views.{expression, operand_view, arm_view, module_view}
 use Rattle.bb_ast.specs.declared.expr.Expr.TheVariants.{outs-Net, outs-Bit, outs-Part, outs-Sized, outs-Plain, outs-Not, outs-Chain, outs-Concat, outs-Cond, outs-Repeat}
 use Rattle.bb_ast.specs.declared.expr.Expr.{out-Expr}
 use Rattle.bb_names.specs.Faults.{width_in, wrong_width}
-use Rattle.bb_names.specs.Firsts.{noted, use_of, spots_of_part, inner_spots, saturated, first_of, first_told}
+use Rattle.bb_names.specs.Inside.Firsts.{noted, use_of, spots_of_part, inner_spots, saturated, first_of, first_told}
 use Rattle.bb_names.specs.Ranges.{distance}
 use Rattle.bb_names.specs.Spots.{Whole, spots_in}
 use Rattle.bb_names.specs.Widths.{greatest}

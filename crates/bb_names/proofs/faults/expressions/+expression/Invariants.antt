@@ -2,9 +2,9 @@ use Rattle.std.proofs.Common.{◌≡◌, ◌++◌, List, take, map}
 use Rattle.std.specs.Prelude.{sum}
 use Rattle.std.specs.List.{flat_map}
 use Rattle.bb_ast.specs.Syntax.{PlainModule}
-use Rattle.bb_ast.specs.Views.{expression, operand_view, arm_view, module_view}
+use Rattle.bb_ast.specs.Inside.Views.{expression, operand_view, arm_view, module_view}
 use Rattle.bb_names.specs.Faults.{width_in}
-use Rattle.bb_names.specs.Firsts.{noted, use_of, spots_of_part, saturated}
+use Rattle.bb_names.specs.Inside.Firsts.{noted, use_of, spots_of_part, saturated}
 use Rattle.bb_names.specs.Spots.{spots_in}
 use Rattle.bb_names.specs.Widths.{greatest}
 use Rattle.bb_names.proofs.faults.expressions.+expression.Given as goal

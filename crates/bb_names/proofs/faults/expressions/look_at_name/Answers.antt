@@ -1,9 +1,9 @@
 use Rattle.std.proofs.Common.{not, [], ◌++◌, ap, sym, ◌∙◌, if◌then◌else◌}
 use Rattle.std.specs.Prelude.{Some, None}
 use Rattle.std.specs.Option.{option_or}
-use Rattle.bb_ast.specs.Views.{module_view}
+use Rattle.bb_ast.specs.Inside.Views.{module_view}
 use Rattle.bb_names.specs.Declarations.{is_known}
-use Rattle.bb_names.specs.Firsts.{first_of, use_of}
+use Rattle.bb_names.specs.Inside.Firsts.{first_of, use_of}
 use Rattle.bb_names.specs.Spots.{Used}
 use Rattle.bb_names.proofs.Noting.{noted-one, told-one}
 use Rattle.bb_names.proofs.Searches.{option_or-none}

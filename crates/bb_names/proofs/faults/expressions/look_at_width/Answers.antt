@@ -1,9 +1,9 @@
 use Rattle.std.proofs.Common.{◌≡◌, true, false, not, ap, ◌∙◌, arith}
 use Rattle.std.specs.Prelude.{◌==◌, is_none}
 use Rattle.std.specs.Option.{option_or}
-use Rattle.bb_ast.specs.Views.{expression, module_view}
+use Rattle.bb_ast.specs.Inside.Views.{expression, module_view}
 use Rattle.bb_names.specs.Faults.{told_if, width_in, wrong_width}
-use Rattle.bb_names.specs.Firsts.{first_of, first_told, use_of}
+use Rattle.bb_names.specs.Inside.Firsts.{first_of, first_told, use_of}
 use Rattle.bb_names.specs.Spots.{spots_in}
 use Rattle.bb_names.proofs.Noting.{noted-wide, put-left, kept-left}
 use Rattle.bb_names.proofs.faults.expressions.look_at_width.Goals as goal

@@ -1,8 +1,8 @@
 use Rattle.std.proofs.Common.{◌++◌, true, false, ap, ap₂, ◌∙◌, map}
 use Rattle.std.proofs.lemmas.Result.{on_ok_weaker}
 use Rattle.std.specs.List.{flat_map}
-use Rattle.bb_ast.specs.Views.{expression, module_view}
-use Rattle.bb_names.specs.Firsts.{noted, terminal_spots}
+use Rattle.bb_ast.specs.Inside.Views.{expression, module_view}
+use Rattle.bb_names.specs.Inside.Firsts.{noted, terminal_spots}
 use Rattle.bb_names.proofs.Noting.{noted-then, gate-split}
 use Rattle.bb_names.proofs.faults.gates.look_at_gate.Goals as goal
 

@@ -1,6 +1,6 @@
 use Rattle.std.proofs.Common.{ap, ◌∙◌, map}
-use Rattle.bb_ast.specs.Views.{expression, gate_view, module_view}
-use Rattle.bb_names.specs.Firsts.{noted}
+use Rattle.bb_ast.specs.Inside.Views.{expression, gate_view, module_view}
+use Rattle.bb_names.specs.Inside.Firsts.{noted}
 use Rattle.bb_names.specs.Spots.{gate_spots}
 use Rattle.bb_names.proofs.Noting.{noted-turn, noted-all}
 use Rattle.bb_names.proofs.faults.gates.look_at_gates.Goals as goal

@@ -1,8 +1,8 @@
 use Rattle.std.proofs.Common.{◌≡◌, List, take, map}
 use Rattle.std.specs.List.{flat_map}
 use Rattle.bb_ast.specs.Syntax.{PlainModule}
-use Rattle.bb_ast.specs.Views.{module_view, gate_view}
-use Rattle.bb_names.specs.Firsts.{noted}
+use Rattle.bb_ast.specs.Inside.Views.{module_view, gate_view}
+use Rattle.bb_names.specs.Inside.Firsts.{noted}
 use Rattle.bb_names.specs.Spots.{gate_spots}
 use Rattle.bb_names.proofs.faults.gates.look_at_gates.Given as goal
 

@@ -4,9 +4,9 @@ use Rattle.std.specs.Prelude.{Some, None, OnOk, if◌then◌else◌}
 use Rattle.std.specs.Option.{option_or}
 use Rattle.bb_ast.specs.Assignable.{is_assignable}
 use Rattle.bb_ast.specs.Gates.{gate_bytes}
-use Rattle.bb_ast.specs.Views.{expression, module_view}
+use Rattle.bb_ast.specs.Inside.Views.{expression, module_view}
 use Rattle.bb_names.specs.Faults.{width_in}
-use Rattle.bb_names.specs.Firsts.{noted, noted_width, terminal_spots}
+use Rattle.bb_names.specs.Inside.Firsts.{noted, noted_width, terminal_spots}
 use Rattle.bb_names.specs.Spots.{Terminal, Driven, Read, spots_in}
 use Rattle.bb_names.proofs.Noting.{noted-widely, told-alone}
 use Rattle.bb_names.proofs.Searches.{option_or-none}

@@ -1,5 +1,5 @@
-use Rattle.bb_ast.specs.Views.{expression, module_view}
-use Rattle.bb_names.specs.Firsts.{terminal_spots}
+use Rattle.bb_ast.specs.Inside.Views.{expression, module_view}
+use Rattle.bb_names.specs.Inside.Firsts.{terminal_spots}
 use Rattle.bb_names.proofs.Noting.{noted-turn, noted-all}
 use Rattle.bb_names.proofs.faults.gates.look_at_terminals.Goals as goal
 

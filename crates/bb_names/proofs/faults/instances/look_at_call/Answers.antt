@@ -2,11 +2,11 @@ use Rattle.std.proofs.Common.{◌++◌, ◌∷◌, [], ap, sym, ◌∙◌, subst
 use Rattle.std.proofs.lemmas.Result.{on_ok_weaker}
 use Rattle.std.specs.Prelude.{Some, None, option_map}
 use Rattle.std.specs.Option.{option_or}
-use Rattle.bb_ast.specs.Views.{conns_view, module_view}
+use Rattle.bb_ast.specs.Inside.Views.{conns_view, module_view}
 use Rattle.bb_names.specs.Declarations.{instance_declaration}
-use Rattle.bb_names.specs.Firsts.{noted}
+use Rattle.bb_names.specs.Inside.Firsts.{noted}
 use Rattle.bb_names.specs.Spots.{Declared as DeclaredSpot, Placed, conns_spots, place_count}
-use Rattle.bb_names.specs.Summaries.{Describes}
+use Rattle.bb_names.specs.Inside.Summaries.{Describes}
 use Rattle.bb_names.proofs.Noting.{noted-one, noted-then, placed-row}
 use Rattle.bb_names.proofs.Searches.{option_or-none}
 use Rattle.bb_names.proofs.faults.instances.look_at_call.Goals as goal

@@ -1,11 +1,11 @@
 use Rattle.std.proofs.Common.{◌≡◌, ◌++◌, ◌∷◌, [], ap, sym, ◌∙◌, subst, map, take, append-nil, arith, if◌then◌else◌}
 use Rattle.std.specs.Prelude.{Some, None, is_none, option_map}
 use Rattle.std.specs.Option.{option_or}
-use Rattle.bb_ast.specs.Views.{call_view, module_view}
+use Rattle.bb_ast.specs.Inside.Views.{call_view, module_view}
 use Rattle.bb_names.specs.Declarations.{instance_declaration}
-use Rattle.bb_names.specs.Firsts.{noted, call_spots}
+use Rattle.bb_names.specs.Inside.Firsts.{noted, call_spots}
 use Rattle.bb_names.specs.Spots.{Target, module_named}
-use Rattle.bb_names.specs.Summaries.{Describes}
+use Rattle.bb_names.specs.Inside.Summaries.{Describes}
 use Rattle.bb_bits.specs.Earlier.{each_after}
 use Rattle.bb_names.proofs.DeclaredLists.{turn-map, end-map}
 use Rattle.bb_names.proofs.Noting.{each-turn, each-all, noted-none, noted-one, noted-then, told-one, is_none-map}

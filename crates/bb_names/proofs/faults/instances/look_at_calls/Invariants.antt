@@ -1,11 +1,11 @@
 use Rattle.std.proofs.Common.{◌≡◌, ◌++◌, List, take, map}
 use Rattle.std.specs.Prelude.{option_map}
 use Rattle.bb_ast.specs.Syntax.{PlainModule}
-use Rattle.bb_ast.specs.Views.{module_view, call_view}
+use Rattle.bb_ast.specs.Inside.Views.{module_view, call_view}
 use Rattle.bb_names.specs.Declarations.{Declaration, instance_declaration}
-use Rattle.bb_names.specs.Firsts.{noted, call_spots}
+use Rattle.bb_names.specs.Inside.Firsts.{noted, call_spots}
 use Rattle.bb_bits.specs.Earlier.{each_after}
-use Rattle.bb_names.specs.Summaries.{Describes}
+use Rattle.bb_names.specs.Inside.Summaries.{Describes}
 use Rattle.bb_names.proofs.faults.instances.look_at_calls.Given as goal
 
 abbrev pub invariant-loop-call : goal.invariant-loop-call

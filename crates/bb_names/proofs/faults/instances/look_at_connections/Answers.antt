@@ -2,8 +2,8 @@ use Rattle.std.proofs.Common.{◌∷◌, [], ap, sym, ◌∙◌, subst, map, tak
 use Rattle.std.proofs.lemmas.List.{map-append}
 use Rattle.std.specs.Prelude.{option_map}
 use Rattle.std.specs.Option.{option_and_then}
-use Rattle.bb_ast.specs.Views.{named_view, optional_view, module_view}
-use Rattle.bb_names.specs.Firsts.{noted, AreSame}
+use Rattle.bb_ast.specs.Inside.Views.{named_view, optional_view, module_view}
+use Rattle.bb_names.specs.Inside.Firsts.{noted, AreSame}
 use Rattle.bb_names.specs.Spots.{PortName, pin_named, joined_spots}
 use Rattle.bb_bits.specs.Earlier.{has_name}
 use Rattle.bb_names.proofs.Noting.{each-turn, each-all, noted-none, noted-then, seen-more}

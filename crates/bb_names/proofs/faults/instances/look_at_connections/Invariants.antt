@@ -1,8 +1,8 @@
 use Rattle.std.proofs.Common.{◌≡◌, List, take, map}
 use Rattle.std.specs.Prelude.{option_map}
 use Rattle.bb_ast.specs.Syntax.{PlainModule, Named}
-use Rattle.bb_ast.specs.Views.{module_view, named_view}
-use Rattle.bb_names.specs.Firsts.{noted, AreSame}
+use Rattle.bb_ast.specs.Inside.Views.{module_view, named_view}
+use Rattle.bb_names.specs.Inside.Firsts.{noted, AreSame}
 use Rattle.bb_names.specs.Spots.{conns_spots}
 use Rattle.bb_names.proofs.faults.instances.look_at_connections.Given as goal
 

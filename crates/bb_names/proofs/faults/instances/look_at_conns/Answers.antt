@@ -1,8 +1,8 @@
 use Rattle.std.proofs.Common.{◌≡◌, ap, sym, ◌∙◌, subst, map}
 use Rattle.std.specs.Prelude.{option_map, OnOk}
 use Rattle.bb_ast.specs.Syntax.{Order, Named}
-use Rattle.bb_ast.specs.Views.{conns_view, optional_view, named_view, module_view}
-use Rattle.bb_names.specs.Firsts.{noted}
+use Rattle.bb_ast.specs.Inside.Views.{conns_view, optional_view, named_view, module_view}
+use Rattle.bb_names.specs.Inside.Firsts.{noted}
 use Rattle.bb_names.specs.Spots.{conns_spots}
 use Rattle.bb_names.proofs.faults.instances.look_at_conns.Goals as goal
 

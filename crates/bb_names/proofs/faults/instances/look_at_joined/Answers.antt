@@ -3,9 +3,9 @@ use Rattle.std.proofs.lemmas.Result.{on_ok_weaker}
 use Rattle.std.specs.Prelude.{Some, None, option_map, OnOk, if◌then◌else◌}
 use Rattle.std.specs.Option.{option_or}
 use Rattle.bb_ast.specs.Assignable.{is_assignable}
-use Rattle.bb_ast.specs.Views.{expression, module_view}
+use Rattle.bb_ast.specs.Inside.Views.{expression, module_view}
 use Rattle.bb_names.specs.Faults.{is_input, width_in}
-use Rattle.bb_names.specs.Firsts.{noted, noted_width, use_of}
+use Rattle.bb_names.specs.Inside.Firsts.{noted, noted_width, use_of}
 use Rattle.bb_names.specs.Spots.{Joined, spots_in, use_at, joined_spots}
 use Rattle.bb_names.proofs.Noting.{noted-widely, told-alone}
 use Rattle.bb_names.proofs.faults.instances.look_at_joined.Goals as goal

@@ -1,7 +1,7 @@
 use Rattle.std.proofs.Common.{◌≡◌, ap, sym, subst}
 use Rattle.std.specs.Prelude.{option_map, OnOk}
-use Rattle.bb_ast.specs.Views.{optional_view, module_view}
-use Rattle.bb_names.specs.Firsts.{noted}
+use Rattle.bb_ast.specs.Inside.Views.{optional_view, module_view}
+use Rattle.bb_names.specs.Inside.Firsts.{noted}
 use Rattle.bb_names.specs.Spots.{joined_spots}
 use Rattle.bb_names.proofs.faults.instances.look_at_place.Goals as goal
 

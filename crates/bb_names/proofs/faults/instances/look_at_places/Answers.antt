@@ -1,8 +1,8 @@
 use Rattle.std.proofs.Common.{ap, ◌∙◌}
 use Rattle.std.specs.Prelude.{option_map}
 use Rattle.std.specs.Option.{option_and_then}
-use Rattle.bb_ast.specs.Views.{optional_view, module_view}
-use Rattle.bb_names.specs.Firsts.{noted}
+use Rattle.bb_ast.specs.Inside.Views.{optional_view, module_view}
+use Rattle.bb_names.specs.Inside.Firsts.{noted}
 use Rattle.bb_names.specs.Spots.{pin_at, joined_spots}
 use Rattle.bb_names.proofs.Noting.{place-turn, place-all}
 use Rattle.bb_names.proofs.faults.instances.look_at_places.Goals as goal

@@ -3,8 +3,8 @@ use Rattle.std.specs.List.{flat_map, enumerate_from}
 use Rattle.std.specs.Prelude.{option_map}
 use Rattle.std.specs.Option.{option_and_then}
 use Rattle.bb_ast.specs.Syntax.{PlainModule}
-use Rattle.bb_ast.specs.Views.{module_view, optional_view}
-use Rattle.bb_names.specs.Firsts.{noted}
+use Rattle.bb_ast.specs.Inside.Views.{module_view, optional_view}
+use Rattle.bb_names.specs.Inside.Firsts.{noted}
 use Rattle.bb_names.specs.Spots.{joined_spots, pin_at}
 use Rattle.bb_names.proofs.faults.instances.look_at_places.Given as goal
 

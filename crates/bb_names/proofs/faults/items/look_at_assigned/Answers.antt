@@ -1,5 +1,5 @@
 use Rattle.std.proofs.Common.{◌++◌}
-use Rattle.bb_ast.specs.Views.{expression, arm_view, module_view}
+use Rattle.bb_ast.specs.Inside.Views.{expression, arm_view, module_view}
 use Rattle.bb_names.specs.Spots.{Driven, Read, spots_in}
 use Rattle.bb_names.proofs.Noting.{noted-turn, noted-all, noted-then}
 use Rattle.bb_names.proofs.faults.items.look_at_assigned.Goals as goal

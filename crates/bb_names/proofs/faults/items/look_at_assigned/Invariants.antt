@@ -1,8 +1,8 @@
 use Rattle.std.proofs.Common.{◌≡◌, ◌++◌, List, take, map}
 use Rattle.std.specs.List.{flat_map}
 use Rattle.bb_ast.specs.Syntax.{PlainModule}
-use Rattle.bb_ast.specs.Views.{module_view, arm_view}
-use Rattle.bb_names.specs.Firsts.{noted}
+use Rattle.bb_ast.specs.Inside.Views.{module_view, arm_view}
+use Rattle.bb_names.specs.Inside.Firsts.{noted}
 use Rattle.bb_names.specs.Spots.{Driven, Read, spots_in}
 use Rattle.bb_names.proofs.faults.items.look_at_assigned.Given as goal
 

@@ -1,7 +1,7 @@
 use Rattle.std.proofs.Common.{◌∷◌, [], ap, sym, ◌∙◌}
 use Rattle.std.specs.Prelude.{None}
-use Rattle.bb_ast.specs.Views.{expression, optional_view, module_view}
-use Rattle.bb_names.specs.Firsts.{noted}
+use Rattle.bb_ast.specs.Inside.Views.{expression, optional_view, module_view}
+use Rattle.bb_names.specs.Inside.Firsts.{noted}
 use Rattle.bb_names.specs.Spots.{Driven, Read, Used, spots_in, initial_spots}
 use Rattle.bb_names.proofs.Noting.{noted-then}
 use Rattle.bb_names.proofs.faults.items.look_at_initial.Goals as goal

@@ -2,11 +2,11 @@ use Rattle.std.proofs.Common.{◌≡◌, ◌++◌, [], ap, sym, ◌∙◌, subst
 use Rattle.std.proofs.lemmas.Result.{on_ok_weaker}
 use Rattle.std.specs.Prelude.{OnOk}
 use Rattle.bb_ast.specs.Syntax.{Nets, Assign, Gates, Calls}
-use Rattle.bb_ast.specs.Views.{body_view, named_view, call_view, arm_view, gate_view, module_view}
+use Rattle.bb_ast.specs.Inside.Views.{body_view, named_view, call_view, arm_view, gate_view, module_view}
 use Rattle.bb_names.specs.Declarations.{declared_by, net_declaration}
-use Rattle.bb_names.specs.Firsts.{noted}
+use Rattle.bb_names.specs.Inside.Firsts.{noted}
 use Rattle.bb_names.specs.Spots.{declared_spots, item_spots}
-use Rattle.bb_names.specs.Summaries.{named, Describes}
+use Rattle.bb_names.specs.Inside.Summaries.{named, Describes}
 use Rattle.bb_names.proofs.faults.items.look_at_item.Goals as goal
 
 pub returns-in-Ports-clause-noted : goal.returns-in-Ports-clause-noted

@@ -1,10 +1,10 @@
 use Rattle.std.proofs.Common.{◌++◌, ◌∷◌, [], ap, sym, ◌∙◌, subst, map, take, append-nil}
-use Rattle.bb_ast.specs.Views.{named_view, module_view}
+use Rattle.bb_ast.specs.Inside.Views.{named_view, module_view}
 use Rattle.bb_names.specs.declared.net.NetKind.TheVariants.{Wire}
 use Rattle.bb_names.specs.Declarations.{net_declaration}
-use Rattle.bb_names.specs.Firsts.{noted}
+use Rattle.bb_names.specs.Inside.Firsts.{noted}
 use Rattle.bb_names.specs.Spots.{Declared as DeclaredSpot, initial_spots}
-use Rattle.bb_names.specs.Summaries.{Describes}
+use Rattle.bb_names.specs.Inside.Summaries.{Describes}
 use Rattle.bb_names.proofs.DeclaredLists.{turn-map, end-map}
 use Rattle.bb_names.proofs.Noting.{each-turn, each-all, noted-none, noted-then}
 use Rattle.bb_names.proofs.faults.items.look_at_nets.Goals as goal

@@ -1,10 +1,10 @@
 use Rattle.std.proofs.Common.{◌≡◌, ◌++◌, List, take, map}
 use Rattle.bb_ast.specs.Syntax.{PlainModule, Nets}
-use Rattle.bb_ast.specs.Views.{module_view, named_view}
+use Rattle.bb_ast.specs.Inside.Views.{module_view, named_view}
 use Rattle.bb_names.specs.Declarations.{Declaration, declared_by}
-use Rattle.bb_names.specs.Firsts.{noted}
+use Rattle.bb_names.specs.Inside.Firsts.{noted}
 use Rattle.bb_names.specs.Spots.{item_spots}
-use Rattle.bb_names.specs.Summaries.{Describes}
+use Rattle.bb_names.specs.Inside.Summaries.{Describes}
 use Rattle.bb_names.proofs.faults.items.look_at_nets.Given as goal
 
 abbrev pub invariant-loop-name : goal.invariant-loop-name

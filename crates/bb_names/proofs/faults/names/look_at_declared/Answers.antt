@@ -3,13 +3,13 @@ use Rattle.std.proofs.lemmas.Result.{on_ok_weaker}
 use Rattle.std.specs.Prelude.{Some, None, nat_lt}
 use Rattle.std.specs.Option.{option_or}
 use Rattle.std.specs.List.{list_any}
-use Rattle.bb_ast.specs.Views.{module_view}
+use Rattle.bb_ast.specs.Inside.Views.{module_view}
 use Rattle.bb_names.specs.Declarations.{range_of}
 use Rattle.bb_names.specs.Faults.{clashes, widest}
-use Rattle.bb_names.specs.Firsts.{first_of}
+use Rattle.bb_names.specs.Inside.Firsts.{first_of}
 use Rattle.bb_names.specs.Ranges.{range_width}
 use Rattle.bb_names.specs.Spots.{Declared as DeclaredSpot}
-use Rattle.bb_names.specs.Summaries.{named, IsSummary}
+use Rattle.bb_names.specs.Inside.Summaries.{named, IsSummary}
 use Rattle.bb_names.proofs.Noting.{noted-one, told-one}
 use Rattle.bb_names.proofs.Searches.{option_or-none}
 use Rattle.bb_names.proofs.faults.names.look_at_declared.Goals as goal

@@ -1,9 +1,9 @@
 use Rattle.std.proofs.Common.{◌∷◌, [], ap, ◌∙◌, take}
 use Rattle.std.proofs.lemmas.Result.{on_ok_weaker}
 use Rattle.std.specs.List.{flat_map}
-use Rattle.bb_ast.specs.Views.{head_view, module_view}
+use Rattle.bb_ast.specs.Inside.Views.{head_view, module_view}
 use Rattle.bb_names.specs.Declarations.{declared_by_head}
-use Rattle.bb_names.specs.Firsts.{noted}
+use Rattle.bb_names.specs.Inside.Firsts.{noted}
 use Rattle.bb_names.specs.Spots.{HeadName, declared_spots}
 use Rattle.bb_names.proofs.Noting.{noted-then}
 use Rattle.bb_names.proofs.faults.names.look_at_head.Goals as goal

@@ -2,7 +2,7 @@ use Rattle.std.proofs.Common.{◌≡◌, ap, sym, ◌∙◌, map, take, arith, i
 use Rattle.std.proofs.lemmas.Result.{on_ok_weaker}
 use Rattle.std.specs.Prelude.{Some, None, is_none, nat_lt, false}
 use Rattle.std.specs.Option.{option_or, option_map_or}
-use Rattle.bb_ast.specs.Views.{module_view}
+use Rattle.bb_ast.specs.Inside.Views.{module_view}
 use Rattle.bb_names.specs.Declarations.{direction_of}
 use Rattle.bb_names.specs.Spots.{HeadName}
 use Rattle.bb_bits.specs.Earlier.{has_name}

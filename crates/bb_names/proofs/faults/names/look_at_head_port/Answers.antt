@@ -1,10 +1,10 @@
 use Rattle.std.proofs.Common.{◌≡◌, ◌++◌, ◌∷◌, [], ap, sym, ◌∙◌, subst}
 use Rattle.std.specs.Prelude.{option_map, option_to_list, OnOk}
-use Rattle.bb_ast.specs.Views.{head_view, module_view}
+use Rattle.bb_ast.specs.Inside.Views.{head_view, module_view}
 use Rattle.bb_names.specs.Declarations.{declared_by_head, port_declaration}
-use Rattle.bb_names.specs.Firsts.{noted}
+use Rattle.bb_names.specs.Inside.Firsts.{noted}
 use Rattle.bb_names.specs.Spots.{declared_spots}
-use Rattle.bb_names.specs.Summaries.{named, Describes}
+use Rattle.bb_names.specs.Inside.Summaries.{named, Describes}
 use Rattle.bb_names.proofs.Noting.{spots-alone}
 use Rattle.bb_names.proofs.faults.names.look_at_head_port.Goals as goal
 

@@ -1,9 +1,9 @@
 use Rattle.std.proofs.Common.{[], ap, ◌∙◌, map, take}
 use Rattle.std.specs.List.{flat_map}
 use Rattle.std.specs.List.{take-map}
-use Rattle.bb_ast.specs.Views.{head_view, module_view}
+use Rattle.bb_ast.specs.Inside.Views.{head_view, module_view}
 use Rattle.bb_names.specs.Declarations.{declared_by_head}
-use Rattle.bb_names.specs.Firsts.{head_spots}
+use Rattle.bb_names.specs.Inside.Firsts.{head_spots}
 use Rattle.bb_names.proofs.DeclaredLists.{turn-flat}
 use Rattle.bb_names.proofs.Noting.{each-turn, each-all}
 use Rattle.bb_names.proofs.faults.names.look_at_heads.Goals as goal

@@ -1,11 +1,11 @@
 use Rattle.std.proofs.Common.{◌≡◌, List, [], take, map}
 use Rattle.std.specs.List.{flat_map}
 use Rattle.bb_ast.specs.Syntax.{PlainModule}
-use Rattle.bb_ast.specs.Views.{module_view, head_view}
+use Rattle.bb_ast.specs.Inside.Views.{module_view, head_view}
 use Rattle.bb_names.specs.Declarations.{declared_by_head}
-use Rattle.bb_names.specs.Firsts.{noted, head_spots}
+use Rattle.bb_names.specs.Inside.Firsts.{noted, head_spots}
 use Rattle.bb_bits.specs.Earlier.{each_after}
-use Rattle.bb_names.specs.Summaries.{Describes}
+use Rattle.bb_names.specs.Inside.Summaries.{Describes}
 use Rattle.bb_names.proofs.faults.names.look_at_heads.Given as goal
 
 abbrev pub invariant-loop-place : goal.invariant-loop-place

@@ -1,7 +1,7 @@
 use Rattle.std.proofs.Common.{◌++◌, ◌∷◌, [], sym, subst, map, take, append-nil, ℕ, List}
-use Rattle.bb_ast.specs.Views.{module_view}
+use Rattle.bb_ast.specs.Inside.Views.{module_view}
 use Rattle.bb_names.specs.Spots.{Declared as DeclaredSpot}
-use Rattle.bb_names.specs.Summaries.{named, Describes}
+use Rattle.bb_names.specs.Inside.Summaries.{named, Describes}
 use Rattle.bb_names.proofs.DeclaredLists.{turn-names, end-names}
 use Rattle.bb_names.proofs.Noting.{each-turn, each-all, noted-none}
 use Rattle.bb_names.proofs.faults.names.look_at_names.Goals as goal

@@ -1,10 +1,10 @@
 use Rattle.std.proofs.Common.{◌≡◌, ◌++◌, List, take, map}
 use Rattle.bb_ast.specs.Syntax.{PlainModule}
-use Rattle.bb_ast.specs.Views.{module_view}
+use Rattle.bb_ast.specs.Inside.Views.{module_view}
 use Rattle.bb_names.specs.Declarations.{Declaration}
-use Rattle.bb_names.specs.Firsts.{noted}
+use Rattle.bb_names.specs.Inside.Firsts.{noted}
 use Rattle.bb_names.specs.Spots.{declared_spots}
-use Rattle.bb_names.specs.Summaries.{named, Describes}
+use Rattle.bb_names.specs.Inside.Summaries.{named, Describes}
 use Rattle.bb_names.proofs.faults.names.look_at_names.Given as goal
 
 abbrev pub invariant-loop-name : goal.invariant-loop-name

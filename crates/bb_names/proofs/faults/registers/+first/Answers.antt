@@ -3,10 +3,10 @@ use Rattle.std.specs.Prelude.{option_map}
 use Rattle.std.specs.Option.{option_or}
 use Rattle.std.specs.List.{flat_map}
 use Rattle.bb_ast.specs.Names.{names_in}
-use Rattle.bb_ast.specs.Views.{expression, operand_view, arm_view}
+use Rattle.bb_ast.specs.Inside.Views.{expression, operand_view, arm_view}
 use Rattle.bb_ast.specs.declared.expr.Expr.TheVariants.{outs-Chain, outs-Concat, outs-Cond, outs-Repeat}
 use Rattle.bb_ast.specs.declared.expr.Expr.{out-Expr}
-use Rattle.bb_names.specs.Firsts.{first_of}
+use Rattle.bb_names.specs.Inside.Firsts.{first_of}
 use Rattle.bb_names.proofs.ExpressionViews.{view-of, names-chain, names-cond, names-concat, names-repeat}
 use Rattle.bb_names.proofs.Noting.{first_of-append, first-found, first-more, seen-all}
 use Rattle.bb_names.proofs.faults.registers.+first.Goals as goal

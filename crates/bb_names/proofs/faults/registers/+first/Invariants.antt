@@ -2,8 +2,8 @@ use Rattle.std.proofs.Common.{◌≡◌, ◌++◌, take, map}
 use Rattle.std.specs.Prelude.{None}
 use Rattle.std.specs.List.{flat_map}
 use Rattle.bb_ast.specs.Names.{names_in}
-use Rattle.bb_ast.specs.Views.{expression, operand_view, arm_view}
-use Rattle.bb_names.specs.Firsts.{first_of}
+use Rattle.bb_ast.specs.Inside.Views.{expression, operand_view, arm_view}
+use Rattle.bb_names.specs.Inside.Firsts.{first_of}
 use Rattle.bb_names.proofs.faults.registers.+first.Given as goal
 
 abbrev pub invariant-first_of_arms-loop-condition : goal.invariant-first_of_arms-loop-condition

@@ -2,9 +2,9 @@ use Rattle.std.proofs.Common.{ap, sym, refl, ◌∙◌}
 use Rattle.std.proofs.lemmas.Result.{on_ok_weaker}
 use Rattle.std.specs.Prelude.{◌==◌, option_map}
 use Rattle.bb_ast.specs.Names.{names_in}
-use Rattle.bb_ast.specs.Views.{expression, module_view}
+use Rattle.bb_ast.specs.Inside.Views.{expression, module_view}
 use Rattle.bb_names.specs.Faults.{width_in}
-use Rattle.bb_names.specs.Firsts.{noted_width}
+use Rattle.bb_names.specs.Inside.Firsts.{noted_width}
 use Rattle.bb_names.specs.Spots.{Clock, Read, spots_in}
 use Rattle.bb_names.proofs.Noting.{noted-silent, noted-widely, clock-silent, clock-told}
 use Rattle.bb_names.proofs.Searches.{option_or-none}

@@ -1,5 +1,5 @@
 use Rattle.std.proofs.Common.{◌++◌, ◌∷◌}
-use Rattle.bb_ast.specs.Views.{expression, module_view}
+use Rattle.bb_ast.specs.Inside.Views.{expression, module_view}
 use Rattle.bb_names.specs.Spots.{Clock, Read, Stored, spots_in}
 use Rattle.bb_names.proofs.Noting.{noted-then}
 use Rattle.bb_names.proofs.faults.registers.look_at_register.Goals as goal

@@ -1,7 +1,7 @@
 use Rattle.std.proofs.Common.{ap, sym, ◌∙◌, map}
 use Rattle.std.specs.List.{list_all}
 use Rattle.bb_ast.specs.Assignable.{is_assignable}
-use Rattle.bb_ast.specs.Views.{expression}
+use Rattle.bb_ast.specs.Inside.Views.{expression}
 use Rattle.bb_ast.specs.declared.expr.Expr.TheVariants.{outs-Concat}
 use Rattle.bb_ast.specs.declared.expr.Expr.{out-Expr}
 use Rattle.bb_names.proofs.ExpressionViews.{view-of, assignable-concat}

@@ -1,8 +1,8 @@
 use Rattle.std.proofs.Common.{◌≡◌, ap, sym, ◌∙◌, subst, map, take}
 use Rattle.std.specs.Prelude.{Some, None, MatchResult}
 use Rattle.bb_names.specs.Faults.{statement_faults}
-use Rattle.bb_ast.specs.Views.{module_view}
-use Rattle.bb_names.specs.Firsts.{noted, first_fault}
+use Rattle.bb_ast.specs.Inside.Views.{module_view}
+use Rattle.bb_names.specs.Inside.Firsts.{noted, first_fault}
 use Rattle.bb_names.specs.Spots.{header_spots}
 use Rattle.bb_names.proofs.Answering.{statement-first, answers_of, ok_of}
 use Rattle.bb_names.proofs.faults.statements.check_header.Goals as goal

@@ -1,9 +1,9 @@
 use Rattle.std.proofs.Common.{◌≡◌, ◌++◌, [], take, map}
 use Rattle.std.specs.List.{flat_map}
-use Rattle.bb_ast.specs.Views.{module_view, item_view}
+use Rattle.bb_ast.specs.Inside.Views.{module_view, item_view}
 use Rattle.bb_names.specs.Declarations.{declared_by, declared_by_head}
-use Rattle.bb_names.specs.Firsts.{item_faults}
-use Rattle.bb_names.specs.Summaries.{Describes}
+use Rattle.bb_names.specs.Inside.Firsts.{item_faults}
+use Rattle.bb_names.specs.Inside.Summaries.{Describes}
 use Rattle.bb_bits.specs.Earlier.{each_after}
 use Rattle.bb_names.proofs.faults.statements.check_statements.Given as goal
 

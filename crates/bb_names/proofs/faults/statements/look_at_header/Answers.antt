@@ -4,8 +4,8 @@ use Rattle.std.specs.Prelude.{Some, None, nat_lt, false}
 use Rattle.std.specs.Option.{option_or, option_map_or}
 use Rattle.std.specs.List.{position_from}
 use Rattle.bb_bits.specs.Names.{same_name}
-use Rattle.bb_ast.specs.Views.{module_view}
-use Rattle.bb_names.specs.Firsts.{head_spots}
+use Rattle.bb_ast.specs.Inside.Views.{module_view}
+use Rattle.bb_names.specs.Inside.Firsts.{head_spots}
 use Rattle.bb_names.specs.Spots.{ModuleName}
 use Rattle.bb_bits.specs.Earlier.{has_name, each_after}
 use Rattle.bb_names.proofs.IndexLemmas.{before-first, plain-names}

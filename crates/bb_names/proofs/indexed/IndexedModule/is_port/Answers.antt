@@ -1,6 +1,6 @@
 use Rattle.std.proofs.Common.{ap, ◌∙◌}
 use Rattle.std.specs.Prelude.{is_some}
-use Rattle.bb_ast.specs.Views.{module_view}
+use Rattle.bb_ast.specs.Inside.Views.{module_view}
 use Rattle.bb_names.proofs.IndexLemmas.{port-any}
 use Rattle.bb_names.proofs.indexed.IndexedModule.is_port.Goals as goal
 

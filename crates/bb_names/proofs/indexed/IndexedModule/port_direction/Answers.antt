@@ -1,6 +1,6 @@
 use Rattle.std.proofs.Common.{cond, ap, sym, ◌∙◌}
 use Rattle.std.specs.Prelude.{None}
-use Rattle.bb_ast.specs.Views.{module_view}
+use Rattle.bb_ast.specs.Inside.Views.{module_view}
 use Rattle.bb_names.specs.Declarations.{direction_of}
 use Rattle.bb_names.proofs.IndexLemmas.{direction-at}
 use Rattle.bb_names.proofs.indexed.IndexedModule.port_direction.Goals as goal

@@ -1,6 +1,6 @@
 use Rattle.std.proofs.Common.{ap, sym, ◌∙◌, slice_get, arith}
 use Rattle.std.specs.Prelude.{option_map}
-use Rattle.bb_ast.specs.Views.{module_view}
+use Rattle.bb_ast.specs.Inside.Views.{module_view}
 use Rattle.bb_names.proofs.IndexLemmas.{module_at, module_nowhere, got_at, option_map-map}
 use Rattle.bb_names.proofs.sources.IndexedSource.named.Goals as goal
 

@@ -1,6 +1,6 @@
 use Rattle.std.proofs.Common.{◌≡◌, ◌++◌, length, map}
 use Rattle.std.specs.Vec.{vec_len}
-use Rattle.bb_names.specs.Indexed.{ArePlaces}
+use Rattle.bb_names.specs.Inside.Indexed.{ArePlaces}
 use Rattle.bb_names.proofs.sources.IndexedSource.new.Given as goal
 
 abbrev pub invariant-loop-parsed : goal.invariant-loop-parsed

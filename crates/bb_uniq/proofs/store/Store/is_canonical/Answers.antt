@@ -1,5 +1,5 @@
 use Rattle.std.proofs.Common.{subst}
-use Rattle.bb_uniq.specs.Nodes.{IsStore}
+use Rattle.bb_uniq.specs.Inside.Nodes.{IsStore}
 use Rattle.bb_uniq.proofs.Making.{one_ref}
 use Rattle.bb_uniq.proofs.store.Store.is_canonical.Goals as goal
 

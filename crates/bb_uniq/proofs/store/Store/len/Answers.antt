@@ -1,7 +1,7 @@
 use Rattle.std.proofs.Common.{arith, subst, sym, ap, ◌∙◌, ◌≡◌, length}
 use Rattle.bb_bits.specs.TruthSets.{HasSize}
-use Rattle.bb_uniq.specs.Nodes.{NodeStore, IsStore}
-use Rattle.bb_uniq.specs.Meaning.{IsHeld}
+use Rattle.bb_uniq.specs.Inside.Nodes.{NodeStore, IsStore}
+use Rattle.bb_uniq.specs.Inside.Meaning.{IsHeld}
 use Rattle.bb_uniq.proofs.Held.{size_of_held}
 use Rattle.bb_uniq.proofs.store.Store.len.Goals as goal
 

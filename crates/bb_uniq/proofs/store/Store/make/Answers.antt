@@ -3,9 +3,9 @@ use Rattle.std.specs.Prelude.{IsErrOf}
 use Rattle.std.proofs.lemmas.Bool.{eqb-true, eqb-false}
 use Rattle.bb_uniq.specs.declared.store.StoreFault.TheVariants.{Full}
 use Rattle.bb_uniq.specs.declared.store.Node.{Node}
-use Rattle.bb_uniq.specs.Nodes.{NodeStore, IsStore}
-use Rattle.bb_uniq.specs.Meaning.{Adds, branch}
-use Rattle.bb_uniq.specs.Places.{IsAbsent}
+use Rattle.bb_uniq.specs.Inside.Nodes.{NodeStore, IsStore}
+use Rattle.bb_uniq.specs.Inside.Meaning.{Adds, branch}
+use Rattle.bb_uniq.specs.Inside.Places.{IsAbsent}
 use Rattle.bb_uniq.proofs.Making.{makes, makes_same, makes_too_many, stands_within}
 use Rattle.bb_uniq.proofs.store.Store.make.Goals as goal
 use Rattle.bb_uniq.proofs.store.Store.make.Goals.{In_ok-place}

@@ -1,6 +1,6 @@
 use Rattle.std.proofs.Common.{sym, subst}
-use Rattle.bb_uniq.specs.Nodes.{IsStore}
-use Rattle.bb_uniq.specs.Probes.{ArePlaces}
+use Rattle.bb_uniq.specs.Inside.Nodes.{IsStore}
+use Rattle.bb_uniq.specs.Inside.Probes.{ArePlaces}
 use Rattle.bb_uniq.proofs.Making.{IsStore-empty}
 use Rattle.bb_uniq.proofs.store.Store.start.Goals as goal
 

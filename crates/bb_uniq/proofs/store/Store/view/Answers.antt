@@ -1,7 +1,7 @@
 use Rattle.std.proofs.Common.{◌≡◌, ◌∙◌, ap, subst, sym}
 use Rattle.bb_uniq.specs.declared.store.View.{View}
 use Rattle.bb_uniq.specs.declared.store.View.TheVariants as seen
-use Rattle.bb_uniq.specs.Nodes.{NodeStore, IsRef, view_by, view_of}
+use Rattle.bb_uniq.specs.Inside.Nodes.{NodeStore, IsRef, view_by, view_of}
 use Rattle.bb_uniq.proofs.Making.{leaf_table, view_means_at}
 use Rattle.bb_uniq.proofs.Growth.{node_read}
 use Rattle.bb_uniq.proofs.store.Store.view.Goals as goal

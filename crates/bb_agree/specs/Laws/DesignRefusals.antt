@@ -1,0 +1,50 @@
+-- Laws of fit and refusal: two designs fit or have a first refusal, and not both; flat netlists that stand for them are refused alike,
+-- so that a pair stands for two designs exactly where these fit.
+use Rattle.std.specs.Prelude.{◌≡◌, ◌⊎◌, ◌↔◌}
+use Rattle.bb_net.specs.Pairs.{NetPair}
+use Rattle.bb_net.specs.Flats.{FlatNet, IsFlat}
+use Rattle.bb_design.specs.Hierarchy.{Design}
+use Rattle.bb_design.specs.Inside.Allowed.{IsAllowed}
+use Rattle.bb_cells.specs.Stands.{StandsFor}
+use Rattle.bb_match.specs.declared.fault.MatchFault.{MatchFault}
+use Rattle.bb_match.specs.Pairing.{IsPairOf}
+use Rattle.bb_match.specs.Refusals.{Fit, IsFirstRefusal}
+use Rattle.bb_agree.specs.DesignAgreement.{IsPairFor}
+use Rattle.bb_agree.specs.DesignFit.{DesignsFit, IsRefusalFor}
+
+-- flat netlists that stand for the two designs
+pub record AreNetsFor (spec imp : Design) (f g : FlatNet) : Type 0 where
+  pub spec_stands : StandsFor spec f
+  pub imp_stands : StandsFor imp g
+
+-- netlists fit as the designs do for which they stand, and are refused as these are
+pub record AreTakenAlike (spec imp : Design) (f g : FlatNet) : Type 0 where
+  pub fit : Fit f g ↔ DesignsFit spec imp
+  pub refused : (fault : MatchFault) → IsFirstRefusal f g fault ↔ IsRefusalFor spec imp fault
+
+abbrev pub NetsAreTakenAsDesigns : Type 0
+NetsAreTakenAsDesigns = (spec imp : Design) (f g : FlatNet) → IsAllowed spec → IsAllowed imp → AreNetsFor spec imp f g → AreTakenAlike spec imp f g
+
+-- two designs have one first refusal at most
+abbrev pub DesignRefusalsAreOne : Type 0
+DesignRefusalsAreOne = (spec imp : Design) (e f : MatchFault) → IsRefusalFor spec imp e → IsRefusalFor spec imp f → e ≡ f
+
+-- and do not fit where they have one
+abbrev pub NotFitAndRefused : Type 0
+NotFitAndRefused = (spec imp : Design) (fault : MatchFault) → DesignsFit spec imp → IsRefusalFor spec imp fault → ⊥
+
+-- two designs, of which the specification is sound, fit or have a first refusal
+abbrev pub FitOrRefused : Type 0
+FitOrRefused = (spec imp : Design) → IsAllowed spec → DesignsFit spec imp ⊎ ((fault : MatchFault) × IsRefusalFor spec imp fault)
+
+-- a pair stands for designs that fit alone, and where they do the pair of flat netlists that stand for them does
+pub record PairsStandForFitting (spec imp : Design) : Type 0 where
+  pub fit : (p : NetPair) → IsPairFor spec imp p → DesignsFit spec imp
+  pub pair : DesignsFit spec imp → (f g : FlatNet) → AreNetsFor spec imp f g → IsFlat f → IsFlat g → (p : NetPair) × IsPairOf f g p
+
+abbrev pub PairsStandExactlyForFitting : Type 0
+PairsStandExactlyForFitting = (spec imp : Design) → IsAllowed spec → IsAllowed imp → PairsStandForFitting spec imp
+
+-- and two sound designs that fit have a pair
+abbrev pub FittingDesignsHavePairs : Type 0
+FittingDesignsHavePairs = (spec imp : Design) → IsAllowed spec → IsAllowed imp → DesignsFit spec imp → (p : NetPair) × IsPairFor spec imp p

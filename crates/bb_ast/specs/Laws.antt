@@ -1,0 +1,2 @@
+-- Laws, and the words that laws alone need.
+pub mod FoldLaws

@@ -1,0 +1,6 @@
+-- What the code says to itself: no clause of the top call rests on it.
+pub mod Counting
+pub mod Listing
+pub mod Outlines
+pub mod Outlining
+pub mod Placements

@@ -1,0 +1,7 @@
+-- What the code says to itself: no clause of the top call rests on it.
+pub mod Analysis
+pub mod Events
+pub mod Measure
+pub mod Outcomes
+pub mod States
+pub mod Trails

@@ -1,0 +1,7 @@
+-- What the code says to itself: no clause of the top call rests on it.
+pub mod CopyEnds
+pub mod DrivenNumbers
+pub mod PlacedPaths
+pub mod Placings
+pub mod Stages
+pub mod StoredNumbers

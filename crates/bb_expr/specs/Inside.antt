@@ -1,0 +1,5 @@
+-- What the code says to itself: no clause of the top call rests on it.
+pub mod Fit
+pub mod Growing
+pub mod Shares
+pub mod Standing

@@ -1,0 +1,100 @@
+-- Lists of steps while they grow:
+-- which places are still to be read, and which cells have been made so far.
+use Rattle.std.specs.Prelude.{◌≡◌, ◌<◌, ◌≤◌, ℕ, ◌+◌, ◌*◌, false, true, List, [], ◌∷◌, ◌++◌, map, length, All, slice_index_or}
+use Rattle.std.specs.List.{range_with_len, flat_map}
+use Rattle.std.specs.List.Sorted.{IsPermutation}
+use Rattle.bb_names.specs.declared.net.NetInfo.{NetInfo}
+use Rattle.bb_expr.specs.declared.step.BitStep.{BitStep}
+use Rattle.bb_expr.specs.declared.step.BitStep.TheVariants as steps
+use Rattle.bb_ast.specs.Syntax.{Expression}
+use Rattle.bb_ast.specs.declared.expr.Op.{Op}
+use Rattle.bb_ast.specs.declared.expr.Op.TheVariants as ops
+use Rattle.bb_names.specs.Widths.{Ranges, own_width}
+use Rattle.bb_expr.specs.Lists.{extended, bitwise}
+use Rattle.bb_expr.specs.Terms.{Term, Const, And, Or, Xor}
+use Rattle.bb_expr.specs.Cells.{Made, made, inverted, any_bit, operated, chained, arm_made}
+use Rattle.bb_expr.specs.Lowered.{Reads, IsUsed, is_operator, operators, term_at}
+
+abbrev pub step_at : List BitStep → ℕ → BitStep
+step_at all place = slice_index_or all place (steps.Const false)
+
+-- each step reads earlier ones, or a bit that a net has
+abbrev pub AreOrdered : List NetInfo → List BitStep → Type 0
+AreOrdered nets all = (k : ℕ) → k < length all → Reads nets k (step_at all k)
+
+-- the operators among the steps are these cells, and each of them is read by a later step or is one of the places that are kept
+pub record AreSteps (nets : List NetInfo) (all : List BitStep) (kept : List ℕ) (terms : List Term) : Type 0 where
+  pub earlier : AreOrdered nets all
+  pub cells : IsPermutation terms (operators nets all)
+  pub used : (k : ℕ) → k < length all → is_operator (step_at all k) ≡ true → IsUsed all kept k
+
+-- the steps that were added make these bits and these cells, whatever was made before and is kept; and they are few
+pub record Adds (nets : List NetInfo) (m : Made) (old new : List BitStep) (bits : List ℕ) : Type 0 where
+  pub more : List BitStep
+  pub grows : new ≡ old ++ more
+  pub within : All (λ k. k < length new) bits
+  pub long : length bits ≡ length m.bits
+  pub few : length new ≤ length old + (length bits + 3 * length m.cells)
+  pub makes : (kept : List ℕ) (terms : List Term) → AreSteps nets old kept terms
+      → AreSteps nets new (bits ++ kept) (terms ++ m.cells) × (map (term_at nets new) bits ≡ m.bits)
+
+-- a row of steps behind others, with its places
+pub record AddsRow (rows old new : List BitStep) (places : List ℕ) : Type 0 where
+  pub grows : new ≡ old ++ rows
+  pub numbered : places ≡ range_with_len (length old) (length rows)
+
+-- an operator for each pair of bits
+abbrev pub paired : (ℕ → ℕ → BitStep) → List ℕ → List ℕ → List BitStep
+paired op [] ys = []
+paired op (x ∷ xs) [] = []
+paired op (x ∷ xs) (y ∷ ys) = op x y ∷ paired op xs ys
+
+-- the operator between two bits, before an inversion
+abbrev pub gate_step : Op → ℕ → ℕ → BitStep
+gate_step ops.And = steps.And
+gate_step ops.Or = steps.Or
+gate_step ops.Xor = steps.Xor
+gate_step ops.Xnor = steps.Xor
+
+abbrev pub gate_term : Op → Term → Term → Term
+gate_term ops.And = And
+gate_term ops.Or = Or
+gate_term ops.Xor = Xor
+gate_term ops.Xnor = Xor
+
+-- whether some bit is 1
+abbrev pub reduced : Made → Made
+reduced m = let any = any_bit m.bits in record { bits = any.0 ∷ []; cells = m.cells ++ any.1 }
+
+-- with zeros on the left
+abbrev pub widened : ℕ → Made → Made
+widened w m = record { bits = extended (Const false) w m.bits; cells = m.cells }
+
+-- with a complement of each bit
+abbrev pub complemented : Made → Made
+complemented m = record { bits = inverted m.bits; cells = m.cells ++ inverted m.bits }
+
+-- one expression's bits with another's, by an operator
+abbrev pub gated : Op → Made → Made → Made
+gated op m n = let bits = bitwise (gate_term op) m.bits n.bits in record { bits = bits; cells = m.cells ++ n.cells ++ bits }
+
+-- parts side by side, each at its own width
+abbrev pub beside : Ranges → List Expression → Made
+beside ranges all = record {
+  bits = flat_map (λ e. (made ranges e (own_width ranges e)).bits) all;
+  cells = flat_map (λ e. (made ranges e (own_width ranges e)).cells) all;
+}
+
+-- how many steps suffice for an expression's bits and cells
+abbrev pub most_steps : ℕ → ℕ → ℕ
+most_steps width cells = width + 3 * cells
+
+-- the operands of a chain behind what was made before them
+abbrev pub chained_on : Ranges → ℕ → Made → List (Op × Expression) → Made
+chained_on ranges w m [] = m
+chained_on ranges w m (x ∷ xs) = let right = made ranges x.1 w in chained_on ranges w (chained m right (operated x.0 m.bits right.bits)) xs
+
+-- the arms of a conditional before what is made where no condition holds
+abbrev pub arms_on : Ranges → ℕ → Made → List (Expression × Expression) → Made
+arms_on ranges w m [] = m
+arms_on ranges w m (x ∷ xs) = arm_made (made ranges x.0 (own_width ranges x.0)) (made ranges x.1 w) (arms_on ranges w m xs)

@@ -1,0 +1,13 @@
+-- Of modules, by their places, how many instances stand below each other in them.
+use Rattle.std.specs.Prelude.{ℕ, zero, suc, ◌+◌, max, Bool, true, List, [], ◌∷◌}
+use Rattle.std.specs.List.{list_any, slice_index_or}
+
+-- whether so many instances stand below each other in the module at a place
+abbrev pub is_tall : List (List ℕ) → ℕ → ℕ → Bool
+is_tall lists zero k = true
+is_tall lists (suc n) k = list_any (is_tall lists n) (slice_index_or lists k [])
+
+-- one level more than the tallest of these modules has
+abbrev pub height_over : (ℕ → ℕ) → List ℕ → ℕ
+height_over height [] = 0
+height_over height (k ∷ called) = max (height k + 1) (height_over height called)

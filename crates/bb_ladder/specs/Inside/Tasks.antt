@@ -1,0 +1,36 @@
+-- What a call does, as the code hands it on.
+use Rattle.std.specs.Prelude.{◌≡◌, ℕ, ◌≤◌, List, Some}
+use Rattle.bb_options.specs.Rungs.{AreBounds}
+use Rattle.bb_words.specs.Asked.{made_asked, rup_asked}
+use Rattle.bb_ladder.specs.Answers.{question_of}
+use Rattle.bb_ladder.specs.Refutations.{Checks}
+use Rattle.bb_ladder.specs.TextAnswers.{Judges}
+use Rattle.bb_ladder.specs.declared.words.Call.{Call}
+use Rattle.bb_ladder.specs.declared.words.Call.TheVariants.{Files, Made}
+use Rattle.bb_ladder.specs.declared.words.Task.{Task}
+use Rattle.bb_ladder.specs.declared.words.Task.TheVariants.{Comparison, Refutation}
+
+-- what may be answered to two texts
+abbrev pub judged_by : Task → List ℕ → List ℕ → ℕ → List ℕ → Type 0
+judged_by (Comparison asked) = Judges asked
+judged_by Refutation = Checks
+
+-- the words ask for it, of files with these names
+abbrev pub AskTask : List (List ℕ) → List ℕ → List ℕ → Task → Type 0
+AskTask words first second (Comparison asked) = question_of words ≡ Some (record { spec = first; imp = second; asked = asked })
+AskTask words first second Refutation = rup_asked words ≡ Some (record { cnf = first; adds = second })
+
+-- its checks are within their bounds
+abbrev pub IsBounded : Task → Type 0
+IsBounded (Comparison asked) = AreBounds asked.options
+IsBounded Refutation = Unit {0}
+
+-- the words ask for this call
+abbrev pub AskCall : List (List ℕ) → Call → Type 0
+AskCall words (Files question) = AskTask words question.spec.now question.imp.now question.task
+AskCall words (Made n options) = made_asked words ≡ Some (record { n = n; options = options })
+
+-- its numbers are within their bounds
+abbrev pub HasBounds : Call → Type 0
+HasBounds (Files question) = IsBounded question.task
+HasBounds (Made n options) = (1 ≤ n) × (n ≤ 256) × AreBounds options

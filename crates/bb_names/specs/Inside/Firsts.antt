@@ -1,0 +1,91 @@
+-- The leftmost fault of each kind among spots that are looked at from left to right.
+use Rattle.std.specs.Prelude.{◌≡◌, ◌⊎◌, ℕ, ◌-◌, ◌^◌, ◌==◌, Bool, not, if◌then◌else◌, List, [], ◌∷◌, ◌++◌, Option, Some, None, option_map, min, Result, MatchResult}
+use Rattle.std.specs.List.{flat_map}
+use Rattle.std.specs.Option.{option_or}
+use Rattle.bb_ast.specs.declared.module.Gate.{Gate}
+use Rattle.bb_ast.specs.Syntax.{Expression, PlainAlways, PlainConns, PlainHead, PlainItem, PlainModule}
+use Rattle.bb_ast.specs.Folds.{fold_by}
+use Rattle.bb_names.specs.declared.fault.NameFault.{NameFault}
+use Rattle.bb_names.specs.declared.fault.NameFault.TheVariants as faults
+use Rattle.bb_names.specs.declared.faults.found.Found.{Found}
+use Rattle.bb_names.specs.declared.faults.roles.Role.{Role}
+use Rattle.bb_names.specs.declared.faults.roles.Role.TheVariants as roles
+use Rattle.bb_names.specs.Declarations.{Declaration, declared_by, declared_by_head, instance_declaration}
+use Rattle.bb_names.specs.Faults.{Rows, statement_faults, told_if, twice, unknown, wrong_select, wrong_width, wrong_role}
+use Rattle.bb_names.specs.Spots.{Use, Read, Driven, Stored, Spot, HeadName, Declared as DeclaredSpot, Placed, Terminal, Clock, inside, part_spots, spots_in, declared_spots, conns_spots, place_count, item_spots}
+use Rattle.bb_bits.specs.Earlier.{has_name}
+
+abbrev pub first_of : {A : Type 0} → List A → Option A
+first_of [] = None
+first_of (x ∷ xs) = Some x
+
+-- the leftmost name that rows tell of spots
+abbrev pub first_told : Rows → List PlainModule → PlainModule → List Spot → Option (List ℕ)
+first_told rows text m spots = first_of (flat_map (rows text m) spots)
+
+-- what is found where these spots stand to the right of others
+abbrev pub noted : List PlainModule → PlainModule → Found → List Spot → Found
+noted text m f spots = record {
+  twice = option_or f.twice (first_told twice text m spots);
+  unknown = option_or f.unknown (first_told unknown text m spots);
+  select = option_or f.select (first_told wrong_select text m spots);
+  width = option_or f.width (first_told wrong_width text m spots);
+  role = option_or f.role (first_told wrong_role text m spots);
+}
+
+abbrev pub nothing : Found
+nothing = record { twice = None; unknown = None; select = None; width = None; role = None }
+
+-- the first fault in the order of the kinds
+abbrev pub first_fault : ℕ → Found → Option NameFault
+first_fault line f = option_or (option_map (faults.Twice line) f.twice) (option_or (option_map (faults.Unknown line) f.unknown)
+    (option_or (option_map (faults.Select line) f.select) (option_or (option_map (faults.Width line) f.width) (option_map (faults.Role line) f.role))))
+
+abbrev pub use_of : Role → Use
+use_of roles.Read = Read
+use_of roles.Driven = Driven
+use_of roles.Stored = Stored
+
+-- what stands in an expression, without the whole
+abbrev pub inner_spots : Use → Expression → List Spot
+inner_spots how = fold_by (λ x spots. (x, spots)) (inside how)
+
+-- a width as far as 64 bits tell it
+abbrev pub saturated : ℕ → ℕ
+saturated n = min n (2 ^ 64 - 1)
+
+-- a part of a concatenation or replication
+abbrev pub spots_of_part : Use → Expression → List Spot
+spots_of_part how e = part_spots (e, inner_spots how e)
+
+-- where an expression has not the width that is wanted, a word is told of it before all that stands in it
+abbrev pub noted_width : List PlainModule → PlainModule → Found → ℕ → ℕ → List ℕ → List Spot → Found
+noted_width text m f width wanted word spots = noted text m (record f { width = option_or f.width (first_of (told_if (not (width == wanted)) word)) }) spots
+
+-- a name of a header, after the earlier ones
+abbrev pub head_spots : List PlainHead → PlainHead → List Spot
+head_spots before head = HeadName before head.name ∷ declared_spots (flat_map declared_by_head before) (declared_by_head head)
+
+-- a terminal of a gate
+abbrev pub terminal_spots : Gate → Bool → Expression → List Spot
+terminal_spots gate output e = Terminal gate output e ∷ spots_in (if output then Driven else Read) e
+
+-- a register
+abbrev pub register_spots : PlainAlways → List Spot
+register_spots r = Clock r.clock ∷ spots_in Read r.clock ++ spots_in Stored r.left ++ spots_in Read r.right
+
+-- an instance, after the earlier declarations
+abbrev pub call_spots : Option PlainModule → List Declaration → List ℕ × PlainConns → List Spot
+call_spots target before x = DeclaredSpot before (instance_declaration x.0) ∷ Placed target x.0 (place_count x.1) ∷ conns_spots target x.1
+
+-- the same names are among both
+abbrev pub AreSame : List (List ℕ) → List (List ℕ) → Type 0
+AreSame keys names = (n : List ℕ) → has_name n keys ≡ has_name n names
+
+-- no fault is answered where there is none, and else the first, unless memory runs out
+abbrev pub Answers : {A : Type 0} → Result A NameFault → List NameFault → Type 0
+Answers result all = MatchResult result (λ _. all ≡ []) (λ fault. (fault ≡ faults.NoMemory) ⊎ (first_of all ≡ Some fault))
+
+-- the faults of an item, after the earlier ones
+abbrev pub item_faults : List PlainModule → PlainModule → List PlainItem → PlainItem → List NameFault
+item_faults text m before item = statement_faults text m item.line (item_spots text (flat_map declared_by_head m.heads ++ flat_map (λ x. declared_by x.body) before) item.body)

@@ -1,0 +1,5 @@
+-- What the code says to itself: no clause of the top call rests on it.
+pub mod KeptFiles
+pub mod MemFiles
+pub mod MemSink
+pub mod Streams

@@ -1,0 +1,139 @@
+-- Reading expressions from the left, on lists.
+use Rattle.std.specs.Prelude.{ℕ, zero, suc, ◌+◌, Bool, false, List, [], ◌∷◌, ◌++◌, Option, Some, None, length, if◌then◌else◌}
+use Rattle.bb_ast.specs.declared.expr.Op.{Op}
+use Rattle.bb_ast.specs.Syntax.{Expression, Net, Bit, Part, Sized, Plain, Concat, Repeat, listed_parts}
+use Rattle.bb_lex.specs.declared.mark.Mark.{Mark}
+use Rattle.bb_lex.specs.declared.mark.Mark.TheVariants.{LeftRound, RightRound, LeftSquare, RightSquare, LeftBrace, RightBrace, Colon, Tilde, Query}
+use Rattle.bb_lex.specs.declared.token.Kind.{Kind}
+use Rattle.bb_lex.specs.declared.token.Kind.TheVariants as kinds
+use Rattle.bb_parse.specs.declared.level.Level.{Level}
+use Rattle.bb_parse.specs.declared.level.Level.TheVariants as levels
+use Rattle.bb_parse.specs.Symbols.{Symbol, Identifier, Reserved, SizedNumber, PlainNumber, Sign}
+use Rattle.bb_parse.specs.Expressions.{level_operator, negated, chained, conditional}
+use Rattle.bb_parse.specs.Inside.Symbols.{is_next, behind, next_kind}
+use Rattle.bb_parse.specs.Inside.Steps.{Read, ◌>>=◌, read_mark, read_name, read_sized, read_plain, with_front, read_list}
+
+-- behind a name and [
+unfoldable pub read_index : List ℕ → List Symbol → Read Expression
+read_index name ts = read_plain ts >>= (λ i.
+    if is_next Colon i.1 then read_plain (behind i.1) >>= (λ j. read_mark RightSquare j.1 >>= (λ u. Some (Part name i.0 j.0, u.1)))
+    else read_mark RightSquare i.1 >>= (λ u. Some (Bit name i.0, u.1)))
+
+unfoldable pub read_select : List Symbol → Read Expression
+read_select ts = read_name ts >>= (λ n. if is_next LeftSquare n.1 then read_index n.0 (behind n.1) else Some (Net n.0, n.1))
+
+-- a number and { come next
+abbrev pub begins_repeat : List Symbol → Bool
+begins_repeat [] = false
+begins_repeat (Identifier n ∷ ts) = false
+begins_repeat (Reserved w ∷ ts) = false
+begins_repeat (SizedNumber b ∷ ts) = false
+begins_repeat (PlainNumber n ∷ ts) = is_next LeftBrace ts
+begins_repeat (Sign m ∷ ts) = false
+
+-- behind {
+unfoldable pub read_braces : (List Symbol → Read Expression) → List Symbol → Read Expression
+read_braces inner ts =
+    if begins_repeat ts then read_plain ts >>= (λ k. read_list inner (behind k.1) >>= (λ es. read_mark RightBrace es.1 >>= (λ u. read_mark RightBrace u.1 >>= (λ v. Some (Repeat k.0 (listed_parts es.0), v.1)))))
+    else read_list inner ts >>= (λ es. read_mark RightBrace es.1 >>= (λ u. Some (Concat (listed_parts es.0), u.1)))
+
+unfoldable pub read_round : (List Symbol → Read Expression) → List Symbol → Read Expression
+read_round inner ts = inner ts >>= (λ e. read_mark RightRound e.1 >>= (λ u. Some (e.0, u.1)))
+
+abbrev pub bracket_at : Mark → (List Symbol → Read Expression) → List Symbol → Read Expression
+bracket_at LeftRound inner ts = read_round inner ts
+bracket_at LeftBrace inner ts = read_braces inner ts
+bracket_at _ inner ts = None
+
+abbrev pub primary_at : Option Kind → (List Symbol → Read Expression) → List Symbol → Read Expression
+primary_at None inner ts = None
+primary_at (Some kinds.Name) inner ts = read_select ts
+primary_at (Some (kinds.Word w)) inner ts = None
+primary_at (Some kinds.Sized) inner ts = read_sized ts >>= (λ x. Some (Sized x.0, x.1))
+primary_at (Some kinds.Plain) inner ts = read_plain ts >>= (λ x. Some (Plain x.0, x.1))
+primary_at (Some (kinds.Mark m)) inner ts = bracket_at m inner (behind ts)
+
+unfoldable pub read_primary : (List Symbol → Read Expression) → List Symbol → Read Expression
+read_primary inner ts = primary_at (next_kind ts) inner ts
+
+-- a run of ~, at most so many signs
+abbrev pub read_signs : ℕ → List Symbol → ℕ × List Symbol
+read_signs zero ts = (0, ts)
+read_signs (suc n) ts = if is_next Tilde ts then (suc (read_signs n (behind ts)).0, (read_signs n (behind ts)).1) else (0, ts)
+
+-- so many more signs
+unfoldable pub plus_signs : ℕ → ℕ × List Symbol → ℕ × List Symbol
+plus_signs k read = (k + read.0, read.1)
+
+unfoldable pub read_unary : (List Symbol → Read Expression) → List Symbol → Read Expression
+read_unary inner ts = read_primary inner (read_signs (length ts) ts).1 >>= (λ e. Some (negated (read_signs (length ts) ts).0 e.0, e.1))
+
+-- the operator of the level that comes next
+abbrev pub next_operator : Level → List Symbol → Option Op
+next_operator level [] = None
+next_operator level (Identifier n ∷ ts) = None
+next_operator level (Reserved w ∷ ts) = None
+next_operator level (SizedNumber b ∷ ts) = None
+next_operator level (PlainNumber n ∷ ts) = None
+next_operator level (Sign m ∷ ts) = level_operator level m
+
+-- what comes with an operator, or the end of the chain
+abbrev pub operands_at : Option Op → List Symbol → (Op → Read (List (Op × Expression))) → Read (List (Op × Expression))
+operands_at None ts more = Some ([], ts)
+operands_at (Some op) ts more = more op
+
+abbrev pub read_operands : Level → (List Symbol → Read Expression) → ℕ → List Symbol → Read (List (Op × Expression))
+read_operands level operand zero ts = Some ([], ts)
+read_operands level operand (suc n) ts = operands_at (next_operator level ts) ts
+    (λ op. operand (behind ts) >>= (λ x. with_front ((op, x.0) ∷ []) (read_operands level operand n x.1)))
+
+-- the chain of an operand and those that were read
+abbrev pub chain_from : Expression → Read (List (Op × Expression)) → Read Expression
+chain_from x read = read >>= (λ xs. Some (chained x xs.0, xs.1))
+
+unfoldable pub read_chain : Level → (List Symbol → Read Expression) → List Symbol → Read Expression
+read_chain level operand ts = operand ts >>= (λ x. chain_from x.0 (read_operands level operand (length x.1) x.1))
+
+-- an operand of a chain of the level
+abbrev pub read_operand : Level → (List Symbol → Read Expression) → List Symbol → Read Expression
+read_operand levels.And inner = read_unary inner
+read_operand levels.Xor inner = read_chain levels.And (read_unary inner)
+read_operand levels.Or inner = read_chain levels.Xor (read_chain levels.And (read_unary inner))
+
+abbrev pub read_level : Level → (List Symbol → Read Expression) → List Symbol → Read Expression
+read_level level inner = read_chain level (read_operand level inner)
+
+-- with these in front of arms that were read
+abbrev pub with_arms : List (Expression × Expression) → Read (List (Expression × Expression) × Expression) → Read (List (Expression × Expression) × Expression)
+with_arms front None = None
+with_arms front (Some x) = Some ((front ++ x.0.0, x.0.1), x.1)
+
+-- behind a condition and ?, its value and :
+unfoldable pub read_arm : Expression → (List Symbol → Read Expression) → List Symbol → Read (Expression × Expression)
+read_arm x inner ts = inner ts >>= (λ v. read_mark Colon v.1 >>= (λ u. Some ((x, v.0), u.1)))
+
+-- at most so many conditions, and the last branch
+abbrev pub read_arms : (List Symbol → Read Expression) → ℕ → List Symbol → Read (List (Expression × Expression) × Expression)
+read_arms inner zero ts = None
+read_arms inner (suc n) ts = read_level levels.Or inner ts >>= (λ c.
+    if is_next Query c.1 then read_arm c.0 inner (behind c.1) >>= (λ a. with_arms (a.0 ∷ []) (read_arms inner n a.1))
+    else Some (([], c.0), c.1))
+
+-- the conditional of arms that were read
+abbrev pub conditional_from : Read (List (Expression × Expression) × Expression) → Read Expression
+conditional_from read = read >>= (λ x. Some (conditional x.0.0 x.0.1, x.1))
+
+unfoldable pub read_conditional : (List Symbol → Read Expression) → List Symbol → Read Expression
+read_conditional inner ts = conditional_from (read_arms inner (length ts) ts)
+
+unfoldable pub read_expr : ℕ → List Symbol → Read Expression
+read_expr zero ts = None
+read_expr (suc n) ts = read_conditional (read_expr n) ts
+
+-- behind {, what may be assigned
+unfoldable pub read_lvals : (List Symbol → Read Expression) → List Symbol → Read Expression
+read_lvals inner ts = read_list inner ts >>= (λ es. read_mark RightBrace es.1 >>= (λ u. Some (Concat (listed_parts es.0), u.1)))
+
+unfoldable pub read_lval : ℕ → List Symbol → Read Expression
+read_lval zero ts = None
+read_lval (suc n) ts = if is_next LeftBrace ts then read_lvals (read_lval n) (behind ts) else read_select ts
