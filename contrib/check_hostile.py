@@ -150,8 +150,10 @@ def ended_part(tally, folder):
     for number in (signal.SIGTERM, signal.SIGINT):
         if os.path.exists(started):
             os.remove(started)
-        child = subprocess.Popen([script("order"), example("carry", "spec.v")], env={**os.environ, "BBEQ": program}, stdout=subprocess.DEVNULL,
-                                 stderr=subprocess.PIPE, text=True)
+        # In the background of a shell SIGINT is ignored, which a child would inherit.
+        child = subprocess.Popen([script("order"), example("carry", "spec.v")], env={**os.environ, "BBEQ": program},
+                                 stdout=subprocess.DEVNULL, stderr=subprocess.PIPE, text=True,
+                                 preexec_fn=lambda: signal.signal(signal.SIGINT, signal.SIG_DFL))
         until = time.monotonic() + LIMIT
         while not (os.path.exists(started) and read(started).strip()) and time.monotonic() < until:
             time.sleep(0.05)
