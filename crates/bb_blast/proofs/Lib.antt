@@ -12,6 +12,7 @@ pub mod ListedParts
 pub mod ListedScopes
 pub mod ListedSteps
 pub mod ListingLoops
+pub mod LogicSteps
 pub mod MakeableConstructs
 pub mod ModuleItems
 pub mod ModulePlaces
@@ -22,3 +23,4 @@ pub mod PortNets
 pub mod RegisterItems
 pub mod ScopesAmong
 pub mod SitedScopes
+pub mod WholeParts

@@ -2,7 +2,7 @@
 -- modules put there, scope by scope.
 use Rattle.std.proofs.Common.{◌≡◌, ℕ, zero, suc, ◌+◌, ◌-◌, Bool, true, false, if◌then◌else◌, List, [], ◌∷◌, ◌++◌, map, flat_map, take, length, All, Option, Some, None, refl, sym, ap, ap₂, ◌∙◌, subst, arith, length-append, append_assoc, append-nil}
 use Rattle.std.specs.Prelude.{slice_get, slice_index}
-use Rattle.std.specs.List.{fold, enumerate_from}
+use Rattle.std.specs.List.{AllZip, fold, enumerate_from}
 use Rattle.std.specs.Option.{option_map_or}
 use Rattle.std.proofs.lemmas.List.{length-map, map-append}
 use Rattle.std.proofs.lemmas.List.Elements.{All-nil, All-cons}
@@ -16,13 +16,15 @@ use Rattle.bb_design.specs.Hierarchy.{Design, Scope}
 use Rattle.bb_design.specs.NetBits.{Bit}
 use Rattle.bb_design.specs.Constructs.{Construct, BoxContents}
 use Rattle.bb_blast.specs.Inside.Counting.{capped, behind}
-use Rattle.bb_blast.specs.Inside.Listing.{Sources, Site, Sheet, Terminals, given_one, given_all, constant_place, site_of, with_steps, with_terminals, with_part, with_parts, with_scope}
+use Rattle.bb_blast.specs.Inside.Listing.{Sources, Site, Sheet, Terminals, given_one, given_all, site_of, with_terminals, with_part, with_parts, with_scope}
+use Rattle.bb_blast.specs.Inside.Steps.{constant_place, with_steps}
 use Rattle.bb_blast.specs.Inside.Outlines.{IsPartOf}
 use Rattle.bb_cells.specs.Places.{Place, Constant, Input, NetBit, Step, Joined, Inverted, BoxPin, Numbering, Lowering, Steps, IsLoweringOf, AreSteps, given_at, data_at, places_at}
 use Rattle.bb_blast.proofs.BitNumbers.{bit_number, IsSiteOf}
 use Rattle.bb_blast.proofs.ListedConstructs.{HasInputs, part_puts}
 use Rattle.bb_blast.proofs.ListedParts.{lowereds, Puts, pair}
 use Rattle.bb_blast.proofs.PlacesInRow.{Entry, AreInRow, both_rows, no_row, cells_in}
+use Rattle.bb_blast.proofs.WholeParts.{Whole, with_whole, IsWholeOf, whole_of}
 
 -- a part where it stands; a box has none
 pub record Block : Type 0 where
@@ -78,8 +80,54 @@ IsItemOf d site (Some q) (s, c) = IsSiteOf d s site × IsPartOf d.text s.source 
 abbrev pub IsBlockOf : Design → Block → Scope × Construct → Type 0
 IsBlockOf d b x = IsItemOf d b.site b.item x
 
+-- the same with all steps of expressions
+pub record WholeBlock : Type 0 where
+  pub site : Site
+  pub item : Option Whole
+
+abbrev pub with_whole_item : ℕ → ℕ → Site → Sheet → Option Whole → Sheet
+with_whole_item nets start site sheet None = sheet
+with_whole_item nets start site sheet (Some q) = with_whole nets start site sheet q
+
+abbrev pub with_whole_block : ℕ → ℕ → Sheet → WholeBlock → Sheet
+with_whole_block nets start sheet b = with_whole_item nets start b.site sheet b.item
+
+abbrev pub IsWholeItemOf : Design → Site → Option Whole → Scope × Construct → Type 0
+IsWholeItemOf d site None (s, c) = c ≡ BoxContents
+IsWholeItemOf d site (Some q) (s, c) = IsSiteOf d s site × IsWholeOf d.text s.source q c
+
+abbrev pub IsWholeBlockOf : Design → WholeBlock → Scope × Construct → Type 0
+IsWholeBlockOf d b x = IsWholeItemOf d b.site b.item x
+
+-- blocks put there what all steps of their expressions would put there
+pub record AreWhole (d : Design) (bs : List Block) (xs : List (Scope × Construct)) : Type 0 where
+  pub wholes : List WholeBlock
+  pub stand : AllZip (IsWholeBlockOf d) wholes xs
+  pub put : (nets start : ℕ) (sheet : Sheet) → fold (with_block nets start) sheet bs ≡ fold (with_whole_block nets start) sheet wholes
+
+pub wholes_of : (d : Design) (bs : List Block) (xs : List (Scope × Construct)) → AllZip (IsBlockOf d) bs xs → AreWhole d bs xs
+wholes_of d [] [] all = record { wholes = []; stand = tt; put = λ nets start sheet. refl }
+wholes_of d [] (x ∷ xs) all = absurd all
+wholes_of d (b ∷ bs) [] all = absurd all
+wholes_of d (b ∷ bs) ((s, c) ∷ xs) all = by b.item refl all.0 (wholes_of d bs xs all.1)
+  where
+    by : (o : Option Part) → b.item ≡ o → IsItemOf d b.site o (s, c) → AreWhole d bs xs → AreWhole d (b ∷ bs) ((s, c) ∷ xs)
+    by None e same rest = record {
+      wholes = record { site = b.site; item = None } ∷ rest.wholes;
+      stand = (same, rest.stand);
+      put = λ nets start sheet. ap (λ (o : Option Part). fold (with_block nets start) (with_item nets start b.site sheet o) bs) e ∙ rest.put nets start sheet;
+    }
+    by (Some q) e stands rest =
+        let w = whole_of d.text s.source q c stands.1 in
+        record {
+          wholes = record { site = b.site; item = Some w.whole } ∷ rest.wholes;
+          stand = ((stands.0, w.stands), rest.stand);
+          put = λ nets start sheet. ap (λ (o : Option Part). fold (with_block nets start) (with_item nets start b.site sheet o) bs) e
+              ∙ rest.put nets start (with_part nets start b.site sheet q) ∙ ap (λ (z : Sheet). fold (with_whole_block nets start) z rest.wholes) (w.puts nets start b.site sheet);
+        }
+
 -- how the expressions of blocks are lowered
-abbrev pub block_lowereds : Option Part → List Lowered
+abbrev pub block_lowereds : Option Whole → List Lowered
 block_lowereds None = []
 block_lowereds (Some q) = lowereds q
 
@@ -87,10 +135,10 @@ abbrev pub steps_of : Option Lowered → Steps
 steps_of None = record { all = []; bits = [] }
 steps_of (Some l) = record { all = l.steps.items; bits = l.bits.items }
 
-abbrev pub lowereds_at : List Block → ℕ → List Lowered
+abbrev pub lowereds_at : List WholeBlock → ℕ → List Lowered
 lowereds_at bs k = option_map_or (λ b. block_lowereds b.item) (slice_get bs k) []
 
-unfoldable pub lowering_of : List Block → Lowering
+unfoldable pub lowering_of : List WholeBlock → Lowering
 lowering_of bs k x = steps_of (slice_get (lowereds_at bs k) x)
 
 -- what a row of constructs puts between two sheets
@@ -147,9 +195,9 @@ module _ (d : Design) (lowering : Lowering) (number : Numbering) (nets start : �
           })
 
 -- the blocks of a design
-module _ (d : Design) (bs : List Block) (nets start : ℕ) (first : Sheet) (pins_before : ℕ → ℕ) where
+module _ (d : Design) (bs : List WholeBlock) (nets start : ℕ) (first : Sheet) (pins_before : ℕ → ℕ) where
   abbrev pub sheet_at : ℕ → Sheet
-  sheet_at k = fold (with_block nets start) first (take k bs)
+  sheet_at k = fold (with_whole_block nets start) first (take k bs)
 
   abbrev terminals_at : Site → List Lowered → ℕ → Terminals
   terminals_at site ls k = with_terminals start (behind nets site.first) site.starts (sheet_at k).cells ls
@@ -171,12 +219,12 @@ module _ (d : Design) (bs : List Block) (nets start : ℕ) (first : Sheet) (pins
   number_of (Inverted k) = capped (start + length (terminals_at (site_at k) (lowereds_at bs k) k).cells + (length (lowereds_at bs k) - 1))
   number_of (BoxPin b p) = behind (start + pins_before b) p
 
-  pub block_puts : (k : ℕ) (b : Block) (s : Scope) (c : Construct) → slice_get bs k ≡ Some b → IsBlockOf d b (s, c) → HasInputs c
+  pub block_puts : (k : ℕ) (b : WholeBlock) (s : Scope) (c : Construct) → slice_get bs k ≡ Some b → IsWholeBlockOf d b (s, c) → HasInputs c
       → Puts d (lowering_of bs) number_of nets start (k, (s, c)) (sheet_at k) (sheet_at (suc k))
   unfolding number_of lowering_of
-  block_puts k b s c at is some = subst (Puts d (lowering_of bs) number_of nets start (k, (s, c)) (sheet_at k)) (sym (fold_at (with_block nets start) first bs k b at)) (by b.item refl is)
+  block_puts k b s c at is some = subst (Puts d (lowering_of bs) number_of nets start (k, (s, c)) (sheet_at k)) (sym (fold_at (with_whole_block nets start) first bs k b at)) (by b.item refl is)
     where
-      by : (o : Option Part) → b.item ≡ o → IsItemOf d b.site o (s, c) → Puts d (lowering_of bs) number_of nets start (k, (s, c)) (sheet_at k) (with_item nets start b.site (sheet_at k) o)
+      by : (o : Option Whole) → b.item ≡ o → IsWholeItemOf d b.site o (s, c) → Puts d (lowering_of bs) number_of nets start (k, (s, c)) (sheet_at k) (with_whole_item nets start b.site (sheet_at k) o)
       by None e same = subst (λ z. Puts d (lowering_of bs) number_of nets start (k, (s, z)) (sheet_at k) (sheet_at k)) (sym same) (record {
         cells = sym (append-nil (sheet_at k).cells);
         row = no_row number_of (start + length (sheet_at k).cells);
@@ -186,8 +234,8 @@ module _ (d : Design) (bs : List Block) (nets start : ℕ) (first : Sheet) (pins
         steps = All-nil _;
       })
       by (Some q) e stands =
-          let ls : lowereds_at bs k ≡ lowereds q = ap (λ (o : Option Block). option_map_or (λ (b : Block). block_lowereds b.item) o []) at ∙ ap block_lowereds e in
-          let site : site_at k ≡ b.site = ap (λ (o : Option Block). option_map_or (λ (b : Block). b.site) o nowhere) at in
+          let ls : lowereds_at bs k ≡ lowereds q = ap (λ (o : Option WholeBlock). option_map_or (λ (b : WholeBlock). block_lowereds b.item) o []) at ∙ ap block_lowereds e in
+          let site : site_at k ≡ b.site = ap (λ (o : Option WholeBlock). option_map_or (λ (b : WholeBlock). b.site) o nowhere) at in
           part_puts d (lowering_of bs) number_of nets start (λ b. refl) (λ b. refl) k s b.site stands.0 (sheet_at k) q c stands.1 (record {
             is = λ x l there. ap (λ z. steps_of (slice_get z x)) ls ∙ ap steps_of there;
             stands = λ x l there j. ap₂ (λ z y. slice_index (numbers_at z y k x) j) site ls

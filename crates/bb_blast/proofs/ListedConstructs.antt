@@ -13,7 +13,6 @@ use Rattle.bb_names.specs.Spots.{Pin}
 use Rattle.bb_expr.specs.declared.step.Lowered.{Lowered}
 use Rattle.bb_expr.specs.Lowered.{IsLowered}
 use Rattle.bb_net.specs.declared.loose.LooseCell.{LooseCell}
-use Rattle.bb_blast.specs.declared.outline.Part.{Part}
 use Rattle.bb_blast.specs.declared.outline.Part.TheVariants as part
 use Rattle.bb_design.specs.Hierarchy.{Design, Scope, path_to}
 use Rattle.bb_design.specs.NetBits.{Bit, scope_bits, bits_named, pin_bits, written_bits}
@@ -21,8 +20,9 @@ use Rattle.bb_design.specs.Contexts.{width_of, context_width}
 use Rattle.bb_bits.specs.Bits.{low_bits}
 use Rattle.bb_design.specs.Constructs.{Construct, Assignment, GateInstance, Register, SupplyNet, InputConnection, OutputConnection}
 use Rattle.bb_blast.specs.Inside.Counting.{behind}
-use Rattle.bb_blast.specs.Inside.Listing.{Site, Sheet, Terminals, given_all, constant_place, with_gate, with_terminals, with_part}
-use Rattle.bb_blast.specs.Inside.Outlines.{IsMadeIn, IsPinIn, IsPartOf}
+use Rattle.bb_blast.specs.Inside.Listing.{Site, Sheet, Terminals, given_all, with_gate, with_terminals}
+use Rattle.bb_blast.specs.Inside.Steps.{constant_place}
+use Rattle.bb_blast.specs.Inside.Outlines.{IsMadeIn, IsPinIn}
 use Rattle.bb_cells.specs.Places.{Constant, NetBit, Step, Numbering, Lowering, Steps, step_places, terminal_place, gate_place, joining_places, inverting_place, places_at, AreSteps}
 use Rattle.bb_blast.proofs.BitNumbers.{bit_number, IsSiteOf}
 use Rattle.bb_blast.proofs.ListedGates.{GateFits, gate_fits}
@@ -31,6 +31,7 @@ use Rattle.bb_blast.proofs.ListedParts.{lowereds, are_long, Puts, beside_is, all
 use Rattle.bb_blast.proofs.ListedSteps.{TerminalsFit, terminals_fit, steps_from, AllStandWell}
 use Rattle.bb_blast.proofs.PlacesInRow.{Entry, AreInRow, both_rows, no_row, cells_in, map-same}
 use Rattle.bb_lists.proofs.Maps.{map-twice}
+use Rattle.bb_blast.proofs.WholeParts.{Whole, Assigned, Clocked, Other, with_whole, IsWholeOf}
 
 zipped_left : {A B : Type 0} (R : A → B → Type 0) (xs : List A) (ys : List B) → AllZip R xs ys → (k : ℕ) (x : A) → slice_get xs k ≡ Some x → (y : B) × R x y
 zipped_left R [] [] all k x e = absurd (grind (arith, e))
@@ -109,8 +110,8 @@ module _ (d : Design) (lowering : Lowering) (number : Numbering) (nets start : �
     gate_place_is : (with_gate start (behind nets site.first) site.starts gate a.cells ins).place ≡ number (gate_place lowering gate k (length es))
     gate_place_is = gate_is.place ∙ ap (λ n. number (gate_place lowering gate k n)) (sym counted ∙ sym (AllZip-long (λ l e. IsMadeIn s.source l e (λ s. width_of s e)) ins es made))
 
-  abbrev Here : Part → Construct → Type 0
-  Here q c = Puts d lowering number nets start (k, (s, c)) a (with_part nets start site a q)
+  abbrev Here : Whole → Construct → Type 0
+  Here q c = Puts d lowering number nets start (k, (s, c)) a (with_whole nets start site a q)
 
   -- the places of the bits of a port
   pin_places : (instance : ℕ) (numbers : List ℕ) (i : List ℕ) (port : Pin) → IsPinIn d.text s.source instance numbers i port
@@ -122,19 +123,19 @@ module _ (d : Design) (lowering : Lowering) (number : Numbering) (nets start : �
       ∙ map-twice (behind (site.inner instance)) (behind nets) numbers
       ∙ map-same (λ j. behind nets (behind (site.inner instance) j)) (behind (behind nets (site.inner instance))) (λ j. behind_second nets (site.inner instance) j ∙ sym (behind_first nets (site.inner instance) j)) numbers
 
-  pub part_puts : (q : Part) (c : Construct) → IsPartOf d.text s.source q c → AreAtHere (lowereds q) → HasInputs c → Here q c
-  part_puts (part.Assignment left right) (Assignment l r) is at some = record {
+  pub part_puts : (q : Whole) (c : Construct) → IsWholeOf d.text s.source q c → AreAtHere (lowereds q) → HasInputs c → Here q c
+  part_puts (Assigned left right) (Assignment l r) is at some = record {
     cells = one_cells d lowering number nets start constants net_places k s site is_site a right at r (context_width s l r) is.1;
     row = one_row d lowering number nets start constants net_places k s site is_site a right at r (context_width s l r) is.1;
-    sources = ap (given_all a.sources) (sym (beside_is d lowering number nets start (written_bits s l) (low_bits (length (written_bits s l)) (step_places lowering k 0)) site.first left.items _
-        (own_bits d lowering number nets start constants net_places k s site is_site a left.items (λ s. written_bits s l) is.0)
-        (low_places d lowering number nets start constants net_places k s site is_site a right at r (context_width s l r) is.1 (length (written_bits s l)) (length left.items) (sym (are_long (scope_bits s) left.items (written_bits s l) (is.0 s.path))))));
+    sources = ap (given_all a.sources) (sym (beside_is d lowering number nets start (written_bits s l) (low_bits (length (written_bits s l)) (step_places lowering k 0)) site.first left _
+        (own_bits d lowering number nets start constants net_places k s site is_site a left (λ s. written_bits s l) is.0)
+        (low_places d lowering number nets start constants net_places k s site is_site a right at r (context_width s l r) is.1 (length (written_bits s l)) (length left) (sym (are_long (scope_bits s) left (written_bits s l) (is.0 s.path))))));
     next = refl;
     lowered = one_lowered d lowering number nets start constants net_places k s site is_site a right at r (context_width s l r) is.1;
     steps = one_steps d lowering number nets start constants net_places k s site is_site a right at r (context_width s l r) is.1;
   }
-  part_puts (part.Gate gate outs ins) (GateInstance g os es) is at some =
-      subst (λ (z : Gate). Puts d lowering number nets start (k, (s, GateInstance z os es)) a (with_part nets start site a (part.Gate gate outs ins))) is.0 (record {
+  part_puts (Other (part.Gate gate outs ins)) (GateInstance g os es) is at some =
+      subst (λ (z : Gate). Puts d lowering number nets start (k, (s, GateInstance z os es)) a (with_whole nets start site a (Other (part.Gate gate outs ins)))) is.0 (record {
         cells = gate_cells_are gate ins.items es is.2 at some ∙ ap (λ l. a.cells ++ cells_in l) (gate_places_are gate ins.items es is.2 at some os);
         row = subst (AreInRow number (start + length a.cells)) (gate_places_are gate ins.items es is.2 at some os) (gate_row gate ins.items es is.2 at some);
         sources = ap (given_all a.sources) (sym (all_is d lowering number nets start (flat_map (written_bits s) os) (gate_place lowering gate k (length es)) site.first outs.items (with_gate start (behind nets site.first) site.starts gate a.cells ins.items).place
@@ -143,17 +144,17 @@ module _ (d : Design) (lowering : Lowering) (number : Numbering) (nets start : �
         lowered = gate_lowered 0 ins.items es is.2 (λ x l e. ap (lowering k) (omega arith) ∙ at.is x l e);
         steps = gate_steps_are gate ins.items es is.2 at some os;
       })
-  part_puts (part.Register left right clock falling) (Register r) is at some = record {
+  part_puts (Clocked left right) (Register r) is at some = record {
     cells = one_cells d lowering number nets start constants net_places k s site is_site a right at r.right (context_width s r.left r.right) is.1;
     row = one_row d lowering number nets start constants net_places k s site is_site a right at r.right (context_width s r.left r.right) is.1;
     sources = refl;
-    next = ap (given_all a.next) (sym (beside_is d lowering number nets start (written_bits s r.left) (low_bits (length (written_bits s r.left)) (step_places lowering k 0)) site.first left.items _
-        (own_bits d lowering number nets start constants net_places k s site is_site a left.items (λ s. written_bits s r.left) is.0)
-        (low_places d lowering number nets start constants net_places k s site is_site a right at r.right (context_width s r.left r.right) is.1 (length (written_bits s r.left)) (length left.items) (sym (are_long (scope_bits s) left.items (written_bits s r.left) (is.0 s.path))))));
+    next = ap (given_all a.next) (sym (beside_is d lowering number nets start (written_bits s r.left) (low_bits (length (written_bits s r.left)) (step_places lowering k 0)) site.first left _
+        (own_bits d lowering number nets start constants net_places k s site is_site a left (λ s. written_bits s r.left) is.0)
+        (low_places d lowering number nets start constants net_places k s site is_site a right at r.right (context_width s r.left r.right) is.1 (length (written_bits s r.left)) (length left) (sym (are_long (scope_bits s) left (written_bits s r.left) (is.0 s.path))))));
     lowered = one_lowered d lowering number nets start constants net_places k s site is_site a right at r.right (context_width s r.left r.right) is.1;
     steps = one_steps d lowering number nets start constants net_places k s site is_site a right at r.right (context_width s r.left r.right) is.1;
   }
-  part_puts (part.Supply high bits) (SupplyNet h n) is at some = record {
+  part_puts (Other (part.Supply high bits)) (SupplyNet h n) is at some = record {
     cells = sym (append-nil a.cells);
     row = no_row number (start + length a.cells);
     sources = ap (given_all a.sources) (sym (all_is d lowering number nets start (bits_named s n) (Constant h) site.first bits.items (constant_place high)
@@ -162,7 +163,7 @@ module _ (d : Design) (lowering : Lowering) (number : Numbering) (nets start : �
     lowered = All-nil _;
     steps = All-nil _;
   }
-  part_puts (part.Input instance pin value) (InputConnection i port e) is at some = record {
+  part_puts (Other (part.Input instance pin value)) (InputConnection i port e) is at some = record {
     cells = one_cells d lowering number nets start constants net_places k s site is_site a value at e (width_of s e) is.1;
     row = one_row d lowering number nets start constants net_places k s site is_site a value at e (width_of s e) is.1;
     sources = ap (given_all a.sources) (sym (beside_is d lowering number nets start (pin_bits (path_to s.path i) port) (step_places lowering k 0) (site.inner instance) pin.items _
@@ -171,7 +172,7 @@ module _ (d : Design) (lowering : Lowering) (number : Numbering) (nets start : �
     lowered = one_lowered d lowering number nets start constants net_places k s site is_site a value at e (width_of s e) is.1;
     steps = one_steps d lowering number nets start constants net_places k s site is_site a value at e (width_of s e) is.1;
   }
-  part_puts (part.Output instance pin left) (OutputConnection i port e) is at some = record {
+  part_puts (Other (part.Output instance pin left)) (OutputConnection i port e) is at some = record {
     cells = sym (append-nil a.cells);
     row = no_row number (start + length a.cells);
     sources = ap (given_all a.sources) (sym (beside_is d lowering number nets start (written_bits s e) (map NetBit (pin_bits (path_to s.path i) port)) site.first left.items _

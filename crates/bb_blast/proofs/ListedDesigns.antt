@@ -19,7 +19,8 @@ use Rattle.bb_design.specs.Hierarchy.{Design, Scope, root, boxes, instances, is_
 use Rattle.bb_design.specs.NetBits.{Bit, scope_bits, net_order, input_bits, output_bits, top_inputs, top_outputs}
 use Rattle.bb_design.specs.Constructs.{parts}
 use Rattle.bb_blast.specs.Inside.Counting.{capped, behind}
-use Rattle.bb_blast.specs.Inside.Listing.{Sources, Sheet, Boxed, given_one, given_all, place_or_zero, in_row, constant_place, bit_count, input_numbers, boxed_in, sheet_on, cells_before, outs_of, finished, first_sources, listed_on, listed}
+use Rattle.bb_blast.specs.Inside.Listing.{Sources, Sheet, Boxed, given_one, given_all, place_or_zero, in_row, bit_count, input_numbers, boxed_in, sheet_on, cells_before, outs_of, finished, first_sources, listed_on, listed}
+use Rattle.bb_blast.specs.Inside.Steps.{constant_place}
 use Rattle.bb_design.specs.Inside.Allowed.{IsBounded}
 use Rattle.bb_design.specs.Refusals.{most_bits, most_cells}
 use Rattle.bb_design.specs.Sizes.{cells_in as cells_in_design}
@@ -33,7 +34,7 @@ use Rattle.bb_blast.proofs.CappedNumbers.{capped_small, behind_second, row_small
 use Rattle.bb_lists.proofs.Places.{there_at}
 use Rattle.bb_blast.proofs.GivenPlaces.{given_long, noted}
 use Rattle.bb_lists.proofs.Zips.{zip_other}
-use Rattle.bb_blast.proofs.ListedBlocks.{Block, IsBlockOf, with_block, blocks_of, scopes_fold, lowering_of, sheet_at, number_of, block_puts, PutAll, put_all}
+use Rattle.bb_blast.proofs.ListedBlocks.{WholeBlock, IsWholeBlockOf, AreWhole, wholes_of, with_whole_block, blocks_of, scopes_fold, lowering_of, sheet_at, number_of, block_puts, PutAll, put_all}
 use Rattle.bb_blast.proofs.ListedBoxes.{PutsBoxes, boxes_put}
 use Rattle.bb_lists.proofs.Numbered.{length-enumerated}
 use Rattle.bb_lists.proofs.Ranges.{length-range}
@@ -75,8 +76,12 @@ module _ (of_designs : DesignLaws) (names : NetNamesDiffer) (few : PlacesAreFew)
   abbrev begun : Sheet
   begun = record { cells = boxed.cells; sources = boxed.sources; next = replicate bits None }
 
-  abbrev blocks : List Block
-  blocks = flat_map (blocks_of placed outlines) placed
+  -- the blocks of the design, with all steps of their expressions
+  pub whole : AreWhole d (flat_map (blocks_of placed outlines) placed) (parts d)
+  whole = wholes_of d (flat_map (blocks_of placed outlines) placed) (parts d) (blocks_are of_designs names d bounded placed are outlines outlined)
+
+  abbrev blocks : List WholeBlock
+  blocks = whole.wholes
 
   abbrev pins_before : ℕ → ℕ
   pins_before n = length (flat_map output_bits (take n (boxes d)))
@@ -127,15 +132,15 @@ module _ (of_designs : DesignLaws) (names : NetNamesDiffer) (few : PlacesAreFew)
   parts_fit =
       subst (PutAll d lowering number nets start (sheet_at d blocks nets start begun pins_before) 0 (parts d)) last
       (put_all d lowering number nets start (sheet_at d blocks nets start begun pins_before) 0 (parts d) (λ i x e.
-      let b = zip_other (IsBlockOf d) blocks (parts d) i x (blocks_are of_designs names d bounded placed are outlines outlined) e in
+      let b = zip_other (IsWholeBlockOf d) blocks (parts d) i x whole.stand e in
       let none : i ≡ 0 + i = omega arith in
       subst (λ n. Puts d lowering number nets start (n, x) (sheet_at d blocks nets start begun pins_before n) (sheet_at d blocks nets start begun pins_before (suc n))) none
       (block_puts d blocks nets start begun pins_before i b.0 x.0 x.1 b.1 b.2 (has_inputs of_designs d bounded x.0 x.1 (there_at (parts d) i x e)))))
     where
       last : sheet_at d blocks nets start begun pins_before (0 + length (parts d)) ≡ sheet
       last =
-          ap (fold (with_block nets start) begun) (take_all (0 + length (parts d)) blocks (omega (arith, AllZip-long (IsBlockOf d) blocks (parts d) (blocks_are of_designs names d bounded placed are outlines outlined))))
-          ∙ sym (scopes_fold nets start placed outlines begun placed)
+          ap (fold (with_whole_block nets start) begun) (take_all (0 + length (parts d)) blocks (omega (arith, AllZip-long (IsWholeBlockOf d) blocks (parts d) whole.stand)))
+          ∙ sym (whole.put nets start begun) ∙ sym (scopes_fold nets start placed outlines begun placed)
 
   pub is_lowering : IsLowering d lowering
   is_lowering = parts_fit.lowered

@@ -12,14 +12,14 @@ use Rattle.bb_expr.specs.declared.step.BitStep.TheVariants as steps
 use Rattle.bb_expr.specs.declared.step.Lowered.{Lowered}
 use Rattle.bb_expr.specs.Lowered.{Reads, IsLowered}
 use Rattle.bb_net.specs.declared.loose.LooseCell.{LooseCell}
-use Rattle.bb_blast.specs.declared.outline.Part.{Part}
 use Rattle.bb_blast.specs.declared.outline.Part.TheVariants as part
 use Rattle.bb_design.specs.Hierarchy.{Design, Scope, path_to}
 use Rattle.bb_design.specs.NetBits.{Bit, scope_bits, pin_bits}
 use Rattle.bb_bits.specs.Bits.{low_bits}
 use Rattle.bb_design.specs.Constructs.{Construct}
 use Rattle.bb_blast.specs.Inside.Counting.{capped, behind}
-use Rattle.bb_blast.specs.Inside.Listing.{Site, Sheet, given_all, beside, all_given_by, constant_place, net_bit_place, with_steps, bit_places, with_terminals}
+use Rattle.bb_blast.specs.Inside.Listing.{Site, Sheet, given_all, beside, all_given_by, with_terminals}
+use Rattle.bb_blast.specs.Inside.Steps.{constant_place, net_bit_place, with_steps, bit_places}
 use Rattle.bb_blast.specs.Inside.Outlines.{AreBitsIn, IsPinIn}
 use Rattle.bb_bits.specs.Inside.Places.{AreAt}
 use Rattle.bb_cells.specs.Places.{Place, Constant, NetBit, Step, Joined, Inverted, Numbering, Lowering, Steps, IsLoweringOf, IsStepAt, AreSteps, step_places, step_cells, net_place, given_at, data_at, places_at}
@@ -29,15 +29,15 @@ use Rattle.bb_blast.proofs.CappedNumbers.{behind_first}
 use Rattle.bb_blast.proofs.ListedSteps.{IsLoweredAt, StepsFit, expression_fits}
 use Rattle.bb_blast.proofs.PlacesInRow.{AreInRow, cells_in, map-same}
 use Rattle.bb_lists.proofs.Maps.{map-twice}
+use Rattle.bb_blast.proofs.WholeParts.{Whole, Assigned, Clocked, Other}
 
 -- the expressions of a part
-abbrev pub lowereds : Part → List Lowered
-lowereds (part.Assignment left right) = right ∷ []
-lowereds (part.Gate gate outs ins) = ins.items
-lowereds (part.Register left right clock falling) = right ∷ []
-lowereds (part.Supply high bits) = []
-lowereds (part.Input instance pin value) = value ∷ []
-lowereds (part.Output instance pin left) = []
+abbrev pub lowereds : Whole → List Lowered
+lowereds (Assigned left right) = right ∷ []
+lowereds (Clocked left right) = right ∷ []
+lowereds (Other (part.Gate gate outs ins)) = ins.items
+lowereds (Other (part.Input instance pin value)) = value ∷ []
+lowereds (Other q) = []
 
 map-zip : {A B C D : Type 0} (f : A → C) (g : B → D) (xs : List A) (ys : List B) → map (λ (y : A × B). (f y.0, g y.1)) (zip xs ys) ≡ zip (map f xs) (map g ys)
 map-zip f g [] ys = refl

@@ -14,7 +14,8 @@ use Rattle.bb_net.specs.declared.loose.LooseCell.{LooseCell}
 use Rattle.bb_net.specs.declared.loose.LooseCell.TheVariants as cell
 use Rattle.bb_design.specs.Hierarchy.{Scope}
 use Rattle.bb_blast.specs.Inside.Counting.{behind}
-use Rattle.bb_blast.specs.Inside.Listing.{constant_place, net_bit_place, Numbered, step_number, with_cell, with_step, with_steps, Terminals, with_terminal}
+use Rattle.bb_blast.specs.Inside.Listing.{Terminals, with_terminal}
+use Rattle.bb_blast.specs.Inside.Steps.{constant_place, net_bit_place, Numbered, step_number, with_cell, with_step, with_steps}
 use Rattle.bb_cells.specs.Places.{Constant, Step, Numbering, Lowering, Steps, step_cell, IsStepAt, net_place, step_cells, terminal_place}
 use Rattle.bb_lists.proofs.Members.{contains_here, contains_there}
 use Rattle.bb_blast.proofs.PlacesInRow.{Entry, AreInRow, both_rows, no_row, one_row, cells_in}

@@ -12,7 +12,8 @@ use Rattle.bb_net.specs.declared.loose.LooseCell.TheVariants as cell
 use Rattle.bb_net.specs.Netlists.{Pins}
 use Rattle.bb_blast.specs.declared.outline.Outline.{Outline}
 use Rattle.bb_blast.specs.Inside.Counting.{capped, behind}
-use Rattle.bb_blast.specs.Inside.Listing.{Sources, given_one, given_all, in_row, beside, Numbered, step_number, with_cell, with_step, Boxed, with_pins}
+use Rattle.bb_blast.specs.Inside.Listing.{Sources, given_one, given_all, in_row, beside, Boxed, with_pins}
+use Rattle.bb_blast.specs.Inside.Steps.{Numbered, step_number, with_cell, with_step}
 use Rattle.bb_cells.specs.Places.{step_cell}
 use Rattle.bb_blast.proofs.CappedNumbers.{behind_first}
 

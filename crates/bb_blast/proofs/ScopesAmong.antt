@@ -12,6 +12,7 @@ use Rattle.bb_expr.specs.declared.step.BitStep.{BitStep}
 use Rattle.bb_expr.specs.declared.step.BitStep.TheVariants as steps
 use Rattle.bb_expr.specs.declared.step.Lowered.{Lowered}
 use Rattle.bb_expr.specs.Lowered.{Reads}
+use Rattle.bb_blast.specs.declared.logic.Logic.{Logic}
 use Rattle.bb_blast.specs.declared.outline.Outline.{Outline}
 use Rattle.bb_blast.specs.declared.outline.Part.{Part}
 use Rattle.bb_blast.specs.declared.outline.Part.TheVariants as part
@@ -19,9 +20,11 @@ use Rattle.bb_blast.specs.declared.placed.Placed.{Placed}
 use Rattle.bb_design.specs.Hierarchy.{Design, Scope, instances_of, root, scopes}
 use Rattle.bb_design.specs.Contexts.{width_of, context_width}
 use Rattle.bb_design.specs.Constructs.{Construct, Assignment, GateInstance, Register, SupplyNet, InputConnection, OutputConnection, BoxContents, body_constructs, constructs_at, parts}
-use Rattle.bb_blast.specs.Inside.Listing.{IsNetBelow, HasNetsBelow, IsInputAmong, IsPartAmong, IsScopeAmong}
+use Rattle.bb_blast.specs.Inside.Listing.{IsInputAmong, IsPartAmong, IsScopeAmong}
+use Rattle.bb_blast.specs.Inside.Steps.{IsNetBelow, HasNetsBelow}
 use Rattle.bb_design.specs.Inside.Allowed.{IsBounded}
-use Rattle.bb_blast.specs.Inside.Outlines.{IsMadeIn, IsPartOf, IsOutline}
+use Rattle.bb_blast.specs.Inside.Logic.{IsLogicAmong}
+use Rattle.bb_blast.specs.Inside.Outlines.{IsKeptIn, IsMadeIn, IsPartOf, IsOutline}
 use Rattle.bb_blast.specs.Inside.Placements.{ArePlaced, AreOutlined, IsScopeAt, IsChildAt}
 use Rattle.bb_lists.proofs.Places.{there_at}
 use Rattle.bb_lists.proofs.Members.{contains-map, into_flat, contains_here, contains_there}
@@ -52,6 +55,9 @@ module _ (of_designs : DesignLaws) (d : Design) (bounded : IsBounded d) (placed 
   made_below : (l : Lowered) (e : Expression) (width : Scope → ℕ) → IsMadeIn s.source l e width → HasNetsBelow (length o.starts.items) l
   made_below l e width made = nets_below (nets_of s.source) (length o.starts.items) starts_there 0 l.steps.items made.earlier
 
+  kept_below : (g : Logic) (e : Expression) (width : Scope → ℕ) (count : ℕ) → IsKeptIn s.source g e width count → IsLogicAmong (length o.starts.items) g
+  kept_below g e width count kept = kept.2.nets (length o.starts.items) (made_below kept.0 e width kept.1)
+
   instances_long : length p.children.items ≡ length (instances_of s.source)
   instances_long = sym (AllZip-long (IsChildAt d s) p.children.items (instances_of s.source) (are.each k s p at has).children)
 
@@ -69,9 +75,9 @@ module _ (of_designs : DesignLaws) (d : Design) (bounded : IsBounded d) (placed 
 
   part_among : (q : Part) (c : Construct) → IsPartOf d.text s.source q c → AreNarrow c → IsPartAmong (length o.starts.items) (length p.children.items) q
   unfolding AreNarrow
-  part_among (part.Assignment left right) (Assignment l r) is narrow = made_below right r (λ s. context_width s l r) is.1
+  part_among (part.Assignment left right) (Assignment l r) is narrow = kept_below right r (λ s. context_width s l r) (length left.items) is.1
   part_among (part.Gate gate outs ins) (GateInstance g os es) is narrow = inputs_among ins.items es is.2 narrow
-  part_among (part.Register left right clock falling) (Register r) is narrow = made_below right r.right (λ s. context_width s r.left r.right) is.1
+  part_among (part.Register left right clock falling) (Register r) is narrow = kept_below right r.right (λ s. context_width s r.left r.right) (length left.items) is.1
   part_among (part.Supply high bits) (SupplyNet h n) is narrow = tt
   part_among (part.Input instance pin value) (InputConnection i port e) is narrow = (omega (arith, slice_get_within (instances_of s.source) instance is.0.called is.0.there, instances_long), made_below value e (λ s. width_of s e) is.1)
   part_among (part.Output instance pin left) (OutputConnection i port e) is narrow = omega (arith, slice_get_within (instances_of s.source) instance is.0.called is.0.there, instances_long)

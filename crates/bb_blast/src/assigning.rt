@@ -11,6 +11,7 @@ ghost use Rattle.bb_blast.specs.Inside.Outlining.{AreStarts, IsMakeable, IsPartA
 
 use crate::expression_steps::{scope_at, steps_beside};
 use crate::left_bits::{left_bits, net_bits};
+use crate::logic::logic_of;
 use crate::outline::Part;
 use bb_ast::{Always, Expr};
 use bb_bits::{Name, NoMemory};
@@ -36,13 +37,14 @@ fn assignment(
     standing_is_fit();
     let scope = scope_at(checked, module);
     let bits = left_bits(alloc, scope, starts, left)?;
-    let right = steps_beside(
+    let steps = steps_beside(
         alloc,
         checked,
         module,
         right,
         own_width(checked, module, left),
     )?;
+    let right = logic_of(alloc, &steps, bits.len())?;
     Ok(Part::Assignment { left: bits, right })
 }
 
@@ -61,7 +63,9 @@ fn declared_assignment(
 {
     let scope = scope_at(checked, module);
     let left = net_bits(alloc, scope, starts, name)?;
-    let right = steps_beside(alloc, checked, module, right, left.len() as u32)?;
+    let count = left.len();
+    let steps = steps_beside(alloc, checked, module, right, count as u32)?;
+    let right = logic_of(alloc, &steps, count)?;
     Ok(Part::Assignment { left, right })
 }
 
@@ -164,7 +168,8 @@ pub(crate) fn register(
     let scope = scope_at(checked, module);
     let left = left_bits(alloc, scope, starts, &always.left)?;
     let least = own_width(checked, module, &always.left);
-    let right = steps_beside(alloc, checked, module, &always.right, least)?;
+    let steps = steps_beside(alloc, checked, module, &always.right, least)?;
+    let right = logic_of(alloc, &steps, left.len())?;
     let clock = left_bits(alloc, scope, starts, &always.clock)?[0];
     Ok(Part::Register {
         left,

@@ -11,6 +11,8 @@ mod gating;
 pub mod laws;
 mod left_bits;
 mod listing;
+mod logic;
+mod logic_cells;
 mod module_parts;
 mod net_starts;
 mod outline;
@@ -24,6 +26,7 @@ mod stored;
 
 pub use box_cells::moved;
 pub use listing::list_cells;
+pub use logic::{Logic, Operand, Operator};
 pub use outline::{Outline, Part};
 pub use outlining::outlines_of;
 pub use part_cells::outline_of;

@@ -3,6 +3,7 @@
 //! All scopes of a module have the same bits in the same order: net by net, and in a net from the leftmost on. So a module is
 //! turned into numbers once, however many instances of it there are.
 
+use crate::logic::Logic;
 use bb_ast::Gate;
 use bb_expr::Lowered;
 
@@ -13,7 +14,7 @@ pub enum Part {
     /// An assignment, that of a declared wire too.
     Assignment {
         left: Vec<u32>,
-        right: Lowered,
+        right: Logic,
     },
     /// A gate with the bits of its outputs, and its inputs, each of one bit.
     Gate {
@@ -24,7 +25,7 @@ pub enum Part {
     /// Registers with what they become at an edge of their clock.
     Register {
         left: Vec<u32>,
-        right: Lowered,
+        right: Logic,
         clock: u32,
         falling: bool,
     },

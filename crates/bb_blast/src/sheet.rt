@@ -1,12 +1,15 @@
 //! What single constructs put behind the cells of those before them, and what they drive by the places of these cells.
 
 ghost use Rattle.std.specs.Prelude.{◌≡◌, All, length, map, OnOk};
-ghost use Rattle.bb_bits.specs.Bits.{low_bits};
 ghost use Rattle.bb_blast.specs.Inside.Counting.{behind};
-ghost use Rattle.bb_blast.specs.Inside.Listing.{HasNetsBelow, IsInputAmong, sheet_view, beside, bit_places, giving, giving_next, driven_by, with_expression, with_gate};
+ghost use Rattle.bb_blast.specs.Inside.Listing.{IsInputAmong, sheet_view, beside, giving, giving_next, driven_by, with_expression, with_gate, with_operators};
+ghost use Rattle.bb_blast.specs.Inside.Logic.{IsLogicAmong, logic_places};
+ghost use Rattle.bb_blast.specs.Inside.Steps.{HasNetsBelow, bit_places};
 
 use crate::box_cells::add_moved;
 use crate::gate_cells::add_gate;
+use crate::logic::Logic;
+use crate::logic_cells::add_logic;
 use crate::sources::{give_all, give_beside};
 use crate::step_cells::{Spot, add_expression};
 use bb_ast::Gate;
@@ -27,13 +30,6 @@ pub(crate) struct SheetLists {
     pub places: Vec<u32>,
 }
 
-// So many of the last of these.
-fn low_bits(count: usize, places: &[u32]) -> &[u32]
-    ensures low { result.now ≡ low_bits count places.now }
-{
-    &places[places.len().saturating_sub(count)..]
-}
-
 // Puts the cells of an expression behind others, and notes the places of its bits.
 fn put_expression(spot: Spot<'_>, lowered: &Lowered, sheet: &mut SheetLists) -> Result<(), NoMemory>
     requires nets { HasNetsBelow (length spot.starts.now) lowered.now }
@@ -51,23 +47,32 @@ fn put_expression(spot: Spot<'_>, lowered: &Lowered, sheet: &mut SheetLists) -> 
     )
 }
 
+// Puts the cells of operators behind others, and notes the places of the bits that are kept with them.
+fn put_logic(spot: Spot<'_>, logic: &Logic, sheet: &mut SheetLists) -> Result<(), NoMemory>
+    requires below { IsLogicAmong (length spot.starts.now) logic.now }
+    ensures places { OnOk result (sheet.new.places.items
+        ≡ logic_places spot.entry.others spot.entry.bits spot.entry.starts.now sheet.old.cells.items logic.now) }
+    ensures put { OnOk result (sheet_view sheet.new
+        ≡ with_operators spot.entry.others spot.entry.bits spot.entry.starts.now (sheet_view sheet.old) logic.now) }
+{
+    add_logic(spot, logic, &mut sheet.places, &mut sheet.cells)
+}
+
 /// An assignment gives bits from a number on the last bits of an expression.
 pub(crate) fn put_assignment(
     spot: Spot<'_>,
     first: u32,
     left: &[u32],
-    right: &Lowered,
+    right: &Logic,
     sheet: &mut SheetLists,
 ) -> Result<(), NoMemory>
-    requires nets { HasNetsBelow (length spot.starts.now) right.now }
+    requires nets { IsLogicAmong (length spot.starts.now) right.now }
     ensures put { OnOk result (sheet_view sheet.new
-        ≡ giving (with_expression spot.entry.others spot.entry.bits spot.entry.starts.now (sheet_view sheet.old) right.now)
-        (beside first left.now (low_bits (length left.now)
-        (bit_places spot.entry.others spot.entry.bits spot.entry.starts.now sheet.old.cells.items right.now)))) }
+        ≡ giving (with_operators spot.entry.others spot.entry.bits spot.entry.starts.now (sheet_view sheet.old) right.now)
+        (beside first left.now (logic_places spot.entry.others spot.entry.bits spot.entry.starts.now sheet.old.cells.items right.now))) }
 {
-    put_expression(spot, right, sheet)?;
-    let places = low_bits(left.len(), &sheet.places);
-    give_beside(&mut sheet.sources, first, left, places);
+    put_logic(spot, right, sheet)?;
+    give_beside(&mut sheet.sources, first, left, &sheet.places);
     Ok(())
 }
 
@@ -76,18 +81,16 @@ pub(crate) fn put_register(
     spot: Spot<'_>,
     first: u32,
     left: &[u32],
-    right: &Lowered,
+    right: &Logic,
     sheet: &mut SheetLists,
 ) -> Result<(), NoMemory>
-    requires nets { HasNetsBelow (length spot.starts.now) right.now }
+    requires nets { IsLogicAmong (length spot.starts.now) right.now }
     ensures put { OnOk result (sheet_view sheet.new
-        ≡ giving_next (with_expression spot.entry.others spot.entry.bits spot.entry.starts.now (sheet_view sheet.old) right.now)
-        (beside first left.now (low_bits (length left.now)
-        (bit_places spot.entry.others spot.entry.bits spot.entry.starts.now sheet.old.cells.items right.now)))) }
+        ≡ giving_next (with_operators spot.entry.others spot.entry.bits spot.entry.starts.now (sheet_view sheet.old) right.now)
+        (beside first left.now (logic_places spot.entry.others spot.entry.bits spot.entry.starts.now sheet.old.cells.items right.now))) }
 {
-    put_expression(spot, right, sheet)?;
-    let places = low_bits(left.len(), &sheet.places);
-    give_beside(&mut sheet.next, first, left, places);
+    put_logic(spot, right, sheet)?;
+    give_beside(&mut sheet.next, first, left, &sheet.places);
     Ok(())
 }
 

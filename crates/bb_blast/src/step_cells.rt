@@ -4,7 +4,7 @@
 
 ghost use Rattle.std.specs.Prelude.{◌≡◌, ◌<◌, All, ◌++◌, length, map, slice_index, OnOk};
 ghost use Rattle.bb_cells.specs.Places.{step_cell};
-ghost use Rattle.bb_blast.specs.Inside.Listing.{IsNetBelow, HasNetsBelow, Numbered, constant_place, net_bit_place, step_number, with_step, with_steps, bit_places};
+ghost use Rattle.bb_blast.specs.Inside.Steps.{IsNetBelow, HasNetsBelow, Numbered, constant_place, net_bit_place, step_number, with_step, with_steps, bit_places};
 
 use crate::sources::{behind, next_place};
 use bb_bits::NoMemory;
@@ -29,8 +29,8 @@ pub(crate) fn constant_place(high: bool) -> u32
     if high { 1 } else { 0 }
 }
 
-// The place of a bit of a net, where those of the scope stand from a place on.
-fn net_bit(bits: u32, starts: &[u32], net: u32, bit: u32) -> u32
+/// The place of a bit of a net, where those of the scope stand from a place on.
+pub(crate) fn net_bit(bits: u32, starts: &[u32], net: u32, bit: u32) -> u32
     requires net { net < length starts.now }
     ensures place { result ≡ net_bit_place bits starts.now net bit }
 {

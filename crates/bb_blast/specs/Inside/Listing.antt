@@ -4,14 +4,13 @@ use Rattle.std.specs.Prelude.{ℕ, ◌<◌, ◌≡◌, All, ◌+◌, Bool, true,
 use Rattle.std.specs.List.{fold, zip, enumerate_from, range_with_len}
 use Rattle.std.specs.Option.{option_map_or, option_and_then}
 use Rattle.bb_ast.specs.declared.module.Gate.{Gate}
-use Rattle.bb_expr.specs.declared.step.BitStep.{BitStep}
-use Rattle.bb_expr.specs.declared.step.BitStep.TheVariants as steps
 use Rattle.bb_expr.specs.declared.step.Lowered.{Lowered}
 use Rattle.bb_net.specs.declared.loose.LooseCell.{LooseCell}
 use Rattle.bb_net.specs.declared.loose.LooseCell.TheVariants as cell
 use Rattle.bb_net.specs.Loose.{LooseList}
 use Rattle.bb_net.specs.Netlists.{Pins}
 use Rattle.bb_blast.specs.declared.box_cells.BoxedLists.{BoxedLists}
+use Rattle.bb_blast.specs.declared.logic.Logic.{Logic}
 use Rattle.bb_blast.specs.declared.outline.Part.{Part}
 use Rattle.bb_blast.specs.declared.outline.Part.TheVariants as part
 use Rattle.bb_blast.specs.declared.outline.Outline.{Outline}
@@ -19,9 +18,10 @@ use Rattle.bb_blast.specs.declared.placed.Placed.{Placed}
 use Rattle.bb_blast.specs.declared.sheet.SheetLists.{SheetLists}
 use Rattle.bb_blast.specs.declared.stored.Stored.{Stored}
 use Rattle.bb_blast.specs.Inside.Counting.{capped, behind}
-use Rattle.bb_bits.specs.Bits.{low_bits}
+use Rattle.bb_blast.specs.Inside.Logic.{IsLogicAmong, with_logic, logic_places}
+use Rattle.bb_blast.specs.Inside.Steps.{HasNetsBelow, constant_place, with_steps, bit_places}
 use Rattle.bb_design.specs.GateFunctions.{inverts}
-use Rattle.bb_cells.specs.Places.{step_cell, join_cell}
+use Rattle.bb_cells.specs.Places.{join_cell}
 
 -- the place that gives each bit, where one does
 abbrev pub Sources : Type 0
@@ -57,56 +57,11 @@ in_row first bits base = map (λ x. (behind first x.1, behind base x.0)) (enumer
 abbrev pub all_given_by : ℕ → List ℕ → ℕ → List (ℕ × ℕ)
 all_given_by first bits place = map (λ i. (behind first i, place)) bits
 
-abbrev pub constant_place : Bool → ℕ
-constant_place b = if b then 1 else 0
-
--- the place of a bit of a net, where those of the scope stand from a place on and those of each net from a number on
-abbrev pub net_bit_place : ℕ → List ℕ → ℕ → ℕ → ℕ
-net_bit_place bits starts n i = behind (behind bits (slice_index starts n)) i
-
 -- a scope: the number of its first bit, those of the first bits of its nets, and those of the first bits of its instances
 pub record Site : Type 0 where
   pub first : ℕ
   pub starts : List ℕ
   pub inner : ℕ → ℕ
-
--- cells, and the numbers of the steps of an expression so far
-pub record Numbered : Type 0 where
-  pub cells : List LooseCell
-  pub numbers : List ℕ
-
--- the number of a step, where the next operator stands at a place
-abbrev pub step_number : ℕ → List ℕ → ℕ → BitStep → ℕ
-step_number bits starts next (steps.Const b) = constant_place b
-step_number bits starts next (steps.Net n i) = net_bit_place bits starts n i
-step_number bits starts next step = next
-
-abbrev pub with_cell : List LooseCell → Option LooseCell → List LooseCell
-with_cell cells None = cells
-with_cell cells (Some c) = cells ++ c ∷ []
-
--- a step behind those before it, where the first cell stands at the place start
-abbrev pub with_step : ℕ → ℕ → List ℕ → Numbered → BitStep → Numbered
-with_step start bits starts n step = record {
-  cells = with_cell n.cells (step_cell (slice_index n.numbers) step);
-  numbers = n.numbers ++ step_number bits starts (behind start (length n.cells)) step ∷ [];
-}
-
--- cells with those of an expression behind them, and the numbers of its steps
-abbrev pub with_steps : ℕ → ℕ → List ℕ → List LooseCell → Lowered → Numbered
-with_steps start bits starts cells l = fold (with_step start bits starts) (record { cells = cells; numbers = [] }) l.steps.items
-
--- the places of the bits of an expression that stands behind these cells
-abbrev pub bit_places : ℕ → ℕ → List ℕ → List LooseCell → Lowered → List ℕ
-bit_places start bits starts cells l = map (slice_index (with_steps start bits starts cells l).numbers) l.bits.items
-
--- a step reads one of so many nets
-abbrev pub IsNetBelow : ℕ → BitStep → Type 0
-IsNetBelow n (steps.Net k i) = k < n
-IsNetBelow n step = Unit {0}
-
-abbrev pub HasNetsBelow : ℕ → Lowered → Type 0
-HasNetsBelow n l = All (IsNetBelow n) l.steps.items
 
 -- and it has a bit
 abbrev pub IsInputAmong : ℕ → Lowered → Type 0
@@ -156,9 +111,9 @@ sheet_view s = record { cells = s.cells.items; sources = s.sources.items; next =
 
 -- a part of a module with so many nets and instances
 abbrev pub IsPartAmong : ℕ → ℕ → Part → Type 0
-IsPartAmong n m (part.Assignment left right) = HasNetsBelow n right
+IsPartAmong n m (part.Assignment left right) = IsLogicAmong n right
 IsPartAmong n m (part.Gate gate outs ins) = All (IsInputAmong n) ins.items
-IsPartAmong n m (part.Register left right clock falling) = HasNetsBelow n right
+IsPartAmong n m (part.Register left right clock falling) = IsLogicAmong n right
 IsPartAmong n m (part.Supply high bits) = Unit {0}
 IsPartAmong n m (part.Input instance pin value) = (instance < m) × HasNetsBelow n value
 IsPartAmong n m (part.Output instance pin left) = instance < m
@@ -177,6 +132,13 @@ with_expression start bits starts sheet l = record {
   next = sheet.next;
 }
 
+abbrev pub with_operators : ℕ → ℕ → List ℕ → Sheet → Logic → Sheet
+with_operators start bits starts sheet g = record {
+  cells = with_logic start bits starts sheet.cells g;
+  sources = sheet.sources;
+  next = sheet.next;
+}
+
 -- a gate gives all its outputs
 abbrev pub driven_by : Sheet → Joining → ℕ → List ℕ → Sheet
 driven_by sheet gate first outs = record {
@@ -188,14 +150,12 @@ driven_by sheet gate first outs = record {
 abbrev pub with_part : ℕ → ℕ → Site → Sheet → Part → Sheet
 with_part nets start s sheet (part.Assignment left right) =
     let bits = behind nets s.first in
-    giving (with_expression start bits s.starts sheet right)
-    (beside s.first left.items (low_bits (length left.items) (bit_places start bits s.starts sheet.cells right)))
+    giving (with_operators start bits s.starts sheet right) (beside s.first left.items (logic_places start bits s.starts sheet.cells right))
 with_part nets start s sheet (part.Gate gate outs ins) =
     driven_by sheet (with_gate start (behind nets s.first) s.starts gate sheet.cells ins.items) s.first outs.items
 with_part nets start s sheet (part.Register left right clock falling) =
     let bits = behind nets s.first in
-    giving_next (with_expression start bits s.starts sheet right)
-    (beside s.first left.items (low_bits (length left.items) (bit_places start bits s.starts sheet.cells right)))
+    giving_next (with_operators start bits s.starts sheet right) (beside s.first left.items (logic_places start bits s.starts sheet.cells right))
 with_part nets start s sheet (part.Supply high bits) = giving sheet (all_given_by s.first bits.items (constant_place high))
 with_part nets start s sheet (part.Input instance pin value) =
     let bits = behind nets s.first in

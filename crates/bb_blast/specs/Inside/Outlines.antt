@@ -10,6 +10,7 @@ use Rattle.bb_names.specs.Ranges.{range_width}
 use Rattle.bb_names.specs.Spots.{Pin, module_named}
 use Rattle.bb_expr.specs.declared.step.Lowered.{Lowered}
 use Rattle.bb_expr.specs.Lowered.{IsLowered}
+use Rattle.bb_blast.specs.declared.logic.Logic.{Logic}
 use Rattle.bb_blast.specs.declared.outline.Part.{Part}
 use Rattle.bb_blast.specs.declared.outline.Part.TheVariants as part
 use Rattle.bb_blast.specs.declared.outline.Outline.{Outline}
@@ -18,6 +19,7 @@ use Rattle.bb_design.specs.NetBits.{Bit, scope_bits, bits_named, pin_bits, input
 use Rattle.bb_design.specs.Contexts.{width_of, context_width}
 use Rattle.bb_design.specs.Constructs.{Construct, Assignment, GateInstance, Register, SupplyNet, InputConnection, OutputConnection, body_constructs}
 use Rattle.bb_bits.specs.Inside.Places.{AreAt}
+use Rattle.bb_blast.specs.Inside.Logic.{IsLogicOf}
 
 -- numbers of bits of a module, the same in each scope of it
 abbrev pub AreBitsIn : PlainModule → List ℕ → (Scope → List Bit) → Type 0
@@ -26,6 +28,10 @@ AreBitsIn m numbers bits = (path : Path) → AreAt (scope_bits (record { path = 
 -- an expression of a module, taken at the width that the context asks for in a scope, as steps
 abbrev pub IsMadeIn : PlainModule → Lowered → Expression → (Scope → ℕ) → Type 0
 IsMadeIn m l e width = IsLowered (nets_of m) (range_of m) e (width (record { path = []; source = m })) l.steps.items l.bits.items
+
+-- what is kept of its operators, and of so many of its low bits
+abbrev pub IsKeptIn : PlainModule → Logic → Expression → (Scope → ℕ) → ℕ → Type 0
+IsKeptIn m g e width count = (l : Lowered) × IsMadeIn m l e width × IsLogicOf count l g
 
 -- the numbers of the bits of a port of the instance with this number in a module
 pub record IsPinIn (text : List PlainModule) (m : PlainModule) (instance : ℕ) (numbers : List ℕ) (name : List ℕ) (pin : Pin) : Type 0 where
@@ -38,11 +44,11 @@ pub record IsPinIn (text : List PlainModule) (m : PlainModule) (instance : ℕ) 
 
 -- a part stands for a construct of a module
 abbrev pub IsPartOf : List PlainModule → PlainModule → Part → Construct → Type 0
-IsPartOf text m (part.Assignment left right) (Assignment l r) = AreBitsIn m left.items (λ s. written_bits s l) × IsMadeIn m right r (λ s. context_width s l r)
+IsPartOf text m (part.Assignment left right) (Assignment l r) = AreBitsIn m left.items (λ s. written_bits s l) × IsKeptIn m right r (λ s. context_width s l r) (length left.items)
 IsPartOf text m (part.Gate gate outs ins) (GateInstance g os is) = (gate ≡ g) × AreBitsIn m outs.items (λ s. flat_map (written_bits s) os)
     × AllZip (λ l e. IsMadeIn m l e (λ s. width_of s e)) ins.items is
 IsPartOf text m (part.Register left right clock falling) (Register r) = AreBitsIn m left.items (λ s. written_bits s r.left)
-    × IsMadeIn m right r.right (λ s. context_width s r.left r.right) × AreBitsIn m (clock ∷ []) (λ s. written_bits s r.clock) × (falling ≡ r.falling)
+    × IsKeptIn m right r.right (λ s. context_width s r.left r.right) (length left.items) × AreBitsIn m (clock ∷ []) (λ s. written_bits s r.clock) × (falling ≡ r.falling)
 IsPartOf text m (part.Supply high bits) (SupplyNet h n) = (high ≡ h) × AreBitsIn m bits.items (λ s. bits_named s n)
 IsPartOf text m (part.Input instance pin value) (InputConnection i port e) = IsPinIn text m instance pin.items i port × IsMadeIn m value e (λ s. width_of s e)
 IsPartOf text m (part.Output instance pin left) (OutputConnection i port e) = IsPinIn text m instance pin.items i port × AreBitsIn m left.items (λ s. written_bits s e)

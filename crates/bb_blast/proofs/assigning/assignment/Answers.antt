@@ -1,8 +1,9 @@
-use Rattle.std.proofs.Common.{ap, ◌∙◌}
+use Rattle.std.proofs.Common.{ap, ◌∙◌, subst, arith}
 use Rattle.bb_ast.specs.Inside.Views.{expression}
 use Rattle.bb_names.specs.Inside.Checked.{module_facts}
 use Rattle.bb_names.specs.Widths.{Ranges, own_width}
 use Rattle.bb_design.specs.NetBits.{written_bits}
+use Rattle.bb_blast.specs.Inside.Logic.{IsLogicOf}
 use Rattle.bb_blast.proofs.ModulePlaces.{ranges-are, beside_context, bits_meant}
 use Rattle.bb_blast.proofs.assigning.assignment.Goals as goal
 
@@ -16,6 +17,10 @@ returns c =
     record {
       part = (
         bits_meant checked k f there c.in_ok-bits.bits.items (λ s. written_bits s left) c.in_ok-bits.ensures.bits,
-        beside_context checked k f there c.in_ok-right.right left (expression c.args.right.now) c.own_width.result (c.own_width.ensures ∙ ap (λ (r : Ranges). own_width r left) (ranges-are checked k f there)) c.in_ok-right.ensures.made,
+        (
+          c.in_ok-steps.steps,
+          beside_context checked k f there c.in_ok-steps.steps left (expression c.args.right.now) c.own_width.result (c.own_width.ensures ∙ ap (λ (r : Ranges). own_width r left) (ranges-are checked k f there)) c.in_ok-steps.ensures.made,
+          subst (λ n. IsLogicOf n c.in_ok-steps.steps c.in_ok-right.right) (omega (arith, c.len.ensures, c.in_ok-bits.bits.ok)) c.in_ok-right.ensures.logic,
+        ),
       );
     }

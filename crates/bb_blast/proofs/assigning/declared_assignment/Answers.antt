@@ -9,6 +9,7 @@ use Rattle.bb_names.specs.Ranges.{range_width}
 use Rattle.bb_expr.specs.Inside.Fit.{AreFit}
 use Rattle.bb_design.specs.Contexts.{width_of, made_in}
 use Rattle.bb_design.specs.NetBits.{bits_named, Bit}
+use Rattle.bb_blast.specs.Inside.Logic.{IsLogicOf}
 use Rattle.bb_blast.specs.Inside.Outlines.{AreBitsIn}
 use Rattle.bb_blast.specs.Inside.Outlining.{module_in, scope_of, IsMakeable}
 use Rattle.bb_design.specs.Constructs.{Assignment}
@@ -31,16 +32,16 @@ module _ (checked : List ModuleFacts) (k : ℕ) (f : ModuleFacts) (there : slice
   few_cells : length (made_in (scope_of (module_in checked k)) right (max count (width_of (scope_of (module_in checked k)) right))).cells ≤ 2000000
   few_cells = subst (λ w. length (made_in (scope_of (module_in checked k)) right (max w (width_of (scope_of (module_in checked k)) right))).cells ≤ 2000000) (sym many) makeable.few
 
-pub overflow_cast-len : goal.overflow_cast-len
-overflow_cast-len c =
-    let small = few c.args.checked.now c.args.module (module_facts c.scope_at-scope.result.now) c.scope_at-scope.ensures.there c.args.name.now (expression c.args.right.now) c.requires.makeable c.in_ok-left.left c.in_ok-left.ensures.bits c.len.result c.len.ensures in
+pub overflow_cast-count : goal.overflow_cast-count
+overflow_cast-count c =
+    let small = few c.args.checked.now c.args.module (module_facts c.scope_at-scope.result.now) c.scope_at-scope.ensures.there c.args.name.now (expression c.args.right.now) c.requires.makeable c.in_ok-left.left c.in_ok-left.ensures.bits c.len-count.result c.len-count.ensures in
     omega (arith, small)
 
 pub steps_beside-requires-clause-least : goal.steps_beside-requires-clause-least
-steps_beside-requires-clause-least c = few c.args.checked.now c.args.module (module_facts c.scope_at-scope.result.now) c.scope_at-scope.ensures.there c.args.name.now (expression c.args.right.now) c.requires.makeable c.in_ok-left.left c.in_ok-left.ensures.bits c.len.result c.len.ensures
+steps_beside-requires-clause-least c = few c.args.checked.now c.args.module (module_facts c.scope_at-scope.result.now) c.scope_at-scope.ensures.there c.args.name.now (expression c.args.right.now) c.requires.makeable c.in_ok-left.left c.in_ok-left.ensures.bits c.len-count.result c.len-count.ensures
 
 pub steps_beside-requires-clause-few : goal.steps_beside-requires-clause-few
-steps_beside-requires-clause-few c = few_cells c.args.checked.now c.args.module (module_facts c.scope_at-scope.result.now) c.scope_at-scope.ensures.there c.args.name.now (expression c.args.right.now) c.requires.makeable c.in_ok-left.left c.in_ok-left.ensures.bits c.len.result c.len.ensures
+steps_beside-requires-clause-few c = few_cells c.args.checked.now c.args.module (module_facts c.scope_at-scope.result.now) c.scope_at-scope.ensures.there c.args.name.now (expression c.args.right.now) c.requires.makeable c.in_ok-left.left c.in_ok-left.ensures.bits c.len-count.result c.len-count.ensures
 
 pub returns : goal.returns
 returns c =
@@ -50,7 +51,11 @@ returns c =
     record {
       part = (
         bits_meant checked c.args.module f there c.in_ok-left.left.items (λ s. bits_named s c.args.name.now) c.in_ok-left.ensures.bits,
-        beside_context checked c.args.module f there c.in_ok-right.right (Net c.args.name.now) (expression c.args.right.now) c.len.result
-            (many checked c.args.module f there c.args.name.now (expression c.args.right.now) c.requires.makeable c.in_ok-left.left c.in_ok-left.ensures.bits c.len.result c.len.ensures) c.in_ok-right.ensures.made,
+        (
+          c.in_ok-steps.steps,
+          beside_context checked c.args.module f there c.in_ok-steps.steps (Net c.args.name.now) (expression c.args.right.now) c.len-count.result
+              (many checked c.args.module f there c.args.name.now (expression c.args.right.now) c.requires.makeable c.in_ok-left.left c.in_ok-left.ensures.bits c.len-count.result c.len-count.ensures) c.in_ok-steps.ensures.made,
+          subst (λ n. IsLogicOf n c.in_ok-steps.steps c.in_ok-right.right) (omega (arith, c.len-count.ensures, c.in_ok-left.left.ok)) c.in_ok-right.ensures.logic,
+        ),
       );
     }

@@ -1,6 +1,6 @@
 use Rattle.std.proofs.Common.{◌≡◌, [], take}
 use Rattle.std.specs.List.{fold}
-use Rattle.bb_blast.specs.Inside.Listing.{Numbered, with_step}
+use Rattle.bb_blast.specs.Inside.Steps.{Numbered, with_step}
 use Rattle.bb_blast.proofs.step_cells.add_steps.Given as goal
 
 abbrev pub invariant-loop-step : goal.invariant-loop-step

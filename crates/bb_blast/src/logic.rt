@@ -1,0 +1,146 @@
+//! The operators of an expression, and what gives its low bits.
+//!
+//! An expression may be far wider than what it is assigned to. Its steps are let go once this is made of them, so that a bit of a
+//! net takes room only where an operator reads it or it is assigned.
+
+ghost use Rattle.std.specs.Prelude.{◌≡◌, ◌++◌, ◌∷◌, [], length, map, IfOk, OnOk};
+ghost use Rattle.bb_bits.specs.Bits.{low_bits};
+ghost use Rattle.bb_blast.specs.Inside.Counting.{capped};
+ghost use Rattle.bb_blast.specs.Inside.Logic.{IsLogicOf, Follows, operand_in, operator_of, result_of, with_operator};
+
+use crate::sources::count_of;
+use bb_bits::NoMemory;
+use bb_expr::{BitStep, Lowered};
+use std::alloc::Global;
+
+/// What gives a bit of an expression.
+#[derive(Clone, Copy, Debug)]
+pub enum Operand {
+    Const(bool),
+    /// A bit of a net: the place of the net among the nets of the module, and the place of the bit from the leftmost on.
+    Net(u32, u32),
+    /// The operator with this number.
+    Cell(u32),
+}
+
+/// An operator on bits.
+#[derive(Clone, Copy, Debug)]
+pub enum Operator {
+    Not(Operand),
+    And(Operand, Operand),
+    Or(Operand, Operand),
+    Xor(Operand, Operand),
+    /// The second operand where the first is 1, else the third.
+    Mux(Operand, Operand, Operand),
+}
+
+/// The operators of an expression, each behind those that it reads, and what gives its low bits, the most significant first.
+#[derive(Debug, Drop)]
+pub struct Logic {
+    pub operators: Vec<Operator>,
+    pub bits: Vec<Operand>,
+}
+
+// What gives the bit of a step; a step that is not there counts as the constant 0.
+fn operand_at(results: &[Operand], step: u32) -> Operand
+    ensures operand { result ≡ operand_in results.now step }
+{
+    results
+        .get(step as usize)
+        .copied()
+        .unwrap_or(Operand::Const(false))
+}
+
+// What a step gives, where the next operator has a number.
+fn result_of(step: BitStep, next: u32) -> Operand
+    ensures operand { result ≡ result_of next step }
+{
+    match step {
+        BitStep::Const(high) => Operand::Const(high),
+        BitStep::Net(net, bit) => Operand::Net(net, bit),
+        BitStep::Not(_) | BitStep::And(_, _) | BitStep::Or(_, _) => Operand::Cell(next),
+        BitStep::Xor(_, _) | BitStep::Mux(_, _, _) => Operand::Cell(next),
+    }
+}
+
+// A step that is an operator, where these are what the steps before it give.
+fn operator_of(results: &[Operand], step: BitStep) -> Option<Operator>
+    ensures operator { result ≡ operator_of (operand_in results.now) step }
+{
+    let operator = match step {
+        BitStep::Const(_) | BitStep::Net(_, _) => return None,
+        BitStep::Not(a) => Operator::Not(operand_at(results, a)),
+        BitStep::And(a, b) => Operator::And(operand_at(results, a), operand_at(results, b)),
+        BitStep::Or(a, b) => Operator::Or(operand_at(results, a), operand_at(results, b)),
+        BitStep::Xor(a, b) => Operator::Xor(operand_at(results, a), operand_at(results, b)),
+        BitStep::Mux(c, t, e) => Operator::Mux(
+            operand_at(results, c),
+            operand_at(results, t),
+            operand_at(results, e),
+        ),
+    };
+    Some(operator)
+}
+
+// Notes what a step gives behind those before it, and the step behind the operators if it is one.
+fn add_step(
+    step: BitStep,
+    results: &mut Vec<Operand>,
+    operators: &mut Vec<Operator>,
+) -> Result<(), NoMemory>
+    ensures results { OnOk result (results.new.items ≡ results.old.items ++ result_of (capped (length operators.old.items)) step ∷ []) }
+    ensures operators { OnOk result (operators.new.items ≡ with_operator operators.old.items (operator_of (operand_in results.old.items) step)) }
+{
+    let operator = operator_of(results, step);
+    results.push(result_of(step, count_of(operators)))?;
+    let Some(operator) = operator else {
+        return Ok(());
+    };
+    operators.push(operator)?;
+    Ok(())
+}
+
+// The same for all steps of an expression.
+fn add_steps(
+    steps: &[BitStep],
+    results: &mut Vec<Operand>,
+    operators: &mut Vec<Operator>,
+) -> Result<(), NoMemory>
+    requires results { results.now.items ≡ [] }
+    requires operators { operators.now.items ≡ [] }
+    ensures follow { OnOk result (Follows steps.now results.new.items operators.new.items) }
+{
+    for step in steps {
+        add_step(*step, results, operators)?;
+    }
+    Ok(())
+}
+
+// What gives each of these steps.
+fn operands_at(alloc: Global, results: &[Operand], steps: &[u32]) -> Result<Vec<Operand>, NoMemory>
+    ensures operands { IfOk result (λ operands. operands.items ≡ map (operand_in results.now) steps.now) }
+{
+    let mut operands = Vec::with_capacity(alloc, steps.len())?;
+    for step in steps {
+        operands.push(operand_at(results, *step))?;
+    }
+    Ok(operands)
+}
+
+// So many of the last of these.
+fn low_bits(count: usize, bits: &[u32]) -> &[u32]
+    ensures low { result.now ≡ low_bits count bits.now }
+{
+    &bits[bits.len().saturating_sub(count)..]
+}
+
+/// The operators of an expression, and what gives so many of its last bits.
+pub(crate) fn logic_of(alloc: Global, lowered: &Lowered, count: usize) -> Result<Logic, NoMemory>
+    ensures logic { IfOk result (IsLogicOf count lowered.now) }
+{
+    let mut results = Vec::with_capacity(alloc, lowered.steps.len())?;
+    let mut operators = Vec::new(alloc);
+    add_steps(&lowered.steps, &mut results, &mut operators)?;
+    let bits = operands_at(alloc, &results, low_bits(count, &lowered.bits))?;
+    Ok(Logic { operators, bits })
+}
