@@ -2,4 +2,5 @@
 pub mod KeptFiles
 pub mod MemFiles
 pub mod MemSink
+pub mod QuietFiles
 pub mod Streams

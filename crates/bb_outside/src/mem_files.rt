@@ -3,6 +3,7 @@ ghost use Rattle.std.specs.Prelude.{◌≡◌, ◌≤◌, ◌↔◌, ℕ, List, 
 ghost use Rattle.bb_outside.specs.Counts.{IsRead, Rose, outcome_of};
 ghost use Rattle.bb_outside.specs.Inside.MemFiles.{text_under, is_failing, after_read, entries, reads_of};
 
+use crate::held::front;
 use crate::{FileFault, Files};
 use std::alloc::Global;
 use std::marker::Model;
@@ -39,18 +40,6 @@ impl MemFiles {
     }
 }
 
-// The bytes of the first file of this name.
-fn text<'a>(files: &'a [(String, Vec<u8>)], name: &str) -> &'a [u8]
-    ensures { result.now ≡ text_under (entries files.now) name.now }
-{
-    for (known, bytes) in files {
-        if known.as_str() == name {
-            return bytes;
-        }
-    }
-    &[]
-}
-
 impl Files for MemFiles {
     ghost holds = { λ m name. Some (text_under m.files name) };
 
@@ -75,9 +64,6 @@ impl Files for MemFiles {
             self.faults = self.faults.saturating_add(1);
             return Err(FileFault::Failed);
         }
-        let text = text(&self.files, name);
-        let end = text.len().min(limit as usize);
-        let bytes = text[..end].to_vec(alloc)?;
-        Ok(Rc::new(alloc, bytes)?)
+        Ok(front(alloc, &self.files, name, limit)?)
     }
 }

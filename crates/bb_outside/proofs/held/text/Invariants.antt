@@ -1,6 +1,6 @@
 use Rattle.std.proofs.Common.{◌≡◌, drop}
 use Rattle.bb_outside.specs.Inside.MemFiles.{text_under, entries}
-use Rattle.bb_outside.proofs.mem_files.text.Given as goal
+use Rattle.bb_outside.proofs.held.text.Given as goal
 
 -- no file that was looked at has the name
 abbrev pub invariant-loop-known : goal.invariant-loop-known
