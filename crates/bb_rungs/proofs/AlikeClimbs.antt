@@ -1,8 +1,10 @@
--- Reports of pairs that are alike are the same, but for what stands behind the line of the expansion; so all climbs of them, and all
--- of one pair, have the same lines.
-use Rattle.std.proofs.Common.{◌≡◌, ◌<◌, ◌^◌, ◌&&◌, ◌||◌, not, List, [], ◌∷◌, ◌++◌, ℕ, map, true≢false, inl, inr, refl, sym, ap, ap₂, subst, ◌∙◌}
+-- Reports of pairs that are alike are the same, but for what stands behind the line of the expansion, and but for this line where it may
+-- depend on the search; so all climbs of them, and all of one pair, have the same lines. And no two of them contradict each other.
+use Rattle.std.proofs.Common.{◌≡◌, ◌⊎◌, ◌<◌, ◌^◌, ◌&&◌, ◌||◌, Bool, true, false, not, if◌then◌else◌, List, [], ◌∷◌, ◌++◌, ℕ, map, AllPairs, Contains, true≢false, inl, inr, refl, sym, ap, ap₂, subst, ◌∙◌, arith}
 use Rattle.std.specs.Prelude.{codes}
-use Rattle.std.specs.List.{AllZip}
+use Rattle.std.specs.List.{AllZip, list_any}
+use Rattle.std.proofs.lemmas.List.Elements.{All-head}
+use Rattle.bb_lists.proofs.Members.{contains_here, contains_there}
 use Rattle.bb_net.specs.Pairs.{NetPair, IsPair}
 use Rattle.bb_alike.specs.Laws.Alike.{ArePairsAlike}
 use Rattle.bb_expand.specs.declared.expanded.Expanded.TheVariants as expanded
@@ -12,31 +14,58 @@ use Rattle.bb_rungs.specs.declared.line.Said.{Said}
 use Rattle.bb_rungs.specs.declared.line.Said.TheVariants.{Error, Nothing, Repair, Nodes, Clauses, Wide}
 use Rattle.bb_options.specs.declared.options.Options.{Options}
 use Rattle.bb_options.specs.declared.rung.Rung.{Rung}
-use Rattle.bb_options.specs.declared.rung.Rung.TheVariants.{Expand}
-use Rattle.bb_rungs.specs.Laws.AlikePairs.{AreToldAlike, AlikeReportsAreOne, AlikeClimbsSayAlike}
-use Rattle.bb_rungs.specs.Laws.{ClimbsSayAlike}
+use Rattle.bb_options.specs.declared.rung.Rung.TheVariants.{Ternary, Symbolic, Local, Output, Input, Expand}
+use Rattle.bb_rungs.specs.Laws.AlikePairs.{AreToldAlike, AreToldAlikeBefore, AlikeReportsAreOne, AlikeReportsBeginAsOne, AlikeClimbsSayAlike, AlikeVerdictsNeverClash}
+use Rattle.bb_rungs.specs.Laws.{ClimbsSayAlike, ErrorsExcludeTables, RepairsAgree}
+use Rattle.bb_rungs.specs.Laws.Searches.{MayDependOnSearch}
+use Rattle.bb_rungs.specs.declared.verdict.Verdict.TheVariants as verdicts
 use Rattle.bb_rungs.specs.Reports.{details, input_line, rung_line, told_output}
-use Rattle.bb_options.specs.Rungs.{asked_rungs, rung_name}
-use Rattle.bb_rungs.specs.Rungs.{MaySay, TooWide, ClausesTooMany, Decided, Climbs, Top, End, Step, ends}
+use Rattle.bb_options.specs.Rungs.{asked_rungs, rank, rung_name}
+use Rattle.bb_rungs.specs.Rungs.{MaySay, TooWide, ClausesTooMany, Decided, Climbs, IsClimb, Top, End, Step, ends, is_error, is_repair}
 use Rattle.bb_rungs.specs.TableLines.{table_lines}
 use Rattle.bb_rungs.proofs.AlikeShared.{PairLaws, Share, alike_itself, bits_alike, share, share_back}
 use Rattle.bb_rungs.proofs.AlikeTold.{IsRefuted, told_or_refuted}
 use Rattle.bb_rungs.proofs.AlikeWitnesses.{completion_alike}
-use Rattle.bb_rungs.proofs.OneWord.{OneLaws, SayAlike, above, by_told, said_alike, say_alike}
+use Rattle.bb_rungs.proofs.StayLaw.{asked_rise, first_rises, rest_rises}
+use Rattle.bb_rungs.proofs.AlikeChecks.{depends_alike}
+use Rattle.bb_rungs.proofs.OneWord.{IsFixed, OneLaws, SayAlike, above, by_told, said_alike, say_alike}
+
+is_expand : (r : Rung) → (r ≡ Expand) ⊎ (r ≡ Expand → ⊥)
+is_expand Ternary = inr (λ e. cc e)
+is_expand Symbolic = inr (λ e. cc e)
+is_expand Local = inr (λ e. cc e)
+is_expand Output = inr (λ e. cc e)
+is_expand Input = inr (λ e. cc e)
+is_expand Expand = inl refl
+
+last_of_all : (s : Rung) → rank Expand < rank s → ⊥
+last_of_all Ternary l = omega (arith, l)
+last_of_all Symbolic l = omega (arith, l)
+last_of_all Local l = omega (arith, l)
+last_of_all Output l = omega (arith, l)
+last_of_all Input l = omega (arith, l)
+last_of_all Expand l = omega (arith, l)
+
+-- the expansion is the last check
+none_behind : (p : NetPair) (o : Options) (r : Rung) (rest : List Rung) → AllPairs (λ r s. rank r < rank s) (r ∷ rest) → r ≡ Expand → (ms : List Line) → Climbs p o rest ms → ms ≡ []
+none_behind p o r [] rise e [] Top = refl
+none_behind p o r [] rise e (m ∷ ms) climb = elim climb [ ]
+none_behind p o r (s ∷ rest) rise e ms climb =
+    absurd (last_of_all s (subst (λ z. rank z < rank s) e (All-head (λ x. rank r < rank x) s rest (first_rises (λ r s. rank r < rank s) r (s ∷ rest) rise))))
 
 module _ (laws : OneLaws) (p q : NetPair) (to : Share p q) (from : Share q p) (alike : ArePairsAlike p q) (o : Options) (kept : IsPair q) where
   -- where the clauses of the one are refuted, those of the other are
-  refuted_alike : (r : Rung) (s t : Said) → IsRefuted p o r s → MaySay q o Expand t → SayAlike q o r s t
-  refuted_alike r s t h (TooWide wide same) = absurd (above _ _ (subst (λ n. 2 ^ 24 < n) (sym (bits_alike p q to)) wide) h.small)
-  refuted_alike r s t h (ClausesTooMany small many same) = absurd (above _ _ (subst (λ n. o.clauses < n) (sym to.clauses) many) h.few)
-  refuted_alike r s t h (Decided small few (expanded.Error vectors cnf refutation) is same) = by_told q o r s t _ _ h.same same (say_alike q o r _ _ refl refl refl (λ plain. absurd (plain h.at)))
-  refuted_alike r s t h (Decided small few (expanded.Repair tables) is same) =
+  refuted_alike : (r : Rung) (s t : Said) → (r ≡ Expand → IsFixed q o) → IsRefuted p o r s → MaySay q o Expand t → SayAlike q o r s t
+  refuted_alike r s t fixed h (TooWide wide same) = absurd (above _ _ (subst (λ n. 2 ^ 24 < n) (sym (bits_alike p q to)) wide) h.small)
+  refuted_alike r s t fixed h (ClausesTooMany small many same) = absurd (fixed h.at small many)
+  refuted_alike r s t fixed h (Decided small (expanded.Error vectors cnf refutation) is same) = by_told q o r s t _ _ h.same same (say_alike q o r _ _ refl refl refl (λ plain. absurd (plain h.at)))
+  refuted_alike r s t fixed h (Decided small (expanded.Repair tables) is same) =
       let own = completion_alike q.spec q.imp p.spec p.imp from.nets tables.items is in absurd (h.none tables.items own.fit own.agree)
 
-  pairs_alike : (r : Rung) (s t : Said) → MaySay p o r s → MaySay q o r t → SayAlike q o r s t
-  pairs_alike r s t one other = elim (told_or_refuted p q to from o r s one) [
-    | inl told ↦ said_alike laws q o kept r s t told other
-    | inr refuted ↦ refuted_alike r s t refuted (subst (λ rung. MaySay q o rung t) refuted.at other)
+  pairs_alike : (r : Rung) (s t : Said) → (r ≡ Expand → IsFixed q o) → MaySay p o r s → MaySay q o r t → SayAlike q o r s t
+  pairs_alike r s t fixed one other = elim (told_or_refuted p q to from o r s one) [
+    | inl told ↦ said_alike laws q o kept r s t fixed told other
+    | inr refuted ↦ refuted_alike r s t fixed refuted (subst (λ rung. MaySay q o rung t) refuted.at other)
   ]
 
   -- everything is called the same
@@ -56,33 +85,72 @@ module _ (laws : OneLaws) (p q : NetPair) (to : Share p q) (from : Share q p) (a
       named : Rung → List ℕ → List ℕ
       named rung word = codes "rung " ++ rung_name rung ++ codes " " ++ word ++ codes "\n"
 
-  told_alike : (r : Rung) (l m : Line) → l.rung ≡ r → m.rung ≡ r → MaySay p o r l.said → MaySay q o r m.said → AreToldAlike p q o l m
-  told_alike r l m at also says tells =
-      let same = pairs_alike r l.said m.said says tells in
-      let line = same_line r l m at also same in
-      record {
-        rung = at ∙ sym also;
-        line = line;
-        text = λ plain. ap₂ ◌++◌ line (same_details l.said ∙ same.text (λ e. plain (at ∙ e)));
-      }
+  -- two lines of one check: the same, but for what may depend on the search
+  record AreLines (l m : Line) : Type 0 where
+    before : AreToldAlikeBefore p q o l m
+    line : (MayDependOnSearch p o → ⊥) → rung_line l ≡ rung_line m
+
+  lines_alike : (r : Rung) (l m : Line) → Contains (asked_rungs o) r → l.rung ≡ r → m.rung ≡ r → MaySay p o r l.said → MaySay q o r m.said → AreLines l m
+  lines_alike r l m asked at also says tells = record {
+    before = record {
+      rung = at ∙ sym also;
+      text = λ plain.
+          let same = pairs_alike r l.said m.said (λ e. absurd (plain (at ∙ e))) says tells in
+          ap₂ ◌++◌ (same_line r l m at also same) (same_details l.said ∙ same.text (λ e. plain (at ∙ e)));
+    };
+    line = λ none.
+        let fixed : r ≡ Expand → IsFixed q o = λ e small many. none (depends_alike q p from to o (record { asked = subst (Contains (asked_rungs o)) e asked; small = small; many = many })) in
+        same_line r l m at also (pairs_alike r l.said m.said fixed says tells);
+  }
 
   same_ends : (r : Rung) (l m : Line) → SayAlike q o r l.said m.said → ends o l ≡ ends o m
   same_ends r l m h = ap₂ (λ repair error. repair || (error && not o.all)) h.repair h.error
 
-  climbs_alike : (rungs : List Rung) (ls ms : List Line) → Climbs p o rungs ls → Climbs q o rungs ms → AllZip (AreToldAlike p q o) ls ms
-  climbs_alike [] [] [] Top Top = record {}
-  climbs_alike [] [] (m ∷ ms) Top climb = elim climb [ ]
-  climbs_alike [] (l ∷ ls) ms climb other = elim climb [ ]
-  climbs_alike (r ∷ rest) [] ms climb other = elim climb [ ]
-  climbs_alike (r ∷ rest) (l ∷ ls) [] climb other = elim other [ ]
-  climbs_alike (r ∷ rest) (l ∷ []) (m ∷ []) (End at says last) (End also tells done) = (told_alike r l m at also says tells, record {})
-  climbs_alike (r ∷ rest) (l ∷ []) (m ∷ ms) (End at says last) (Step also tells on behind) = absurd (true≢false (sym last ∙ same_ends r l m (pairs_alike r l.said m.said says tells) ∙ on))
-  climbs_alike (r ∷ rest) (l ∷ ls) (m ∷ []) (Step at says on behind) (End also tells done) = absurd (true≢false (sym done ∙ sym (same_ends r l m (pairs_alike r l.said m.said says tells)) ∙ on))
-  climbs_alike (r ∷ rest) (l ∷ ls) (m ∷ ms) (Step at says on behind) (Step also tells off more) = (told_alike r l m at also says tells, climbs_alike rest ls ms behind more)
+  -- before the expansion both end or both go on
+  not_ends : {T : Type 0} (r : Rung) (l m : Line) → (r ≡ Expand → ⊥) → MaySay p o r l.said → MaySay q o r m.said → (b : Bool) → ends o l ≡ b → ends o m ≡ not b → T
+  not_ends r l m plain says tells b one other = absurd (never b (sym one ∙ same_ends r l m (pairs_alike r l.said m.said (λ e. absurd (plain e)) says tells) ∙ other))
+    where
+      never : (b : Bool) → b ≡ not b → ⊥
+      never true e = true≢false e
+      never false e = true≢false (sym e)
+
+  climbs_alike : (rungs : List Rung) → ((r : Rung) → Contains rungs r → Contains (asked_rungs o) r) → AllPairs (λ r s. rank r < rank s) rungs → (ls ms : List Line) → Climbs p o rungs ls → Climbs q o rungs ms → AllZip AreLines ls ms
+  climbs_alike [] asked rise [] [] Top Top = record {}
+  climbs_alike [] asked rise [] (m ∷ ms) Top climb = elim climb [ ]
+  climbs_alike [] asked rise (l ∷ ls) ms climb other = elim climb [ ]
+  climbs_alike (r ∷ rest) asked rise [] ms climb other = elim climb [ ]
+  climbs_alike (r ∷ rest) asked rise (l ∷ ls) [] climb other = elim other [ ]
+  climbs_alike (r ∷ rest) asked rise (l ∷ []) (m ∷ []) (End at says last) (End also tells done) = (lines_alike r l m (asked r (contains_here r rest)) at also says tells, record {})
+  climbs_alike (r ∷ rest) asked rise (l ∷ []) (m ∷ ms) (End at says last) (Step also tells on behind) = elim (is_expand r) [
+    | inl e ↦ subst (λ more. AllZip AreLines (l ∷ []) (m ∷ more)) (sym (none_behind q o r rest rise e ms behind)) (lines_alike r l m (asked r (contains_here r rest)) at also says tells, record {})
+    | inr plain ↦ not_ends r l m plain says tells true last on
+  ]
+  climbs_alike (r ∷ rest) asked rise (l ∷ ls) (m ∷ []) (Step at says on behind) (End also tells done) = elim (is_expand r) [
+    | inl e ↦ subst (λ more. AllZip AreLines (l ∷ more) (m ∷ [])) (sym (none_behind p o r rest rise e ls behind)) (lines_alike r l m (asked r (contains_here r rest)) at also says tells, record {})
+    | inr plain ↦ not_ends r l m plain says tells false on done
+  ]
+  climbs_alike (r ∷ rest) asked rise (l ∷ ls) (m ∷ ms) (Step at says on behind) (Step also tells off more) = (
+    lines_alike r l m (asked r (contains_here r rest)) at also says tells,
+    climbs_alike rest (λ s has. asked s (contains_there r rest s has)) (rest_rises (λ r s. rank r < rank s) r rest rise) ls ms behind more,
+  )
+
+  all_alike : (lines others : List Line) → IsClimb p o lines → IsClimb q o others → AllZip AreLines lines others
+  all_alike = climbs_alike (asked_rungs o) (λ r has. has) (asked_rise o)
+
+-- what holds place by place
+each : {R S : Line → Line → Type 0} → ((l m : Line) → R l m → S l m) → (ls ms : List Line) → AllZip R ls ms → AllZip S ls ms
+each by [] [] h = h
+each by [] (m ∷ ms) h = h
+each by (l ∷ ls) [] h = h
+each by (l ∷ ls) (m ∷ ms) h = (by l m h.0, each by ls ms h.1)
 
 pub alike_reports_are_one : PairLaws → OneLaws → AlikeReportsAreOne
-alike_reports_are_one laws one p q o lines others kept other alike climb climbs =
-    climbs_alike one p q (share laws p q kept other alike) (share_back laws p q kept other alike) alike o other (asked_rungs o) lines others climb climbs
+alike_reports_are_one laws one p q o lines others kept other alike climb climbs fixed =
+    each (λ l m h. record { before = h.before; line = h.line fixed }) lines others (all_alike one p q (share laws p q kept other alike) (share_back laws p q kept other alike) alike o other lines others climb climbs)
+
+pub alike_reports_begin_as_one : PairLaws → OneLaws → AlikeReportsBeginAsOne
+alike_reports_begin_as_one laws one p q o lines others kept other alike climb climbs =
+    each (λ l m h. h.before) lines others (all_alike one p q (share laws p q kept other alike) (share_back laws p q kept other alike) alike o other lines others climb climbs)
 
 same_lines : (p q : NetPair) (o : Options) (ls ms : List Line) → AllZip (AreToldAlike p q o) ls ms → map rung_line ls ≡ map rung_line ms
 same_lines p q o [] [] h = refl
@@ -91,8 +159,20 @@ same_lines p q o (l ∷ ls) [] h = absurd h
 same_lines p q o (l ∷ ls) (m ∷ ms) h = ap₂ (λ t ts. t ∷ ts) h.0.line (same_lines p q o ls ms h.1)
 
 pub alike_climbs_say_alike : AlikeReportsAreOne → AlikeClimbsSayAlike
-alike_climbs_say_alike reports p q o lines others kept other alike climb climbs = same_lines p q o lines others (reports p q o lines others kept other alike climb climbs)
+alike_climbs_say_alike reports p q o lines others kept other alike climb climbs fixed = same_lines p q o lines others (reports p q o lines others kept other alike climb climbs fixed)
 
 -- a pair is alike to itself
 pub climbs_say_alike : AlikeClimbsSayAlike → ClimbsSayAlike
-climbs_say_alike pairs p o lines others kept climb climbs = pairs p p o lines others kept kept (alike_itself p) climb climbs
+climbs_say_alike pairs p o lines others kept climb climbs fixed = pairs p p o lines others kept kept (alike_itself p) climb climbs fixed
+
+-- tables that agree for the one agree for the other
+says_error : (a b : Bool) → (if a then verdicts.Error else (if b then verdicts.Repairable else verdicts.Open)) ≡ verdicts.Error → a ≡ true
+says_error true b e = refl
+says_error false true e = cc e
+says_error false false e = cc e
+
+pub alike_verdicts_never_clash : PairLaws → ErrorsExcludeTables → RepairsAgree → AlikeVerdictsNeverClash
+alike_verdicts_never_clash laws excludes repairs p q o lines others kept other alike climb climbs error repair =
+    let (tables, complete, ends) = repairs q o others other climbs repair in
+    let own = completion_alike q.spec q.imp p.spec p.imp (share_back laws p q kept other alike).nets tables complete in
+    excludes p o lines kept climb (says_error (list_any is_error lines) (list_any is_repair lines) error) tables own.fit own.agree

@@ -1,5 +1,5 @@
 -- What a check may say of a pair it may say of one that is alike, unless it refutes the clauses of the one.
-use Rattle.std.proofs.Common.{◌≡◌, ◌≤◌, ◌<◌, ◌^◌, ◌⊎◌, inl, inr, refl, subst}
+use Rattle.std.proofs.Common.{◌≡◌, ◌<◌, ◌^◌, ◌⊎◌, inl, inr, refl, subst}
 use Rattle.std.specs.Prelude.{List}
 use Rattle.bb_bits.specs.Truth.{Truth}
 use Rattle.bb_net.specs.Completions.{HaveSmallTables}
@@ -9,7 +9,6 @@ use Rattle.bb_tern.specs.Patterns.{patterns}
 use Rattle.bb_sym.specs.declared.found.Found.{Found}
 use Rattle.bb_sym.specs.Finds.{IsSometimesRight}
 use Rattle.bb_expand.specs.declared.expanded.Expanded.TheVariants as expanded
-use Rattle.bb_expand.specs.ClauseCounts.{clause_total}
 use Rattle.bb_input.specs.declared.InputAnswer.{InputAnswer}
 use Rattle.bb_input.specs.declared.InputAnswer.TheVariants as choices
 use Rattle.bb_input.specs.Answers.{IsAnswer}
@@ -31,7 +30,6 @@ use Rattle.bb_rungs.proofs.AlikeWitnesses.{known_wrong_alike, always_wrong_alike
 pub record IsRefuted (p : NetPair) (o : Options) (r : Rung) (said : Said) : Type 0 where
   pub at : r ≡ Expand
   pub small : HaveSmallTables p.imp.boxes
-  pub few : clause_total p.imp ≤ o.clauses
   pub proof : Proof
   pub same : said ≡ Error (Refutation proof)
   pub none : NoTablesAgree p.spec p.imp
@@ -95,10 +93,10 @@ module _ (p q : NetPair) (to : Share p q) (from : Share q p) (o : Options) where
   told_or_refuted Input said says = inl (chosen_told said says)
   told_or_refuted Expand said (TooWide wide same) = inl (TooWide (subst (λ n. 2 ^ 24 < n) (bits_alike p q to) wide) same)
   told_or_refuted Expand said (ClausesTooMany small many same) = inl (ClausesTooMany (small_alike p q to small) (subst (λ n. o.clauses < n) to.clauses many) same)
-  told_or_refuted Expand said (Decided small few (expanded.Error vectors cnf refutation) is same) =
-      inr (record { at = refl; small = small; few = few; proof = record { vectors = vectors; cnf = cnf; refutation = refutation }; same = same; none = is.none })
-  told_or_refuted Expand said (Decided small few (expanded.Repair tables) is same) =
-      inl (Decided (small_alike p q to small) (subst (λ n. n ≤ o.clauses) to.clauses few) (expanded.Repair tables) (completion_alike p.spec p.imp q.spec q.imp to.nets tables.items is) same)
+  told_or_refuted Expand said (Decided small (expanded.Error vectors cnf refutation) is same) =
+      inr (record { at = refl; small = small; proof = record { vectors = vectors; cnf = cnf; refutation = refutation }; same = same; none = is.none })
+  told_or_refuted Expand said (Decided small (expanded.Repair tables) is same) =
+      inl (Decided (small_alike p q to small) (expanded.Repair tables) (completion_alike p.spec p.imp q.spec q.imp to.nets tables.items is) same)
 
 pub alike_pairs_are_told : PairLaws → AlikePairsAreTold
 alike_pairs_are_told laws p q o r said one other alike plain says = elim (told_or_refuted p q (share laws p q one other alike) (share_back laws p q one other alike) o r said says) [

@@ -88,8 +88,8 @@ module _ (weakens : Weakens) (vectors : PatternsAreVectors) (p : NetPair) (o : O
   shows Input said (Answered few (choices.Repair tables) is same) on = not_said said _ same refl on
   shows Expand said (TooWide wide same) on = not_said said _ same refl on
   shows Expand said (ClausesTooMany small many same) on = not_said said _ same refl on
-  shows Expand said (Decided small few (expanded.Error vectors cnf refutation) is same) on = is.none
-  shows Expand said (Decided small few (expanded.Repair tables) is same) on = not_said said _ same refl on
+  shows Expand said (Decided small (expanded.Error vectors cnf refutation) is same) on = is.none
+  shows Expand said (Decided small (expanded.Repair tables) is same) on = not_said said _ same refl on
 
   pub said_excludes : (r : Rung) (said : Said) → MaySay p o r said → says_error said ≡ true → NoTablesAgree p.spec p.imp
   said_excludes r said says on = no_tables r (shows r said says on)

@@ -5,7 +5,6 @@ use Rattle.std.specs.Prelude.{drop, vec_items, Result, Ok, Err, IfOk, IfSome, If
 use Rattle.bb_bits.specs.Truth.{Truth}
 use Rattle.bb_net.specs.Conditions.{IsFirstHit}
 use Rattle.std.proofs.lemmas.Bool.{cases_lt}
-use Rattle.bb_expand.specs.ClauseCounts.{clause_total}
 use Rattle.bb_expand.specs.declared.expanded.Expanded.{Expanded}
 use Rattle.bb_expand.specs.declared.expanded.ExpandFault.{ExpandFault}
 use Rattle.bb_expand.specs.declared.expanded.ExpandFault.TheVariants as expand
@@ -36,12 +35,12 @@ finds o functions Finds none (Err faults.NoMemory) (Ok said) found missing nodes
 finds o functions Finds none (Ok a) (Err x) found missing nodes within e = tt
 finds o functions Finds none (Err f) (Err x) found missing nodes within e = tt
 
--- what the expansion answers, where its tables are not too wide and its clauses not too many
-pub decides : (p : NetPair) (o : Options) (answer : Expanded) → IsExpanded p.spec p.imp o.clauses answer → (2 ^ 24 < table_bits p.imp.boxes → IsErrOf (Ok answer) expand.Wide) → (HaveSmallTables p.imp.boxes → o.clauses < clause_total p.imp → IsErrOf (Ok answer) expand.Clauses)
+-- what the expansion answers, where its tables are not too wide
+pub decides : (p : NetPair) (o : Options) (answer : Expanded) → IsExpanded p.spec p.imp o.clauses answer → (2 ^ 24 < table_bits p.imp.boxes → IsErrOf (Ok answer) expand.Wide)
     → MayExpand p o (told_expanded answer)
-decides p o answer is narrow few =
+decides p o answer is narrow =
     let small : HaveSmallTables p.imp.boxes = not_below (2 ^ 24) (table_bits p.imp.boxes) (λ wide. not_err answer expand.Wide (narrow wide)) in
-    Decided small (not_below o.clauses (clause_total p.imp) (λ many. not_err answer expand.Clauses (few small many))) answer is refl
+    Decided small answer is refl
   where
     not_err : (answer : Expanded) (fault : ExpandFault) → IsErrOf (Ok answer) fault → ⊥
     not_err answer fault e = cc e

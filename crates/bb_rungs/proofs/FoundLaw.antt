@@ -57,8 +57,8 @@ module _ (known : KnownIsValue) (vectors : PatternsAreVectors) (p : NetPair) (o 
   said_mistake Input said (Answered few (choices.Repair tables) is same) = subst (SaidIsMistake p) (sym same) tt
   said_mistake Expand said (TooWide wide same) = subst (SaidIsMistake p) (sym same) tt
   said_mistake Expand said (ClausesTooMany small many same) = subst (SaidIsMistake p) (sym same) tt
-  said_mistake Expand said (Decided small few (expanded.Error all cnf refutation) is same) = subst (SaidIsMistake p) (sym same) tt
-  said_mistake Expand said (Decided small few (expanded.Repair tables) is same) = subst (SaidIsMistake p) (sym same) tt
+  said_mistake Expand said (Decided small (expanded.Error all cnf refutation) is same) = subst (SaidIsMistake p) (sym same) tt
+  said_mistake Expand said (Decided small (expanded.Repair tables) is same) = subst (SaidIsMistake p) (sym same) tt
 
 pub found_vectors_are_mistakes : KnownIsValue → PatternsAreVectors → FoundVectorsAreMistakes
 found_vectors_are_mistakes known vectors p o lines climb = climb_each p o (SaidIsMistake p) (said_mistake known vectors p o) _ lines climb

@@ -1,11 +1,14 @@
--- All that a check may say of a pair is told by one word, and has one text, but for what the expansion finds.
+-- All that a check may say of a pair is told by one word, and has one text, but for what the expansion finds, and but for its word where
+-- it may depend on the search.
 use Rattle.std.proofs.Common.{◌≡◌, ◌<◌, ◌≤◌, Bool, true, List, ◌++◌, ℕ, true≢false, refl, sym, ap, ap₂, ◌∙◌, arith}
 use Rattle.bb_net.specs.Conditions.{IsKnownWrong, MayBeRight, IsAlwaysWrong}
+use Rattle.bb_net.specs.Completions.{HaveSmallTables}
 use Rattle.bb_net.specs.Pairs.{NetPair, IsPair}
 use Rattle.bb_bits.specs.Truth.{Truth}
 use Rattle.bb_tern.specs.Patterns.{PatternsAreVectors}
 use Rattle.bb_sym.specs.declared.found.Found.{Found}
 use Rattle.bb_sym.specs.Finds.{IsSometimesRight}
+use Rattle.bb_expand.specs.ClauseCounts.{clause_total}
 use Rattle.bb_expand.specs.declared.expanded.Expanded.TheVariants as expanded
 use Rattle.bb_input.specs.declared.InputAnswer.{InputAnswer}
 use Rattle.bb_input.specs.declared.InputAnswer.TheVariants as choices
@@ -36,6 +39,10 @@ pub record SayAlike (p : NetPair) (o : Options) (r : Rung) (s t : Said) : Type 0
   pub error : says_error s ≡ says_error t
   pub repair : says_repair s ≡ says_repair t
   pub text : (r ≡ Expand → ⊥) → details p o s ≡ details p o t
+
+-- the word of the expansion does not depend on the search
+abbrev pub IsFixed : NetPair → Options → Type 0
+IsFixed p o = HaveSmallTables p.imp.boxes → o.clauses < clause_total p.imp → ⊥
 
 pub above : (n m : ℕ) → n < m → m ≤ n → ⊥
 above n m less more = omega (arith, less, more)
@@ -89,22 +96,22 @@ module _ (laws : OneLaws) (p : NetPair) (o : Options) (kept : IsPair p) where
   chosen_alike s t (Answered few answer is same) (Answered fewer other be also) =
       by_told p o Input s t _ _ same also (answers_alike p o Input answer other (laws.answers p.spec p.imp kept.imp answer other is be))
 
-  expanded_alike : (s t : Said) → MayExpand p o s → MayExpand p o t → (says_error s ≡ true → Stays t) → (says_error t ≡ true → Stays s) → SayAlike p o Expand s t
-  expanded_alike s t (TooWide wide same) (TooWide wider also) st ts = one_said p o Expand s t _ same also
-  expanded_alike s t (TooWide wide same) (ClausesTooMany small many also) st ts = absurd (above _ _ wide small)
-  expanded_alike s t (TooWide wide same) (Decided small few answer is also) st ts = absurd (above _ _ wide small)
-  expanded_alike s t (ClausesTooMany small many same) (TooWide wide also) st ts = absurd (above _ _ wide small)
-  expanded_alike s t (ClausesTooMany small many same) (ClausesTooMany smaller more also) st ts = one_said p o Expand s t _ same also
-  expanded_alike s t (ClausesTooMany small many same) (Decided smaller few answer is also) st ts = absurd (above _ _ many few)
-  expanded_alike s t (Decided small few answer is same) (TooWide wide also) st ts = absurd (above _ _ wide small)
-  expanded_alike s t (Decided small few answer is same) (ClausesTooMany smaller many also) st ts = absurd (above _ _ many few)
-  expanded_alike s t (Decided small few (expanded.Error vectors cnf refutation) is same) (Decided smaller fewer (expanded.Error others clauses steps) be also) st ts =
+  expanded_alike : (s t : Said) → IsFixed p o → MayExpand p o s → MayExpand p o t → (says_error s ≡ true → Stays t) → (says_error t ≡ true → Stays s) → SayAlike p o Expand s t
+  expanded_alike s t fixed (TooWide wide same) (TooWide wider also) st ts = one_said p o Expand s t _ same also
+  expanded_alike s t fixed (TooWide wide same) (ClausesTooMany small many also) st ts = absurd (above _ _ wide small)
+  expanded_alike s t fixed (TooWide wide same) (Decided small answer is also) st ts = absurd (above _ _ wide small)
+  expanded_alike s t fixed (ClausesTooMany small many same) (TooWide wide also) st ts = absurd (above _ _ wide small)
+  expanded_alike s t fixed (ClausesTooMany small many same) (ClausesTooMany smaller more also) st ts = one_said p o Expand s t _ same also
+  expanded_alike s t fixed (ClausesTooMany small many same) (Decided smaller answer is also) st ts = absurd (fixed small many)
+  expanded_alike s t fixed (Decided small answer is same) (TooWide wide also) st ts = absurd (above _ _ wide small)
+  expanded_alike s t fixed (Decided small answer is same) (ClausesTooMany smaller many also) st ts = absurd (fixed smaller many)
+  expanded_alike s t fixed (Decided small (expanded.Error vectors cnf refutation) is same) (Decided smaller (expanded.Error others clauses steps) be also) st ts =
       by_told p o Expand s t _ _ same also (say_alike p o Expand _ _ refl refl refl (λ plain. absurd (plain refl)))
-  expanded_alike s t (Decided small few (expanded.Error vectors cnf refutation) is same) (Decided smaller fewer (expanded.Repair tables) be also) st ts =
+  expanded_alike s t fixed (Decided small (expanded.Error vectors cnf refutation) is same) (Decided smaller (expanded.Repair tables) be also) st ts =
       absurd (true≢false (sym (ap says_repair also) ∙ (st (ap says_error same)).1))
-  expanded_alike s t (Decided small few (expanded.Repair tables) is same) (Decided smaller fewer (expanded.Error vectors cnf refutation) be also) st ts =
+  expanded_alike s t fixed (Decided small (expanded.Repair tables) is same) (Decided smaller (expanded.Error vectors cnf refutation) be also) st ts =
       absurd (true≢false (sym (ap says_repair same) ∙ (ts (ap says_error also)).1))
-  expanded_alike s t (Decided small few (expanded.Repair tables) is same) (Decided smaller fewer (expanded.Repair others) be also) st ts = by_told p o Expand s t _ _ same also (say_alike p o Expand _ _ refl refl refl (λ plain. absurd (plain refl)))
+  expanded_alike s t fixed (Decided small (expanded.Repair tables) is same) (Decided smaller (expanded.Repair others) be also) st ts = by_told p o Expand s t _ _ same also (say_alike p o Expand _ _ refl refl refl (λ plain. absurd (plain refl)))
 
   hits_alike : (s t : Said) → MayHit p o s → MayHit p o t → (says_error s ≡ true → Stays t) → (says_error t ≡ true → Stays s) → SayAlike p o Ternary s t
   hits_alike s t (Hit found j is hit same) (Hit other k be more also) st ts = one_found p o Ternary s t found other same also (one_hit p.spec p.imp (tried p o) found other j k is be hit more)
@@ -116,12 +123,12 @@ module _ (laws : OneLaws) (p : NetPair) (o : Options) (kept : IsPair p) where
   always_not_right : (x : List Bool) (j : ℕ) → IsAlwaysWrong p.spec p.imp x j → IsSometimesRight p.spec p.imp x j → ⊥
   always_not_right x j wrong (z, long, right) = wrong z long right
 
-  pub said_alike : (r : Rung) (s t : Said) → MaySay p o r s → MaySay p o r t → SayAlike p o r s t
-  said_alike Ternary s t one other = hits_alike s t one other (not_none Ternary s t one other) (not_none Ternary t s other one)
-  said_alike Symbolic s t one other =
+  pub said_alike : (r : Rung) (s t : Said) → (r ≡ Expand → IsFixed p o) → MaySay p o r s → MaySay p o r t → SayAlike p o r s t
+  said_alike Ternary s t fixed one other = hits_alike s t one other (not_none Ternary s t one other) (not_none Ternary t s other one)
+  said_alike Symbolic s t fixed one other =
       finds_alike Symbolic _ _ _ (one_first laws.bits p (IsKnownWrong p.spec p.imp) (MayBeRight p.spec p.imp) (known_not_right p.spec p.imp)) s t one other (not_none Symbolic s t one other) (not_none Symbolic t s other one)
-  said_alike Local s t one other =
+  said_alike Local s t fixed one other =
       finds_alike Local _ _ _ (one_first laws.bits p (IsAlwaysWrong p.spec p.imp) (IsSometimesRight p.spec p.imp) always_not_right) s t one other (not_none Local s t one other) (not_none Local t s other one)
-  said_alike Output s t one other = finds_alike Output _ _ _ (one_least laws.bits p) s t one other (not_none Output s t one other) (not_none Output t s other one)
-  said_alike Input s t one other = chosen_alike s t one other
-  said_alike Expand s t one other = expanded_alike s t one other (not_none Expand s t one other) (not_none Expand t s other one)
+  said_alike Output s t fixed one other = finds_alike Output _ _ _ (one_least laws.bits p) s t one other (not_none Output s t one other) (not_none Output t s other one)
+  said_alike Input s t fixed one other = chosen_alike s t one other
+  said_alike Expand s t fixed one other = expanded_alike s t (fixed refl) one other (not_none Expand s t one other) (not_none Expand t s other one)

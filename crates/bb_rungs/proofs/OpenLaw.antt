@@ -1,12 +1,14 @@
--- Where no check says that there is an error, and none gives tables, each leaves the question open, and only there; so none of them
--- decides.
+-- Where no check says that there is an error, and none gives tables, each leaves the question open, and so none of them decides; where
+-- the question stays open with each, that is the verdict; and only what may depend on the search lies between the two.
 use Rattle.std.proofs.Common.{◌≡◌, ◌&&◌, ◌||◌, Bool, true, false, not, if◌then◌else◌, List, [], ◌∷◌, All, Contains, true≢false, refl, sym, ap, ap₂, subst, ◌∙◌, inl, inr, arith, ◌<◌, ◌≤◌, ◌^◌, ℕ}
 use Rattle.std.specs.List.{list_any}
+use Rattle.std.proofs.lemmas.Bool.{cases_lt}
 use Rattle.std.proofs.lemmas.List.Elements.{All-nil, All-cons, All-contains, All-head, All-tail}
 use Rattle.bb_net.specs.Completions.{table_bits}
 use Rattle.bb_net.specs.Pairs.{NetPair}
 use Rattle.bb_expand.specs.ClauseCounts.{clause_total}
 use Rattle.bb_expand.specs.declared.expanded.Expanded.TheVariants as expanded
+use Rattle.bb_lists.proofs.Members.{all_from}
 use Rattle.bb_input.specs.declared.InputAnswer.TheVariants as choices
 use Rattle.bb_rungs.specs.declared.line.Line.{Line}
 use Rattle.bb_rungs.specs.declared.line.Said.{Said}
@@ -14,8 +16,9 @@ use Rattle.bb_options.specs.declared.options.Options.{Options}
 use Rattle.bb_options.specs.declared.rung.Rung.{Rung}
 use Rattle.bb_options.specs.declared.rung.Rung.TheVariants.{Ternary, Symbolic, Local, Output, Input, Expand}
 use Rattle.bb_rungs.specs.declared.verdict.Verdict.TheVariants as verdicts
-use Rattle.bb_rungs.specs.Laws.{ClimbsLeaveOpen, LeftOpenIsTold, DecidersDecide}
-use Rattle.bb_rungs.specs.LeftOpen.{Decides, LeavesOpen}
+use Rattle.bb_rungs.specs.Laws.{ClimbsLeaveOpen, StayingOpenIsTold, StayingOpenIsLeftOpen, LeftOpenStaysOpen, DecidersDecide}
+use Rattle.bb_rungs.specs.LeftOpen.{Decides, LeavesOpen, StaysOpen}
+use Rattle.bb_rungs.specs.Laws.Searches.{MayDependOnSearch}
 use Rattle.bb_options.specs.Rungs.{asked_rungs}
 use Rattle.bb_rungs.specs.Rungs.{MaySay, Hit, NoHit, TooMany, Finding, Without, ChoicesTooMany, Answered, TooWide, ClausesTooMany, Decided, Climbs, Top, End, Step, says_error, says_repair, is_error, is_repair}
 use Rattle.bb_rungs.proofs.ErrorLaw.{contained}
@@ -65,8 +68,8 @@ module _ (p : NetPair) (o : Options) where
   said_open Input said (Answered few (choices.Repair tables) is same) off none = no_repair said _ same refl none
   said_open Expand said (TooWide wide same) off none = inl wide
   said_open Expand said (ClausesTooMany small many same) off none = inr many
-  said_open Expand said (Decided small few (expanded.Error vectors cnf refutation) is same) off none = no_error said _ same refl off
-  said_open Expand said (Decided small few (expanded.Repair tables) is same) off none = no_repair said _ same refl none
+  said_open Expand said (Decided small (expanded.Error vectors cnf refutation) is same) off none = no_error said _ same refl off
+  said_open Expand said (Decided small (expanded.Repair tables) is same) off none = no_repair said _ same refl none
 
   climb_open : (rungs : List Rung) (lines : List Line) → Climbs p o rungs lines → list_any is_error lines ≡ false → list_any is_repair lines ≡ false → All (LeavesOpen p o) rungs
   climb_open [] [] Top off none = All-nil _
@@ -78,14 +81,14 @@ module _ (p : NetPair) (o : Options) where
       let no_tables = neither (is_repair line) (list_any is_repair more) none in
       All-cons (LeavesOpen p o) r rest (said_open r line.said says no_error.0 no_tables.0) (climb_open rest more behind no_error.1 no_tables.1)
 
-  -- what is said where a check leaves the question open
+  -- what is said where the question stays open with a check
   abbrev IsOpen : Said → Type 0
   IsOpen said = (says_error said ≡ false) × (says_repair said ≡ false)
 
   as_told : (said told : Said) → said ≡ told → IsOpen told → IsOpen said
   as_told said told same h = subst IsOpen (sym same) h
 
-  open_said : (r : Rung) (said : Said) → MaySay p o r said → LeavesOpen p o r → IsOpen said
+  open_said : (r : Rung) (said : Said) → MaySay p o r said → StaysOpen p o r → IsOpen said
   open_said Ternary said (Hit found j is hit same) right =
       absurd (known_not_right p.spec p.imp found.input.items j hit.wrong (right found.input.items (subst (λ all. Contains all found.input.items) (sym hit.stands) (contained hit.before found.input.items hit.after)) j hit.there))
   open_said Ternary said (NoHit right same) left = as_told said _ same (refl, refl)
@@ -113,8 +116,7 @@ module _ (p : NetPair) (o : Options) where
   open_said Input said (Answered few (choices.Repair tables) is same) (inr suit) = absurd (suit.1 is.0)
   open_said Expand said (TooWide wide same) left = as_told said _ same (refl, refl)
   open_said Expand said (ClausesTooMany small many same) left = as_told said _ same (refl, refl)
-  open_said Expand said (Decided small few answer is same) (inl wide) = absurd (above _ _ wide small)
-  open_said Expand said (Decided small few answer is same) (inr many) = absurd (above _ _ many few)
+  open_said Expand said (Decided small answer is same) wide = absurd (above _ _ wide small)
 
   -- no line tells an error, and none tells of tables
   record AreOpen (lines : List Line) : Type 0 where
@@ -124,20 +126,20 @@ module _ (p : NetPair) (o : Options) where
   one_more : (line : Line) (more : List Line) → IsOpen line.said → AreOpen more → AreOpen (line ∷ more)
   one_more line more first h = record { error = ap₂ ◌||◌ first.0 h.error; repair = ap₂ ◌||◌ first.1 h.repair }
 
-  open_climb : (rungs : List Rung) (lines : List Line) → Climbs p o rungs lines → All (LeavesOpen p o) rungs → AreOpen lines
+  open_climb : (rungs : List Rung) (lines : List Line) → Climbs p o rungs lines → All (StaysOpen p o) rungs → AreOpen lines
   open_climb [] [] Top left = record { error = refl; repair = refl }
   open_climb [] (line ∷ more) climb left = elim climb [ ]
   open_climb (r ∷ rest) [] climb left = elim climb [ ]
-  open_climb (r ∷ rest) (line ∷ []) (End is says last) left = one_more line [] (open_said r line.said says (All-head (LeavesOpen p o) r rest left)) (record { error = refl; repair = refl })
+  open_climb (r ∷ rest) (line ∷ []) (End is says last) left = one_more line [] (open_said r line.said says (All-head (StaysOpen p o) r rest left)) (record { error = refl; repair = refl })
   open_climb (r ∷ rest) (line ∷ more) (Step is says on behind) left =
-      one_more line more (open_said r line.said says (All-head (LeavesOpen p o) r rest left)) (open_climb rest more behind (All-tail (LeavesOpen p o) r rest left))
+      one_more line more (open_said r line.said says (All-head (StaysOpen p o) r rest left)) (open_climb rest more behind (All-tail (StaysOpen p o) r rest left))
 
 -- the verdict where no line tells an error, and none tells of tables
 open_verdict : (a b : Bool) → a ≡ false → b ≡ false → (if a then verdicts.Error else (if b then verdicts.Repairable else verdicts.Open)) ≡ verdicts.Open
 open_verdict a b off none = rw off (rw none refl)
 
-pub left_open_is_told : LeftOpenIsTold
-left_open_is_told p o lines climb left =
+pub staying_open_is_told : StayingOpenIsTold
+staying_open_is_told p o lines climb left =
     let none = open_climb p o _ lines climb left in
     open_verdict (list_any is_error lines) (list_any is_repair lines) none.error none.repair
 
@@ -145,6 +147,32 @@ pub climbs_leave_open : ClimbsLeaveOpen
 climbs_leave_open p o lines climb verdict =
     let none = both_none (list_any is_error lines) (list_any is_repair lines) verdict in
     climb_open p o _ lines climb none.0 none.1
+
+-- what stays open is left open
+pub staying_open_is_left_open : StayingOpenIsLeftOpen
+staying_open_is_left_open p o Ternary stays = stays
+staying_open_is_left_open p o Symbolic stays = stays
+staying_open_is_left_open p o Local stays = stays
+staying_open_is_left_open p o Output stays = stays
+staying_open_is_left_open p o Input stays = stays
+staying_open_is_left_open p o Expand wide = inl wide
+
+-- and what is left open stays open, or the tables of the expansion may be written down and its clauses over all vectors are too many
+stays_or_depends : (p : NetPair) (o : Options) (r : Rung) → (MayDependOnSearch p o → ⊥) → Contains (asked_rungs o) r → LeavesOpen p o r → StaysOpen p o r
+stays_or_depends p o Ternary fixed asked left = left
+stays_or_depends p o Symbolic fixed asked left = left
+stays_or_depends p o Local fixed asked left = left
+stays_or_depends p o Output fixed asked left = left
+stays_or_depends p o Input fixed asked left = left
+stays_or_depends p o Expand fixed asked (inl wide) = wide
+stays_or_depends p o Expand fixed asked (inr many) = elim (cases_lt (2 ^ 24) (table_bits p.imp.boxes)) [
+  | inl wide ↦ wide
+  | inr small ↦ absurd (fixed (record { asked = asked; small = small; many = many }))
+]
+
+pub left_open_stays_open : LeftOpenStaysOpen
+left_open_stays_open p o fixed left = all_from (StaysOpen p o) (asked_rungs o)
+    (λ r asked. stays_or_depends p o r fixed asked (All-contains (LeavesOpen p o) (asked_rungs o) r left asked))
 
 -- a check that decides does not leave the question open
 not_both : (p : NetPair) (o : Options) (r : Rung) → LeavesOpen p o r → Decides p o r → ⊥

@@ -78,8 +78,8 @@ module _ (p : NetPair) (o : Options) where
   gives Input said (Answered few (choices.Repair tables) is same) on = (tables.items, is.1.completion, ap (details p o) same)
   gives Expand said (TooWide wide same) on = not_given said _ same refl on
   gives Expand said (ClausesTooMany small many same) on = not_given said _ same refl on
-  gives Expand said (Decided small few (expanded.Error vectors cnf refutation) is same) on = not_given said _ same refl on
-  gives Expand said (Decided small few (expanded.Repair tables) is same) on = (tables.items, is, ap (details p o) same)
+  gives Expand said (Decided small (expanded.Error vectors cnf refutation) is same) on = not_given said _ same refl on
+  gives Expand said (Decided small (expanded.Repair tables) is same) on = (tables.items, is, ap (details p o) same)
 
   last_line : (line : Line) → Gives line.said → EndsSo p o (line ∷ [])
   last_line line given = record {

@@ -88,7 +88,7 @@ module _ (laws : LawsBelow) (p : NetPair) (o : Options) (pair : IsPair p) (bound
       | inl many ↦ (Clauses, ClausesTooMany small many refl)
       | inr within ↦
           let a = laws.expansions p.spec p.imp o.clauses pair.imp within (omega (arith, bounds.clauses)) (provable within) in
-          (told_expanded a.0, Decided small within a.0 a.1 refl)
+          (told_expanded a.0, Decided small a.0 a.1 refl)
     ]
   ]
 

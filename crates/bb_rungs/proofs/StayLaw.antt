@@ -25,10 +25,10 @@ use Rattle.bb_rungs.proofs.ErrorLaw.{Weakens, Holds, shows, no_tables, up}
 pub known_not_right : (spec imp : Netlist) (x : List Bool) (j : ℕ) → IsKnownWrong spec imp x j → MayBeRight spec imp x j → ⊥
 known_not_right spec imp x j (bit, known, wrong) right = wrong (subst (λ v. IfSome v (λ b. wanted_bit spec x j ≡ b)) known right)
 
-first_rises : {X : Type 0} (R : X → X → Type 0) (x : X) (xs : List X) → AllPairs R (x ∷ xs) → All (R x) xs
+pub first_rises : {X : Type 0} (R : X → X → Type 0) (x : X) (xs : List X) → AllPairs R (x ∷ xs) → All (R x) xs
 first_rises R x xs pairs k d within = pairs 0 (suc k) d (omega arith) (omega (arith, within))
 
-rest_rises : {X : Type 0} (R : X → X → Type 0) (x : X) (xs : List X) → AllPairs R (x ∷ xs) → AllPairs R xs
+pub rest_rises : {X : Type 0} (R : X → X → Type 0) (x : X) (xs : List X) → AllPairs R (x ∷ xs) → AllPairs R xs
 rest_rises R x xs pairs i j d before within = pairs (suc i) (suc j) d (omega (arith, before)) (omega (arith, within))
 
 -- what a check says where its condition holds: neither that there is none, nor tables
@@ -61,8 +61,8 @@ module _ (weakens : Weakens) (vectors : PatternsAreVectors) (p : NetPair) (o : O
       absurd (no_tables weakens vectors p o kept Input h tables.items is.1.completion.fit is.1.completion.agree)
   stays Expand said (TooWide wide same) h = other said _ same ((λ e. cc e), refl)
   stays Expand said (ClausesTooMany small many same) h = other said _ same ((λ e. cc e), refl)
-  stays Expand said (Decided small few (expanded.Error vectors cnf refutation) is same) h = other said _ same ((λ e. cc e), refl)
-  stays Expand said (Decided small few (expanded.Repair tables) is same) h = absurd (h tables.items is.fit is.agree)
+  stays Expand said (Decided small (expanded.Error vectors cnf refutation) is same) h = other said _ same ((λ e. cc e), refl)
+  stays Expand said (Decided small (expanded.Repair tables) is same) h = absurd (h tables.items is.fit is.agree)
 
   later : (r s : Rung) → rank r < rank s → Holds p o r → Holds p o s
   later r s l h = up weakens vectors p o kept (rank s - rank r) (rank r) (rank s) (omega (arith, l)) h
@@ -90,6 +90,10 @@ module _ (weakens : Weakens) (vectors : PatternsAreVectors) (p : NetPair) (o : O
 rungs_rise : AllPairs (λ r s. rank r < rank s) all_rungs
 rungs_rise = search rules
 
+-- checks that are asked for stand in their order
+pub asked_rise : (o : Options) → AllPairs (λ r s. rank r < rank s) (asked_rungs o)
+asked_rise o = AllPairs-filter (λ r s. rank r < rank s) (is_asked o) all_rungs rungs_rise
+
 pub errors_stay : Weakens → PatternsAreVectors → ErrorsStay
 errors_stay weakens vectors p o before after line kept climb on =
-    stay weakens vectors p o kept (asked_rungs o) before line after (AllPairs-filter (λ r s. rank r < rank s) (is_asked o) all_rungs rungs_rise) climb on
+    stay weakens vectors p o kept (asked_rungs o) before line after (asked_rise o) climb on

@@ -67,8 +67,8 @@ module _ (vectors : PatternsAreVectors) (p : NetPair) (o : Options) (kept : IsPa
   said_told Input said (Answered few (choices.Repair tables) is same) = subst (SaidTells p) (sym same) (tables_told tables.items is.1.completion)
   said_told Expand said (TooWide wide same) = subst (SaidTells p) (sym same) tt
   said_told Expand said (ClausesTooMany small many same) = subst (SaidTells p) (sym same) tt
-  said_told Expand said (Decided small few (expanded.Error vectors cnf refutation) is same) = subst (SaidTells p) (sym same) tt
-  said_told Expand said (Decided small few (expanded.Repair tables) is same) = subst (SaidTells p) (sym same) (tables_told tables.items is)
+  said_told Expand said (Decided small (expanded.Error vectors cnf refutation) is same) = subst (SaidTells p) (sym same) tt
+  said_told Expand said (Decided small (expanded.Repair tables) is same) = subst (SaidTells p) (sym same) (tables_told tables.items is)
 
 -- what holds of all that checks may say holds of each line of a climb
 module _ (p : NetPair) (o : Options) (P : Said → Type 0) (each : (r : Rung) (said : Said) → MaySay p o r said → P said) where

@@ -1,5 +1,6 @@
 -- Laws of what checks say.
 pub mod AlikePairs
+pub mod Searches
 pub mod ShownVectors
 pub mod SomeClimbs
 use Rattle.std.specs.Prelude.{map, ◌≡◌, true, false, List, ◌∷◌, ◌++◌, All, ℕ}
@@ -13,7 +14,9 @@ use Rattle.bb_rungs.specs.declared.line.Line.{Line}
 use Rattle.bb_rungs.specs.declared.line.Said.TheVariants.{Nothing}
 use Rattle.bb_options.specs.declared.options.Options.{Options}
 use Rattle.bb_rungs.specs.declared.verdict.Verdict.TheVariants as verdicts
-use Rattle.bb_rungs.specs.LeftOpen.{AllLeaveOpen, SomeDecides}
+use Rattle.bb_options.specs.declared.rung.Rung.{Rung}
+use Rattle.bb_rungs.specs.LeftOpen.{AllLeaveOpen, AllStayOpen, LeavesOpen, SomeDecides, StaysOpen}
+use Rattle.bb_rungs.specs.Laws.Searches.{MayDependOnSearch}
 use Rattle.bb_rungs.specs.Reports.{EndsWithTables, report_text, rung_line, verdict_of}
 use Rattle.bb_rungs.specs.Rungs.{IsClimb, SaidTells, is_error, is_repair}
 use Rattle.bb_rungs.specs.TableLines.{table_lines}
@@ -45,9 +48,17 @@ ClimbsAreTold = (p : NetPair) (o : Options) (lines : List Line) → IsPair p →
 abbrev pub ClimbsLeaveOpen : Type 0
 ClimbsLeaveOpen = (p : NetPair) (o : Options) (lines : List Line) → IsClimb p o lines → verdict_of lines ≡ verdicts.Open → AllLeaveOpen p o
 
--- and only there: where each check that is asked for leaves the question open, that is the verdict
-abbrev pub LeftOpenIsTold : Type 0
-LeftOpenIsTold = (p : NetPair) (o : Options) (lines : List Line) → IsClimb p o lines → AllLeaveOpen p o → verdict_of lines ≡ verdicts.Open
+-- and where the question stays open with each check that is asked for, that is the verdict
+abbrev pub StayingOpenIsTold : Type 0
+StayingOpenIsTold = (p : NetPair) (o : Options) (lines : List Line) → IsClimb p o lines → AllStayOpen p o → verdict_of lines ≡ verdicts.Open
+
+-- a check with which the question stays open leaves it open
+abbrev pub StayingOpenIsLeftOpen : Type 0
+StayingOpenIsLeftOpen = (p : NetPair) (o : Options) (r : Rung) → StaysOpen p o r → LeavesOpen p o r
+
+-- and but for what may depend on the search, what is left open stays open
+abbrev pub LeftOpenStaysOpen : Type 0
+LeftOpenStaysOpen = (p : NetPair) (o : Options) → (MayDependOnSearch p o → ⊥) → AllLeaveOpen p o → AllStayOpen p o
 
 -- where a check that is asked for decides, the question is not left open
 abbrev pub DecidersDecide : Type 0
@@ -58,6 +69,7 @@ abbrev pub ErrorsStay : Type 0
 ErrorsStay = (p : NetPair) (o : Options) (before after : List Line) (line : Line) → IsPair p → IsClimb p o (before ++ line ∷ after) → is_error line ≡ true
     → All (λ later. (later.said ≡ Nothing → ⊥) × (is_repair later ≡ false)) after
 
--- all climbs of a pair have the same lines, but for what stands behind them
+-- all climbs of a pair have the same lines, but for what stands behind them and what may depend on the search
 abbrev pub ClimbsSayAlike : Type 0
-ClimbsSayAlike = (p : NetPair) (o : Options) (lines others : List Line) → IsPair p → IsClimb p o lines → IsClimb p o others → map rung_line lines ≡ map rung_line others
+ClimbsSayAlike = (p : NetPair) (o : Options) (lines others : List Line) → IsPair p → IsClimb p o lines → IsClimb p o others → (MayDependOnSearch p o → ⊥)
+    → map rung_line lines ≡ map rung_line others

@@ -1,5 +1,6 @@
 -- When checks leave the question open: each that is asked for finds no mistake and no tables, or would need more nodes or clauses
--- than it may have, or its tables would have too many bits to be written down; and when a check decides.
+-- than it may have, or its tables would have too many bits to be written down; when the question stays open, whatever the solver does;
+-- and when a check decides.
 use Rattle.std.specs.Prelude.{◌⊎◌, ◌<◌, ◌≤◌, ◌^◌, All, Contains}
 use Rattle.bb_net.specs.Completions.{HaveSmallTables, table_bits}
 use Rattle.bb_net.specs.Conditions.{MayBeRightAmong, MayBeRightEverywhere, EachSometimesRight, AllSometimesRight, SomeChoicesSuit}
@@ -14,6 +15,7 @@ use Rattle.bb_options.specs.declared.rung.Rung.TheVariants.{Ternary, Symbolic, L
 use Rattle.bb_options.specs.Rungs.{asked_rungs}
 use Rattle.bb_rungs.specs.Rungs.{AreTooMany, tried}
 
+-- what a report that is open says of a check
 abbrev pub LeavesOpen : NetPair → Options → Rung → Type 0
 LeavesOpen p o Ternary = MayBeRightAmong p.spec p.imp (tried p o)
 LeavesOpen p o Symbolic = AreTooMany o (symbolic_functions p.spec p.imp) ⊎ MayBeRightEverywhere p.spec p.imp
@@ -24,6 +26,15 @@ LeavesOpen p o Expand = (2 ^ 24 < table_bits p.imp.boxes) ⊎ (o.clauses < claus
 
 abbrev pub AllLeaveOpen : NetPair → Options → Type 0
 AllLeaveOpen p o = All (LeavesOpen p o) (asked_rungs o)
+
+-- what makes the question stay open with a check, whatever the solver does: the same but at the expansion, where fewer vectors may tell
+-- when the clauses over all of them are too many, so that tables that are too wide are the only cause
+abbrev pub StaysOpen : NetPair → Options → Rung → Type 0
+StaysOpen p o Expand = 2 ^ 24 < table_bits p.imp.boxes
+StaysOpen p o r = LeavesOpen p o r
+
+abbrev pub AllStayOpen : NetPair → Options → Type 0
+AllStayOpen p o = All (StaysOpen p o) (asked_rungs o)
 
 -- a check decides: the choices where there is at most one box, its table may be written down and the nodes suffice; the expansion
 -- where its tables may be written down and the clauses suffice

@@ -1,7 +1,7 @@
 -- What each check of the ladder may say of a pair, and the checks one after another. A check by diagrams says that it needs too many
--- nodes exactly where its functions have more beads than it may hold; the expansion over all vectors, that its tables are too wide or
--- its clauses too many, exactly where they are.
-use Rattle.std.specs.Prelude.{◌≡◌, ℕ, ◌≤◌, ◌<◌, ◌^◌, ◌&&◌, ◌||◌, Bool, true, false, not, List, [], ◌∷◌, length, Option, Some, None, Result, Ok, Err, IfSome}
+-- nodes exactly where its functions have more beads than it may hold; the expansion, that its tables are too wide exactly where they
+-- are, and that its clauses are too many only where those over all vectors are.
+use Rattle.std.specs.Prelude.{◌≡◌, ℕ, ◌<◌, ◌^◌, ◌&&◌, ◌||◌, Bool, true, false, not, List, [], ◌∷◌, length, Option, Some, None, Result, Ok, Err, IfSome}
 use Rattle.std.specs.List.{slice_index_or}
 use Rattle.bb_bits.specs.Tables.{TableBits}
 use Rattle.bb_bits.specs.Truth.{Truth, IsBeadOfAny}
@@ -106,11 +106,11 @@ pub data MayChoose (p : NetPair) (o : Options) (said : Said) : Type 0 where
   ChoicesTooMany : AreTooMany o (input_functions p.spec p.imp) → said ≡ Nodes → MayChoose p o said
   Answered : (AreTooMany o (input_functions p.spec p.imp) → ⊥) → (answer : InputAnswer) → IsAnswer p.spec p.imp answer → said ≡ told_answer answer → MayChoose p o said
 
--- what the expansion over all vectors may say
+-- what the expansion may say; where the clauses over all vectors are too many, it may find tables nevertheless
 pub data MayExpand (p : NetPair) (o : Options) (said : Said) : Type 0 where
   TooWide : 2 ^ 24 < table_bits p.imp.boxes → said ≡ Wide → MayExpand p o said
   ClausesTooMany : HaveSmallTables p.imp.boxes → o.clauses < clause_total p.imp → said ≡ Clauses → MayExpand p o said
-  Decided : HaveSmallTables p.imp.boxes → clause_total p.imp ≤ o.clauses → (answer : Expanded) → IsExpanded p.spec p.imp o.clauses answer → said ≡ told_expanded answer → MayExpand p o said
+  Decided : HaveSmallTables p.imp.boxes → (answer : Expanded) → IsExpanded p.spec p.imp o.clauses answer → said ≡ told_expanded answer → MayExpand p o said
 
 abbrev pub MaySay : NetPair → Options → Rung → Said → Type 0
 MaySay p o Ternary said = MayHit p o said

@@ -1,7 +1,8 @@
 //! Laws of pairs that are alike. Each function has a law as its contract and does nothing.
 
-ghost use Rattle.bb_rungs.specs.Laws.AlikePairs.{AlikePairsAreLeftOpen, AlikePairsAreDecided, AlikePairsAreTold, AlikeReportsAreOne, AlikeClimbsSayAlike};
+ghost use Rattle.bb_rungs.specs.Laws.AlikePairs.{AlikePairsAreLeftOpen, AlikePairsStayOpen, AlikePairsDependAlike, AlikePairsAreDecided, AlikePairsAreTold, AlikeReportsAreOne, AlikeReportsBeginAsOne, AlikeClimbsSayAlike, AlikeVerdictsNeverClash};
 
+use crate::laws::{errors_exclude_tables, repairs_agree};
 use bb_alike::laws::{
     alike_cells_are_known_alike, alike_cells_have_one_bit, alike_is_mutual, alike_nets_have_cells,
     formulas_are_of_cells,
@@ -12,9 +13,12 @@ use bb_net::conditions_weaken;
 use bb_sym::laws::functions;
 use bb_tern::laws::patterns_are_vectors;
 
-/// Where a check leaves the question open for one pair, it does for another that is alike.
+/// Where a check leaves the question open for one pair, where it stays open, and where the answer may depend on the search, so it is
+/// for another that is alike.
 pub fn alike_pairs_are_left_open()
-    ensures { AlikePairsAreLeftOpen }
+    ensures left { AlikePairsAreLeftOpen }
+    ensures stays { AlikePairsStayOpen }
+    ensures search { AlikePairsDependAlike }
 {
     functions();
     formulas_are_of_cells();
@@ -48,9 +52,11 @@ pub fn alike_pairs_are_told()
     alike_cells_are_known_alike();
 }
 
-/// Reports of pairs that are alike are the same, but for what stands behind the line of the expansion.
+/// Reports of pairs that are alike are the same, but for what stands behind the line of the expansion, and but for this line where it
+/// may depend on the search.
 pub fn alike_reports_are_one()
-    ensures { AlikeReportsAreOne }
+    ensures one { AlikeReportsAreOne }
+    ensures begin { AlikeReportsBeginAsOne }
 {
     functions();
     formulas_are_of_cells();
@@ -64,9 +70,23 @@ pub fn alike_reports_are_one()
     answers_are_one();
 }
 
-/// All climbs of pairs that are alike have the same lines, but for what stands behind them.
+/// All climbs of pairs that are alike have the same lines, but for what stands behind them and what may depend on the search.
 pub fn alike_climbs_say_alike()
     ensures { AlikeClimbsSayAlike }
 {
     alike_reports_are_one();
+}
+
+/// No verdict on a pair is that there is an error where one on a pair that is alike is that the design can be finished.
+pub fn alike_verdicts_never_clash()
+    ensures { AlikeVerdictsNeverClash }
+{
+    functions();
+    formulas_are_of_cells();
+    alike_is_mutual();
+    alike_nets_have_cells();
+    alike_cells_have_one_bit();
+    alike_cells_are_known_alike();
+    errors_exclude_tables();
+    repairs_agree();
 }

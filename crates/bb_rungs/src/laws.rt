@@ -1,6 +1,6 @@
 //! Laws of what checks say. Each function has a law as its contract and does nothing.
 
-ghost use Rattle.bb_rungs.specs.Laws.{ErrorsExcludeTables, RepairsAgree, LinesFixTables, TextsFixTables, ClimbsAreTold, ClimbsLeaveOpen, LeftOpenIsTold, DecidersDecide, ErrorsStay, ClimbsSayAlike};
+ghost use Rattle.bb_rungs.specs.Laws.{ErrorsExcludeTables, RepairsAgree, LinesFixTables, TextsFixTables, ClimbsAreTold, ClimbsLeaveOpen, StayingOpenIsTold, StayingOpenIsLeftOpen, LeftOpenStaysOpen, DecidersDecide, ErrorsStay, ClimbsSayAlike};
 ghost use Rattle.bb_rungs.specs.Laws.SomeClimbs.{ClimbsExist};
 ghost use Rattle.bb_rungs.specs.Laws.ShownVectors.{FoundVectorsAreMistakes, InputLinesFixVectors};
 
@@ -58,9 +58,15 @@ pub fn climbs_leave_open()
     ensures { ClimbsLeaveOpen }
 {}
 
-/// Where each check that is asked for leaves the question open, that is the verdict.
-pub fn left_open_is_told()
-    ensures { LeftOpenIsTold }
+/// Where the question stays open with each check that is asked for, that is the verdict.
+pub fn staying_open_is_told()
+    ensures { StayingOpenIsTold }
+{}
+
+/// What stays open is left open, and but for what may depend on the search what is left open stays open.
+pub fn left_open_stays_open()
+    ensures left { StayingOpenIsLeftOpen }
+    ensures stays { LeftOpenStaysOpen }
 {}
 
 /// Where a check that is asked for decides, the question is not left open.
@@ -76,7 +82,7 @@ pub fn errors_stay()
     patterns_are_vectors();
 }
 
-/// All climbs of a pair have the same lines, but for what stands behind them.
+/// All climbs of a pair have the same lines, but for what stands behind them and what may depend on the search.
 pub fn climbs_say_alike()
     ensures { ClimbsSayAlike }
 {

@@ -13,14 +13,14 @@ mod verdict;
 
 pub use alike_laws::{
     alike_climbs_say_alike, alike_pairs_are_decided, alike_pairs_are_left_open,
-    alike_pairs_are_told, alike_reports_are_one,
+    alike_pairs_are_told, alike_reports_are_one, alike_verdicts_never_clash,
 };
 pub use bb_options::{Options, Rung};
 pub use climbing::climb;
 pub use laws::{
     climbs_are_told, climbs_exist, climbs_leave_open, climbs_say_alike, deciders_decide,
     errors_exclude_tables, errors_stay, found_vectors_are_mistakes, input_lines_fix_vectors,
-    left_open_is_told, lines_fix_tables, repairs_agree, texts_fix_tables,
+    left_open_stays_open, lines_fix_tables, repairs_agree, staying_open_is_told, texts_fix_tables,
 };
 pub use line::{Evidence, Line, Proof, Said};
 pub use reporting::report;
