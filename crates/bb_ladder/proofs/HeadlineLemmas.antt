@@ -14,8 +14,8 @@ use Rattle.bb_ladder.specs.MadePairs.{JudgesMade, asked_of, head_by, head_of, ma
 use Rattle.bb_ladder.specs.Refutations.{AreRead, CheckLaws, Checks, FailsAt, IsRefutation, SaysWhether, no_line}
 use Rattle.bb_ladder.specs.ShownMistakes.{AreShown, ErrorsAreShown}
 use Rattle.bb_ladder.specs.Sources.{AreBytes, MayHaveFailed, Source}
-use Rattle.bb_ladder.specs.TextAnswers.{Judges, Refused, Judged, ErrorsRefute, RepairsFinish, OpenAnswersLeaveOpen, DecidedAreAnswered, LeftOpenAreAnswered}
-use Rattle.bb_ladder.specs.TextPairs.{AreRefuted, AreFinished, AreLeftOpen, AreDecided}
+use Rattle.bb_ladder.specs.TextAnswers.{Judges, Refused, Judged, ErrorsRefute, RepairsFinish, OpenAnswersLeaveOpen, DecidedAreAnswered, StayingOpenAreAnswered}
+use Rattle.bb_ladder.specs.TextPairs.{AreRefuted, AreFinished, AreLeftOpen, AreStayingOpen, AreDecided}
 use Rattle.bb_ladder.proofs.SourceLemmas.{both_whole, failed_alone, failed_second, first_of_both, given_alone, given_never_long, given_second}
 use Rattle.bb_ladder.proofs.TextPairLaws.{report_status}
 
@@ -273,10 +273,10 @@ pub decided_sound : WordsAskOnce → DecidedAreAnswered → (asked : TextsAsked)
     → MayAnswer words holds before after status text → (status ≡ 0) ⊎ (status ≡ 1)
 decided_sound once = words_answered once AreDecided (λ status. (status ≡ 0) ⊎ (status ≡ 1))
 
-pub open_complete : WordsAskOnce → LeftOpenAreAnswered → (asked : TextsAsked) (spec imp : List ℕ) → length spec < READ_LIMIT → length imp < READ_LIMIT → AreLeftOpen asked spec imp
+pub open_complete : WordsAskOnce → StayingOpenAreAnswered → (asked : TextsAsked) (spec imp : List ℕ) → length spec < READ_LIMIT → length imp < READ_LIMIT → AreStayingOpen asked spec imp
     → (words : List (List ℕ)) (from : Source) (holds : List ℕ → Option (List ℕ)) (before after : Reads) (status : ℕ) (text : List ℕ) → AreTexts words from holds before after asked spec imp → (MayHaveFailed from before after → ⊥)
     → MayAnswer words holds before after status text → status ≡ 3
-open_complete once = words_answered once AreLeftOpen (λ status. status ≡ 3)
+open_complete once = words_answered once AreStayingOpen (λ status. status ≡ 3)
 
 -- and of a refutation
 pub refuted_sound : WordsAskOnce → CheckLaws → (f : Refutation) (first second : List ℕ) (formula : Formula) (adds : List (List Lit)) → length first < READ_LIMIT → length second < READ_LIMIT → AreRead first second formula adds

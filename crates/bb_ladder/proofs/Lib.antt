@@ -9,3 +9,4 @@ pub mod ShownLaw
 pub mod TaskLemmas
 pub mod MadeLemmas
 pub mod SomeAnswers
+pub mod QuietLemmas

@@ -1,14 +1,16 @@
--- Two texts have one status, since what is finished is not refuted and what one answer leaves open every other does, and one report.
+-- Two texts have one status, but for what may depend on the search, since what is finished is not refuted and what one answer leaves
+-- open every other does; and so they have one report.
 use Rattle.std.proofs.Common.{◌≡◌, ℕ, List, sym, ◌∙◌, subst}
 use Rattle.bb_agree.specs.DesignAgreement.{NoContentsAgree}
-use Rattle.bb_rungs.specs.Laws.AlikePairs.{AlikeReportsAreOne}
+use Rattle.bb_rungs.specs.Laws.AlikePairs.{AlikeReportsAreOne, AlikeReportsBeginAsOne}
+use Rattle.bb_rungs.specs.Laws.{LeftOpenStaysOpen}
 use Rattle.bb_rungs.specs.declared.verdict.Verdict.{Verdict}
 use Rattle.bb_rungs.specs.declared.verdict.Verdict.TheVariants as verdicts
 use Rattle.bb_rungs.specs.Reports.{status_of, verdict_of}
 use Rattle.bb_ladder.specs.declared.asked.Asked.{Asked}
-use Rattle.bb_ladder.specs.TextAnswers.{Judges, Refused, Judged, ErrorsRefute, RepairsFinish, OpenAnswersLeaveOpen, LeftOpenAreAnswered, StatusesAreOne, ReportsAreOne}
+use Rattle.bb_ladder.specs.TextAnswers.{Judges, Refused, Judged, ErrorsRefute, RepairsFinish, OpenAnswersLeaveOpen, StayingOpenAreAnswered, AnswersMayDependOnSearch, StatusesAreOne, StatusesNeverClash, ReportsAreOne, ReportsBeginAsOne}
 use Rattle.bb_texts.specs.TextDesigns.{TextDesignsAreOne}
-use Rattle.bb_ladder.specs.TextPairs.{AreFinished, AreRefuted, NotPairAndRefusal, TextPairsAreAlike}
+use Rattle.bb_ladder.specs.TextPairs.{AreFinished, AreRefuted, AreLeftOpen, AreStayingOpen, NotPairAndRefusal, TextPairsAreAlike}
 use Rattle.bb_ladder.proofs.TextPairLaws.{is_pair}
 
 -- no two texts are both finished and refuted
@@ -20,25 +22,46 @@ not_both one asked spec imp text finished (s, i, are, stands, none) =
     let c = finished.contents in
     refuted c.0 c.1 (finished.agree c.0 c.1 c.2)
 
-module _ (one : TextDesignsAreOne) (finish : RepairsFinish) (refute : ErrorsRefute) (leave : OpenAnswersLeaveOpen) (answered : LeftOpenAreAnswered)
-    (asked : Asked) (spec imp : List ℕ) (status other : ℕ) (text told : List ℕ) (a : Judges asked spec imp status text) (b : Judges asked spec imp other told) where
-  -- two verdicts are one
-  same : (v w : Verdict) → status ≡ status_of v → other ≡ status_of w → status ≡ other
-  same verdicts.Open w s t = s ∙ sym (answered asked spec imp other told b (leave asked spec imp status text a s))
-  same verdicts.Error verdicts.Open s t = answered asked spec imp status text a (leave asked spec imp other told b t) ∙ sym t
-  same verdicts.Repairable verdicts.Open s t = answered asked spec imp status text a (leave asked spec imp other told b t) ∙ sym t
-  same verdicts.Error verdicts.Error s t = s ∙ sym t
-  same verdicts.Error verdicts.Repairable s t = absurd (not_both one asked spec imp told (finish asked spec imp other told b t) (refute asked spec imp status text a s))
-  same verdicts.Repairable verdicts.Error s t = absurd (not_both one asked spec imp text (finish asked spec imp status text a s) (refute asked spec imp other told b t))
-  same verdicts.Repairable verdicts.Repairable s t = s ∙ sym t
+pub statuses_never_clash : TextDesignsAreOne → RepairsFinish → ErrorsRefute → StatusesNeverClash
+statuses_never_clash one finish refute asked spec imp status other text told a b zero is_one = not_both one asked spec imp text (finish asked spec imp status text a zero) (refute asked spec imp other told b is_one)
 
-pub statuses_are_one : TextDesignsAreOne → NotPairAndRefusal → RepairsFinish → ErrorsRefute → OpenAnswersLeaveOpen → LeftOpenAreAnswered → StatusesAreOne
-statuses_are_one one apart finish refute leave answered asked spec imp status other text told (Refused r is s t) (Refused q be u v) = s ∙ sym u
-statuses_are_one one apart finish refute leave answered asked spec imp status other text told (Refused r is s t) (Judged q others stands climb u v) = absurd (apart asked spec imp q r stands is)
-statuses_are_one one apart finish refute leave answered asked spec imp status other text told (Judged p lines stands climb s t) (Refused r is u v) = absurd (apart asked spec imp p r stands is)
-statuses_are_one one apart finish refute leave answered asked spec imp status other text told (Judged p lines stands climb s t) (Judged q others there up u v) =
-    same one finish refute leave answered asked spec imp status other text told (Judged p lines stands climb s t) (Judged q others there up u v) (verdict_of lines) (verdict_of others) s u
+-- where they are left open, the answer does not depend on the search
+abbrev IsFixed : Asked → List ℕ → List ℕ → Type 0
+IsFixed asked spec imp = AreLeftOpen asked spec imp → AnswersMayDependOnSearch asked spec imp → ⊥
+
+-- and so it stays open
+stays : LeftOpenStaysOpen → (asked : Asked) (spec imp : List ℕ) → IsFixed asked spec imp → AreLeftOpen asked spec imp → AreStayingOpen asked spec imp
+stays stay asked spec imp fixed left =
+    let (p, stands) = left.pair in
+    (p, stands, stay p asked.options (λ depends. fixed left (p, stands, depends)) (left.left p stands))
+
+module _ (clash : StatusesNeverClash) (stay : LeftOpenStaysOpen) (leave : OpenAnswersLeaveOpen) (answered : StayingOpenAreAnswered) where
+  -- where one is open, so is the other
+  open_alike : (asked : Asked) (spec imp : List ℕ) (status other : ℕ) (text told : List ℕ) → Judges asked spec imp status text → Judges asked spec imp other told → IsFixed asked spec imp → status ≡ 3 → other ≡ 3
+  open_alike asked spec imp status other text told a b fixed three = answered asked spec imp other told b (stays stay asked spec imp fixed (leave asked spec imp status text a three))
+
+  module _ (asked : Asked) (spec imp : List ℕ) (status other : ℕ) (text told : List ℕ) (a : Judges asked spec imp status text) (b : Judges asked spec imp other told) (fixed : IsFixed asked spec imp) where
+    -- two verdicts are one
+    same : (v w : Verdict) → status ≡ status_of v → other ≡ status_of w → status ≡ other
+    same verdicts.Open w s t = s ∙ sym (open_alike asked spec imp status other text told a b fixed s)
+    same verdicts.Error verdicts.Open s t = open_alike asked spec imp other status told text b a fixed t ∙ sym t
+    same verdicts.Repairable verdicts.Open s t = open_alike asked spec imp other status told text b a fixed t ∙ sym t
+    same verdicts.Error verdicts.Error s t = s ∙ sym t
+    same verdicts.Error verdicts.Repairable s t = absurd (clash asked spec imp other status told text b a t s)
+    same verdicts.Repairable verdicts.Error s t = absurd (clash asked spec imp status other text told a b s t)
+    same verdicts.Repairable verdicts.Repairable s t = s ∙ sym t
+
+pub statuses_are_one : NotPairAndRefusal → StatusesNeverClash → LeftOpenStaysOpen → OpenAnswersLeaveOpen → StayingOpenAreAnswered → StatusesAreOne
+statuses_are_one apart clash stay leave answered asked spec imp status other text told (Refused r is s t) (Refused q be u v) fixed = s ∙ sym u
+statuses_are_one apart clash stay leave answered asked spec imp status other text told (Refused r is s t) (Judged q others stands climb u v) fixed = absurd (apart asked spec imp q r stands is)
+statuses_are_one apart clash stay leave answered asked spec imp status other text told (Judged p lines stands climb s t) (Refused r is u v) fixed = absurd (apart asked spec imp p r stands is)
+statuses_are_one apart clash stay leave answered asked spec imp status other text told (Judged p lines stands climb s t) (Judged q others there up u v) fixed =
+    same clash stay leave answered asked spec imp status other text told (Judged p lines stands climb s t) (Judged q others there up u v) fixed (verdict_of lines) (verdict_of others) s u
 
 pub reports_are_one : TextPairsAreAlike → AlikeReportsAreOne → ReportsAreOne
-reports_are_one alike law asked spec imp p q lines others stands also climb up =
+reports_are_one alike law asked spec imp p q lines others stands also climb up fixed =
+    law p q asked.options lines others (is_pair asked spec imp p stands) (is_pair asked spec imp q also) (alike asked spec imp p q stands also) climb up (λ depends. fixed (p, stands, depends))
+
+pub reports_begin_as_one : TextPairsAreAlike → AlikeReportsBeginAsOne → ReportsBeginAsOne
+reports_begin_as_one alike law asked spec imp p q lines others stands also climb up =
     law p q asked.options lines others (is_pair asked spec imp p stands) (is_pair asked spec imp q also) (alike asked spec imp p q stands also) climb up

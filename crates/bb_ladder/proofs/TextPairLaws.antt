@@ -17,12 +17,12 @@ use Rattle.bb_agree.specs.Laws.DesignRefusals.{DesignRefusalsAreOne, NetsAreTake
 use Rattle.bb_match.specs.Refusals.{IsFirstRefusal}
 use Rattle.bb_net.specs.Pairs.{NetPair, IsPair}
 use Rattle.bb_parse.specs.Laws.{SourcesAreFormed}
-use Rattle.bb_rungs.specs.Laws.AlikePairs.{AlikePairsAreLeftOpen, AlikePairsAreDecided}
+use Rattle.bb_rungs.specs.Laws.AlikePairs.{AlikePairsAreLeftOpen, AlikePairsStayOpen, AlikePairsAreDecided}
 use Rattle.bb_rungs.specs.declared.line.Line.{Line}
 use Rattle.bb_rungs.specs.declared.verdict.Verdict.{Verdict}
 use Rattle.bb_rungs.specs.declared.verdict.Verdict.TheVariants as verdicts
-use Rattle.bb_rungs.specs.Laws.{ErrorsExcludeTables, RepairsAgree, ClimbsLeaveOpen, LeftOpenIsTold, DecidersDecide}
-use Rattle.bb_rungs.specs.LeftOpen.{LeavesOpen}
+use Rattle.bb_rungs.specs.Laws.{ErrorsExcludeTables, RepairsAgree, ClimbsLeaveOpen, StayingOpenIsTold, DecidersDecide}
+use Rattle.bb_rungs.specs.LeftOpen.{LeavesOpen, StaysOpen}
 use Rattle.bb_rungs.specs.Reports.{EndsWithTables, report_text, status_of, verdict_of}
 use Rattle.bb_options.specs.Rungs.{asked_rungs}
 use Rattle.bb_rungs.specs.Rungs.{IsClimb, is_error, is_repair}
@@ -33,7 +33,7 @@ use Rattle.bb_texts.specs.declared.refusal.Refusal.TheVariants.{Spec, Imp, Pair,
 use Rattle.bb_texts.specs.declared.side_fault.SideFault.{SideFault}
 use Rattle.bb_texts.specs.declared.side_fault.SideFault.TheVariants as side
 use Rattle.bb_texts.specs.RefusalLines.{refusal_line}
-use Rattle.bb_ladder.specs.TextAnswers.{Judges, Refused, Judged, ErrorsRefute, RepairsFinish, OpenAnswersLeaveOpen, DecidedAreAnswered, LeftOpenAreAnswered, RefusedAreAnsweredOnce}
+use Rattle.bb_ladder.specs.TextAnswers.{Judges, Refused, Judged, ErrorsRefute, RepairsFinish, OpenAnswersLeaveOpen, DecidedAreAnswered, StayingOpenAreAnswered, RefusedAreAnsweredOnce}
 use Rattle.bb_texts.specs.TextDesigns.{IsDesignOf, IsSideFault, TextDesignsAreOne, SideFaultsAreOne, NotDesignAndFault}
 use Rattle.bb_ladder.specs.TextPairs.{AreDesignsOf, IsRefusal, StandsForTexts, DesignsAreAllowed, RefusalsAreOne, NotPairAndRefusal, TextPairsAreAlike}
 use Rattle.bb_texts.specs.Inside.TextRefusals.{of_spec, of_imp, of_pair}
@@ -258,9 +258,11 @@ decided_are_answered apart alike decided decide asked spec imp status text (Judg
     let so = decided q p asked.options decides.0 (is_pair asked spec imp q also) (is_pair asked spec imp p stands) (alike asked spec imp q p also stands) decides.2 in
     subst (λ n. (n ≡ 0) ⊎ (n ≡ 1)) (sym same) (decided_status (verdict_of lines) (decide p asked.options lines climb (decides.0, decides.1, so)))
 
-pub left_open_are_answered : NotPairAndRefusal → LeftOpenIsTold → LeftOpenAreAnswered
-left_open_are_answered apart told asked spec imp status text (Refused r is s t) left = absurd (apart asked spec imp left.pair.0 r left.pair.1 is)
-left_open_are_answered apart told asked spec imp status text (Judged p lines stands climb same t) left = same ∙ ap status_of (told p asked.options lines climb (left.left p stands))
+pub staying_open_are_answered : NotPairAndRefusal → TextPairsAreAlike → AlikePairsStayOpen → StayingOpenIsTold → StayingOpenAreAnswered
+staying_open_are_answered apart alike stay told asked spec imp status text (Refused r is s t) (q, also, stays) = absurd (apart asked spec imp q r also is)
+staying_open_are_answered apart alike stay told asked spec imp status text (Judged p lines stands climb same t) (q, also, stays) =
+    let so = All-weaker (StaysOpen q asked.options) (StaysOpen p asked.options) (λ r. stay q p asked.options r (is_pair asked spec imp q also) (is_pair asked spec imp p stands) (alike asked spec imp q p also stands)) (asked_rungs asked.options) stays in
+    same ∙ ap status_of (told p asked.options lines climb so)
 
 pub refused_are_answered_once : RefusalsAreOne → NotPairAndRefusal → RefusedAreAnsweredOnce
 refused_are_answered_once one apart asked spec imp r status text is (Refused q also s t) = (s, t ∙ ap refusal_line (one asked spec imp q r also is))

@@ -2,14 +2,15 @@
 use Rattle.std.specs.Prelude.{◌≡◌, ◌⊎◌, ℕ, List}
 use Rattle.std.specs.List.{AllZip}
 use Rattle.bb_net.specs.Pairs.{NetPair}
-use Rattle.bb_rungs.specs.Laws.AlikePairs.{AreToldAlike}
+use Rattle.bb_rungs.specs.Laws.AlikePairs.{AreToldAlike, AreToldAlikeBefore}
+use Rattle.bb_rungs.specs.Laws.Searches.{MayDependOnSearch}
 use Rattle.bb_rungs.specs.declared.line.Line.{Line}
 use Rattle.bb_rungs.specs.Reports.{report_text, status_of, verdict_of}
 use Rattle.bb_rungs.specs.Rungs.{IsClimb}
 use Rattle.bb_ladder.specs.declared.asked.Asked.{Asked}
 use Rattle.bb_texts.specs.declared.refusal.Refusal.{Refusal}
 use Rattle.bb_texts.specs.RefusalLines.{refusal_line}
-use Rattle.bb_ladder.specs.TextPairs.{IsRefusal, StandsForTexts, AreRefuted, AreFinished, AreLeftOpen, AreDecided}
+use Rattle.bb_ladder.specs.TextPairs.{IsRefusal, StandsForTexts, AreRefuted, AreFinished, AreLeftOpen, AreStayingOpen, AreDecided}
 
 pub data Judges (asked : Asked) (spec imp : List ℕ) (status : ℕ) (text : List ℕ) : Type 0 where
   Refused : (refusal : Refusal) → IsRefusal asked spec imp refusal → status ≡ 2 → text ≡ refusal_line refusal → Judges asked spec imp status text
@@ -33,9 +34,9 @@ OpenAnswersLeaveOpen = (asked : Asked) (spec imp : List ℕ) (status : ℕ) (tex
 abbrev pub DecidedAreAnswered : Type 0
 DecidedAreAnswered = (asked : Asked) (spec imp : List ℕ) (status : ℕ) (text : List ℕ) → Judges asked spec imp status text → AreDecided asked spec imp → (status ≡ 0) ⊎ (status ≡ 1)
 
--- where each check that is asked for leaves the question open, that is the answer
-abbrev pub LeftOpenAreAnswered : Type 0
-LeftOpenAreAnswered = (asked : Asked) (spec imp : List ℕ) (status : ℕ) (text : List ℕ) → Judges asked spec imp status text → AreLeftOpen asked spec imp → status ≡ 3
+-- where the question stays open with each check that is asked for, that is the answer
+abbrev pub StayingOpenAreAnswered : Type 0
+StayingOpenAreAnswered = (asked : Asked) (spec imp : List ℕ) (status : ℕ) (text : List ℕ) → Judges asked spec imp status text → AreStayingOpen asked spec imp → status ≡ 3
 
 -- status 2 tells the first refusal of the two texts
 abbrev pub JudgedRefusalsAreFirst : Type 0
@@ -46,11 +47,26 @@ JudgedRefusalsAreFirst = (asked : Asked) (spec imp : List ℕ) (status : ℕ) (t
 abbrev pub RefusedAreAnsweredOnce : Type 0
 RefusedAreAnsweredOnce = (asked : Asked) (spec imp : List ℕ) (refusal : Refusal) (status : ℕ) (text : List ℕ) → IsRefusal asked spec imp refusal → Judges asked spec imp status text → (status ≡ 2) × (text ≡ refusal_line refusal)
 
--- two texts have one status, whichever pair stands for them
-abbrev pub StatusesAreOne : Type 0
-StatusesAreOne = (asked : Asked) (spec imp : List ℕ) (status other : ℕ) (text told : List ℕ) → Judges asked spec imp status text → Judges asked spec imp other told → status ≡ other
+-- a pair stands for two texts of which the answer may depend on the search of the expansion
+abbrev pub AnswersMayDependOnSearch : Asked → List ℕ → List ℕ → Type 0
+AnswersMayDependOnSearch asked spec imp = (p : NetPair) × StandsForTexts asked spec imp p × MayDependOnSearch p asked.options
 
--- and one report, but for what stands behind the line of the expansion
+-- two texts have one status, whichever pair stands for them, unless they are left open and the answer may depend on the search
+abbrev pub StatusesAreOne : Type 0
+StatusesAreOne = (asked : Asked) (spec imp : List ℕ) (status other : ℕ) (text told : List ℕ) → Judges asked spec imp status text → Judges asked spec imp other told
+    → (AreLeftOpen asked spec imp → AnswersMayDependOnSearch asked spec imp → ⊥) → status ≡ other
+
+-- in any case no answer is that the design can be finished where another is that there is an error
+abbrev pub StatusesNeverClash : Type 0
+StatusesNeverClash = (asked : Asked) (spec imp : List ℕ) (status other : ℕ) (text told : List ℕ) → Judges asked spec imp status text → Judges asked spec imp other told
+    → status ≡ 0 → other ≡ 1 → ⊥
+
+-- they have one report, but for what stands behind the line of the expansion, and but for what may depend on the search
 abbrev pub ReportsAreOne : Type 0
 ReportsAreOne = (asked : Asked) (spec imp : List ℕ) (p q : NetPair) (lines others : List Line) → StandsForTexts asked spec imp p → StandsForTexts asked spec imp q
-    → IsClimb p asked.options lines → IsClimb q asked.options others → AllZip (AreToldAlike p q asked.options) lines others
+    → IsClimb p asked.options lines → IsClimb q asked.options others → (AnswersMayDependOnSearch asked spec imp → ⊥) → AllZip (AreToldAlike p q asked.options) lines others
+
+-- and in any case one up to the line of the expansion
+abbrev pub ReportsBeginAsOne : Type 0
+ReportsBeginAsOne = (asked : Asked) (spec imp : List ℕ) (p q : NetPair) (lines others : List Line) → StandsForTexts asked spec imp p → StandsForTexts asked spec imp q
+    → IsClimb p asked.options lines → IsClimb q asked.options others → AllZip (AreToldAlikeBefore p q asked.options) lines others

@@ -14,7 +14,7 @@ use Rattle.bb_design.specs.Worlds.{FitDesign}
 use Rattle.bb_agree.specs.DesignAgreement.{AreSpelled, ContentsAgree, IsPairFor, IsTableOf, NoContentsAgree}
 use Rattle.bb_agree.specs.DesignFit.{DesignsFit, IsRefusalFor}
 use Rattle.bb_net.specs.Pairs.{NetPair}
-use Rattle.bb_rungs.specs.LeftOpen.{AllLeaveOpen, SomeDecides}
+use Rattle.bb_rungs.specs.LeftOpen.{AllLeaveOpen, AllStayOpen, SomeDecides}
 use Rattle.bb_rungs.specs.Reports.{EndsWithTables}
 use Rattle.bb_ladder.specs.declared.asked.Asked.{Asked}
 use Rattle.bb_texts.specs.declared.refusal.Refusal.{Refusal}
@@ -64,6 +64,10 @@ pub record AreFinished (asked : Asked) (spec imp text : List ℕ) : Type 0 where
 -- a pair stands for the two for which a check that is asked for decides
 abbrev pub AreDecided : Asked → List ℕ → List ℕ → Type 0
 AreDecided asked spec imp = (p : NetPair) × StandsForTexts asked spec imp p × SomeDecides p asked.options
+
+-- a pair stands for the two for which the question stays open with each check that is asked for
+abbrev pub AreStayingOpen : Asked → List ℕ → List ℕ → Type 0
+AreStayingOpen asked spec imp = (p : NetPair) × StandsForTexts asked spec imp p × AllStayOpen p asked.options
 
 -- laws that a reader expects
 

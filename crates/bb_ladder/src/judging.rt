@@ -10,7 +10,7 @@ ghost use Rattle.bb_texts.specs.declared.refusal.Refusal.{Refusal};
 ghost use Rattle.bb_texts.specs.RefusalLines.{refusal_line};
 ghost use Rattle.bb_ladder.specs.ShownMistakes.{AreShown};
 ghost use Rattle.bb_ladder.specs.TextAnswers.{Judges};
-ghost use Rattle.bb_ladder.specs.TextPairs.{AreDecided, AreFinished, AreLeftOpen, AreRefuted, IsRefusal};
+ghost use Rattle.bb_ladder.specs.TextPairs.{AreDecided, AreFinished, AreLeftOpen, AreRefuted, AreStayingOpen, IsRefusal};
 
 use crate::answer::Answer;
 use crate::asked::Asked;
@@ -66,8 +66,8 @@ fn answer(alloc: Global, spec: &[u8], imp: &[u8], asked: &Asked) -> Result<Answe
 ///
 /// Status 0 says that the tables at the end of the report make the two agree, status 1 that no contents of the boxes do and that
 /// the vectors of the report show mistakes, status 3 that each check that is asked for leaves the question open, and status 2 that
-/// the line is their first refusal. Where a check that is asked for decides, the status is 0 or 1, where each leaves the question
-/// open, it is 3, and where the two have a refusal, it is 2.
+/// the line is their first refusal. Where a check that is asked for decides, the status is 0 or 1, where the question stays open with
+/// each, it is 3, and where the two have a refusal, it is 2.
 ///
 /// # Errors
 ///
@@ -84,7 +84,7 @@ pub fn judge_pair(alloc: Global, spec: &[u8], imp: &[u8], asked: &Asked) -> Resu
     ensures refused { IfOk result (λ answer. answer.status ≡ 2 → (refusal : Refusal) × IsRefusal asked.now spec.now imp.now refusal × (answer.report.items ≡ refusal_line refusal)) }
     ensures stays_refused { IfOk result (λ answer. (refusal : Refusal) → IsRefusal asked.now spec.now imp.now refusal → (answer.status ≡ 2) × (answer.report.items ≡ refusal_line refusal)) }
     ensures decided { IfOk result (λ answer. AreDecided asked.now spec.now imp.now → (answer.status ≡ 0) ⊎ (answer.status ≡ 1)) }
-    ensures stays_open { IfOk result (λ answer. AreLeftOpen asked.now spec.now imp.now → answer.status ≡ 3) }
+    ensures stays_open { IfOk result (λ answer. AreStayingOpen asked.now spec.now imp.now → answer.status ≡ 3) }
 {
     answers_are_meant();
     answer(alloc, spec, imp, asked)

@@ -7,6 +7,7 @@ mod asked;
 mod judging;
 mod making;
 mod pair_texts;
+mod quiet;
 mod refuting;
 mod running;
 pub mod text_laws;
@@ -20,5 +21,6 @@ pub use bb_texts::{
 };
 pub use judging::judge_pair;
 pub use pair_texts::pair_of;
+pub use quiet::run_quietly;
 pub use refuting::{judge_refutation, refutations_are_answered};
 pub use running::run;

@@ -15,7 +15,7 @@ ghost use Rattle.bb_ladder.specs.Refutations.{AreRead, FailsAt, IsRefutation, Sa
 ghost use Rattle.bb_ladder.specs.ShownMistakes.{AreShown};
 ghost use Rattle.bb_ladder.specs.Sources.{MayHaveFailed, Source};
 ghost use Rattle.bb_ladder.specs.Inside.Tasks.{IsBounded, judged_by};
-ghost use Rattle.bb_ladder.specs.TextPairs.{AreDecided, AreFinished, AreLeftOpen, AreRefuted};
+ghost use Rattle.bb_ladder.specs.TextPairs.{AreDecided, AreFinished, AreLeftOpen, AreRefuted, AreStayingOpen};
 
 use crate::answer::{Answer, say};
 use crate::judging::judge_pair;
@@ -145,9 +145,9 @@ pub fn run<F: Files, K: Sink>(alloc: Global, words: &[String], files: &mut F, ou
         → AreDecided asked spec imp → (MayHaveFailed from (F.reads files.old) (F.reads files.new) → ⊥) → (Rose (K.faults out.old) (K.faults out.new) → ⊥)
         → ((result ≡ 0) ⊎ (result ≡ 1)) ⊎ (result ≡ 5) }
 
-    // And where each check that is asked for leaves the question open, that is the answer.
+    // And where the question stays open with each check that is asked for, whatever the solver does, that is the answer.
     ensures stays_open { (from : Source) (asked : TextsAsked) (spec imp : List ℕ) → AreTexts (map string_bytes words.now) from (F.holds files.old) (F.reads files.old) (F.reads files.new) asked spec imp → length spec < READ_LIMIT → length imp < READ_LIMIT
-        → AreLeftOpen asked spec imp → (MayHaveFailed from (F.reads files.old) (F.reads files.new) → ⊥) → (Rose (K.faults out.old) (K.faults out.new) → ⊥)
+        → AreStayingOpen asked spec imp → (MayHaveFailed from (F.reads files.old) (F.reads files.new) → ⊥) → (Rose (K.faults out.old) (K.faults out.new) → ⊥)
         → (result ≡ 3) ⊎ (result ≡ 5) }
 
     // With `--rup` status 0 says that each addition follows, and so no assignment makes all clauses of the first text true.

@@ -5,7 +5,7 @@ ghost use Rattle.bb_ladder.specs.Answers.{AnswersSpeakOfTexts};
 ghost use Rattle.bb_ladder.specs.CallRefusals.{CallRefusalsAreOne, RefusalsAreTold, RefusedCallsAreTold};
 ghost use Rattle.bb_ladder.specs.GivenTexts.{AnsweredHaveGiven};
 ghost use Rattle.bb_ladder.specs.ShownMistakes.{ErrorsAreShown};
-ghost use Rattle.bb_ladder.specs.TextAnswers.{ErrorsRefute, RepairsFinish, OpenAnswersLeaveOpen, DecidedAreAnswered, LeftOpenAreAnswered, JudgedRefusalsAreFirst, RefusedAreAnsweredOnce, ReportsAreOne, StatusesAreOne};
+ghost use Rattle.bb_ladder.specs.TextAnswers.{ErrorsRefute, RepairsFinish, OpenAnswersLeaveOpen, DecidedAreAnswered, StayingOpenAreAnswered, JudgedRefusalsAreFirst, RefusedAreAnsweredOnce, ReportsAreOne, ReportsBeginAsOne, StatusesAreOne, StatusesNeverClash};
 ghost use Rattle.bb_ladder.specs.TextPairs.{DesignsAreAllowed, NotPairAndRefusal, RefusalsAreOne, TextPairsAreAlike};
 
 use crate::refuting::refutations_are_answered;
@@ -19,8 +19,8 @@ use bb_design::laws::sound_texts_are_allowed;
 use bb_parse::laws::sources_are_formed;
 use bb_rungs::{
     alike_pairs_are_decided, alike_pairs_are_left_open, alike_reports_are_one, climbs_leave_open,
-    deciders_decide, errors_exclude_tables, found_vectors_are_mistakes, left_open_is_told,
-    repairs_agree,
+    deciders_decide, errors_exclude_tables, found_vectors_are_mistakes, left_open_stays_open,
+    repairs_agree, staying_open_is_told,
 };
 use bb_texts::texts_have_designs;
 use bb_words::words_ask_once;
@@ -67,9 +67,10 @@ pub fn answers_are_meant()
     ensures errors { ErrorsRefute }
     ensures shown { ErrorsAreShown }
     ensures repairs { RepairsFinish }
-    // The question is left open only where each check that is asked for leaves it open, and there it is; where one decides, it is not.
+    // The question is left open only where each check that is asked for leaves it open; where it stays open with each, it is, and where
+    // one decides, it is not.
     ensures opens { OpenAnswersLeaveOpen }
-    ensures left_open { LeftOpenAreAnswered }
+    ensures stays_open { StayingOpenAreAnswered }
     ensures decided { DecidedAreAnswered }
     // Status 2 tells the first refusal, and where there is one, its line is the only answer.
     ensures refusals { JudgedRefusalsAreFirst }
@@ -93,23 +94,28 @@ pub fn answers_are_meant()
     fitting_tables_are_of_boxes();
     alike_pairs_are_left_open();
     climbs_leave_open();
-    left_open_is_told();
+    staying_open_is_told();
     alike_pairs_are_decided();
     deciders_decide();
 }
 
-/// Two texts have one status, whichever pair stands for them.
+/// Two texts have one status, whichever pair stands for them, unless they are left open and the answer may depend on the search; and
+/// there too none is 0 where another is 1.
 pub fn statuses_are_one()
-    ensures { StatusesAreOne }
+    ensures one { StatusesAreOne }
+    ensures clash { StatusesNeverClash }
 {
     texts_have_designs();
     no_pair_and_refusal();
+    left_open_stays_open();
     answers_are_meant();
 }
 
-/// Two texts have one report, whichever pair stands for them, but for what stands behind the line of the expansion.
+/// Two texts have one report, whichever pair stands for them, but for what stands behind the line of the expansion, and but for this
+/// line where it may depend on the search; the lines before it are the same there too.
 pub fn reports_are_one()
-    ensures { ReportsAreOne }
+    ensures one { ReportsAreOne }
+    ensures begin { ReportsBeginAsOne }
 {
     text_pairs_are_alike();
     alike_reports_are_one();

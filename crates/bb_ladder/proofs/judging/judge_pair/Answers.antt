@@ -5,7 +5,7 @@ use Rattle.bb_texts.specs.declared.refusal.Refusal.{Refusal}
 use Rattle.bb_texts.specs.RefusalLines.{refusal_line}
 use Rattle.bb_ladder.specs.ShownMistakes.{AreShown}
 use Rattle.bb_ladder.specs.TextAnswers.{Judges}
-use Rattle.bb_ladder.specs.TextPairs.{AreDecided, AreFinished, AreLeftOpen, AreRefuted, IsRefusal}
+use Rattle.bb_ladder.specs.TextPairs.{AreDecided, AreFinished, AreLeftOpen, AreRefuted, AreStayingOpen, IsRefusal}
 use Rattle.bb_ladder.proofs.judging.judge_pair.Goals as goal
 
 pub returns-clause-repairable : goal.returns-clause-repairable
@@ -40,8 +40,8 @@ returns-clause-decided c =
 
 pub returns-clause-stays_open : goal.returns-clause-stays_open
 returns-clause-stays_open c =
-    let so : (a : Answer) → Judges c.args.asked.now c.args.spec.now c.args.imp.now a.status a.report.items → AreLeftOpen c.args.asked.now c.args.spec.now c.args.imp.now → a.status ≡ 3 =
-    λ a judged left. c.answers_are_meant.ensures.left_open c.args.asked.now c.args.spec.now c.args.imp.now a.status a.report.items judged left in
+    let so : (a : Answer) → Judges c.args.asked.now c.args.spec.now c.args.imp.now a.status a.report.items → AreStayingOpen c.args.asked.now c.args.spec.now c.args.imp.now → a.status ≡ 3 =
+    λ a judged stays. c.answers_are_meant.ensures.stays_open c.args.asked.now c.args.spec.now c.args.imp.now a.status a.report.items judged stays in
     IfOk-weaker _ _ _ so c.answer.ensures.answer
 
 pub returns-clause-refused : goal.returns-clause-refused

@@ -37,8 +37,8 @@ returns-in-Ok-put_all-clause-decided g c = λ from asked spec imp texts spec_sho
     (decided_sound c.words_ask_once.ensures c.answers_are_meant.ensures.decided asked spec imp spec_short imp_short decided _ from _ _ _ c.in-Ok.answer.status c.in-Ok.answer.report.items texts calm c.in-Ok.ensures.answer)
 
 pub returns-in-Ok-put_all-clause-stays_open : goal.returns-in-Ok-put_all-clause-stays_open
-returns-in-Ok-put_all-clause-stays_open g c = λ from asked spec imp texts spec_short imp_short left calm quiet. inl
-    (open_complete c.words_ask_once.ensures c.answers_are_meant.ensures.left_open asked spec imp spec_short imp_short left _ from _ _ _ c.in-Ok.answer.status c.in-Ok.answer.report.items texts calm c.in-Ok.ensures.answer)
+returns-in-Ok-put_all-clause-stays_open g c = λ from asked spec imp texts spec_short imp_short stays calm quiet. inl
+    (open_complete c.words_ask_once.ensures c.answers_are_meant.ensures.stays_open asked spec imp spec_short imp_short stays _ from _ _ _ c.in-Ok.answer.status c.in-Ok.answer.report.items texts calm c.in-Ok.ensures.answer)
 
 pub returns-in-Ok-put_all-clause-refused : goal.returns-in-Ok-put_all-clause-refused
 returns-in-Ok-put_all-clause-refused g c = λ two from told. (

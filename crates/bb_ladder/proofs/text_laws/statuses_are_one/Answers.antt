@@ -1,5 +1,10 @@
-use Rattle.bb_ladder.proofs.StatusLaw.{statuses_are_one}
+use Rattle.bb_ladder.proofs.StatusLaw.{statuses_are_one, statuses_never_clash}
 use Rattle.bb_ladder.proofs.text_laws.statuses_are_one.Goals as goal
 
 pub returns : goal.returns
-returns c = statuses_are_one c.texts_have_designs.ensures.designs c.no_pair_and_refusal.ensures c.answers_are_meant.ensures.repairs c.answers_are_meant.ensures.errors c.answers_are_meant.ensures.opens c.answers_are_meant.ensures.left_open
+returns c =
+    let clash = statuses_never_clash c.texts_have_designs.ensures.designs c.answers_are_meant.ensures.repairs c.answers_are_meant.ensures.errors in
+    record {
+      one = statuses_are_one c.no_pair_and_refusal.ensures clash c.left_open_stays_open.ensures.stays c.answers_are_meant.ensures.opens c.answers_are_meant.ensures.stays_open;
+      clash = clash;
+    }

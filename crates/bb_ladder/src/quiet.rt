@@ -1,0 +1,77 @@
+//! The top call over files and a sink that never fail.
+ghost use Rattle.std.specs.Prelude.{◌≡◌, ◌≢◌, ◌<◌, ◌≤◌, ◌⊎◌, ℕ, List, None, Some, codes, length, map, string_bytes};
+ghost use Rattle.bb_cnf.specs.Clauses.{Formula};
+ghost use Rattle.bb_cnf.specs.declared.clauses.Lit.{Lit};
+ghost use Rattle.bb_outside.specs.Inside.QuietFiles.{holds_of, reads_of};
+ghost use Rattle.bb_texts.specs.declared.limit.TheConstants.{READ_LIMIT};
+ghost use Rattle.bb_words.specs.Asked.{MadePair, Refutation, made_asked, rup_asked};
+ghost use Rattle.bb_ladder.specs.Answers.{AreRefutationTexts, AreTexts, MayAnswer};
+ghost use Rattle.bb_ladder.specs.CallRefusals.{IsCallRefusal};
+ghost use Rattle.bb_ladder.specs.declared.asked.Asked.{Asked as TextsAsked};
+ghost use Rattle.bb_ladder.specs.Refutations.{AreRead, FailsAt, IsRefutation, SaysWhether};
+ghost use Rattle.bb_ladder.specs.ShownMistakes.{AreShown};
+ghost use Rattle.bb_ladder.specs.Sources.{Held};
+ghost use Rattle.bb_ladder.specs.TextPairs.{AreDecided, AreFinished, AreLeftOpen, AreRefuted, AreStayingOpen};
+
+use crate::running::run;
+use bb_outside::{QuietFiles, QuietSink};
+use std::alloc::Global;
+
+/// [`run`] for a caller who wants the verdict alone and has the texts in memory. Nothing outside can fail, so statuses 4 and 6 do not come,
+/// and no clause asks that no failure was counted. What each status says of the texts is what it says there; the report is made
+/// and not kept.
+pub fn run_quietly(
+    alloc: Global,
+    words: &[String],
+    files: &mut QuietFiles,
+    out: &mut QuietSink,
+) -> u8
+    ensures status { result ≤ 5 }
+
+    // No file is blamed, and no sink.
+    ensures given { result ≢ 4 }
+    ensures taken { result ≢ 6 }
+
+    // The status is that of a report that may be answered, unless memory runs out.
+    ensures whole { result < 5 → (text : List ℕ) × MayAnswer (map string_bytes words.now) (holds_of files.old) (reads_of files.old) (reads_of files.new) result text }
+
+    // The design is finished by tables whose contents make every output and every next state agree on every vector.
+    ensures repairable { result ≡ 0 → (asked : TextsAsked) (spec imp : List ℕ) → AreTexts (map string_bytes words.now) Held (holds_of files.old) (reads_of files.old) (reads_of files.new) asked spec imp
+        → (text : List ℕ) × AreFinished asked spec imp text }
+
+    // No contents of the boxes make every output and every next state agree on every vector, and a report shows how.
+    ensures error { result ≡ 1 → (asked : TextsAsked) (spec imp : List ℕ) → AreTexts (map string_bytes words.now) Held (holds_of files.old) (reads_of files.old) (reads_of files.new) asked spec imp
+        → AreRefuted asked spec imp }
+    ensures shown { result ≡ 1 → (asked : TextsAsked) (spec imp : List ℕ) → AreTexts (map string_bytes words.now) Held (holds_of files.old) (reads_of files.old) (reads_of files.new) asked spec imp
+        → (text : List ℕ) × AreShown asked spec imp text }
+
+    // The question is left open only where each check that is asked for leaves it open; where it stays open with each, it is, and where
+    // one decides, it is not.
+    ensures left_open { result ≡ 3 → (asked : TextsAsked) (spec imp : List ℕ) → AreTexts (map string_bytes words.now) Held (holds_of files.old) (reads_of files.old) (reads_of files.new) asked spec imp
+        → AreLeftOpen asked spec imp }
+    ensures stays_open { (asked : TextsAsked) (spec imp : List ℕ) → AreTexts (map string_bytes words.now) Held (holds_of files.old) (reads_of files.old) (reads_of files.new) asked spec imp
+        → length spec < READ_LIMIT → length imp < READ_LIMIT → AreStayingOpen asked spec imp → (result ≡ 3) ⊎ (result ≡ 5) }
+    ensures decided { (asked : TextsAsked) (spec imp : List ℕ) → AreTexts (map string_bytes words.now) Held (holds_of files.old) (reads_of files.old) (reads_of files.new) asked spec imp
+        → length spec < READ_LIMIT → length imp < READ_LIMIT → AreDecided asked spec imp → ((result ≡ 0) ⊎ (result ≡ 1)) ⊎ (result ≡ 5) }
+
+    // With `--rup` the status says whether each addition follows.
+    ensures refuted_yes { result ≡ 0 → (f : Refutation) (first second : List ℕ) → AreRefutationTexts (map string_bytes words.now) Held (holds_of files.old) (reads_of files.old) (reads_of files.new) f first second
+        → IsRefutation first second }
+    ensures refuted_no { result ≡ 1 → (f : Refutation) (first second : List ℕ) → AreRefutationTexts (map string_bytes words.now) Held (holds_of files.old) (reads_of files.old) (reads_of files.new) f first second
+        → (n : ℕ) × FailsAt first second n }
+    ensures refuted { (f : Refutation) (first second : List ℕ) (formula : Formula) (adds : List (List Lit)) → AreRefutationTexts (map string_bytes words.now) Held (holds_of files.old) (reads_of files.old) (reads_of files.new) f first second
+        → length first < READ_LIMIT → length second < READ_LIMIT → AreRead first second formula adds → SaysWhether formula adds result ⊎ (result ≡ 5) }
+    ensures open_compares { result ≡ 3 → rup_asked (map string_bytes words.now) ≡ None }
+
+    // Status 2 comes only where the call is refused, and then it comes.
+    ensures refused { result ≡ 2 → (line : List ℕ) × IsCallRefusal (map string_bytes words.now) Held (holds_of files.old) (reads_of files.old) (reads_of files.new) line }
+    ensures stays_refused { (line : List ℕ) → IsCallRefusal (map string_bytes words.now) Held (holds_of files.old) (reads_of files.old) (reads_of files.new) line → (result ≡ 2) ⊎ (result ≡ 5) }
+
+    // Of a made pair no file is read.
+    ensures reads_nothing { (m : MadePair) → made_asked (map string_bytes words.now) ≡ Some m → reads_of files.new ≡ reads_of files.old }
+
+    // What the files hold stays.
+    ensures kept { (n : List ℕ) → holds_of files.new n ≡ holds_of files.old n }
+{
+    run(alloc, words, files, out)
+}
