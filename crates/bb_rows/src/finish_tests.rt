@@ -4,10 +4,12 @@ use crate::run_in_memory;
 use crate::tests::{EQUAL, expect};
 use std::test::Fail;
 
-const TWO_BOXES: &str =
+/// Two boxes of an input each.
+pub const TWO_BOXES: &str =
     "module t(a,b,y1,y2); input a,b; output y1,y2; bx u1(a,y1); bx u2(b,y2); endmodule module bx(i,o); input i; output o; endmodule";
 
-const COUNTER: &str = "module cnt(clk, d, y);
+/// A counter as RTL has it, of two modules.
+pub const COUNTER: &str = "module cnt(clk, d, y);
   input clk; input [1:0] d; output y;
   stage u1(.clk(clk), .d(d), .y(y));
 endmodule

@@ -23,9 +23,13 @@ mod pair_tests;
 #[cfg(test)]
 mod pairs;
 #[cfg(test)]
+mod quiet_tests;
+#[cfg(test)]
 mod refutation_tests;
 #[cfg(test)]
 mod row_tests;
+#[cfg(test)]
+mod stop_tests;
 #[cfg(test)]
 mod tests;
 

@@ -8,7 +8,8 @@ use std::fs;
 use std::process::Abort;
 use std::test::Fail;
 
-fn held(alloc: Global) -> Result<Vec<(String, Vec<u8>)>, Fail> {
+/// Three files, of which two have one name.
+pub fn held(alloc: Global) -> Result<Vec<(String, Vec<u8>)>, Fail> {
     let mut files = Vec::new(alloc);
     for (name, text) in [("a", b"first"), ("b", b"other"), ("a", b"twice")] {
         files.push((String::from_str(alloc, name)?, text.to_vec(alloc)?))?;
