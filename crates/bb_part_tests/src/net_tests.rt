@@ -7,6 +7,7 @@ use crate::net_texts::{net, pair};
 use crate::words::{bits, digits};
 use bb_bits::Name;
 use bb_building::{fit, table_of};
+use bb_filled::fill;
 use bb_net::{Net, Pair};
 use std::alloc::{AllocError, Global};
 use std::test::Fail;
@@ -44,6 +45,30 @@ fn values_with(alloc: Global, net: &Net, x: &str, rows: &str) -> Result<String, 
     let mut out = vec![in alloc; false; net.cells().len()]?;
     net.value_with(&x, &tables, &mut out);
     Ok(digits(alloc, &out)?)
+}
+
+// The netlist with a table of three input pins and one output pin in its box.
+fn filled(alloc: Global, net: &Net, rows: &str) -> Result<Net, Fail> {
+    let tables = vec![in alloc; table_of(alloc, 3, 1, &bits(alloc, rows)?)?]?;
+    let Some(count) = net.table_bits() else {
+        return Err(Fail::new("too many bits"));
+    };
+    if net.cells().len() + count as usize > 1000 || !fit(&tables, net.boxes()) {
+        return Err(Fail::new("a table that does not fit"));
+    }
+    Ok(fill(alloc, net, &tables)?)
+}
+
+// The bit of the first output for bits of the inputs, where there is no box.
+fn first_output(alloc: Global, net: &Net, x: &str) -> Result<char, Fail> {
+    let all = values(alloc, net, x, "")?;
+    let Some(place) = net.outs().first() else {
+        return Err(Fail::new("no output"));
+    };
+    match all.as_bytes().get(*place as usize) {
+        Some(digit) => Ok(char::from(*digit)),
+        None => Err(Fail::new("no cell")),
+    }
 }
 
 // What is known of bits, with a question mark for one that is not known.
@@ -91,6 +116,20 @@ fn a_box_is_free_or_holds_a_table_or_is_unknown(rt: HostRuntime) -> Result<(), F
     assert_eq!(rt; with_table.as_str(), "01110");
     let unknown = known(alloc, &net, "1")?;
     assert_eq!(rt; unknown.as_str(), "011??");
+    Ok(())
+}
+
+// The first pin chooses between the two others.
+#[test]
+fn a_filled_box_gives_the_rows_of_its_table(rt: HostRuntime) -> Result<(), Fail> {
+    let alloc = rt.alloc();
+    let net = net(alloc, 3, Some("2 3 4"), "output 0 0", "5")?;
+    let filled = filled(alloc, &net, "01010011")?;
+    let mut found = String::new(alloc);
+    for x in ["000", "001", "010", "011", "100", "101", "110", "111"] {
+        found.push(first_output(alloc, &filled, x)?)?;
+    }
+    assert_eq!(rt; found.as_str(), "01010011");
     Ok(())
 }
 

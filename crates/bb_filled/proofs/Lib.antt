@@ -1,0 +1,7 @@
+pub mod Embeddings
+pub mod FilledNets
+pub mod FilledTrees
+pub mod FillingSteps
+pub mod ForcedVectors
+pub mod CellCosts
+pub mod ChoiceTrees

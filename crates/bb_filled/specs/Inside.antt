@@ -1,0 +1,2 @@
+-- What the calls of this crate say of themselves.
+pub mod Filling

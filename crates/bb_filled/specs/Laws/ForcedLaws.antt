@@ -1,0 +1,11 @@
+-- Laws of forced vectors: none stands twice among them, so there are at most as many as vectors.
+use Rattle.std.specs.Prelude.{◌≡◌, ◌≢◌, ℕ, ◌≤◌, ◌^◌, Bool, List, length, All, AllPairs}
+use Rattle.bb_net.specs.Netlists.{Netlist}
+use Rattle.bb_filled.specs.Laws.Forced.{AreForced}
+
+abbrev pub ForcedAreDistinct : Type 0
+ForcedAreDistinct = (spec imp : Netlist) (vectors : List (List Bool)) → AreForced spec imp vectors → AllPairs ◌≢◌ vectors
+
+-- lists of n bits that differ are at most 2^n
+abbrev pub VectorsAreFew : Type 0
+VectorsAreFew = (n : ℕ) (vectors : List (List Bool)) → All (λ x. length x ≡ n) vectors → AllPairs ◌≢◌ vectors → length vectors ≤ 2 ^ n

@@ -1,0 +1,173 @@
+//! A netlist with tables in its boxes, as a netlist without boxes.
+
+ghost use Rattle.std.specs.Prelude.{◌≡◌, ◌+◌, ◌^◌, ◌<◌, ◌≤◌, ◌⊎◌, ℕ, [], ◌++◌, ◌∷◌, All, length, map, slice_index, sum_by, take, IfOk, OnOk};
+ghost use Rattle.std.specs.List.{range_with_len};
+ghost use Rattle.bb_net.specs.Completions.{table_bits};
+ghost use Rattle.bb_net.specs.Netlists.{Netlist, ReadsBefore, IsPinAt, box_at, cell_at};
+ghost use Rattle.bb_net.specs.Values.{FitBoxes, table_at};
+ghost use Rattle.bb_filled.specs.Laws.Embeddings.{moved, StandsAt};
+ghost use Rattle.bb_filled.specs.Laws.Filled.{IsFilled, column};
+ghost use Rattle.bb_filled.specs.Inside.Filling.{CostsAreFew, GrowsBy, HasConstants, IsFilledUpTo, cost};
+ghost use Rattle.bb_filled.specs.Laws.Trees.{IsTree, IsInTree};
+
+use crate::trees::{add_tree, column};
+use bb_bits::{NoMemory, Table};
+use bb_net::{BoxPins, Cell, Net};
+use std::alloc::Global;
+
+// The place of a cell in the new netlist.
+fn place_of(places: &[u32], k: u32) -> u32
+    ensures place { result ≡ slice_index places.now k }
+{
+    places.get(k as usize).copied().unwrap_or(0)
+}
+
+// The places of cells in the new netlist.
+fn places_of(alloc: Global, places: &[u32], old: &[u32]) -> Result<Vec<u32>, NoMemory>
+    ensures places { IfOk result (λ new. new.items ≡ map (slice_index places.now) old.now) }
+{
+    let mut new = Vec::with_capacity(alloc, old.len())?;
+    for k in old {
+        new.push(place_of(places, *k))?;
+    }
+    Ok(new)
+}
+
+// A cell that reads the places of what it read.
+fn moved(places: &[u32], cell: Cell) -> Cell
+    ensures cell { result ≡ moved (slice_index places.now) cell }
+{
+    match cell {
+        Cell::Const(b) => Cell::Const(b),
+        Cell::Input(i) => Cell::Input(i),
+        Cell::Not(a) => Cell::Not(place_of(places, a)),
+        Cell::And(a, b) => Cell::And(place_of(places, a), place_of(places, b)),
+        Cell::Or(a, b) => Cell::Or(place_of(places, a), place_of(places, b)),
+        Cell::Xor(a, b) => Cell::Xor(place_of(places, a), place_of(places, b)),
+        Cell::Mux(c, t, e) => Cell::Mux(
+            place_of(places, c),
+            place_of(places, t),
+            place_of(places, e),
+        ),
+        Cell::BoxOut(b, p) => Cell::BoxOut(b, p),
+    }
+}
+
+// Puts what stands for an output pin of a box with these input pins behind the cells, and gives its place.
+fn add_pin(
+    alloc: Global,
+    net: &mut Net,
+    table: &Table,
+    ins: &[u32],
+    places: &[u32],
+    pin: u32,
+) -> Result<u32, NoMemory>
+    requires inputs { table.now.inputs ≡ length ins.now }
+    requires pin { pin < table.now.outputs }
+    requires there { All (λ k. slice_index places.now k < length net.old.cells) ins.now }
+    requires constants { HasConstants net.old.cells }
+    requires room { length net.old.cells + 2 ^ length ins.now < 2 ^ 32 }
+    ensures grows { OnOk result (GrowsBy net.old net.new (2 ^ length ins.now)) }
+    ensures tree { IfOk result (IsTree net.new.cells (map (slice_index places.now) ins.now) (column table.now pin)) }
+    ensures only { IfOk result (λ root. (place : ℕ) → length net.old.cells ≤ place → place < length net.new.cells
+        → IsInTree net.new.cells (map (slice_index places.now) ins.now) root place) }
+{
+    let column = column(alloc, table, pin)?;
+    let pins = places_of(alloc, places, ins)?;
+    add_tree(net, &column, &pins)
+}
+
+// Puts what stands for a cell behind the cells of the new netlist, and gives its place.
+fn add_cell(
+    alloc: Global,
+    net: &mut Net,
+    boxes: &[BoxPins],
+    tables: &[Table],
+    places: &[u32],
+    cell: Cell,
+) -> Result<u32, NoMemory>
+    requires tables { FitBoxes tables.now boxes.now }
+    requires reads { ReadsBefore net.old.inputs boxes.now (length places.now) cell }
+    requires pin { (b p : ℕ) → cell ≡ Cell.BoxOut b p → (b < length boxes.now) × (p < length (box_at boxes.now b).outs) }
+    requires there { All (λ k. k < length net.old.cells) places.now }
+    requires constants { HasConstants net.old.cells }
+    requires no_box { net.old.boxes ≡ [] }
+    requires room { length net.old.cells + cost boxes.now cell < 2 ^ 32 }
+    ensures grows { OnOk result (GrowsBy net.old net.new (cost boxes.now cell)) }
+    ensures there { IfOk result (λ place. place < length net.new.cells) }
+    ensures stands { IfOk result (StandsAt net.new.cells (slice_index places.now) cell) }
+    ensures tree { IfOk result (λ place. (b p : ℕ) → cell ≡ Cell.BoxOut b p
+        → IsTree net.new.cells (map (slice_index places.now) (box_at boxes.now b).ins) (column (table_at tables.now b) p) place) }
+    ensures only { IfOk result (λ root. (place : ℕ) → length net.old.cells ≤ place → place < length net.new.cells
+        → (place ≡ root) ⊎ ((b p : ℕ) × (cell ≡ Cell.BoxOut b p) × IsInTree net.new.cells (map (slice_index places.now) (box_at boxes.now b).ins) root place)) }
+{
+    match cell {
+        Cell::BoxOut(b, p) => {
+            let ins = boxes[b as usize].ins();
+            add_pin(alloc, net, &tables[b as usize], ins, places, p)
+        }
+        gate => net.push(moved(places, gate)),
+    }
+}
+
+// The places of the constants and the inputs, which stand where they stood.
+fn first_places(alloc: Global, count: u32) -> Result<Vec<u32>, NoMemory>
+    ensures places { IfOk result (λ places. places.items ≡ range_with_len 0 count) }
+{
+    let mut places = Vec::with_capacity(alloc, count as usize)?;
+    for k in 0..count {
+        places.push(k)?;
+    }
+    Ok(places)
+}
+
+// Puts what stands for the other cells behind these, one after another.
+fn add_cells(
+    alloc: Global,
+    new: &mut Net,
+    old: &Net,
+    tables: &[Table],
+    places: &mut Vec<u32>,
+) -> Result<(), NoMemory>
+    requires tables { FitBoxes tables.now old.now.boxes }
+    requires room { sum_by (cost old.now.boxes) old.now.cells < 2 ^ 32 }
+    requires begun { IsFilledUpTo old.now tables.now (old.now.inputs + 2) new.old places.old.items }
+    ensures filled { OnOk result (IsFilledUpTo old.now tables.now (length old.now.cells) new.new places.new.items) }
+{
+    for k in old.inputs() as usize + 2..old.cells().len() {
+        let place = add_cell(alloc, new, old.boxes(), tables, places, old.cells()[k])?;
+        places.push(place)?;
+    }
+    Ok(())
+}
+
+// The outputs, at the places of the cells that they were.
+fn add_outs(new: &mut Net, outs: &[u32], places: &[u32]) -> Result<(), NoMemory>
+    requires there { All (λ k. slice_index places.now k < length new.old.cells) outs.now }
+    ensures outs { OnOk result (new.new ≡ record new.old { outs = new.old.outs ++ map (slice_index places.now) outs.now }) }
+{
+    for out in outs {
+        new.add_out(place_of(places, *out))?;
+    }
+    Ok(())
+}
+
+// The trees for the output pins of boxes take no more cells than tables have bits.
+fn costs_are_few()
+    ensures { CostsAreFew }
+{}
+
+/// The netlist without boxes in which the tables stand in the boxes, one for each of them: at each output pin a tree of choices over
+/// its column of the table.
+pub fn fill(alloc: Global, net: &Net, tables: &[Table]) -> Result<Net, NoMemory>
+    requires tables { FitBoxes tables.now net.now.boxes }
+    requires room { length net.now.cells + table_bits net.now.boxes < 2 ^ 32 }
+    ensures filled { IfOk result (λ filled. (at : ℕ → ℕ) × IsFilled net.now tables.now filled at) }
+{
+    costs_are_few();
+    let mut filled = Net::start(alloc, net.inputs())?;
+    let mut places = first_places(alloc, net.inputs() + 2)?;
+    add_cells(alloc, &mut filled, net, tables, &mut places)?;
+    add_outs(&mut filled, net.outs(), &places)?;
+    Ok(filled)
+}

@@ -1,0 +1,8 @@
+//! Netlists that stand in others, netlists whose boxes are filled with tables, and vectors by which tables are refuted one after another.
+#![tactic(auto)]
+
+mod filling;
+pub mod laws;
+mod trees;
+
+pub use filling::fill;
