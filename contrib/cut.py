@@ -96,7 +96,7 @@ class Cut:
         data, width = f"_next_{number}_", len(bits)
         while data in self.top.nets:
             data += "_"
-        lines = [f"wire [{width - 1}:0] {data};", f"assign {data} = {value};"]
+        lines = [f"wire [{width - 1}:0] {data};", f"assign {data} = {value} ;"]  # A blank ends an escaped name.
         clock = spelt(register.clock)
         for place, bit in enumerate(bits):
             if bit in nexts:
