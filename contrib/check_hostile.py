@@ -1,11 +1,8 @@
-"""Hostile names, files and moments: a script reads the file that is named and no other, says in one line what it cannot work with, leaves
-no older text behind, and ends what it started."""
+"""Hostile names and files: a script reads the file that is named and no other, says in one line what it cannot work with, and leaves
+no older text behind."""
 import os
-import signal
-import subprocess
-import time
 
-from tries import LIMIT, example, is_told, read, run, script, write
+from tries import example, is_told, read, run, script, write
 
 # Names that a shell or yosys takes for more than a name.
 NAMES = ("[ab].v", "[!a].v", "*.v", "?.v", "{a,b}.v", "a b.v", " a.v", "a.v ", '"a.v', 'a"b.v', "a'b.v", "a;b.v", "a`b.v", "$a.v",
@@ -142,32 +139,13 @@ def cut_part(tally, folder):
         tally.note(f"{name} reads what nests to 199", done.status == 0 and "endmodule" in done.out, done.why())
 
 
-def ended_part(tally, folder):
-    """A script that a signal ends says nothing and takes with it what it started."""
-    program = write(folder, "slow", '#!/bin/sh\necho $$ > "$(dirname "$0")/started"\nexec sleep 60\n')
-    os.chmod(program, 0o755)
-    started = os.path.join(folder, "started")
-    for number in (signal.SIGTERM, signal.SIGINT):
-        if os.path.exists(started):
-            os.remove(started)
-        # In the background of a shell SIGINT is ignored, which a child would inherit.
-        child = subprocess.Popen([script("order"), example("carry", "spec.v")], env={**os.environ, "BBEQ": program},
-                                 stdout=subprocess.DEVNULL, stderr=subprocess.PIPE, text=True,
-                                 preexec_fn=lambda: signal.signal(signal.SIGINT, signal.SIG_DFL))
-        until = time.monotonic() + LIMIT
-        while not (os.path.exists(started) and read(started).strip()) and time.monotonic() < until:
-            time.sleep(0.05)
-        child.send_signal(number)
-        _, err = child.communicate(timeout=LIMIT)
-        time.sleep(0.1)
-        tally.note(f"order ends at signal {int(number)} and ends the program", child.returncode == 128 + number and not err
-                   and not os.path.exists(f"/proc/{read(started).strip()}"), f"status {child.returncode}; {err[:200]}")
+def failing_part(tally, _folder):
     done = run([script("order"), example("carry", "spec.v")], env={**os.environ, "BBEQ": "/bin/false"})
     tally.note("order with a program that fails", done.status == 1 and done.err.startswith("order: /bin/false ended with 1"), done.why())
 
 
 def hostile_part(tally, folder):
-    for part in (names_part, files_part, outputs_part, cut_part, ended_part):
+    for part in (names_part, files_part, outputs_part, cut_part, failing_part):
         inner = os.path.join(folder, part.__name__)
         os.mkdir(inner)
         part(tally, inner)
