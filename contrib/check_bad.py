@@ -3,7 +3,7 @@ import os
 
 from tries import BBEQ, REFUSED, SMALL_PROOF, bbeq, example, is_told, run, script, write
 
-SCRIPTS = ("gates", "fill", "wave", "order", "ladder", "names", "why", "drat", "lrat", "edits", "evaluate", "made", "check")
+SCRIPTS = ("gates", "fill", "wave", "order", "ladder", "names", "why", "drat", "lrat", "edits", "evaluate", "made", "parts", "run", "check")
 
 
 def bad_part(tally, folder):

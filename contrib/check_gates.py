@@ -47,7 +47,7 @@ def is_equivalent(source, made, folder):
 def try_design(tally, source, folder):
     name = os.path.basename(source)
     made = os.path.join(folder, "made.v")
-    done = run([script("gates"), source, "-o", made])
+    done = run([script("gates"), "--keep-order", source, "-o", made])  # Yosys pairs whole ports.
     if done.status:
         tally.note(f"gates {name}", False, done.why())
         return

@@ -1,6 +1,7 @@
 """The tries of `fill`, `wave`, `order`, `drat`, `lrat` and `refuse`."""
 import os
 import re
+import sys
 
 from tries import BBEQ, DESIGNS, SMALL_PROOF, bbeq, designs_in, example, is_told, read, run, script, write
 
@@ -212,6 +213,14 @@ def refuse_part(tally, folder):
             # An entry of the diagrams' cache may be dropped, and nothing else is done without.
             named = re.findall(r"^own answer without the memory that (\S+) wanted", done.out, re.MULTILINE)
             tally.note(f"refuse {' '.join(options)}, {name}: what goes on without memory", set(named) <= {CACHE}, done.why())
+    done = run([script("refuse"), BBEQ, "--limits", "20", "--", *pairs["carry"]])
+    tally.note(f"refuse --limits 20; {done.out.strip()}", done.status == 0 and done.out.startswith("20 limits"), done.why())
+    done = run([script("fuzz"), "--runs", "300", "--keep", folder])
+    tally.note(f"fuzz; {' '.join(done.out.split())}", done.status == 0 and "300 draws" in done.out, done.why())
     for words, what in (([os.path.join(folder, "none"), "--", "a"], "a program that is not there"), ([BBEQ, "a"], "words without --")):
         done = run([script("refuse"), *words])
         tally.note(f"refuse refuses {what}", is_told(done, "refuse"), done.why())
+    done = run([sys.executable, script("refuse"), BBEQ, "--", "a"], env={**os.environ, "PATH": folder})
+    tally.note("refuse without cc", is_told(done, "refuse") and "cc is not installed" in done.err, done.why())
+    done = run([script("fuzz"), "--no-such-word"])
+    tally.note("fuzz --no-such-word", is_told(done, "fuzz"), done.why())

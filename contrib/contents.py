@@ -1,5 +1,8 @@
-"""The contents of a box as text: as a case statement with a line for each row or for rows that are joined, or as assignments."""
+"""The contents of a box as text: as a case statement with a line for each row or for rows that are joined, or as assignments.
+Where no vector brings a row to the pins, `-` stands for the bits of its outputs."""
 from language import bit_text, written
+
+WIDTH = 110  # Of a line that lists rows.
 
 
 def joined(nets):
@@ -13,30 +16,51 @@ def ports_of(module, direction):
 
 def case_lines(module, contents):
     """A row of the table a line: the inputs, the first pin most significant, and the outputs in the same order."""
-    inputs, outputs = ports_of(module, "input"), ports_of(module, "output")
-    width = len(module.pins("input"))
-    yield "  always @*"
-    yield f"    case ({joined(inputs)})"
-    for row in range(2 ** width):
-        yield f"      {width}'b{row:0{width}b}: {joined(outputs)} = {len(contents)}'b{''.join(bits[row] for bits in contents)};"
-    yield "    endcase"
+    pins, rows = len(module.pins("input")), rows_of(module, contents)
+    yield from framed("case", module, [([f"{row:0{pins}b}"], bits) for row, bits in enumerate(rows) if "-" not in bits], rows)
 
 
 def casez_lines(module, contents):
-    """As `case_lines`, with rows of equal outputs joined, where a pin may be either: `?` stands for both."""
-    inputs, outputs = ports_of(module, "input"), ports_of(module, "output")
-    width = len(module.pins("input"))
+    """As `case_lines`, with rows of equal outputs joined: `?` is a pin that may be either, and several stand before one colon."""
+    rows, groups = rows_of(module, contents), {}
+    for cube, bits in cubes(len(module.pins("input")), rows):
+        groups.setdefault(bits, []).append(cube)
+    yield from framed("casez", module, [(cubes_of, bits) for bits, cubes_of in groups.items()], rows)
+
+
+def rows_of(module, contents):
+    """The outputs of each row, the first pin first."""
+    return ["".join(pins[row] for pins in contents) for row in range(2 ** len(module.pins("input")))]
+
+
+def framed(word, module, lines, rows):
+    """The statement with a line for each of these lists of inputs and their outputs."""
+    pins, outputs = len(module.pins("input")), joined(ports_of(module, "output"))
     yield "  always @*"
-    yield f"    casez ({joined(inputs)})"
-    for cube, bits in cubes(width, ["".join(pins[row] for pins in contents) for row in range(2 ** width)]):
-        yield f"      {width}'b{cube}: {joined(outputs)} = {len(contents)}'b{bits};"
+    yield f"    {word} ({joined(ports_of(module, 'input'))})"
+    for listed, bits in lines:
+        yield from wrapped([f"{pins}'b{row}" for row in listed], f": {outputs} = {len(bits)}'b{bits};")
+    if any("-" in bits for bits in rows):
+        yield "      // No vector brings another row to the pins."
+        yield f"      default: {outputs} = {len(rows[0])}'b{'0' * len(rows[0])};"
     yield "    endcase"
 
 
+def wrapped(parts, end):
+    """Parts with commas between them, as lines that are not too long."""
+    line = "      "
+    for part in parts[:-1]:
+        if len(line) + len(part) > WIDTH:
+            yield line.rstrip()
+            line = "        "
+        line += part + ", "
+    yield line + parts[-1] + end
+
+
 def cubes(width, rows):
-    """Sets of rows with equal outputs, each a digit for each pin; each row is in one of them. Two are joined as long as some differ in one
-    digit alone."""
-    found = {f"{row:0{width}b}": bits for row, bits in enumerate(rows)}
+    """Sets of rows with equal outputs, each a digit for each pin; each row is in one of them, but for those that no vector
+    brings to the pins. Two are joined as long as some differ in one digit alone."""
+    found = {f"{row:0{width}b}": bits for row, bits in enumerate(rows) if "-" not in bits}
     joins = True
     while joins:
         joins = False
@@ -51,10 +75,10 @@ def cubes(width, rows):
 
 
 def assign_lines(module, contents):
-    """An assignment for each output pin: a tree of conditions on the input pins, the first pin outermost."""
+    """An assignment for each output pin: a tree of conditions on the input pins, the first pin outermost; `-` is 0."""
     names = [bit_text(written(net.name), index) for net, index in module.pins("input")]
     for (net, index), bits in zip(module.pins("output"), contents):
-        yield f"  assign {bit_text(written(net.name), index)} = {tree(names, bits)};"
+        yield f"  assign {bit_text(written(net.name), index)} = {tree(names, bits.replace('-', '0'))};"
 
 
 def tree(names, bits):

@@ -24,16 +24,19 @@ class Circuit:
     """What drives each net, from the ports and registers on. `bits` and `wide` are what may be read, of one bit and of two; an
     item is a text, or a box with the bits that it reads and drives."""
 
-    def __init__(self, draw, frame, boxes):
-        self.draw, self.frame, self.used = draw, frame, set()
-        self.bits, self.wide, self.items, self.count, self.left = list(frame.bits), list(frame.wide), [], 0, MOST_CONTENTS
-        for place in range(2 + boxes + draw.randrange(3)):
+    def __init__(self, draw, frame, boxes, is_apart=False):
+        self.draw, self.frame, self.used, self.driven = draw, frame, set(), []
+        self.bits, self.wide, self.items, self.count, self.left = list(frame.bits), list(frame.wide), [], 0, MOST_CONTENTS * (1 + is_apart)
+        for place in range(2 + boxes + draw.randrange(3) + 4 * is_apart):
+            if is_apart and draw.randrange(2):
+                self.bits, self.wide = list(frame.bits), list(frame.wide)
             if boxes and draw.randrange(3):
                 self.box()
                 boxes -= 1
             else:
                 draw.choice((self.gate, self.gate, self.split, self.assign, self.vector, self.supply, self.half_adder))()
-        self.last = self.bits[-4:]
+        boxed = [bit for item in self.items if isinstance(item, tuple) for bit in item[3]]
+        self.last = self.driven + 4 * boxed if is_apart else self.bits[-4:]
 
     # What is read: an operand, and an expression of any width.
 
@@ -66,6 +69,7 @@ class Circuit:
     def drive(self, item, *bits):
         self.items.append(item)
         self.bits += bits
+        self.driven += bits
 
     def gate(self):
         out, ins = self.net(), ", ".join(self.terminal() for _ in range(1 + self.draw.randrange(3)))
@@ -136,7 +140,7 @@ class Circuit:
 class Frame:
     """What the two have in common: ports and registers."""
 
-    def __init__(self, draw):
+    def __init__(self, draw, outs=0):
         self.draw, self.bits, self.wide, self.used = draw, ["a", "b[1]", "b[0]"], ["b"], set()
         self.ports, declared = ["a", "b", "y"], ["input a;", "input [1:0] b;"]
         self.registers, self.edge = ["q", "r.q"][:max(0, draw.randrange(4) - 1)], draw.choice(("posedge", "negedge"))
@@ -148,8 +152,8 @@ class Frame:
             declared.append("reg q;")
         if "r.q" in self.registers:
             self.used.add("ff")
-        self.outs = ["y"] if draw.randrange(2) else ["y[0]", "y[1]"]
-        self.declared = " ".join([*declared, "output y;" if len(self.outs) == 1 else "output [0:1] y;"])
+        self.outs = [f"y[{at}]" for at in range(outs)] or (["y"] if draw.randrange(2) else ["y[0]", "y[1]"])
+        self.declared = " ".join([*declared, "output y;" if self.outs == ["y"] else f"output [0:{len(self.outs) - 1}] y;"])
 
     def ends(self, ends):
         states = {"q": f"always @({self.edge} clk) q <= {{}};", "r.q": "ff r(clk, {}, s);"}
@@ -160,8 +164,17 @@ class Frame:
 def drawn_pair(seed):
     """A specification and an implementation; of five seeds the specification of the first can be met."""
     draw = random.Random(seed)
-    frame = Frame(draw)
-    circuit = Circuit(draw, frame, draw.choice((0, 1, 1, 2, 2, 3, 3)))
+    return paired(seed, draw, Frame(draw), (0, 1, 1, 2, 2, 3, 3))
+
+
+def drawn_apart(seed):
+    """The same with up to four boxes and with more outputs, of which some share nothing."""
+    draw = random.Random(f"apart {seed}")
+    return paired(seed, draw, Frame(draw, 3 + draw.randrange(3)), (1, 2, 3, 4, 4), True)
+
+
+def paired(seed, draw, frame, boxes, is_apart=False):
+    circuit = Circuit(draw, frame, draw.choice(boxes), is_apart)
     ends = [draw.choice(circuit.last) for _ in frame.outs + frame.registers]
     implementation = circuit.text("t", "box", ends)
     if seed % 5 == 3:

@@ -5,7 +5,9 @@ OUTPUTS_LAST = ("buf", "not")
 
 
 class FanIn:
-    """For each bit of each instance the bits that it is made from, in the order of the text."""
+    """For each bit of each instance the bits that it is made from, in the order of the text; and the same for what each clocked
+    assignment stores. What is kept of a value is said by the methods from `read` to `once` alone, and by `store`; another class
+    may keep more."""
 
     def __init__(self, modules, top):
         self.modules, self.sources, self.registers = modules, {}, []
@@ -16,11 +18,12 @@ class FanIn:
             self.assign(module, scope, left, value)
         for word, terminals in module.gates:
             outputs, inputs = (terminals[:-1], terminals[-1:]) if word in OUTPUTS_LAST else (terminals[:1], terminals[1:])
-            read = [bit for terminal in inputs for bit in self.flat(module, scope, terminal)]
+            given = self.gate(word, [bit for terminal in inputs for bit in self.whole(module, scope, terminal)])
+            given = self.once(given) if len(outputs) > 1 else given
             for output in outputs:
-                self.give(module, scope, output, [read])
+                self.give(module, scope, output, [given])
         for register in module.registers:
-            self.registers += self.value(module, scope, register.value, self.width(module, register.value))
+            self.store(module, scope, register)
         for instance in module.instances:
             self.connect(module, scope, instance)
 
@@ -34,6 +37,9 @@ class FanIn:
         for (name, index), read in zip(bits, values[len(values) - len(bits):]):
             self.sources[scope, name, index] = read
 
+    def store(self, module, scope, register):
+        self.registers.append(self.whole(module, scope, register.value))
+
     def connect(self, module, scope, instance):
         if instance.module not in self.modules:
             raise Fault(f"line {instance.token.line}: there is no module {instance.module}")
@@ -46,14 +52,12 @@ class FanIn:
                 continue
             bits = [(inner, port, index) for index in net.indices()]
             if net.direction == "input":
-                values = self.value(module, scope, value, self.width(module, value))
-                self.sources.update(zip(bits, values))
+                self.sources.update(zip(bits, self.whole(module, scope, value)))
                 read += bits
             else:
-                self.give(module, scope, value, [[bit] for bit in bits])
+                self.give(module, scope, value, [self.read(bit) for bit in bits])
         if below.is_box():
-            for net, index in below.pins("output"):
-                self.sources[inner, net.name, index] = read
+            self.box(below, inner, read)
         else:
             self.walk(below, inner)
 
@@ -73,30 +77,65 @@ class FanIn:
             return expression[1] * self.width(module, expression[2])
         return sum(self.width(module, part) for part in expression[1])
 
+    def whole(self, module, scope, expression):
+        """The bits of an expression at its own width, the leftmost first, each as what it is made of."""
+        if expression[0] == "net":
+            return [self.read((scope, expression[1], index)) for index in module.selected(expression[1], expression[2])]
+        return self.value(module, scope, expression, self.width(module, expression))
+
     def flat(self, module, scope, expression):
-        """The bits of an expression at its own width, as one list."""
-        return [bit for bits in self.value(module, scope, expression, self.width(module, expression)) for bit in bits]
+        """The bits that an expression at its own width is made from, as one list."""
+        return [bit for bits in self.whole(module, scope, expression) for bit in bits]
 
     def value(self, module, scope, expression, width):
-        """For each bit of an expression, the leftmost first, the bits that it is made from."""
+        """For each bit of an expression, the leftmost first, what it is made of."""
         kind = expression[0]
         if kind == "net":
-            bits = [[(scope, expression[1], index)] for index in module.selected(expression[1], expression[2])]
+            bits = self.whole(module, scope, expression)
         elif kind == "bits":
-            bits = [[] for _ in range(expression[1])]
+            bits = self.number(expression)
         elif kind == "not":
-            return self.value(module, scope, expression[1], width)
+            return [self.inverted(bit, expression[2]) for bit in self.value(module, scope, expression[1], width)]
         elif kind == "chain":
-            return self.beside([self.value(module, scope, part, width) for part in expression[1]])
+            columns = [self.value(module, scope, part, width) for part in expression[1]]
+            return [self.chain(column, expression[2]) for column in zip(*columns)]
         elif kind == "conditional":
-            condition = [self.flat(module, scope, expression[1])] * width
-            return self.beside([condition, *[self.value(module, scope, part, width) for part in expression[2:]]])
+            condition = self.condition(self.whole(module, scope, expression[1]))
+            columns = [self.value(module, scope, part, width) for part in expression[2:]]
+            return [self.choice(condition, *column) for column in zip(*columns)]
         elif kind == "repeat":
-            bits = self.value(module, scope, expression[2], self.width(module, expression[2])) * expression[1]
+            bits = [self.once(bit) for bit in self.whole(module, scope, expression[2])] * expression[1]
         else:
-            bits = [bit for part in expression[1] for bit in self.value(module, scope, part, self.width(module, part))]
-        return [[] for _ in range(width - len(bits))] + bits
+            bits = [bit for part in expression[1] for bit in self.whole(module, scope, part)]
+        return self.number(("bits", width - len(bits), 0)) + bits
 
-    @staticmethod
-    def beside(columns):
-        return [[bit for column in columns for bit in column[place]] for place in range(len(columns[0]))]
+    # What is kept of a value: the bits that it is made from.
+
+    def read(self, bit):
+        return [bit]
+
+    def number(self, number):
+        return [[] for _ in range(number[1])]
+
+    def inverted(self, bit, _signs):
+        return bit
+
+    def chain(self, bits, _operators):
+        return [bit for read in bits for bit in read]
+
+    def condition(self, bits):
+        return self.chain(bits, ())
+
+    def choice(self, condition, then, otherwise):
+        return condition + then + otherwise
+
+    def gate(self, _word, bits):
+        return self.chain(bits, ())
+
+    def box(self, module, scope, read):
+        for net, index in module.pins("output"):
+            self.sources[scope, net.name, index] = read
+
+    def once(self, bit):
+        """What is read at several places."""
+        return bit

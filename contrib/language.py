@@ -14,11 +14,14 @@ repeat rnmos rpmos rtran rtranif0 rtranif1 scalared showcancelled signed small s
 table task time tran tranif0 tranif1 tri tri0 tri1 triand trior trireg unsigned use uwire vectored wait wand weak0 weak1 while wire
 wor xnor xor""".split())
 GATES = frozenset("and nand or nor xor xnor buf not".split())
+ENDS = (",", ")", "}", ";")  # What stands behind an expression.
 DIRECTIVES = ("`timescale", "`celldefine", "`endcelldefine")
 
 
 class Token:
     """One token: kind is 'name', 'word', 'sized', 'plain' or 'mark'; start and end are its place in the text."""
+
+    __slots__ = ("kind", "text", "start", "end", "line")
 
     def __init__(self, kind, text, start, end, line):
         self.kind, self.text, self.start, self.end, self.line = kind, text, start, end, line
@@ -28,11 +31,11 @@ class Token:
 
 
 PIECES = re.compile(r"""
-    (?P<skip>\s+|//[^\n]*|/\*.*?\*/|`(?:timescale|celldefine|endcelldefine)\b[^\n]*)
+    (?P<simple>[A-Za-z_][A-Za-z0-9_$]*)
+  | (?P<skip>\s+|//[^\n]*|/\*.*?\*/|`(?:timescale|celldefine|endcelldefine)\b[^\n]*)
   | (?P<attribute>\(\*(?!\)))
   | (?P<sized>[0-9][0-9_]*\s*'\s*[bodhBODH]\s*[0-9a-fA-FxXzZ_?]+)
   | (?P<plain>[0-9][0-9_]*)
-  | (?P<simple>[A-Za-z_][A-Za-z0-9_$]*)
   | (?P<escaped>\\[!-~]+)
   | (?P<mark><=|~\^|\^~|[()\[\]{},;:.=@&|^~?])
 """, re.VERBOSE | re.DOTALL)
@@ -54,24 +57,28 @@ def tokens(text, attributes=None):
     """The tokens of a text; comments, attributes and the three directives are passed over. The places of the attributes go to the
     list that is given for them."""
     found, place, line = [], 0, 1
+    pieces = PIECES.finditer(text)
     while place < len(text):
-        piece = PIECES.match(text, place)
-        end = piece.end() if piece else None
-        kind = piece.lastgroup if piece else None
-        if kind == "attribute":
-            end = attribute_end(text, place)
-            if attributes is not None:
-                attributes.append((place, end))
-        if end is None:
-            raise Fault(f"line {line}: no token of the language begins here")
+        piece = next(pieces, None)
+        kind, end = (piece.lastgroup, piece.end()) if piece and piece.start() == place else (None, None)
         if kind == "simple":
             word = piece.group()
             found.append(Token("word" if word in RESERVED else "name", word, place, end, line))
+        elif kind == "mark":
+            found.append(Token(kind, piece.group(), place, end, line))
         elif kind == "escaped":
             found.append(Token("name", piece.group()[1:], place, end, line))
-        elif kind in ("sized", "plain", "mark"):
-            found.append(Token(kind, piece.group(), place, end, line))
-        line += text.count("\n", place, end)
+        else:
+            if kind == "attribute":
+                end = attribute_end(text, place)
+                pieces = PIECES.finditer(text, end) if end else None
+                if attributes is not None:
+                    attributes.append((place, end))
+            elif kind in ("sized", "plain"):
+                found.append(Token(kind, piece.group(), place, end, line))
+            if end is None:
+                raise Fault(f"line {line}: no token of the language begins here")
+            line += text.count("\n", place, end)
         place = end
     return found
 
@@ -86,6 +93,8 @@ def written(name):
 class Net:
     """A net of a module: its range as (left, right) or None, its direction and its kind ('wire', 'reg', 'supply0', 'supply1').
     It stands alone where a declaration of its kind does, besides that of its direction."""
+
+    __slots__ = ("name", "range", "direction", "kind", "stands_alone")
 
     def __init__(self, name):
         self.name, self.range, self.direction, self.kind, self.stands_alone = name, None, None, "wire", False
@@ -127,7 +136,10 @@ class Module:
         self.bare = True
 
     def net(self, name):
-        return self.nets.setdefault(name, Net(name))
+        found = self.nets.get(name)
+        if found is None:
+            found = self.nets[name] = Net(name)
+        return found
 
     def left_bits(self, left):
         """The bits of what stands on the left of an assignment, leftmost first, as (net, index)."""
@@ -180,14 +192,16 @@ class Reader:
         return self.tokens[place] if place < len(self.tokens) else None
 
     def sees(self, *texts):
-        token = self.look()
-        return token is not None and token.kind in ("mark", "word") and token.text in texts
+        if self.at >= len(self.tokens):
+            return False
+        token = self.tokens[self.at]
+        return token.text in texts and token.kind in ("mark", "word")
 
     def take(self, *texts):
-        token = self.look()
-        if token is None:
+        if self.at >= len(self.tokens):
             raise Fault("the text ends within a module")
-        if texts and not self.sees(*texts):
+        token = self.tokens[self.at]
+        if texts and (token.text not in texts or token.kind not in ("mark", "word")):
             raise Fault(f"line {token.line}: `{token.text}` is not of the language here")
         self.at += 1
         return token
@@ -374,6 +388,10 @@ class Reader:
         module.registers.append(Register(edge, clock, left, value, (value_start, value_end), (start, self.take(";").end)))
 
     def expression(self):
+        token, behind = self.look(), self.look(1)
+        if token and behind and token.kind == "name" and behind.kind == "mark" and behind.text in ENDS:
+            self.at += 1
+            return "net", token.text, None
         first = self.level(0)
         if not self.sees("?"):
             return first

@@ -48,6 +48,14 @@ class Netlist:
             return [bit for port, bits in cell["connections"].items() if ports[port]["direction"] == "input" for bit in bits]
         return [bit for port, bits in cell["connections"].items() if port not in ("Y", "Q") for bit in bits]
 
+    def sources(self, bit):
+        """The bits from which a gate makes a bit: what chooses, and then what is chosen."""
+        key = self.driver.get(bit)
+        if key not in self.gates:
+            return []
+        pins = self.cells[key]["connections"]
+        return [pins[pin][0] for pin in ("S", "B", "A") if pin in pins] if "S" in pins else self.inputs(self.cells[key])
+
     def find_drivers(self):
         driver = {}
         for key in [*self.gates, *self.flops, *self.boxes]:
@@ -80,6 +88,12 @@ class Netlist:
                 if bit not in chosen or (marked and not self.is_marked(chosen[bit]) and bit not in self.input_bits):
                     chosen[bit] = (name, position)
         return chosen
+
+    def index(self, name, position):
+        """The index of a net's position, the rightmost bit being position 0."""
+        net = self.nets[name]
+        width, offset = len(net["bits"]), net.get("offset", 0)
+        return offset + (width - 1 - position if net.get("upto") else position)
 
     def is_marked(self, chosen):
         return "bbeq_register" in self.nets[chosen[0]]["attributes"]

@@ -4,6 +4,8 @@ import os
 import re
 import shutil
 import subprocess
+
+from dialect import advice, misread_arrays
 from scripts import Fault
 
 
@@ -37,14 +39,6 @@ def natural(name):
     return [(1, int(part), "") if part.isdigit() else (0, 0, part) for part in re.split(r"(\d+)", name) if part]
 
 
-def error(text):
-    """An error of yosys; where a file of SystemVerilog is not read, what can be done."""
-    if not re.match(r".*\.sv:\d+: syntax error", text):
-        return text
-    version = re.match(r"Yosys (\S+)", subprocess.run(["yosys", "-V"], capture_output=True, text=True, check=False).stdout)
-    return f"{text}; yosys {version.group(1) if version else ''} does not read this of SystemVerilog: --sv2v has sv2v turn it into Verilog"
-
-
 def run_yosys(script, folder):
     """Runs yosys on a script and gives its log; its error is the fault."""
     path = os.path.join(folder, "script.ys")
@@ -61,7 +55,7 @@ def run_yosys(script, folder):
             raise Fault(f"the top has no parameter {parameter.group(1)}")
         if done.returncode < 0:
             raise Fault(f"yosys was ended by signal {-done.returncode}, as where modules instantiate each other without end")
-        raise Fault(error(told(re.sub(r"\s*ERROR:\s*", " ", lines[0]).strip())) if lines else f"yosys ended with {done.returncode}")
+        raise Fault(advice(told(re.sub(r"\s*ERROR:\s*", " ", lines[0]).strip())) if lines else f"yosys ended with {done.returncode}")
     return done.stdout + done.stderr
 
 
@@ -174,7 +168,12 @@ class Sources:
 
     def __init__(self, words, folder):
         files = Files(words, folder)
-        log = run_yosys(read_script(words, files, folder), folder)
+        script = read_script(words, files, folder)
+        for own, _ in [] if words.sv2v else files.files + files.cells:
+            misread = misread_arrays(own, folder) if own.endswith(".sv") else None
+            if misread:
+                raise Fault(told(misread))
+        log = run_yosys(script, folder)
         modules = load(folder, "read.json")
         if not modules:
             raise Fault(f"no module stands in {', '.join(words.files)}")
@@ -250,7 +249,8 @@ def warnings(log, modules):
 def warning(source, text, modules):
     implicit = re.match(r"Identifier `\\?(.*)' is implicitly declared", text)
     if implicit:
-        return f"{source}warning: {implicit.group(1)} is not declared, and is taken for a wire of one bit"
+        package = f"; a name of a package is PACKAGE::{implicit.group(1)}" if re.match(r".*\.sv:\d+: $", source) else ""
+        return f"{source}warning: {implicit.group(1)} is not declared, and is taken for a wire of one bit{package}"
     resized = re.match(r"Resizing cell port (.*) from (\d+) bits to (\d+) bits", text)
     if resized:
         return resized_port(resized.group(1), int(resized.group(2)), int(resized.group(3)), modules)

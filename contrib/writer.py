@@ -1,11 +1,14 @@
 """Writes the netlist of `gates` as text of bbeq's language."""
 import os
+import re
+from itertools import groupby
 
+from arrangement import Arrangement
 from language import written
 from marks import MARK
 from netlist import EDGES, GATES
 from scripts import Fault
-from sources import UNKNOWN, natural, place
+from sources import UNKNOWN, place
 
 
 def counted(number, noun, plural=None):
@@ -18,32 +21,20 @@ def shown(file):
     return name.encode("utf-8", "backslashreplace").decode().encode("unicode_escape" if not name.isprintable() else "utf-8").decode()
 
 
+def spoken(name):
+    """The name of a net in a message; yosys has nets of its own for the results of functions."""
+    result = re.fullmatch(r"(?:.*\.)?(\w+)\$func\$.*\.\$result", name)
+    return f"the result of function {result.group(1)}" if result else name
+
+
 class Writer:
     """Writes the text of a netlist."""
 
-    def __init__(self, netlist):
-        self.net, self.lines, self.declared, self.fresh = netlist, [], {}, {}
-        self.split = set()
+    def __init__(self, netlist, keep_order):
+        self.net, self.declared, self.fresh = netlist, {}, {}
         self.names = set(netlist.nets) | set(netlist.boxes)
-        self.registers = self.find_registers()
-
-    def find_registers(self):
-        """The registers: for each net that is one throughout its position list; bits of other nets get a net of their own."""
-        groups = {}
-        for key in self.net.live_flops:
-            name, position = self.net.name_of[self.net.driven(self.net.cells[key])]
-            groups.setdefault(name, {})[position] = key
-        groups = dict(sorted(groups.items(), key=lambda group: natural(group[0])))
-        for name, bits in groups.items():
-            if len(bits) < len(self.net.nets[name]["bits"]) or self.net.ports.get(name, {}).get("direction") == "input":
-                self.split.update((name, position) for position in bits)
-        return groups
-
-    def index(self, name, position):
-        """The index of a net's position, the rightmost bit being position 0."""
-        net = self.net.nets[name]
-        width, offset = len(net["bits"]), net.get("offset", 0)
-        return offset + (width - 1 - position if net.get("upto") else position)
+        self.placed = Arrangement(netlist, keep_order)
+        self.registers, self.split, self.index = self.placed.registers, self.placed.split, netlist.index
 
     def is_scalar(self, name):
         net = self.net.nets[name]
@@ -92,8 +83,8 @@ class Writer:
             raise Fault(f"{source}: a value is undefined (x) here{what}; --undef 0 or --undef 1 chooses a bit for it")
         name = self.net.describe(bit)
         source = place(self.net.nets[name]["attributes"], source)
-        raise Fault(f"{source}: {name} is read and has no driver; where it is still to be written, an empty module in its place is a box; "
-                    "else --undef 0 or --undef 1 chooses a bit for it")
+        raise Fault(f"{source}: {spoken(name)} is read and has no driver; where it is still to be written, an empty module in its "
+                    "place is a box; else --undef 0 or --undef 1 chooses a bit for it")
 
     def target(self, bit):
         """A bit as it is written or read, once it is known to be driven."""
@@ -196,15 +187,16 @@ class Writer:
                 lines += self.output_lines(port)
         return lines
 
+    def part(self, name, position):
+        """A net as it is declared, or a bit that has a net of its own."""
+        return self.spelt(name) if position is None else written(f"{name}[{self.index(name, position)}]")
+
     def declarations(self):
-        for port, shape in self.net.ports.items():
-            yield f"{shape['direction']} {self.range_of(port)}{written(port)};"
-        for name in self.registers:
-            if any((name, position) in self.split for position in self.registers[name]):
-                texts = [written(f"{name}[{self.index(name, position)}]") for position in sorted(self.registers[name], reverse=True)]
-                yield f"reg {', '.join(texts)};"
-            else:
-                yield f"reg {self.range_of(name)}{self.spelt(name)};"
+        for port, position in self.placed.ports:
+            shape = self.range_of(port) if position is None else ""
+            yield f"{self.net.ports[port]['direction']} {shape}{self.part(port, position)};"
+        for (name, is_whole), states in groupby(self.placed.states, lambda state: (state[0], state[1] is None)):
+            yield f"reg {self.range_of(name) if is_whole else ''}{', '.join(self.part(*state) for state in states)};"
         for name in self.declared:
             kept = self.registers.get(name)
             if name not in self.net.ports and (not kept or any((name, position) in self.split for position in kept)):
@@ -216,7 +208,9 @@ class Writer:
         count = ", ".join((counted(len(self.net.order), "gate"), counted(len(self.net.live_flops), "register bit"),
                            counted(len(self.net.boxes), "box", "boxes")))
         yield f"// {self.net.name}, made by gates from {', '.join(map(shown, files))}: {count}."
-        yield f"module {written(self.net.name)}({', '.join(written(port) for port in self.net.ports)});"
+        if self.placed.ports != [(port, None) for port in self.net.ports]:
+            yield "// Ports stand in an order for bbeq's diagrams, bit by bit where it wants that; --keep-order leaves them."
+        yield f"module {written(self.net.name)}({', '.join(self.part(*port) for port in self.placed.ports)});"
         for line in [*self.declarations(), *body]:
             yield "  " + line
         yield "endmodule"
