@@ -13,17 +13,17 @@ use Rattle.bb_words.proofs.PlainLemmas.{both_held, faults_by, first_held, first_
 use Rattle.bb_words.proofs.WalkedWords.{Walks, found_by_walk, taken_by_walk}
 
 -- what is found of a file, and of an option with its value
-abbrev file_row : Text → Text → Row
+abbrev pub file_row : Text → Text → Row
 file_row name file = record { id = name; values = file ∷ []; count = None; source = Some CommandLine; reading = reading_by (positional name) }
 
 abbrev option_row : Text → Text → Row
 option_row name value = record { id = name; values = value ∷ []; count = None; source = Some CommandLine; reading = reading_by (valued name) }
 
-abbrev file_rows : Text → Text → List Row
+abbrev pub file_rows : Text → Text → List Row
 file_rows spec imp = file_row (codes "SPEC") spec ∷ file_row (codes "IMPL") imp ∷ []
 
 -- behind the option, behind its value, and behind both as one word
-abbrev value_waits : Text → Text → Text → Walk
+abbrev pub value_waits : Text → Text → Text → Walk
 value_waits name spec imp = record {
   held = record { rows = file_rows spec imp; pending = Some (name, []); skip = 0 };
   waiting = option name;
@@ -32,7 +32,7 @@ value_waits name spec imp = record {
   stopped = None;
 }
 
-abbrev value_held : Text → Text → Text → Text → Walk
+abbrev pub value_held : Text → Text → Text → Text → Walk
 value_held name spec imp value = record {
   held = record { rows = file_rows spec imp; pending = Some (name, value ∷ []); skip = 0 };
   waiting = idle;
@@ -137,10 +137,10 @@ same_asked words others taken also found = record {
 }
 
 module _ (program : Text) (s i v : ℕ) (spec imp value : List ℕ) (plain_spec : (s == 45) ≡ false) (plain_imp : (i == 45) ≡ false) where
-  abbrev files : Walk
+  abbrev pub files : Walk
   files = both_held (s ∷ spec) (i ∷ imp)
 
-  behind_files : (words : List Text) (end : Walk) → Walks files words end → Walks (walk_from nothing_held) ((s ∷ spec) ∷ (i ∷ imp) ∷ words) end
+  pub behind_files : (words : List Text) (end : Walk) → Walks files words end → Walks (walk_from nothing_held) ((s ∷ spec) ∷ (i ∷ imp) ∷ words) end
   behind_files words end rest = (
     first_turn s spec plain_spec,
     first_held (s ∷ spec),

@@ -1,9 +1,11 @@
+pub mod FilesBehind
 pub mod FoundLemmas
+pub mod JoinedWords
+pub mod MadeWords
 pub mod NumberLemmas
 pub mod OnceLemmas
 pub mod PlainLemmas
-pub mod WithinLemmas
+pub mod RefusedWords
 pub mod RungNames
 pub mod WalkedWords
-pub mod MadeWords
-pub mod JoinedWords
+pub mod WithinLemmas

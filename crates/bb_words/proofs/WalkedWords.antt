@@ -12,11 +12,11 @@ abbrev pub Walks : Walk → List Text → Walk → Type 0
 Walks w [] end = w ≡ end
 Walks w (word ∷ words) end = (turn_fault shape names w word ≡ []) × (next : Walk) × (walked shape.rules names w word ≡ next) × Walks next words end
 
-walks_to : (w : Walk) (words : List Text) (end : Walk) → Walks w words end → fold (walked shape.rules names) w words ≡ end
+pub walks_to : (w : Walk) (words : List Text) (end : Walk) → Walks w words end → fold (walked shape.rules names) w words ≡ end
 walks_to w [] end same = same
 walks_to w (word ∷ words) end (no_fault, next, step, rest) = ap (λ v. fold (walked shape.rules names) v words) step ∙ walks_to next words end rest
 
-walks_well : (w : Walk) (words : List Text) (end : Walk) → Walks w words end → walk_fault shape names w words ≡ []
+pub walks_well : (w : Walk) (words : List Text) (end : Walk) → Walks w words end → walk_fault shape names w words ≡ []
 unfolding walk_fault
 walks_well w [] end same = refl
 walks_well w (word ∷ words) end (no_fault, next, step, rest) = rw (no_fault, step) (walks_well next words end rest)

@@ -1,10 +1,10 @@
 -- Laws of what words ask for.
-use Rattle.std.specs.Prelude.{◌≡◌, ◌≢◌, ◌≤◌, ◌==◌, ℕ, Bool, true, false, not, List, [], ◌∷◌, ◌++◌, All, None, Some, codes}
+use Rattle.std.specs.Prelude.{◌≡◌, ◌≢◌, ◌≤◌, ◌==◌, ℕ, Bool, true, false, not, List, [], ◌∷◌, ◌++◌, All, Contains, None, Some, codes}
 use Rattle.bb_options.specs.declared.rung.Rung.TheVariants.{Ternary, Expand}
 use Rattle.bb_options.specs.Rungs.{AreBounds}
 use Rattle.bb_options.specs.declared.options.Options.{Options}
 use Rattle.bb_words.specs.Asked.{AskNothing, MadePair, Refutation, Request, asked, is_making, is_refuting, made_asked, rup_asked}
-use Rattle.bb_words.specs.Commands.{found_in, options}
+use Rattle.bb_words.specs.Commands.{flags, found_in, options}
 use Rattle.bb_words.specs.Numbers.{number_within}
 
 -- each name that has to be given is not empty, each number is within its bounds, and so is the order of the checks
@@ -79,3 +79,20 @@ pub record WordsAskOnce : Type 0 where
   pub with_width : (words : List (List ℕ)) → is_making (found_in words) ≡ true → (asked words ≡ None) × (rup_asked words ≡ None)
   -- the names of a refutation's files are not empty
   pub names : (words : List (List ℕ)) (f : Refutation) → rup_asked words ≡ Some f → (f.cnf ≢ []) × (f.adds ≢ [])
+
+-- behind two files these ask for nothing: a third file, an option or a flag that is given twice, a value on a flag, and a name that is
+-- neither an option's nor a flag's
+pub record WordsAreRefused (program spec imp : List ℕ) : Type 0 where
+  pub third : (word : List ℕ) → is_plain word ≡ true → AskNothing (program ∷ spec ∷ imp ∷ word ∷ [])
+  pub option_twice : (value other : List ℕ) → is_plain value ≡ true → is_plain other ≡ true
+      → All (λ option. AskNothing (program ∷ spec ∷ imp ∷ (codes "--" ++ option) ∷ value ∷ (codes "--" ++ option) ∷ other ∷ [])) options
+  pub flag_twice : All (λ flag. AskNothing (program ∷ spec ∷ imp ∷ (codes "--" ++ flag) ∷ (codes "--" ++ flag) ∷ [])) flags
+  pub flag_value : (value : List ℕ) → All (λ flag. AskNothing (program ∷ spec ∷ imp ∷ (codes "--" ++ flag ++ codes "=" ++ value) ∷ [])) flags
+  pub unknown : (name : List ℕ) → name ≢ [] → All (λ b. b ≢ 61) name → (Contains (flags ++ options) name → ⊥) → AskNothing (program ∷ spec ∷ imp ∷ (codes "--" ++ name) ∷ [])
+
+abbrev pub SomeWordsAreRefused : Type 0
+SomeWordsAreRefused = (program spec imp : List ℕ) → is_plain spec ≡ true → is_plain imp ≡ true → WordsAreRefused program spec imp
+
+-- two words behind `--` are two files, also with a minus sign in front
+abbrev pub AllAreFilesBehind : Type 0
+AllAreFilesBehind = (program spec imp : List ℕ) → spec ≢ [] → imp ≢ [] → asked (program ∷ codes "--" ∷ spec ∷ imp ∷ []) ≡ Some (files_alone spec imp)

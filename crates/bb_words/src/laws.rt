@@ -1,6 +1,6 @@
 //! Laws of what words ask for. Each function has a law as its contract and does nothing.
 
-ghost use Rattle.bb_words.specs.Laws.{FewWordsAskForNothing, MadePairsAreWithin, PlainWordsAreFiles, RequestsAreWithin, ValuesMayBeJoined, WidthsAskForPairs, WordsAskOnce};
+ghost use Rattle.bb_words.specs.Laws.{AllAreFilesBehind, FewWordsAskForNothing, MadePairsAreWithin, PlainWordsAreFiles, RequestsAreWithin, SomeWordsAreRefused, ValuesMayBeJoined, WidthsAskForPairs, WordsAskOnce};
 
 /// Whatever words ask for is within the table of the options.
 pub fn requests_are_within()
@@ -35,4 +35,14 @@ pub fn few_words_ask_for_nothing()
 /// No words ask for two of these: a comparison of files, a made pair, a refutation.
 pub fn words_ask_once()
     ensures { WordsAskOnce }
+{}
+
+/// Behind two files a third one, an option or a flag given twice, a value on a flag, and a name that is neither's ask for nothing.
+pub fn some_words_are_refused()
+    ensures { SomeWordsAreRefused }
+{}
+
+/// Two words behind `--` are two files.
+pub fn all_are_files_behind()
+    ensures { AllAreFilesBehind }
 {}
