@@ -7,7 +7,7 @@ use Rattle.bb_net.specs.declared.cell.Cell.{Cell}
 use Rattle.bb_net.specs.declared.cell.Cell.TheVariants.{Const, Mux}
 use Rattle.bb_net.specs.Netlists.{Netlist, cell_at, IsNetlist}
 use Rattle.bb_net.specs.Values.{bit_of, gate, value_of}
-use Rattle.bb_filled.specs.Laws.Trees.{IsTree}
+use Rattle.bb_filled.specs.Trees.{IsTree}
 use Rattle.bb_filled.specs.Laws.EmbeddingLaws.{TreesChoose}
 use Rattle.bb_filled.proofs.Embeddings.{ValuesExist}
 

@@ -8,7 +8,7 @@ use Rattle.bb_net.specs.declared.cell.Cell.{Cell}
 use Rattle.bb_net.specs.declared.cell.Cell.TheVariants.{Const, Input, Not, And, Or, Xor, Mux, BoxOut}
 use Rattle.bb_net.specs.Netlists.{Netlist, cell_at, box_at, ReadsBefore, IsOrdered}
 use Rattle.bb_net.specs.Values.{bit_of, gate, value_of, xor, IsValue}
-use Rattle.bb_filled.specs.Laws.Embeddings.{StandsAt}
+use Rattle.bb_filled.specs.Embeddings.{StandsAt}
 use Rattle.bb_filled.specs.Laws.EmbeddingLaws.{StandingKeepsBits}
 
 abbrev pub ValuesExist : Type 0

@@ -13,7 +13,7 @@ use Rattle.bb_net.specs.Netlists.{Netlist, IsNetlist, Pins, box_at}
 use Rattle.bb_net.specs.Completions.{table_bits}
 use Rattle.bb_net.specs.Pairs.{NamesPins, pin_count}
 use Rattle.bb_net.specs.Values.{bit_of, flat, flat_with, free_bit, tabled_bit, table_at, FitBoxes}
-use Rattle.bb_filled.specs.Laws.Filled.{column, IsFilled}
+use Rattle.bb_filled.specs.Filled.{column, IsFilled}
 use Rattle.bb_filled.specs.Laws.EmbeddingLaws.{StandingKeepsBits, TreesChoose}
 use Rattle.bb_filled.specs.Laws.FilledLaws.{FilledHaveBits, FilledAreRight, FilledAreWrong, FilledArePairs}
 use Rattle.bb_filled.proofs.ChoiceTrees.{NumbersAreBelow}

@@ -10,9 +10,9 @@ use Rattle.bb_net.specs.declared.cell.Cell.TheVariants.{Const, Mux, BoxOut}
 use Rattle.bb_bits.specs.Tables.{TableBits}
 use Rattle.bb_net.specs.Netlists.{Netlist, cell_at, Pins, box_at, with_cell}
 use Rattle.bb_net.specs.Values.{FitBoxes, table_at}
-use Rattle.bb_filled.specs.Laws.Filled.{column}
+use Rattle.bb_filled.specs.Filled.{column}
 use Rattle.bb_filled.specs.Inside.Filling.{GrowsBy, HasConstants, cost}
-use Rattle.bb_filled.specs.Laws.Trees.{IsTree, IsInTree}
+use Rattle.bb_filled.specs.Trees.{IsTree, IsInTree}
 
 pub tree_stays : (cells more : List Cell) (pins : List ℕ) (column : List Bool) (place : ℕ) → IsTree cells pins column place → IsTree (cells ++ more) pins column place
 tree_stays cells more [] column place tree = (omega (arith, tree.0, length-append cells more), tree.1, tree.2, get_or_append_left cells more (Const false) place tree.0 ∙ tree.3)

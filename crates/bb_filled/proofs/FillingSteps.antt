@@ -13,10 +13,10 @@ use Rattle.bb_net.specs.declared.cell.Cell.{Cell}
 use Rattle.bb_net.specs.declared.cell.Cell.TheVariants.{Const, Input, Not, And, Or, Xor, Mux, BoxOut}
 use Rattle.bb_net.specs.Netlists.{Netlist, Pins, cell_at, box_at, first_cells, ReadsBefore, IsNetlist}
 use Rattle.bb_net.specs.Values.{table_at}
-use Rattle.bb_filled.specs.Laws.Embeddings.{StandsAt}
-use Rattle.bb_filled.specs.Laws.Filled.{IsFilled, IsPlaceOf, column}
+use Rattle.bb_filled.specs.Embeddings.{StandsAt}
+use Rattle.bb_filled.specs.Filled.{IsFilled, IsPlaceOf, column}
 use Rattle.bb_filled.specs.Inside.Filling.{GrowsBy, IsFilledUpTo, cost}
-use Rattle.bb_filled.specs.Laws.Trees.{IsTree, IsInTree}
+use Rattle.bb_filled.specs.Trees.{IsTree, IsInTree}
 use Rattle.bb_filled.specs.Inside.Filling.{CostsAreFew}
 use Rattle.bb_filled.proofs.FilledTrees.{grow_constants, grow_long, in_tree_stays, tree_stays, two_positive}
 

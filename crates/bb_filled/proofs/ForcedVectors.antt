@@ -10,7 +10,7 @@ use Rattle.std.proofs.lemmas.List.FromFn.{length-map-range_with_len, get_or-map-
 use Rattle.std.proofs.lemmas.Option.{slice_get-get_or}
 use Rattle.bb_bits.specs.Numbers.{number_of, bits_of}
 use Rattle.bb_lists.proofs.Places.{drop_at}
-use Rattle.bb_filled.specs.Laws.Forced.{AgreeAt}
+use Rattle.bb_filled.specs.Forced.{AgreeAt}
 use Rattle.bb_filled.specs.Laws.ForcedLaws.{ForcedAreDistinct, VectorsAreFew}
 use Rattle.bb_filled.proofs.ChoiceTrees.{NumbersAreBelow}
 

@@ -5,10 +5,10 @@ ghost use Rattle.std.specs.List.{range_with_len};
 ghost use Rattle.bb_net.specs.Completions.{table_bits};
 ghost use Rattle.bb_net.specs.Netlists.{Netlist, ReadsBefore, IsPinAt, box_at, cell_at};
 ghost use Rattle.bb_net.specs.Values.{FitBoxes, table_at};
-ghost use Rattle.bb_filled.specs.Laws.Embeddings.{moved, StandsAt};
-ghost use Rattle.bb_filled.specs.Laws.Filled.{IsFilled, column};
+ghost use Rattle.bb_filled.specs.Embeddings.{moved, StandsAt};
+ghost use Rattle.bb_filled.specs.Filled.{IsFilled, column};
 ghost use Rattle.bb_filled.specs.Inside.Filling.{CostsAreFew, GrowsBy, HasConstants, IsFilledUpTo, cost};
-ghost use Rattle.bb_filled.specs.Laws.Trees.{IsTree, IsInTree};
+ghost use Rattle.bb_filled.specs.Trees.{IsTree, IsInTree};
 
 use crate::trees::{add_tree, column};
 use bb_bits::{NoMemory, Table};

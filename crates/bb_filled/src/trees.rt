@@ -3,9 +3,9 @@
 ghost use Rattle.std.specs.Prelude.{◌≡◌, ◌+◌, ◌-◌, ◌^◌, ◌<◌, ◌≤◌, ℕ, false, true, All, length, IfOk, OnOk};
 ghost use Rattle.bb_net.specs.declared.cell.Cell.TheVariants.{Const};
 ghost use Rattle.bb_net.specs.Netlists.{Netlist, cell_at};
-ghost use Rattle.bb_filled.specs.Laws.Filled.{column};
+ghost use Rattle.bb_filled.specs.Filled.{column};
 ghost use Rattle.bb_filled.specs.Inside.Filling.{GrowsBy, HasConstants};
-ghost use Rattle.bb_filled.specs.Laws.Trees.{IsTree, IsInTree};
+ghost use Rattle.bb_filled.specs.Trees.{IsTree, IsInTree};
 
 use bb_bits::{NoMemory, Table, tables_have_few_inputs};
 use bb_net::{Cell, Net};

@@ -6,9 +6,9 @@ use Rattle.bb_net.specs.declared.cell.Cell.TheVariants.{Const, Input, Not, And, 
 use Rattle.bb_net.specs.Completions.{table_bits}
 use Rattle.bb_net.specs.Netlists.{Netlist, IsNetlist, Pins, cell_at, box_at}
 use Rattle.bb_net.specs.Values.{table_at}
-use Rattle.bb_filled.specs.Laws.Embeddings.{StandsAt}
-use Rattle.bb_filled.specs.Laws.Filled.{IsPlaceOf, column}
-use Rattle.bb_filled.specs.Laws.Trees.{IsTree}
+use Rattle.bb_filled.specs.Embeddings.{StandsAt}
+use Rattle.bb_filled.specs.Filled.{IsPlaceOf, column}
+use Rattle.bb_filled.specs.Trees.{IsTree}
 
 -- the constants stand in front
 pub record HasConstants (cells : List Cell) : Type 0 where

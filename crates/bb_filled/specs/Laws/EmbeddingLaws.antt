@@ -5,8 +5,8 @@ use Rattle.bb_bits.specs.Numbers.{number_of}
 use Rattle.bb_net.specs.declared.cell.Cell.TheVariants.{BoxOut}
 use Rattle.bb_net.specs.Netlists.{Netlist, IsNetlist, box_at, cell_at}
 use Rattle.bb_net.specs.Values.{bit_of, value_of}
-use Rattle.bb_filled.specs.Laws.Embeddings.{StandsIn}
-use Rattle.bb_filled.specs.Laws.Trees.{IsTree}
+use Rattle.bb_filled.specs.Embeddings.{StandsIn}
+use Rattle.bb_filled.specs.Trees.{IsTree}
 
 -- where what stands for the output pins of boxes gives what the boxes give, each cell has at its place the bit that it had
 abbrev pub StandingKeepsBits : Type 0

@@ -6,8 +6,8 @@ use Rattle.bb_net.specs.Completions.{table_bits}
 use Rattle.bb_net.specs.Netlists.{Netlist, IsNetlist}
 use Rattle.bb_net.specs.Pairs.{NetPair, IsPair}
 use Rattle.bb_net.specs.Values.{bit_of, flat, flat_with, FitBoxes}
-use Rattle.bb_filled.specs.Laws.Filled.{IsFilled}
-use Rattle.bb_filled.specs.Laws.Forced.{AgreeAt, FailAt}
+use Rattle.bb_filled.specs.Filled.{IsFilled}
+use Rattle.bb_filled.specs.Forced.{AgreeAt, FailAt}
 
 -- each cell has at its new place the bit that it has with the tables in the boxes
 abbrev pub FilledHaveBits : Type 0

@@ -1,7 +1,7 @@
 -- Laws of forced vectors: none stands twice among them, so there are at most as many as vectors.
 use Rattle.std.specs.Prelude.{◌≡◌, ◌≢◌, ℕ, ◌≤◌, ◌^◌, Bool, List, length, All, AllPairs}
 use Rattle.bb_net.specs.Netlists.{Netlist}
-use Rattle.bb_filled.specs.Laws.Forced.{AreForced}
+use Rattle.bb_filled.specs.Forced.{AreForced}
 
 abbrev pub ForcedAreDistinct : Type 0
 ForcedAreDistinct = (spec imp : Netlist) (vectors : List (List Bool)) → AreForced spec imp vectors → AllPairs ◌≢◌ vectors

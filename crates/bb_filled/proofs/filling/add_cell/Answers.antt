@@ -1,4 +1,4 @@
-use Rattle.bb_filled.specs.Laws.Trees.{IsInTree}
+use Rattle.bb_filled.specs.Trees.{IsInTree}
 use Rattle.std.proofs.Common.{map, sym, subst, arith, inr}
 use Rattle.std.specs.Prelude.{slice_index}
 use Rattle.std.proofs.lemmas.Result.{IfOk-weaker, on_ok_weaker}

@@ -4,10 +4,10 @@ use Rattle.bb_net.specs.declared.cell.Cell.{Cell}
 use Rattle.bb_net.specs.declared.cell.Cell.TheVariants.{BoxOut}
 use Rattle.bb_net.specs.Netlists.{Pins, box_at, cell_at}
 use Rattle.bb_net.specs.Values.{table_at}
-use Rattle.bb_filled.specs.Laws.Embeddings.{StandsAt}
-use Rattle.bb_filled.specs.Laws.Filled.{column}
+use Rattle.bb_filled.specs.Embeddings.{StandsAt}
+use Rattle.bb_filled.specs.Filled.{column}
 use Rattle.bb_filled.specs.Inside.Filling.{GrowsBy, IsFilledUpTo, cost}
-use Rattle.bb_filled.specs.Laws.Trees.{IsInTree, IsTree}
+use Rattle.bb_filled.specs.Trees.{IsInTree, IsTree}
 use Rattle.bb_filled.proofs.FilledNets.{box_there}
 use Rattle.bb_filled.proofs.FillingSteps.{filled_next, first_long, room_here}
 use Rattle.bb_filled.proofs.filling.add_cells.Goals as goal

@@ -1,4 +1,4 @@
-use Rattle.bb_filled.specs.Laws.Trees.{IsInTree}
+use Rattle.bb_filled.specs.Trees.{IsInTree}
 use Rattle.std.proofs.Common.{◌+◌, ◌-◌, ◌^◌, ◌/◌, ◌<◌, ◌++◌, length, sym, ap₂, ◌∙◌, subst, arith, All}
 use Rattle.std.proofs.lemmas.List.{take-append-drop}
 use Rattle.std.proofs.lemmas.List.Elements.{All-tail, All-head, All-weaker}
