@@ -1,5 +1,5 @@
 -- a pair has one answer: an error excludes tables, and each row of a table is the only least one
-use Rattle.std.proofs.Common.{◌≡◌, ◌<◌, ◌≤◌, ℕ, zero, suc, ◌+◌, ◌^◌, Bool, List, [], ◌∷◌, length, map, refl, sym, ap, ap₂, ◌∙◌, subst, arith}
+use Rattle.std.proofs.Common.{◌≡◌, ◌<◌, ◌≤◌, ℕ, ◌^◌, Bool, List, [], ◌∷◌, length, map, refl, sym, ap, ap₂, ◌∙◌, subst, arith}
 use Rattle.std.specs.List.{range_with_len}
 use Rattle.std.proofs.lemmas.List.FromFn.{fill_by_all, length-map-range_with_len, get_or-map-range_with_len}
 use Rattle.bb_bits.specs.Numbers.{number_of, bits_of}
@@ -11,7 +11,7 @@ use Rattle.bb_net.specs.Values.{FitBoxes, table_at}
 use Rattle.bb_input.specs.declared.InputAnswer.{InputAnswer}
 use Rattle.bb_input.specs.declared.InputAnswer.TheVariants.{Error, Clear, Repair}
 use Rattle.bb_input.specs.Answers.{IsAnswer, AreLeastOutputs, AreLeastTables}
-use Rattle.bb_input.specs.Laws.{IsSameAnswer, OneAnswer}
+use Rattle.bb_input.specs.Laws.{IsSameAnswer}
 
 -- lists of one length that spell one number are the same
 module _ (once : (bits : List Bool) → bits_of (length bits) (number_of bits) ≡ bits) (spec imp : Netlist) where

@@ -36,7 +36,9 @@ pub(crate) fn ordered_cells(
     ensures makes { OnOk result (Makes d.old.store d.new.store (plain_functions_at (pins_and_inputs pair.now.imp) (boxes_first pair.now.imp) pair.now.spec pair.now.imp)) }
     ensures nodes { IsErrOf result RungFault.Nodes → AreTooMany d.old.store (plain_functions_at (pins_and_inputs pair.now.imp) (boxes_first pair.now.imp) pair.now.spec pair.now.imp) }
 {
-    let made = plain_cells(alloc, d, pair, vars, pins, starts)?;
+    let spec = pair.spec();
+    let imp = pair.imp();
+    let made = plain_cells(alloc, d, spec, imp, vars, pins, starts)?;
     Ok(made)
 }
 
@@ -59,7 +61,9 @@ pub(crate) fn refuting(
 {
     laws::functions();
     laws::making();
-    let wrong = some_wrong(alloc, d, pair, made)?;
+    let spec = pair.spec();
+    let imp = pair.imp();
+    let wrong = some_wrong(alloc, d, spec, imp, made)?;
     let missed = some_missed(alloc, d, pair, made)?;
     let led = d.not(missed)?;
     let both = d.and(wrong, led)?;

@@ -3,7 +3,7 @@ use Rattle.std.proofs.Common.{◌≡◌, ◌<◌, ℕ, ◌+◌, List, ◌++◌, 
 use Rattle.std.specs.List.{range_with_len}
 use Rattle.bb_bits.specs.Truth.{Truth}
 use Rattle.bb_net.specs.declared.cell.Cell.{Cell}
-use Rattle.bb_net.specs.Netlists.{Netlist, Pins, IsNetlist, ReadsBefore, cell_at}
+use Rattle.bb_net.specs.Netlists.{Netlist, IsNetlist, ReadsBefore, cell_at}
 use Rattle.bb_uniq.specs.declared.store.Ref.{Ref}
 use Rattle.bb_uniq.specs.Inside.Nodes.{NodeStore}
 use Rattle.bb_uniq.specs.Inside.Meaning.{truth_of}

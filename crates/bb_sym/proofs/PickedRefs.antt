@@ -4,7 +4,6 @@ use Rattle.std.specs.Prelude.{All}
 use Rattle.std.proofs.lemmas.List.{get_or-map, length-map}
 use Rattle.bb_bits.specs.Truth.{Truth}
 use Rattle.bb_net.specs.Netlists.{Netlist, IsNetlist}
-use Rattle.bb_net.specs.Pairs.{NetPair, IsPair}
 use Rattle.bb_uniq.specs.declared.store.Ref.{Ref}
 use Rattle.bb_uniq.specs.Inside.Nodes.{NodeStore, IsRef}
 use Rattle.bb_sym.specs.Plain.{Reading, cell_bit, without_pins, table}
@@ -30,26 +29,26 @@ pub picks_are : (refs rs items xs : List Ref) (places ps : List ℕ) → xs ≡ 
 picks_are refs rs items xs places ps e made f g = e ∙ (made ∙ ap₂ (λ (ks : List Ref) (js : List ℕ). map (ref_at ks) js) f g)
 
 -- the Refs of the outputs of both nets
-module _ (s : NodeStore) (p : NetPair) (pair : IsPair p) (of_spec of_imp : List Ref) (cells : AreCells s p.spec p.imp of_spec of_imp) (fs gs : List Ref) (wanted : fs ≡ map (ref_at of_spec) p.spec.outs) (given : gs ≡ map (ref_at of_imp) p.imp.outs) where
+module _ (s : NodeStore) (spec imp : Netlist) (kept : IsNetlist spec) (also : IsNetlist imp) (same : length spec.outs ≡ length imp.outs) (of_spec of_imp : List Ref) (cells : AreCells s spec imp of_spec of_imp) (fs gs : List Ref) (wanted : fs ≡ map (ref_at of_spec) spec.outs) (given : gs ≡ map (ref_at of_imp) imp.outs) where
   pub wanted_refs : AreRefs s fs
-  wanted_refs = subst (AreRefs s) (sym wanted) (picked_refs s of_spec p.spec.outs cells.spec_refs (outs_within p.spec pair.spec of_spec cells.spec_whole))
+  wanted_refs = subst (AreRefs s) (sym wanted) (picked_refs s of_spec spec.outs cells.spec_refs (outs_within spec kept of_spec cells.spec_whole))
 
   pub given_refs : AreRefs s gs
-  given_refs = subst (AreRefs s) (sym given) (picked_refs s of_imp p.imp.outs cells.imp_refs (outs_within p.imp pair.imp of_imp cells.imp_whole))
+  given_refs = subst (AreRefs s) (sym given) (picked_refs s of_imp imp.outs cells.imp_refs (outs_within imp also of_imp cells.imp_whole))
 
-  pub wanted_count : length fs ≡ length p.imp.outs
-  wanted_count = ap length wanted ∙ (length-map p.spec.outs (ref_at of_spec) ∙ pair.beside.outputs)
+  pub wanted_count : length fs ≡ length imp.outs
+  wanted_count = ap length wanted ∙ (length-map spec.outs (ref_at of_spec) ∙ same)
 
   pub given_count : length fs ≡ length gs
-  given_count = wanted_count ∙ sym (ap length given ∙ length-map p.imp.outs (ref_at of_imp))
+  given_count = wanted_count ∙ sym (ap length given ∙ length-map imp.outs (ref_at of_imp))
 
-  module _ (r : Reading) (have : HaveCells s r p.spec p.imp of_spec of_imp) where
-    pub wanted_stand : StandForAll s (λ j. table s.vars (cell_bit (without_pins r) p.spec (slice_index p.spec.outs j))) fs
+  module _ (r : Reading) (have : HaveCells s r spec imp of_spec of_imp) where
+    pub wanted_stand : StandForAll s (λ j. table s.vars (cell_bit (without_pins r) spec (slice_index spec.outs j))) fs
     wanted_stand =
-        subst (StandForAll s (λ j. table s.vars (cell_bit (without_pins r) p.spec (slice_index p.spec.outs j)))) (sym wanted)
-        (picked_stand s (λ place. table s.vars (cell_bit (without_pins r) p.spec place)) of_spec p.spec.outs have.spec_cells (outs_within p.spec pair.spec of_spec cells.spec_whole))
+        subst (StandForAll s (λ j. table s.vars (cell_bit (without_pins r) spec (slice_index spec.outs j)))) (sym wanted)
+        (picked_stand s (λ place. table s.vars (cell_bit (without_pins r) spec place)) of_spec spec.outs have.spec_cells (outs_within spec kept of_spec cells.spec_whole))
 
-    pub given_stand : StandForAll s (λ j. table s.vars (cell_bit r p.imp (slice_index p.imp.outs j))) gs
+    pub given_stand : StandForAll s (λ j. table s.vars (cell_bit r imp (slice_index imp.outs j))) gs
     given_stand =
-        subst (StandForAll s (λ j. table s.vars (cell_bit r p.imp (slice_index p.imp.outs j)))) (sym given)
-        (picked_stand s (λ place. table s.vars (cell_bit r p.imp place)) of_imp p.imp.outs have.imp_cells (outs_within p.imp pair.imp of_imp cells.imp_whole))
+        subst (StandForAll s (λ j. table s.vars (cell_bit r imp (slice_index imp.outs j)))) (sym given)
+        (picked_stand s (λ place. table s.vars (cell_bit r imp place)) of_imp imp.outs have.imp_cells (outs_within imp also of_imp cells.imp_whole))

@@ -23,13 +23,13 @@ no_pin boxes b pin none l =
     let e = ap (λ (k : List Pins). length (box_at k b).outs) none in
     omega (arith, l, e)
 
-module _ (p : NetPair) (pair : IsPair p) (n first : ℕ) (starts : List ℕ) where
+module _ (spec imp : Netlist) (same : spec.inputs ≡ imp.inputs) (none : spec.boxes ≡ []) (n first : ℕ) (starts : List ℕ) where
   -- the specification has no box, so only its inputs count
-  pub spec_variables : AreVariables n first starts p.imp → AreVariables n first starts p.spec
-  spec_variables vars = record { few = vars.few; inputs = omega (arith, vars.inputs, pair.beside.inputs); pins = λ b pin l. absurd (no_pin p.spec.boxes b pin pair.beside.no_box l) }
+  pub spec_variables : AreVariables n first starts imp → AreVariables n first starts spec
+  spec_variables vars = record { few = vars.few; inputs = omega (arith, vars.inputs, same); pins = λ b pin l. absurd (no_pin spec.boxes b pin none l) }
 
-  pub spec_read : (r : Reading) → IsReadSo n first starts p.imp r → IsReadSo n first starts p.spec (without_pins r)
-  spec_read r reads = record { inputs = λ i l. reads.inputs i (omega (arith, l, pair.beside.inputs)); pins = λ b pin l. absurd (no_pin p.spec.boxes b pin pair.beside.no_box l) }
+  pub spec_read : (r : Reading) → IsReadSo n first starts imp r → IsReadSo n first starts spec (without_pins r)
+  spec_read r reads = record { inputs = λ i l. reads.inputs i (omega (arith, l, same)); pins = λ b pin l. absurd (no_pin spec.boxes b pin none l) }
 
 pub read_net : (net real : Netlist) → net ≡ real → (n m first : ℕ) (starts : List ℕ) (r : Reading) → n ≡ m → IsReadSo m first starts real r → IsReadSo n first starts net r
 read_net net real same n m first starts r e reads = subst₂ (λ k (to : Netlist). IsReadSo k first starts to r) (sym e) (sym same) reads

@@ -1,11 +1,11 @@
 //! The least vector at which some output is wrong whatever the boxes give, which need not be the same output for all of it.
 
-ghost use Rattle.std.specs.Prelude.{◌≡◌, ◌≤◌, ◌+◌, ◌++◌, ℕ, length, map, Some, None, IfOk, OnOk, IsErrOf, IfSome, IfNone};
+ghost use Rattle.std.specs.Prelude.{◌≡◌, ◌≤◌, ◌+◌, ◌++◌, ℕ, [], length, map, Some, None, IfOk, OnOk, IsErrOf, IfSome, IfNone};
 ghost use Rattle.bb_bits.specs.Truth.{IsBeadOfAny};
 ghost use Rattle.bb_bits.specs.TruthSets.{HasMoreThan};
 ghost use Rattle.bb_net.specs.Conditions.{HasAlwaysWrong, AllSometimesRight};
 ghost use Rattle.bb_net.specs.Values.{output_pins};
-ghost use Rattle.bb_sym.specs.Functions.{output_functions, all_always_wrong};
+ghost use Rattle.bb_sym.specs.Functions.{output_functions, all_always_wrong, inputs_and_pins};
 ghost use Rattle.bb_sym.specs.Finds.{IsLeastVector};
 ghost use Rattle.bb_sym.specs.Inside.Made.{Makes, AreTooMany, StandsFor, StandForAll};
 
@@ -15,7 +15,7 @@ use crate::inputs_first::{count_pins, ordered_cells};
 use crate::{Found, RungFault};
 use bb_bits::truth;
 use bb_dd::{Diagrams, Ref};
-use bb_net::Pair;
+use bb_net::{Net, Pair};
 use bb_quant::least;
 use bb_uniq::laws;
 use std::alloc::Global;
@@ -40,13 +40,43 @@ pub fn output(
     ensures nodes { IsErrOf result RungFault.Nodes → HasMoreThan (IsBeadOfAny (output_functions pair.now.spec pair.now.imp)) nodes }
     ensures within { HasMoreThan (IsBeadOfAny (output_functions pair.now.spec pair.now.imp)) nodes → OnOk result ⊥ }
 {
+    let spec = pair.spec();
+    let imp = pair.imp();
+    output_of(alloc, spec, imp, nodes, cache)
+}
+
+/// As [`output`], for a specification without boxes and an implementation that need not be a pair: they have the same inputs and as
+/// many outputs, and inputs and output pins are at most 2,048 together.
+///
+/// # Errors
+///
+/// `Nodes` exactly where the functions of the check have more than `nodes` beads.
+pub fn output_of(
+    alloc: Global,
+    spec: &Net,
+    imp: &Net,
+    nodes: u32,
+    cache: u32,
+) -> Result<Option<Found>, RungFault>
+    requires inputs { spec.now.inputs ≡ imp.now.inputs }
+    requires outputs { length spec.now.outs ≡ length imp.now.outs }
+    requires no_box { spec.now.boxes ≡ [] }
+    requires few { inputs_and_pins imp.now ≤ 2048 }
+    requires nodes { nodes ≤ 50000000 }
+    requires cache_least { 1 ≤ cache }
+    requires cache_most { cache ≤ 1048576 }
+    ensures found { IfOk result (λ answer. IfSome answer (λ found. (found.output ≡ None) × IsLeastVector imp.now (HasAlwaysWrong spec.now imp.now) found.input.items)) }
+    ensures none { IfOk result (λ answer. IfNone answer (AllSometimesRight spec.now imp.now)) }
+    ensures nodes { IsErrOf result RungFault.Nodes → HasMoreThan (IsBeadOfAny (output_functions spec.now imp.now)) nodes }
+    ensures within { HasMoreThan (IsBeadOfAny (output_functions spec.now imp.now)) nodes → OnOk result ⊥ }
+{
     truth::quantifiers();
     truth::sizes();
     laws::sequences();
-    let inputs = pair.imp().inputs();
-    let pins = count_pins(pair.imp().boxes());
+    let inputs = imp.inputs();
+    let pins = count_pins(imp.boxes());
     let mut d = Diagrams::start(alloc, inputs + pins, nodes, cache)?;
-    let wrong = output_diagram(alloc, &mut d, pair, inputs, pins)?;
+    let wrong = output_diagram(alloc, &mut d, spec, imp, inputs, pins)?;
     d.is_canonical();
     let mut point = vec![in alloc; false; (inputs + pins) as usize]?;
     if !least(&d, wrong, true, 0, &mut point) {
@@ -63,20 +93,24 @@ pub fn output(
 fn output_diagram(
     alloc: Global,
     d: &mut Diagrams,
-    pair: &Pair,
+    spec: &Net,
+    imp: &Net,
     inputs: u32,
     pins: u32,
 ) -> Result<Ref, RungFault>
-    requires inputs { inputs ≡ pair.now.imp.inputs }
-    requires pins { pins ≡ output_pins pair.now.imp.boxes }
+    requires same { spec.now.inputs ≡ imp.now.inputs }
+    requires outputs { length spec.now.outs ≡ length imp.now.outs }
+    requires no_box { spec.now.boxes ≡ [] }
+    requires inputs { inputs ≡ imp.now.inputs }
+    requires pins { pins ≡ output_pins imp.now.boxes }
     requires vars { inputs + pins ≡ d.old.store.vars }
     requires few { d.old.store.vars ≤ 2048 }
-    ensures result { IfOk result (StandsFor d.new.store (all_always_wrong pair.now.spec pair.now.imp)) }
-    ensures makes { OnOk result (Makes d.old.store d.new.store (output_functions pair.now.spec pair.now.imp)) }
-    ensures nodes { IsErrOf result RungFault.Nodes → AreTooMany d.old.store (output_functions pair.now.spec pair.now.imp) }
+    ensures result { IfOk result (StandsFor d.new.store (all_always_wrong spec.now imp.now)) }
+    ensures makes { OnOk result (Makes d.old.store d.new.store (output_functions spec.now imp.now)) }
+    ensures nodes { IsErrOf result RungFault.Nodes → AreTooMany d.old.store (output_functions spec.now imp.now) }
 {
-    let made = ordered_cells(alloc, d, pair, inputs + pins)?;
-    let any = some_wrong(alloc, d, pair, &made)?;
+    let made = ordered_cells(alloc, d, spec, imp, inputs + pins)?;
+    let any = some_wrong(alloc, d, spec, imp, &made)?;
     let r = quantify_block(alloc, d, true, any, inputs, pins)?;
     Ok(r)
 }

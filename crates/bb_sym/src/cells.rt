@@ -11,7 +11,7 @@ ghost use Rattle.bb_sym.specs.Inside.Made.{Makes, AreTooMany, StandForAll, AreRe
 
 use crate::RungFault;
 use bb_dd::{DdFault, Diagrams, Ref};
-use bb_net::{Cell, Net, Pair, value_exists};
+use bb_net::{Cell, Net, value_exists};
 use bb_uniq::laws;
 use std::alloc::Global;
 
@@ -23,7 +23,7 @@ pub struct PlainCells {
     pub imp: Vec<Ref>,
 }
 
-/// Makes the variables and the cells of both nets.
+/// Makes the variables and the cells of both nets, a specification without boxes and an implementation with the same inputs.
 ///
 /// There are `vars` variables. The inputs have those from `first` on, and the output pins of a box those from its entry of
 /// `starts` on.
@@ -34,25 +34,26 @@ pub struct PlainCells {
 pub fn plain_cells(
     alloc: Global,
     d: &mut Diagrams,
-    pair: &Pair,
+    spec: &Net,
+    imp: &Net,
     vars: u32,
     first: u32,
     starts: &[u32],
 ) -> Result<PlainCells, RungFault>
     requires vars { vars ≡ d.old.store.vars }
-    requires variables { AreVariables d.old.store.vars first starts.now pair.now.imp }
+    requires inputs { spec.now.inputs ≡ imp.now.inputs }
+    requires no_box { spec.now.boxes ≡ [] }
+    requires variables { AreVariables d.old.store.vars first starts.now imp.now }
     ensures kept { Keeps d.old.store d.new.store }
     ensures variables { IfOk result (λ made. (length made.variables.items ≡ d.old.store.vars) × StandForAll d.new.store (variable d.old.store.vars) made.variables.items) }
-    ensures refs { IfOk result (λ made. AreCells d.new.store pair.now.spec pair.now.imp made.spec.items made.imp.items) }
-    ensures cells { (r : Reading) → IsReadSo d.old.store.vars first starts.now pair.now.imp r → IfOk result (λ made. HaveCells d.new.store r pair.now.spec pair.now.imp made.spec.items made.imp.items) }
-    ensures makes { (r : Reading) → IsReadSo d.old.store.vars first starts.now pair.now.imp r → OnOk result (Makes d.old.store d.new.store (plain_functions_at d.old.store.vars r pair.now.spec pair.now.imp)) }
-    ensures nodes { (r : Reading) → IsReadSo d.old.store.vars first starts.now pair.now.imp r → IsErrOf result RungFault.Nodes → AreTooMany d.old.store (plain_functions_at d.old.store.vars r pair.now.spec pair.now.imp) }
+    ensures refs { IfOk result (λ made. AreCells d.new.store spec.now imp.now made.spec.items made.imp.items) }
+    ensures cells { (r : Reading) → IsReadSo d.old.store.vars first starts.now imp.now r → IfOk result (λ made. HaveCells d.new.store r spec.now imp.now made.spec.items made.imp.items) }
+    ensures makes { (r : Reading) → IsReadSo d.old.store.vars first starts.now imp.now r → OnOk result (Makes d.old.store d.new.store (plain_functions_at d.old.store.vars r spec.now imp.now)) }
+    ensures nodes { (r : Reading) → IsReadSo d.old.store.vars first starts.now imp.now r → IsErrOf result RungFault.Nodes → AreTooMany d.old.store (plain_functions_at d.old.store.vars r spec.now imp.now) }
 {
-    let spec_net = pair.spec();
-    let imp_net = pair.imp();
     let variables = make_variables(alloc, d, vars)?;
-    let spec = net_cells(alloc, d, spec_net, first, starts)?;
-    let imp = net_cells(alloc, d, imp_net, first, starts)?;
+    let spec = net_cells(alloc, d, spec, first, starts)?;
+    let imp = net_cells(alloc, d, imp, first, starts)?;
     Ok(PlainCells {
         variables,
         spec,

@@ -13,7 +13,7 @@ use crate::cells::PlainCells;
 use crate::folds::fold_or;
 use bb_bits::NoMemory;
 use bb_dd::{DdFault, Diagrams, Ref};
-use bb_net::Pair;
+use bb_net::{Net, Pair};
 use std::alloc::Global;
 
 /// Makes, output by output, where it is wrong, and then the disjunction of these, which is given: 1 where some output is wrong.
@@ -24,20 +24,22 @@ use std::alloc::Global;
 pub fn some_wrong(
     alloc: Global,
     d: &mut Diagrams,
-    pair: &Pair,
+    spec: &Net,
+    imp: &Net,
     made: &PlainCells,
 ) -> Result<Ref, RungFault>
-    requires made { AreCells d.old.store pair.now.spec pair.now.imp made.now.spec.items made.now.imp.items }
+    requires outputs { length spec.now.outs ≡ length imp.now.outs }
+    requires made { AreCells d.old.store spec.now imp.now made.now.spec.items made.now.imp.items }
     ensures kept { Keeps d.old.store d.new.store }
-    ensures result { (r : Reading) → HaveCells d.old.store r pair.now.spec pair.now.imp made.now.spec.items made.now.imp.items
-        → IfOk result (StandsFor d.new.store (table d.old.store.vars (one_of (is_wrong_at r pair.now.spec pair.now.imp) (length pair.now.imp.outs)))) }
-    ensures makes { (r : Reading) → HaveCells d.old.store r pair.now.spec pair.now.imp made.now.spec.items made.now.imp.items
-        → OnOk result (Makes d.old.store d.new.store (tables d.old.store.vars (map (is_wrong_at r pair.now.spec pair.now.imp) (outputs pair.now.imp)) ++ tables d.old.store.vars (map (first_of (is_wrong_at r pair.now.spec pair.now.imp)) (outputs pair.now.imp)))) }
-    ensures nodes { (r : Reading) → HaveCells d.old.store r pair.now.spec pair.now.imp made.now.spec.items made.now.imp.items
-        → IsErrOf result RungFault.Nodes → AreTooMany d.old.store (tables d.old.store.vars (map (is_wrong_at r pair.now.spec pair.now.imp) (outputs pair.now.imp)) ++ tables d.old.store.vars (map (first_of (is_wrong_at r pair.now.spec pair.now.imp)) (outputs pair.now.imp))) }
+    ensures result { (r : Reading) → HaveCells d.old.store r spec.now imp.now made.now.spec.items made.now.imp.items
+        → IfOk result (StandsFor d.new.store (table d.old.store.vars (one_of (is_wrong_at r spec.now imp.now) (length imp.now.outs)))) }
+    ensures makes { (r : Reading) → HaveCells d.old.store r spec.now imp.now made.now.spec.items made.now.imp.items
+        → OnOk result (Makes d.old.store d.new.store (tables d.old.store.vars (map (is_wrong_at r spec.now imp.now) (outputs imp.now)) ++ tables d.old.store.vars (map (first_of (is_wrong_at r spec.now imp.now)) (outputs imp.now)))) }
+    ensures nodes { (r : Reading) → HaveCells d.old.store r spec.now imp.now made.now.spec.items made.now.imp.items
+        → IsErrOf result RungFault.Nodes → AreTooMany d.old.store (tables d.old.store.vars (map (is_wrong_at r spec.now imp.now) (outputs imp.now)) ++ tables d.old.store.vars (map (first_of (is_wrong_at r spec.now imp.now)) (outputs imp.now))) }
 {
-    let wanted = picked(alloc, &made.spec, pair.spec().outs())?;
-    let given = picked(alloc, &made.imp, pair.imp().outs())?;
+    let wanted = picked(alloc, &made.spec, spec.outs())?;
+    let given = picked(alloc, &made.imp, imp.outs())?;
     let any = some_differ(alloc, d, &wanted, &given)?;
     Ok(any)
 }

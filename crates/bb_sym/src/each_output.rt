@@ -74,7 +74,9 @@ fn local_diagrams(
     ensures makes { OnOk result (Makes d.old.store d.new.store (local_functions pair.now.spec pair.now.imp)) }
     ensures nodes { IsErrOf result RungFault.Nodes → AreTooMany d.old.store (local_functions pair.now.spec pair.now.imp) }
 {
-    let made = ordered_cells(alloc, d, pair, inputs + pins)?;
+    let spec = pair.spec();
+    let imp = pair.imp();
+    let made = ordered_cells(alloc, d, spec, imp, inputs + pins)?;
     let refs = always_wrong_outputs(alloc, d, pair, &made, inputs, pins)?;
     Ok(refs)
 }

@@ -1,6 +1,6 @@
 //! The cells of both nets where the variables are the inputs and then the output pins of the boxes, box after box.
 
-ghost use Rattle.std.specs.Prelude.{◌≡◌, ◌+◌, ◌<◌, ◌≤◌, ℕ, length, take, IfOk, OnOk, IsErrOf, slice_index_or};
+ghost use Rattle.std.specs.Prelude.{◌≡◌, ◌+◌, ◌<◌, ◌≤◌, ℕ, [], length, take, IfOk, OnOk, IsErrOf, slice_index_or};
 ghost use Rattle.bb_net.specs.Values.{output_pins};
 ghost use Rattle.bb_sym.specs.Functions.{inputs_first, plain_functions, inputs_and_pins};
 ghost use Rattle.bb_sym.specs.Inside.Made.{Makes, AreTooMany, AreCells, HaveCells};
@@ -9,26 +9,29 @@ use crate::RungFault;
 use crate::cells::{PlainCells, plain_cells};
 use bb_bits::NoMemory;
 use bb_dd::{Diagrams, Ref};
-use bb_net::{BoxPins, Pair};
+use bb_net::{BoxPins, Net};
 use std::alloc::Global;
 
 /// Makes the variables and the cells of both nets.
 pub(crate) fn ordered_cells(
     alloc: Global,
     d: &mut Diagrams,
-    pair: &Pair,
+    spec: &Net,
+    imp: &Net,
     vars: u32,
 ) -> Result<PlainCells, RungFault>
-    requires vars { vars ≡ inputs_and_pins pair.now.imp }
+    requires inputs { spec.now.inputs ≡ imp.now.inputs }
+    requires no_box { spec.now.boxes ≡ [] }
+    requires few { vars ≤ 2048 }
+    requires vars { vars ≡ inputs_and_pins imp.now }
     requires store { vars ≡ d.old.store.vars }
-    ensures refs { IfOk result (λ made. AreCells d.new.store pair.now.spec pair.now.imp made.spec.items made.imp.items) }
-    ensures cells { IfOk result (λ made. HaveCells d.new.store (inputs_first pair.now.imp) pair.now.spec pair.now.imp made.spec.items made.imp.items) }
-    ensures makes { OnOk result (Makes d.old.store d.new.store (plain_functions pair.now.spec pair.now.imp)) }
-    ensures nodes { IsErrOf result RungFault.Nodes → AreTooMany d.old.store (plain_functions pair.now.spec pair.now.imp) }
+    ensures refs { IfOk result (λ made. AreCells d.new.store spec.now imp.now made.spec.items made.imp.items) }
+    ensures cells { IfOk result (λ made. HaveCells d.new.store (inputs_first imp.now) spec.now imp.now made.spec.items made.imp.items) }
+    ensures makes { OnOk result (Makes d.old.store d.new.store (plain_functions spec.now imp.now)) }
+    ensures nodes { IsErrOf result RungFault.Nodes → AreTooMany d.old.store (plain_functions spec.now imp.now) }
 {
-    let imp_net = pair.imp();
-    let starts = first_variables(alloc, imp_net.inputs(), imp_net.boxes())?;
-    let made = plain_cells(alloc, d, pair, vars, 0, &starts)?;
+    let starts = first_variables(alloc, imp.inputs(), imp.boxes())?;
+    let made = plain_cells(alloc, d, spec, imp, vars, 0, &starts)?;
     Ok(made)
 }
 

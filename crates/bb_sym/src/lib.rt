@@ -20,7 +20,7 @@ mod sums;
 mod unknown;
 mod variables;
 
-pub use all_outputs::output;
+pub use all_outputs::{output, output_of};
 pub use each_output::local;
 pub use fault::RungFault;
 pub use found::Found;

@@ -50,7 +50,7 @@ pub fn or_word(a: u64, b: u64) -> u64
 }
 
 #[tactic(auto, using(crate::proofs::LaneLemmas::lane_xor))]
-fn xor_word(a: u64, b: u64) -> u64
+pub fn xor_word(a: u64, b: u64) -> u64
     ensures { (k : ℕ) → k < 64 → lane result k ≡ xor (lane a k) (lane b k) }
 {
     a ^ b

@@ -1,6 +1,7 @@
-//! Patterns, and their simulation in three values.
+//! Patterns, their simulation in three values, and that of two nets in two values.
 #![tactic(auto)]
 
+mod comparing;
 mod drawing;
 mod lanes;
 pub mod laws;
@@ -8,5 +9,6 @@ mod packing;
 mod passing;
 mod simulation;
 
+pub use comparing::differ_at;
 pub use drawing::patterns;
 pub use simulation::{Hit, simulate};

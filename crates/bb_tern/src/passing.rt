@@ -9,7 +9,7 @@ use crate::packing::pack;
 use bb_net::{Cell, Pair, tern_exists, value_exists};
 
 // Writes the word of each cell in order.
-fn write_words(cells: &[Cell], ins: &[u64], out: &mut [u64])
+pub fn write_words(cells: &[Cell], ins: &[u64], out: &mut [u64])
     requires room { length out.old ≡ length cells.now }
     requires ordered { (place : ℕ) → place < length cells.now → ReadsBefore (length ins.now) [] place (cell_at cells.now place) }
     ensures len { length out.new ≡ length out.old }
@@ -56,7 +56,7 @@ fn wrong_lanes(spec_outs: &[u32], imp_outs: &[u32], wanted: &[u64], known: &[Kno
 }
 
 // Whether a word has a lane.
-fn has_lane(word: u64, k: usize) -> bool
+pub fn has_lane(word: u64, k: usize) -> bool
     requires { k < 64 }
     ensures { result ≡ lane word k }
 {

@@ -36,6 +36,10 @@ word_at words place = slice_index_or words place 0
 abbrev pub known_at : List Known → ℕ → Known
 known_at values place = slice_index_or values place (record { one = 0; zero = 0 })
 
+-- the bits that words have in lane k, by their places
+abbrev pub bits_in : List ℕ → ℕ → ℕ → Bool
+bits_in words k place = lane (word_at words place) k
+
 -- lane k of the words has the bits of a pattern
 abbrev pub HasPattern : List ℕ → ℕ → List Bool → Type 0
 HasPattern words k x = (i : ℕ) → lane (word_at words i) k ≡ bit_of x i

@@ -9,43 +9,43 @@ use Rattle.bb_sym.proofs.all_outputs.output_diagram.Goals as goal
 
 pub returns-in_err-made-clause-nodes : goal.returns-in_err-made-clause-nodes
 returns-in_err-made-clause-nodes c =
-    let told : IsErrOf c.from_residual.result Nodes → AreTooMany c.args.d.now.store (plain_functions c.args.pair.now.spec c.args.pair.now.imp) = search rules in
-    λ full. refused_plain c.args.pair.now.spec c.args.pair.now.imp c.args.inputs c.args.pins c.requires.inputs c.requires.pins c.args.d.now.store c.requires.vars (told full)
+    let told : IsErrOf c.from_residual.result Nodes → AreTooMany c.args.d.now.store (plain_functions c.args.spec.now c.args.imp.now) = search rules in
+    λ full. refused_plain c.args.spec.now c.args.imp.now c.args.inputs c.args.pins c.requires.inputs c.requires.pins c.args.d.now.store c.requires.vars (told full)
 
 pub returns-in_err-any-clause-nodes : goal.returns-in_err-any-clause-nodes
 returns-in_err-any-clause-nodes c =
     let b = c.ordered_cells.new.d.store in
-    let more = c.in_err-any.ensures.nodes (inputs_first c.args.pair.now.imp) c.in_ok-made.ensures.cells in
-    let told : IsErrOf c.from_residual-in_err-any.result Nodes → AreTooMany b (wrong_tables b.vars c.args.pair.now.spec c.args.pair.now.imp) = search (rules, more) in
-    λ full. refused_wrong c.args.pair.now.spec c.args.pair.now.imp c.args.inputs c.args.pins c.requires.inputs c.requires.pins c.args.d.now.store c.requires.vars b c.in_ok-made.ensures.makes (told full)
+    let more = c.in_err-any.ensures.nodes (inputs_first c.args.imp.now) c.in_ok-made.ensures.cells in
+    let told : IsErrOf c.from_residual-in_err-any.result Nodes → AreTooMany b (wrong_tables b.vars c.args.spec.now c.args.imp.now) = search (rules, more) in
+    λ full. refused_wrong c.args.spec.now c.args.imp.now c.args.inputs c.args.pins c.requires.inputs c.requires.pins c.args.d.now.store c.requires.vars b c.in_ok-made.ensures.makes (told full)
 
 pub quantify_block-requires-clause-f : goal.quantify_block-requires-clause-f
-quantify_block-requires-clause-f c = (c.in_ok-any.ensures.result (inputs_first c.args.pair.now.imp) c.in_ok-made.ensures.cells).ref
+quantify_block-requires-clause-f c = (c.in_ok-any.ensures.result (inputs_first c.args.imp.now) c.in_ok-made.ensures.cells).ref
 
 pub quantify_block-requires-clause-vars : goal.quantify_block-requires-clause-vars
 quantify_block-requires-clause-vars c =
-    omega (arith, c.requires.vars, c.in_ok-made.ensures.makes.kept.vars, (c.in_ok-any.ensures.makes (inputs_first c.args.pair.now.imp) c.in_ok-made.ensures.cells).kept.vars)
+    omega (arith, c.requires.vars, c.in_ok-made.ensures.makes.kept.vars, (c.in_ok-any.ensures.makes (inputs_first c.args.imp.now) c.in_ok-made.ensures.cells).kept.vars)
 
 pub quantify_block-requires-clause-few : goal.quantify_block-requires-clause-few
 quantify_block-requires-clause-few c =
-    omega (arith, c.requires.few, c.in_ok-made.ensures.makes.kept.vars, (c.in_ok-any.ensures.makes (inputs_first c.args.pair.now.imp) c.in_ok-made.ensures.cells).kept.vars)
+    omega (arith, c.requires.few, c.in_ok-made.ensures.makes.kept.vars, (c.in_ok-any.ensures.makes (inputs_first c.args.imp.now) c.in_ok-made.ensures.cells).kept.vars)
 
 pub returns-in_err-r-clause-nodes : goal.returns-in_err-r-clause-nodes
 returns-in_err-r-clause-nodes c =
     let last = c.some_wrong.new.d.store in
-    let order = inputs_first c.args.pair.now.imp in
+    let order = inputs_first c.args.imp.now in
     let told : IsErrOf c.from_residual-in_err-r.result Nodes → AreTooMany last (block_functions ◌&&◌ c.args.inputs c.args.pins (truth_of last c.in_ok-any.any.0)) = search rules in
-    λ full. refused_last c.args.pair.now.spec c.args.pair.now.imp c.args.inputs c.args.pins c.requires.inputs c.requires.pins c.args.d.now.store c.requires.vars c.ordered_cells.new.d.store c.in_ok-made.ensures.makes
+    λ full. refused_last c.args.spec.now c.args.imp.now c.args.inputs c.args.pins c.requires.inputs c.requires.pins c.args.d.now.store c.requires.vars c.ordered_cells.new.d.store c.in_ok-made.ensures.makes
     last c.in_ok-any.any (c.in_ok-any.ensures.makes order c.in_ok-made.ensures.cells) (c.in_ok-any.ensures.result order c.in_ok-made.ensures.cells) (told full)
 
 pub returns-clause-result : goal.returns-clause-result
 returns-clause-result c =
-    let order = inputs_first c.args.pair.now.imp in
-    output_stands c.args.pair.now.spec c.args.pair.now.imp c.args.inputs c.args.pins c.requires.inputs c.requires.pins c.args.d.now.store c.requires.vars c.ordered_cells.new.d.store c.in_ok-made.ensures.makes
+    let order = inputs_first c.args.imp.now in
+    output_stands c.args.spec.now c.args.imp.now c.args.inputs c.args.pins c.requires.inputs c.requires.pins c.args.d.now.store c.requires.vars c.ordered_cells.new.d.store c.in_ok-made.ensures.makes
     c.some_wrong.new.d.store c.in_ok-any.any (c.in_ok-any.ensures.makes order c.in_ok-made.ensures.cells) (c.in_ok-any.ensures.result order c.in_ok-made.ensures.cells) c.quantify_block.new.d.store c.in_ok-r.r c.in_ok-r.ensures.result
 
 pub returns-clause-makes : goal.returns-clause-makes
 returns-clause-makes c =
-    let order = inputs_first c.args.pair.now.imp in
-    output_makes c.args.pair.now.spec c.args.pair.now.imp c.args.inputs c.args.pins c.requires.inputs c.requires.pins c.args.d.now.store c.requires.vars c.ordered_cells.new.d.store c.in_ok-made.ensures.makes
+    let order = inputs_first c.args.imp.now in
+    output_makes c.args.spec.now c.args.imp.now c.args.inputs c.args.pins c.requires.inputs c.requires.pins c.args.d.now.store c.requires.vars c.ordered_cells.new.d.store c.in_ok-made.ensures.makes
     c.some_wrong.new.d.store c.in_ok-any.any (c.in_ok-any.ensures.makes order c.in_ok-made.ensures.cells) (c.in_ok-any.ensures.result order c.in_ok-made.ensures.cells) c.quantify_block.new.d.store c.in_ok-r.ensures.makes
