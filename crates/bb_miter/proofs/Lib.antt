@@ -1,0 +1,2 @@
+pub mod Boxless
+pub mod TakenVectors

@@ -1,0 +1,8 @@
+//! Whether two netlists without boxes have the same outputs at every vector.
+#![tactic(auto)]
+
+mod diagrams;
+mod patterns;
+
+pub use diagrams::difference;
+pub use patterns::differing_patterns;
