@@ -1,5 +1,6 @@
 pub mod Analyzed
 pub mod Assigned
+pub mod Counted
 pub mod Decided
 pub mod Derived
 pub mod Extended

@@ -21,6 +21,6 @@ mod turn;
 mod units;
 mod watches;
 
-pub use outcome::Outcome;
-pub use solver::solve;
+pub use outcome::{Attempt, Outcome};
+pub use solver::{solve, solve_within};
 pub use std::alloc::AllocError as NoMemory;

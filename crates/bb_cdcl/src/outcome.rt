@@ -1,6 +1,6 @@
 //! What the solver answers.
 
-use bb_cnf::Refutation;
+use bb_cnf::{Refutation, Step};
 
 /// A bit for each variable, the bit of the variable 1 first, with which all clauses are true; or a refutation
 /// of the clauses.
@@ -8,4 +8,11 @@ use bb_cnf::Refutation;
 pub enum Outcome {
     Sat(Vec<bool>),
     Unsat(Refutation),
+}
+
+/// What a bounded search answers: an outcome; or it was given up, with the steps that derive the clauses learned until then.
+#[derive(Debug, Drop)]
+pub enum Attempt {
+    Decided(Outcome),
+    Spent(Vec<Step>),
 }

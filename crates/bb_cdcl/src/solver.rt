@@ -1,17 +1,37 @@
-//! The call.
+//! The calls.
 
-ghost use Rattle.std.specs.Prelude.{IfOk, ◌↔◌};
+ghost use Rattle.std.specs.Prelude.{ℕ, ◌≡◌, ◌+◌, ◌≤◌, ◌<◌, ◌↔◌, true, length, IfOk, List};
+ghost use Rattle.bb_cnf.specs.declared.clauses.Lit.{Lit as Literal};
 ghost use Rattle.bb_cnf.specs.Clauses.{lists_of, IsWithin};
-ghost use Rattle.bb_cdcl.specs.Inside.Outcomes.{IfSat, IfUnsat, IsSat, HasModel, formula};
+ghost use Rattle.bb_cdcl.specs.Inside.Outcomes.{IfSat, IfUnsat, IsSat, HasModel, formula, IfDecided, IfSpent, Derive};
+ghost use Rattle.bb_cdcl.specs.declared.state.State.{State as SolverState};
+ghost use Rattle.bb_cdcl.specs.Inside.States.{Ends};
 
-use crate::search::search;
+use crate::search::{search, search_within};
 use crate::start::{helpers, model, start};
-use crate::{NoMemory, Outcome};
+use crate::state::State;
+use crate::{Attempt, NoMemory, Outcome};
 use bb_cnf::{Cnf, Lit, Refutation, laws};
 use smallvec::SmallVec;
 use std::alloc::Global;
 
-// Searches from the first state.
+// What the end of a search says of the clauses.
+fn outcome(alloc: Global, s: State, satisfied: bool) -> Result<Outcome, NoMemory>
+    requires { satisfied ≡ true → 0 < length s.trail.values.items }
+    ensures sat { IfOk result (λ outcome. (vars : ℕ) (given : List (List Literal)) (old : SolverState) → length old.trail.values.items ≡ vars + 1
+        → IsWithin vars given → Ends given old s satisfied → IfSat outcome (formula vars given)) }
+    ensures unsat { IfOk result (λ outcome. (vars : ℕ) (given : List (List Literal)) (old : SolverState) → Ends given old s satisfied
+        → IfUnsat outcome (formula vars given)) }
+{
+    if satisfied {
+        let bits = model(alloc, &s.trail.values)?;
+        Ok(Outcome::Sat(bits))
+    } else {
+        Ok(Outcome::Unsat(Refutation { steps: s.steps }))
+    }
+}
+
+// Searches from the first state to the end.
 fn decide(alloc: Global, vars: u32, given: &[SmallVec<Lit, 4>]) -> Result<Outcome, NoMemory>
     requires { IsWithin vars (lists_of given.now) }
     ensures sat { IfOk result (λ outcome. IfSat outcome (formula vars (lists_of given.now))) }
@@ -19,11 +39,31 @@ fn decide(alloc: Global, vars: u32, given: &[SmallVec<Lit, 4>]) -> Result<Outcom
 {
     let mut s = start(alloc, vars)?;
     let mut helpers = helpers(alloc, vars, given)?;
-    if search(alloc, given, &mut s, &mut helpers)? {
-        let bits = model(alloc, &s.trail.values)?;
-        Ok(Outcome::Sat(bits))
-    } else {
-        Ok(Outcome::Unsat(Refutation { steps: s.steps }))
+    let satisfied = search(alloc, given, &mut s, &mut helpers)?;
+    let outcome = outcome(alloc, s, satisfied)?;
+    Ok(outcome)
+}
+
+// The same, until so many clauses were learned.
+fn decide_within(
+    alloc: Global,
+    vars: u32,
+    given: &[SmallVec<Lit, 4>],
+    learned: usize,
+) -> Result<Attempt, NoMemory>
+    requires { IsWithin vars (lists_of given.now) }
+    ensures sat { IfOk result (λ attempt. IfDecided attempt (λ outcome. IfSat outcome (formula vars (lists_of given.now)))) }
+    ensures unsat { IfOk result (λ attempt. IfDecided attempt (λ outcome. IfUnsat outcome (formula vars (lists_of given.now)))) }
+    ensures spent { IfOk result (λ attempt. IfSpent attempt (λ steps. (learned ≤ length steps) × Derive (lists_of given.now) steps)) }
+{
+    let mut s = start(alloc, vars)?;
+    let mut helpers = helpers(alloc, vars, given)?;
+    match search_within(alloc, given, &mut s, &mut helpers, learned)? {
+        Some(satisfied) => {
+            let outcome = outcome(alloc, s, satisfied)?;
+            Ok(Attempt::Decided(outcome))
+        }
+        None => Ok(Attempt::Spent(s.steps)),
     }
 }
 
@@ -37,4 +77,19 @@ pub fn solve(alloc: Global, cnf: &Cnf) -> Result<Outcome, NoMemory>
     laws::refutations();
     let outcome = decide(alloc, cnf.vars, &cnf.clauses)?;
     Ok(outcome)
+}
+
+/// The same, or gives up after so many conflicts.
+///
+/// A conflict counts for each clause that is learned from it: one at least, and one more for each unit clause that is derived for it.
+/// `Spent` has the steps of all of them.
+pub fn solve_within(alloc: Global, cnf: &Cnf, conflicts: u32) -> Result<Attempt, NoMemory>
+    ensures sat { IfOk result (λ attempt. IfDecided attempt (λ outcome. IfSat outcome cnf.now)) }
+    ensures unsat { IfOk result (λ attempt. IfDecided attempt (λ outcome. IfUnsat outcome cnf.now)) }
+    ensures exact { IfOk result (λ attempt. IfDecided attempt (λ outcome. IsSat outcome ↔ HasModel cnf.now)) }
+    ensures spent { IfOk result (λ attempt. IfSpent attempt (λ steps. (conflicts ≤ length steps) × Derive cnf.now.clauses steps)) }
+{
+    laws::refutations();
+    let attempt = decide_within(alloc, cnf.vars, &cnf.clauses, conflicts as usize)?;
+    Ok(attempt)
 }

@@ -1,10 +1,13 @@
--- What a solver may answer: a model, or a refutation by resolution.
-use Rattle.std.specs.Prelude.{ℕ, Bool, List}
+-- What a solver may answer: a model, or a refutation by resolution; or nothing, after so many clauses were learned.
+use Rattle.std.specs.Prelude.{ℕ, Bool, IsSome, List, map}
 use Rattle.bb_cnf.specs.declared.clauses.Lit.{Lit}
+use Rattle.bb_cnf.specs.declared.refutation.Step.{Step}
+use Rattle.bb_cdcl.specs.declared.outcome.Attempt.{Attempt}
+use Rattle.bb_cdcl.specs.declared.outcome.Attempt.TheVariants as attempts
 use Rattle.bb_cdcl.specs.declared.outcome.Outcome.{Outcome}
 use Rattle.bb_cdcl.specs.declared.outcome.Outcome.TheVariants as answers
-use Rattle.bb_cnf.specs.Clauses.{Formula}
-use Rattle.bb_cnf.specs.Chains.{IsRefutation}
+use Rattle.bb_cnf.specs.Clauses.{Formula, literals_of}
+use Rattle.bb_cnf.specs.Chains.{derived, IsRefutation}
 use Rattle.bb_cnf.specs.Truth.{IsModel}
 
 -- the list of bits of Sat is a model
@@ -27,3 +30,17 @@ HasModel formula = (bits : List Bool) × IsModel bits formula
 
 abbrev pub formula : ℕ → List (List Lit) → Formula
 formula vars clauses = record { vars = vars; clauses = clauses }
+
+-- what is said of the outcome of an attempt that came to one
+abbrev pub IfDecided : Attempt → (Outcome → Type 0) → Type 0
+IfDecided (attempts.Decided outcome) P = P outcome
+IfDecided (attempts.Spent steps) P = Unit {0}
+
+-- what is said of the steps of one that was given up
+abbrev pub IfSpent : Attempt → (List Step → Type 0) → Type 0
+IfSpent (attempts.Decided outcome) P = Unit {0}
+IfSpent (attempts.Spent steps) P = P steps.items
+
+-- each step makes a clause from the given ones and from those that the steps before it make
+abbrev pub Derive : List (List Lit) → List Step → Type 0
+Derive clauses steps = IsSome (derived (map literals_of clauses) steps)

@@ -1,17 +1,15 @@
-use Rattle.std.proofs.Common.{◌≡◌, ◌+◌, ◌-◌, subst, sym, ap, ◌∙◌, length, All, arith}
-use Rattle.bb_cnf.specs.Clauses.{lists_of, IsWithin}
-use Rattle.bb_cdcl.specs.Inside.Events.{IsSatisfied}
+use Rattle.std.proofs.Common.{subst, arith}
+use Rattle.bb_cnf.specs.Clauses.{lists_of}
 use Rattle.bb_cdcl.specs.Inside.States.{Ends}
 use Rattle.bb_cdcl.proofs.solver.decide.Goals as goal
 
-pub returns-in_ok-bits-clause-sat : goal.returns-in_ok-bits-clause-sat
-returns-in_ok-bits-clause-sat c =
-    let ends = subst (Ends (lists_of c.args.given.now) c.in_ok-s.s c.search.new.s) c.if-branch.true c.in_ok-search.ensures in
-    let values = c.deref.ensures.value in
-    let count : length c.deref.result.now ≡ c.args.vars + 1 = ap length values ∙ ends.1 ∙ c.in_ok-s.ensures.values in
-    let below : c.args.vars ≡ length c.deref.result.now - 1 = omega (arith, count) in
-    let bits = c.in_ok-bits.ensures.length in (
-      omega (arith, bits, count),
-      c.in_ok-bits.ensures.satisfies (lists_of c.args.given.now) (subst (λ n. IsWithin n (lists_of c.args.given.now)) below c.requires)
-          (subst (λ vs. All (IsSatisfied vs) (lists_of c.args.given.now)) (sym values) ends.0),
-    )
+pub outcome-requires : goal.outcome-requires
+outcome-requires c satisfied =
+    let ends = subst (Ends (lists_of c.args.given.now) c.in_ok-s.s c.search.new.s) satisfied c.in_ok-satisfied.ensures in
+    omega (arith, ends.1, c.in_ok-s.ensures.values)
+
+pub returns-clause-sat : goal.returns-clause-sat
+returns-clause-sat c = c.in_ok-outcome.ensures.sat c.args.vars (lists_of c.args.given.now) c.in_ok-s.s c.in_ok-s.ensures.values c.requires c.in_ok-satisfied.ensures
+
+pub returns-clause-unsat : goal.returns-clause-unsat
+returns-clause-unsat c = c.in_ok-outcome.ensures.unsat c.args.vars (lists_of c.args.given.now) c.in_ok-s.s c.in_ok-satisfied.ensures
