@@ -1,44 +1,47 @@
--- What a model of the expansion, or a refutation of it, says of the pair.
-use Rattle.std.proofs.Common.{◌≡◌, ℕ, ◌*◌, ◌≤◌, Bool, List, length, sym, ap, subst, ◌∙◌, arith}
+-- What a model of the expansion over the held vectors, or a refutation of it, says of the pair.
+use Rattle.std.proofs.Common.{◌≡◌, ℕ, Bool, List, All, subst}
+use Rattle.bb_bits.specs.Tables.{TableBits}
 use Rattle.bb_cnf.specs.declared.clauses.Lit.{Lit}
 use Rattle.bb_cnf.specs.declared.refutation.Step.{Step}
 use Rattle.bb_cnf.specs.Chains.{IsRefutation}
 use Rattle.bb_cnf.specs.Clauses.{Formula}
 use Rattle.bb_cnf.specs.Truth.{IsModel, HaveNoModel, assignment_of}
-use Rattle.bb_net.specs.Completions.{AreCompletion}
+use Rattle.bb_filled.specs.Forced.{AgreeAt}
+use Rattle.bb_net.specs.Agreement.{TablesAgree, IsVector}
 use Rattle.bb_net.specs.Netlists.{Netlist, IsNetlist}
-use Rattle.bb_expand.specs.ClauseCounts.{clauses_per_vector, clause_total}
+use Rattle.bb_net.specs.Values.{FitBoxes}
+use Rattle.bb_expand.specs.declared.held.Held.{Held}
 use Rattle.bb_expand.specs.Expanded.{IsError}
-use Rattle.bb_expand.specs.Expansions.{expansion, all_vectors}
-use Rattle.bb_expand.specs.Laws.{ClausesAreCounted}
+use Rattle.bb_expand.specs.Expansions.{expansion}
+use Rattle.bb_expand.specs.Inside.Holding.{IsHeld, held_vectors}
 use Rattle.bb_expand.specs.Inside.LawsBelow.{Numbering, ValueExists, ValueIsUnique}
 use Rattle.bb_expand.specs.Inside.ReadTables.{tables_in}
-use Rattle.bb_expand.proofs.AllVectors.{agree_from_all, all_from_agree}
-use Rattle.bb_expand.proofs.ExpandedVectors.{length-all_vectors}
 use Rattle.bb_expand.proofs.FromModel.{model_fits, model_right}
 use Rattle.bb_expand.proofs.ToModel.{bits, bits_model}
 
-pub sat_completes : Numbering → ValueIsUnique → (spec imp : Netlist) → IsNetlist imp → (cnf : Formula) (model : List Bool) → cnf ≡ expansion spec imp (all_vectors imp.inputs) → IsModel model cnf → AreCompletion spec imp (tables_in imp.boxes model)
-sat_completes numbering unique spec imp kept cnf model is holds =
-    let whole = subst (IsModel model) is holds in
-    record {
-      fit = model_fits numbering unique spec imp kept (all_vectors imp.inputs) model whole;
-      agree = agree_from_all numbering spec imp (tables_in imp.boxes model) (model_right numbering unique spec imp kept (all_vectors imp.inputs) model whole);
-    }
+module _ (numbering : Numbering) (unique : ValueIsUnique) (spec imp : Netlist) (kept : IsNetlist imp) (vectors : List (List Bool)) (cnf : Formula) (model : List Bool)
+    (is : cnf ≡ expansion spec imp vectors) (holds : IsModel model cnf) where
+  pub tables_fit : FitBoxes (tables_in imp.boxes model) imp.boxes
+  tables_fit = model_fits numbering unique spec imp kept vectors model (subst (IsModel model) is holds)
 
-pub unsat_is_error : Numbering → ValueExists → ClausesAreCounted → ((clauses : List (List Lit)) (steps : List Step) → IsRefutation clauses steps → HaveNoModel clauses)
-    → (spec imp : Netlist) → IsNetlist imp → (budget : ℕ) (vectors : List (List Bool)) (cnf : Formula) (steps : List Step)
-    → vectors ≡ all_vectors imp.inputs → cnf ≡ expansion spec imp (all_vectors imp.inputs) → IsRefutation cnf.clauses steps → clause_total imp ≤ budget → IsError spec imp budget vectors cnf steps
-unsat_is_error numbering exists counted sound spec imp kept budget vectors cnf steps all is refuted few =
-    let total : length (expansion spec imp (all_vectors imp.inputs)).clauses ≡ clause_total imp = counted spec imp (all_vectors imp.inputs) ∙ ap (λ n. n * clauses_per_vector imp) (length-all_vectors imp.inputs) in
-    record {
-      rising = all;
-      expands = is ∙ ap (expansion spec imp) (sym all);
-      within = omega (arith, ap (λ (f : Formula). length f.clauses) is, total, few);
-      refuted = refuted;
-      none = λ tables fit agree.
-          let right = all_from_agree numbering spec imp tables agree in
-          let model = bits_model numbering exists spec imp kept (all_vectors imp.inputs) tables fit right in
-          sound (expansion spec imp (all_vectors imp.inputs)).clauses steps (subst (λ (f : Formula). IsRefutation f.clauses steps) is refuted)
-          (assignment_of (bits numbering exists spec imp kept (all_vectors imp.inputs) tables fit right)) model.1;
-    }
+  pub tables_agree : All (AgreeAt spec imp (tables_in imp.boxes model)) vectors
+  tables_agree = model_right numbering unique spec imp kept vectors model (subst (IsModel model) is holds)
+
+-- tables that agree at all vectors do so at each
+pub agree_at_all : (spec imp : Netlist) (tables : List TableBits) (vectors : List (List Bool)) → All (IsVector imp) vectors → TablesAgree spec imp tables → All (AgreeAt spec imp tables) vectors
+agree_at_all spec imp tables vectors whole agree k d h = agree _ (whole k d h)
+
+pub refuted_is_error : Numbering → ValueExists → ((clauses : List (List Lit)) (steps : List Step) → IsRefutation clauses steps → HaveNoModel clauses)
+    → (spec imp : Netlist) → IsNetlist imp → (budget : ℕ) (held : Held) (steps : List Step) → IsHeld spec imp budget held → IsRefutation held.cnf.clauses steps → IsError spec imp budget (held_vectors held) held.cnf steps
+refuted_is_error numbering exists sound spec imp kept budget held steps is refuted = record {
+  whole = is.may.whole;
+  distinct = is.may.distinct;
+  expands = is.expands;
+  within = is.within;
+  refuted = refuted;
+  none = λ tables fit agree.
+      let right = agree_at_all spec imp tables (held_vectors held) is.may.whole agree in
+      let model = bits_model numbering exists spec imp kept (held_vectors held) tables fit right in
+      sound (expansion spec imp (held_vectors held)).clauses steps (subst (λ (f : Formula). IsRefutation f.clauses steps) is.expands refuted)
+      (assignment_of (bits numbering exists spec imp kept (held_vectors held) tables fit right)) model.1;
+}

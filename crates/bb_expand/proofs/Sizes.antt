@@ -1,5 +1,5 @@
 -- How large an expansion is whose clauses are few: each cell has a clause, and there are two cells at least.
-use Rattle.std.proofs.Common.{ℕ, ◌+◌, ◌*◌, ◌^◌, ◌<◌, ◌≤◌, List, [], ◌∷◌, length, sum_by, ap, arith}
+use Rattle.std.proofs.Common.{ℕ, ◌+◌, ◌*◌, ◌^◌, ◌≤◌, List, [], ◌∷◌, length, sum_by, ap, arith}
 use Rattle.std.proofs.lemmas.List.{length-take}
 use Rattle.std.proofs.lemmas.List.FromFn.{length-map-range_with_len}
 use Rattle.std.proofs.lemmas.List.Sums.{sum_by-cons}
@@ -42,9 +42,3 @@ pub few_vectors : (imp : Netlist) (most n : ℕ) → IsNetlist imp → clause_to
 few_vectors imp most n kept few bound =
     let p : 2 ^ imp.inputs * 2 ≤ 2 ^ imp.inputs * length imp.cells = mul-le (2 ^ imp.inputs) 2 (2 ^ imp.inputs) (length imp.cells) (omega arith) (omega (arith, two_cells imp kept)) in
     few_doublings imp.inputs n (omega (arith, p, few_variables imp most few, bound))
-
--- the cells at one of the vectors are within all variables
-pub vector_fits : (imp : Netlist) (v most : ℕ) → clause_total imp ≤ most → v < 2 ^ imp.inputs → v * length imp.cells + length imp.cells ≤ most
-vector_fits imp v most few below =
-    let p : (v + 1) * length imp.cells ≤ 2 ^ imp.inputs * length imp.cells = mul-le (v + 1) (length imp.cells) (2 ^ imp.inputs) (length imp.cells) (omega arith) (omega arith) in
-    omega (arith, p, few_variables imp most few)

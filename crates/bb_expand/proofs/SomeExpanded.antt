@@ -1,25 +1,37 @@
--- Each pair within the budget has an answer: tables that agree, or a refutation, where one is short enough.
-use Rattle.std.proofs.Common.{◌≡◌, ◌⊎◌, ◌<◌, ◌≤◌, ◌+◌, ◌*◌, ◌^◌, ◌∙◌, ℕ, zero, suc, Bool, false, List, [], ◌∷◌, length, map, take, refl, sym, ap, subst, inl, inr, arith, Global}
+-- Each pair has an answer: tables that agree, or a refutation, where one is short enough; or the check needs more clauses.
+use Rattle.std.proofs.Common.{◌≡◌, ◌≢◌, ◌⊎◌, ◌<◌, ◌≤◌, ◌+◌, ◌*◌, ◌^◌, ◌∙◌, ℕ, zero, suc, Bool, false, List, [], ◌∷◌, ◌++◌, All, AllPairs, Contains, length, map, take, refl, sym, ap, subst, inl, inr, arith, Global}
 use Rattle.std.specs.Prelude.{Vec, vec_items, sum_by}
 use Rattle.std.specs.List.{range_with_len}
-use Rattle.std.proofs.lemmas.List.FromFn.{length-map-range_with_len}
+use Rattle.std.proofs.lemmas.Bool.{cases_lt}
+use Rattle.std.proofs.lemmas.List.Elements.{All-head, All-nil, All-tail}
 use Rattle.std.proofs.lemmas.List.Sums.{sum_by-cons}
-use Rattle.std.proofs.lemmas.List.{length-take}
-use Rattle.std.proofs.lemmas.Simd.{map-map}
+use Rattle.std.proofs.lemmas.List.{length-append, length-take}
 use Rattle.bb_bits.specs.Numbers.{bits_of}
-use Rattle.bb_cnf.specs.Laws.{RefutationsExist}
+use Rattle.bb_bits.specs.Tables.{TableBits}
+use Rattle.bb_cnf.specs.Laws.{ModelLaws, RefutationsExist}
+use Rattle.bb_cnf.specs.Truth.{HaveNoModel, assignment_of}
+use Rattle.bb_cdcl.specs.Inside.Outcomes.{HasModel}
+use Rattle.bb_filled.specs.Forced.{AgreeAt, AreForced, FailAt}
+use Rattle.bb_filled.specs.Laws.ForcedLaws.{ForcedAreDistinct, VectorsAreFew}
+use Rattle.bb_lists.proofs.Members.{from_map}
 use Rattle.bb_lists.proofs.Ranges.{length-run}
 use Rattle.bb_lists.proofs.Vectors.{vec_of}
 use Rattle.bb_net.specs.declared.cell.Cell.{Cell}
 use Rattle.bb_net.specs.declared.cell.Cell.TheVariants.{Const, Input}
-use Rattle.bb_net.specs.Conditions.{NoTablesAgree, SomeTablesAgree}
+use Rattle.bb_net.specs.Agreement.{IsVector, TablesAgree}
 use Rattle.bb_net.specs.Netlists.{Netlist, IsNetlist, first_cells}
+use Rattle.bb_net.specs.Values.{FitBoxes}
+use Rattle.bb_expand.specs.declared.expanded.Expanded.{Expanded}
 use Rattle.bb_expand.specs.declared.expanded.Expanded.TheVariants as answers
 use Rattle.bb_expand.specs.ClauseCounts.{cell_clause_count, clauses_per_vector, clause_total}
+use Rattle.bb_expand.specs.Expanded.{IsExpanded}
+use Rattle.bb_expand.specs.GivenUp.{NeedsMoreClauses}
 use Rattle.bb_expand.specs.Expansions.{expansion, all_vectors}
-use Rattle.bb_expand.specs.Laws.{AllVectorsDecide, ClausesAreCounted, VariablesAreWithin, ExpansionsAreRefuted, AnswersExist}
+use Rattle.bb_expand.specs.Laws.{AllVectorsDecide, AnswersExist, ClausesAreCounted, ExpansionsAreRefuted, HaveShortRefutations, ModelsAreTables, SomeTablesSuit, VariablesAreWithin, VectorsAreAll}
 use Rattle.bb_expand.specs.Inside.LawsBelow.{Numbering}
-use Rattle.bb_cnf.specs.Laws.{ModelLaws}
+use Rattle.bb_expand.proofs.AllVectors.{agree_from_all}
+use Rattle.bb_expand.proofs.HeldVectors.{forced_push}
+use Rattle.bb_expand.proofs.SomeModels.{agree_or_fail, all_or_one, model_or_none}
 
 pub expansions_are_refuted : RefutationsExist → ModelLaws → AllVectorsDecide → VariablesAreWithin → ExpansionsAreRefuted
 expansions_are_refuted exist models decide within spec imp kept none =
@@ -42,53 +54,125 @@ some_clause imp kept = by imp.cells kept.front
             head : (x y : Cell) (xs ys : List Cell) → x ∷ xs ≡ y ∷ ys → x ≡ y
             head x y xs ys e = cc e
 
-module _ (numbering : Numbering) (spec imp : Netlist) (kept : IsNetlist imp) where
+-- vectors as they stand in memory
+in_memory : (imp : Netlist) → imp.inputs < 2 ^ 63 → (xs : List (List Bool)) → All (IsVector imp) xs → (vectors : List (Vec Bool Global)) × (map vec_items vectors ≡ xs) × (length vectors ≡ length xs)
+in_memory imp few [] whole = ([], refl, refl)
+in_memory imp few (x ∷ xs) whole =
+    let long : length x ≡ imp.inputs = All-head (IsVector imp) x xs whole in
+    let rest = in_memory imp few xs (All-tail (IsVector imp) x xs whole) in
+    (vec_of x (omega (arith, few, long)) ∷ rest.0, ap (λ l. x ∷ l) rest.1, ap suc rest.2)
+
+none_forced : (spec imp : Netlist) → AreForced spec imp []
+none_forced spec imp = record {
+  whole = All-nil (IsVector imp);
+  each = λ before after x e. absurd (let long = ap length e in omega (arith, long, length-append before (x ∷ after)));
+}
+
+-- the laws on which this rests
+pub record LawsOfAnswers : Type 0 where
+  pub numbering : Numbering
+  pub models : ModelLaws
+  pub tables : ModelsAreTables
+  pub counted : ClausesAreCounted
+  pub within : VariablesAreWithin
+  pub each : VectorsAreAll
+  pub distinct : ForcedAreDistinct
+  pub few : VectorsAreFew
+
+module _ (laws : LawsOfAnswers) (spec imp : Netlist) (budget : ℕ) (kept : IsNetlist imp) (small : budget < 2 ^ 63) (short : HaveShortRefutations spec imp budget) where
+  abbrev clauses_over : List (List Bool) → ℕ
+  clauses_over held = length (expansion spec imp held).clauses
+
+  abbrev Answer : Type 0
+  Answer = ((answer : Expanded) × IsExpanded spec imp budget answer) ⊎ NeedsMoreClauses spec imp budget
+
   few_inputs : imp.inputs < 2 ^ 63
   few_inputs =
       let long = ap length kept.front in
       omega (arith, kept.cells_fit, length-take (imp.inputs + 2) imp.cells, long, length-run Input 0 imp.inputs)
 
-  abbrev vector_of : ℕ → Vec Bool Global
-  vector_of r = vec_of (bits_of imp.inputs r) (omega (arith, few_inputs, numbering.width imp.inputs r))
+  product_grows : (n m k : ℕ) → n ≤ m → n * k ≤ m * k
+  product_grows n m zero h = omega arith
+  product_grows n m (suc k) h = let rest = product_grows n m k h in grind (arith, rest, h)
 
-  abbrev vectors : List (Vec Bool Global)
-  vectors = map vector_of (range_with_len 0 (2 ^ imp.inputs))
+  product_is_as_large : (n k : ℕ) → 1 ≤ k → n ≤ n * k
+  product_is_as_large n zero some = absurd (omega (arith, some))
+  product_is_as_large n (suc k) some = grind arith
 
-  few_vectors : (budget : ℕ) → clause_total imp ≤ budget → budget < 2 ^ 63 → length vectors < 2 ^ 63
-  few_vectors budget within small =
-      let long : length vectors ≡ 2 ^ imp.inputs = length-map-range_with_len vector_of 0 (2 ^ imp.inputs) in
-      omega (arith, long, within, small, more (2 ^ imp.inputs) (clauses_per_vector imp) (some_clause imp kept))
-    where
-      more : (n k : ℕ) → 1 ≤ k → n ≤ n * k
-      more n zero some = absurd (omega (arith, some))
-      more n (suc k) some = grind arith
+  forced_are_few : (held : List (List Bool)) → AreForced spec imp held → length held ≤ 2 ^ imp.inputs
+  forced_are_few held forced = laws.few imp.inputs held forced.whole (laws.distinct spec imp held forced)
 
-  are_all : map vec_items vectors ≡ all_vectors imp.inputs
-  are_all = map-map vec_items vector_of (range_with_len 0 (2 ^ imp.inputs)) ∙ same (range_with_len 0 (2 ^ imp.inputs))
-    where
-      same : (rs : List ℕ) → map (λ r. vec_items (vector_of r)) rs ≡ map (bits_of imp.inputs) rs
-      same [] = refl
-      same (r ∷ rs) = ap (λ l. bits_of imp.inputs r ∷ l) (same rs)
+  -- more clauses over forced vectors than the budget are more over all vectors
+  many : (held : List (List Bool)) → AreForced spec imp held → budget < clauses_over held → budget < clause_total imp
+  many held forced over =
+      let count = laws.counted spec imp held in
+      omega (arith, over, count, product_grows (length held) (2 ^ imp.inputs) (clauses_per_vector imp) (forced_are_few held forced))
 
-pub answers_exist : Numbering → ClausesAreCounted → ((spec imp : Netlist) → NoTablesAgree spec imp ⊎ SomeTablesAgree spec imp) → AnswersExist
-answers_exist numbering counted cases spec imp budget kept within small short = elim (cases spec imp) [
-  | inr some ↦
-      let few : length some.0 < 2 ^ 63 = (let count = some.1.count in omega (arith, count, kept.boxes_fit)) in
-      (answers.Repair (vec_of some.0 few), record { fit = some.1; agree = some.2 })
-  | inl none ↦
-      let s = short none in
-      let all = vectors numbering spec imp kept in
-      let vs = vec_of all (few_vectors numbering spec imp kept budget within small) in
-      let is : map vec_items all ≡ all_vectors imp.inputs = are_all numbering spec imp kept in
-      let count : length (all_vectors imp.inputs) ≡ 2 ^ imp.inputs = length-run (bits_of imp.inputs) 0 (2 ^ imp.inputs) in
-      let clauses : length (expansion spec imp (all_vectors imp.inputs)).clauses ≡ clause_total imp = counted spec imp (all_vectors imp.inputs) ∙ ap (λ n. n * clauses_per_vector imp) count in (
-        answers.Error vs (expansion spec imp (all_vectors imp.inputs)) (record { steps = vec_of s.0 s.1 }),
+  refuted : (held : List (List Bool)) → AreForced spec imp held → clauses_over held ≤ budget → HaveNoModel (expansion spec imp held).clauses → Answer
+  refuted held forced within none =
+      let s = short held forced within none in
+      let vectors = in_memory imp few_inputs held forced.whole in
+      let count = laws.counted spec imp held in
+      let few : length vectors.0 < 2 ^ 63 = omega (arith, vectors.2, count, within, small, product_is_as_large (length held) (clauses_per_vector imp) (some_clause imp kept)) in
+      inl (
+        answers.Error (vec_of vectors.0 few) (expansion spec imp held) (record { steps = vec_of s.0 s.1 }),
         record {
-          rising = is;
-          expands = ap (expansion spec imp) (sym is);
-          within = omega (arith, clauses, within);
+          whole = subst (All (IsVector imp)) (sym vectors.1) forced.whole;
+          distinct = subst (AllPairs ◌≢◌) (sym vectors.1) (laws.distinct spec imp held forced);
+          expands = ap (expansion spec imp) (sym vectors.1);
+          within = within;
           refuted = s.2;
-          none = none;
+          none = λ tables fit agree.
+              let model = (laws.tables spec imp kept held).1 (tables, fit, All-map_of held forced.whole agree) in
+              none (assignment_of model.0) model.1.1;
         },
       )
-]
+    where
+      All-map_of : {P Q : List Bool → Type 0} (xs : List (List Bool)) → All P xs → ((x : List Bool) → P x → Q x) → All Q xs
+      All-map_of xs all f k d h = f _ (all k d h)
+
+  found : (tables : List TableBits) → FitBoxes tables imp.boxes → TablesAgree spec imp tables → Answer
+  found tables fit agree =
+      let few : length tables < 2 ^ 63 = (let count = fit.count in omega (arith, count, kept.boxes_fit)) in
+      inl (answers.Repair (vec_of tables few), record { fit = fit; agree = agree })
+
+  -- what may come after forced vectors, when n more may come
+  abbrev Next : ℕ → Type 0
+  Next n = (held : List (List Bool)) → AreForced spec imp held → 2 ^ imp.inputs < length held + n → clauses_over held ≤ budget → Answer
+
+  -- one vector more is held, or the clauses are too many
+  hold : (n : ℕ) → Next n → (held : List (List Bool)) → AreForced spec imp held → 2 ^ imp.inputs < length held + suc n
+      → (x : List Bool) (tables : List TableBits) → IsVector imp x → FitBoxes tables imp.boxes → All (AgreeAt spec imp tables) held → FailAt spec imp tables x → Answer
+  hold n next held forced left x tables is fit agree fail = by_budget (cases_lt budget (clauses_over (held ++ x ∷ [])))
+    where
+      behind : AreForced spec imp (held ++ x ∷ [])
+      behind = forced_push spec imp tables fit held agree forced x (is, fail)
+
+      by_budget : (budget < clauses_over (held ++ x ∷ [])) ⊎ (clauses_over (held ++ x ∷ []) ≤ budget) → Answer
+      by_budget (inl over) = inr (record { many = many (held ++ x ∷ []) behind over; held = held ++ x ∷ []; forced = behind; cause = inl over })
+      by_budget (inr fits) = next (held ++ x ∷ []) behind (let long = length-append held (x ∷ []) in omega (arith, left, long)) fits
+
+  -- tables that are right at all held vectors agree everywhere, or are wrong at a further one
+  try : (n : ℕ) → Next n → (held : List (List Bool)) → AreForced spec imp held → 2 ^ imp.inputs < length held + suc n → SomeTablesSuit spec imp held → Answer
+  try n next held forced left some = from (all_or_one (AgreeAt spec imp some.0) (FailAt spec imp some.0) (agree_or_fail spec imp some.0) (all_vectors imp.inputs))
+    where
+      from : All (AgreeAt spec imp some.0) (all_vectors imp.inputs) ⊎ ((x : List Bool) × Contains (all_vectors imp.inputs) x × FailAt spec imp some.0 x) → Answer
+      from (inl all) = found some.0 some.1 (agree_from_all laws.numbering spec imp some.0 all)
+      from (inr one) =
+          let number = from_map (bits_of imp.inputs) (range_with_len 0 (2 ^ imp.inputs)) one.0 one.1 in
+          hold n next held forced left one.0 some.0 (sym (ap length number.2) ∙ laws.numbering.width imp.inputs number.0) some.1 some.2 one.2
+
+  turn : (n : ℕ) → Next n → (held : List (List Bool)) → AreForced spec imp held → 2 ^ imp.inputs < length held + suc n → clauses_over held ≤ budget
+      → HasModel (expansion spec imp held) ⊎ HaveNoModel (expansion spec imp held).clauses → Answer
+  turn n next held forced left within (inl model) = try n next held forced left ((laws.tables spec imp kept held).0 model)
+  turn n next held forced left within (inr none) = refuted held forced within none
+
+  -- by the number of vectors that may still come
+  answer : (n : ℕ) → Next n
+  answer zero held forced left within = absurd (omega (arith, left, forced_are_few held forced))
+  answer (suc n) held forced left within = turn n (answer n) held forced left within (model_or_none laws.models laws.each (expansion spec imp held) (laws.within spec imp kept held))
+
+pub answers_exist : LawsOfAnswers → AnswersExist
+answers_exist laws spec imp budget kept small short =
+    let none = laws.counted spec imp [] in
+    answer laws spec imp budget kept small short (2 ^ imp.inputs + 1) [] (none_forced spec imp) (omega arith) (omega (arith, none))

@@ -36,7 +36,7 @@ lits_in : (vars : ℕ) (lits : List Lit) → EachIn vars lits → IsIn vars lits
 lits_in vars [] h = All-nil (λ l. (1 ≤ l.var) × (l.var ≤ vars))
 lits_in vars (l ∷ lits) h = All-cons (λ m. (1 ≤ m.var) × (m.var ≤ vars)) l lits h.0 (lits_in vars lits h.1)
 
-clauses_in : (vars : ℕ) (clauses : List (List Lit)) → ClausesIn vars clauses → IsWithin vars clauses
+pub clauses_in : (vars : ℕ) (clauses : List (List Lit)) → ClausesIn vars clauses → IsWithin vars clauses
 clauses_in vars [] h = All-nil (IsIn vars)
 clauses_in vars (c ∷ clauses) h = All-cons (IsIn vars) c clauses (lits_in vars c h.0) (clauses_in vars clauses h.1)
 
@@ -57,7 +57,7 @@ module _ (vars : ℕ) (var : ℕ → ℕ) where
       (row_clause_in (differing var pins row) (negated y) (positive t) front hy ht)
       (All-cons (IsIn vars) (differing var pins row ++ positive y ∷ negated t ∷ []) [] (row_clause_in (differing var pins row) (positive y) (negated t) front hy ht) (All-nil (IsIn vars)))
 
-  cell_in : (inputs place y : ℕ) (boxes : List Pins) (x : List Bool) (cell : Cell) → ReadsBefore inputs boxes place cell → ((k : ℕ) → k < place → Ranges vars (var k)) → Ranges vars y
+  pub cell_in : (inputs place y : ℕ) (boxes : List Pins) (x : List Bool) (cell : Cell) → ReadsBefore inputs boxes place cell → ((k : ℕ) → k < place → Ranges vars (var k)) → Ranges vars y
       → ((b p row : ℕ) → cell ≡ BoxOut b p → row < 2 ^ length (box_at boxes b).ins → Ranges vars (table_variable boxes b row p)) → IsWithin vars (cell_clauses boxes x var y cell)
   cell_in inputs place y boxes x (Const b) reads h hy ht = clauses_in vars (cell_clauses boxes x var y (Const b)) ((hy, tt), tt)
   cell_in inputs place y boxes x (Input i) reads h hy ht = clauses_in vars (cell_clauses boxes x var y (Input i)) ((hy, tt), tt)

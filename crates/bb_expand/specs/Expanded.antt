@@ -1,19 +1,21 @@
--- What the check by expansion answers of a pair: tables that agree, or a refutation by resolution of the expansion over all
+-- What the check by expansion answers of a pair: tables that agree, or a refutation by resolution of the expansion over some
 -- vectors, after which no tables agree.
-use Rattle.std.specs.Prelude.{◌≡◌, ℕ, ◌<◌, ◌≤◌, ◌^◌, Bool, List, length, map, vec_items}
+use Rattle.std.specs.Prelude.{◌≢◌, ◌≡◌, ℕ, ◌≤◌, Bool, List, length, map, vec_items, All, AllPairs}
 use Rattle.bb_cnf.specs.declared.refutation.Step.{Step}
 use Rattle.bb_cnf.specs.Chains.{IsRefutation}
 use Rattle.bb_cnf.specs.Clauses.{Formula}
+use Rattle.bb_net.specs.Agreement.{IsVector}
 use Rattle.bb_net.specs.Completions.{AreCompletion}
 use Rattle.bb_net.specs.Conditions.{NoTablesAgree}
 use Rattle.bb_net.specs.Netlists.{Netlist}
 use Rattle.bb_expand.specs.declared.expanded.Expanded.{Expanded}
 use Rattle.bb_expand.specs.declared.expanded.Expanded.TheVariants as answers
-use Rattle.bb_expand.specs.Expansions.{expansion, all_vectors}
+use Rattle.bb_expand.specs.Expansions.{expansion}
 
--- the clauses are the expansion over all vectors, within the budget, and the steps refute them
+-- the clauses are the expansion over these vectors, of which no two are one, within the budget, and the steps refute them
 pub record IsError (spec imp : Netlist) (budget : ℕ) (vectors : List (List Bool)) (cnf : Formula) (steps : List Step) : Type 0 where
-  pub rising : vectors ≡ all_vectors imp.inputs
+  pub whole : All (IsVector imp) vectors
+  pub distinct : AllPairs ◌≢◌ vectors
   pub expands : cnf ≡ expansion spec imp vectors
   pub within : length cnf.clauses ≤ budget
   pub refuted : IsRefutation cnf.clauses steps
@@ -22,8 +24,3 @@ pub record IsError (spec imp : Netlist) (budget : ℕ) (vectors : List (List Boo
 abbrev pub IsExpanded : Netlist → Netlist → ℕ → Expanded → Type 0
 IsExpanded spec imp budget (answers.Error vectors cnf refutation) = IsError spec imp budget (map vec_items vectors.items) cnf refutation.steps.items
 IsExpanded spec imp budget (answers.Repair tables) = AreCompletion spec imp tables.items
-
--- where no tables agree, the expansion has a refutation whose steps a list in memory may hold: an expansion of many variables may
--- have no shorter one than a list may be long
-abbrev pub HasShortRefutation : Netlist → Netlist → Type 0
-HasShortRefutation spec imp = NoTablesAgree spec imp → (steps : List Step) × (length steps < 2 ^ 63) × IsRefutation (expansion spec imp (all_vectors imp.inputs)).clauses steps

@@ -1,5 +1,5 @@
 -- What a reader expects of expansions: their clauses speak of tables, and are as many as was counted.
-use Rattle.std.specs.Prelude.{◌≡◌, ◌↔◌, ℕ, ◌<◌, ◌≤◌, ◌*◌, ◌^◌, Bool, List, [], length, All, Contains}
+use Rattle.std.specs.Prelude.{◌≡◌, ◌↔◌, ◌⊎◌, ℕ, ◌<◌, ◌≤◌, ◌*◌, ◌^◌, Bool, List, [], length, All, Contains}
 use Rattle.std.specs.List.{slice_index_or}
 use Rattle.bb_bits.specs.Numbers.{number_of}
 use Rattle.bb_bits.specs.Tables.{TableBits}
@@ -11,11 +11,13 @@ use Rattle.bb_net.specs.Values.{gate, flat_with, FitBoxes}
 use Rattle.bb_cnf.specs.Chains.{IsRefutation}
 use Rattle.bb_cnf.specs.Clauses.{IsWithin}
 use Rattle.bb_cnf.specs.declared.refutation.Step.{Step}
-use Rattle.bb_cnf.specs.Truth.{Satisfies}
+use Rattle.bb_cnf.specs.Truth.{HaveNoModel, Satisfies}
+use Rattle.bb_filled.specs.Forced.{AreForced}
 use Rattle.bb_cdcl.specs.Inside.Outcomes.{HasModel}
-use Rattle.bb_expand.specs.ClauseCounts.{clauses_per_vector, clause_total}
+use Rattle.bb_expand.specs.ClauseCounts.{clauses_per_vector}
 use Rattle.bb_expand.specs.declared.expanded.Expanded.{Expanded}
-use Rattle.bb_expand.specs.Expanded.{IsExpanded, HasShortRefutation}
+use Rattle.bb_expand.specs.Expanded.{IsExpanded}
+use Rattle.bb_expand.specs.GivenUp.{NeedsMoreClauses}
 use Rattle.bb_expand.specs.Expansions.{table_variable, cell_clauses, expansion, all_vectors}
 
 -- what the boxes give by the bits of the table variables
@@ -55,10 +57,17 @@ VectorsRise = (n k : ℕ) → k < 2 ^ n → number_of (slice_index_or (all_vecto
 abbrev pub VectorsAreAll : Type 0
 VectorsAreAll = (x : List Bool) → Contains (all_vectors (length x)) x
 
--- where no tables agree, the expansion has a refutation
+-- where no tables agree, the expansion over all vectors has a refutation
 abbrev pub ExpansionsAreRefuted : Type 0
 ExpansionsAreRefuted = (spec imp : Netlist) → IsNetlist imp → NoTablesAgree spec imp → (steps : List Step) × IsRefutation (expansion spec imp (all_vectors imp.inputs)).clauses steps
 
--- a pair within the budget has an answer, where a refutation that it needs is short enough
+-- an expansion over vectors that are forced, within the budget and without a model has a refutation whose steps a list in memory may
+-- hold: one of many variables may have no shorter one than a list may be long
+abbrev pub HaveShortRefutations : Netlist → Netlist → ℕ → Type 0
+HaveShortRefutations spec imp budget = (vectors : List (List Bool)) → AreForced spec imp vectors → length (expansion spec imp vectors).clauses ≤ budget
+    → HaveNoModel (expansion spec imp vectors).clauses → (steps : List Step) × (length steps < 2 ^ 63) × IsRefutation (expansion spec imp vectors).clauses steps
+
+-- a pair has an answer, or the check may give up, where refutations that it needs are short enough
 abbrev pub AnswersExist : Type 0
-AnswersExist = (spec imp : Netlist) (budget : ℕ) → IsNetlist imp → clause_total imp ≤ budget → budget < 2 ^ 63 → HasShortRefutation spec imp → (answer : Expanded) × IsExpanded spec imp budget answer
+AnswersExist = (spec imp : Netlist) (budget : ℕ) → IsNetlist imp → budget < 2 ^ 63 → HaveShortRefutations spec imp budget
+    → ((answer : Expanded) × IsExpanded spec imp budget answer) ⊎ NeedsMoreClauses spec imp budget

@@ -2,7 +2,7 @@
 //!
 //! A box with many inputs has more rows than any number here holds, so all counts stop at the greatest number.
 
-ghost use Rattle.std.specs.Prelude.{◌≡◌, ◌+◌, ◌-◌, ◌*◌, ◌^◌, ◌<◌, ℕ, min, length, sum_by};
+ghost use Rattle.std.specs.Prelude.{◌≡◌, ◌+◌, ◌-◌, ◌*◌, ◌^◌, ◌<◌, ◌≤◌, ℕ, true, false, min, length, sum_by};
 ghost use Rattle.bb_net.specs.Netlists.{cell_at};
 ghost use Rattle.bb_expand.specs.ClauseCounts.{cell_clause_count, clauses_per_vector, clause_total};
 
@@ -46,7 +46,7 @@ fn clauses_of_cells(boxes: &[BoxPins], cells: &[Cell]) -> u64
 }
 
 // The clauses of a vector.
-fn per_vector(imp: &Net) -> u64
+pub(crate) fn per_vector(imp: &Net) -> u64
     ensures { result ≡ min (clauses_per_vector imp.now) (2 ^ 64 - 1) }
 {
     let outs = imp.outs().len() as u64;
@@ -59,4 +59,12 @@ pub fn clause_count(pair: &Pair) -> u64
 {
     let imp = pair.imp();
     doubled(per_vector(imp), imp.inputs() as usize)
+}
+
+// Are the clauses over all vectors within the budget?
+pub(crate) fn is_within_budget(pair: &Pair, clauses: u32) -> bool
+    ensures yes { result ≡ true → clause_total pair.now.imp ≤ clauses }
+    ensures no { result ≡ false → clauses < clause_total pair.now.imp }
+{
+    clause_count(pair) <= u64::from(clauses)
 }

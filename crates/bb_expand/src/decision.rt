@@ -1,85 +1,75 @@
-//! The check: the budgets, the expansion, and what a solver says of it.
+//! The check: the budgets, and turns in which a solver gives tables and a vector is sought at which they fail.
 
-ghost use Rattle.std.specs.Prelude.{◌≡◌, ◌^◌, ◌<◌, ◌≤◌, ℕ, IfOk, OnOk, IsErrOf};
+ghost use Rattle.std.specs.Prelude.{◌≡◌, ◌^◌, ◌<◌, ◌≤◌, IfOk, OnOk, IsErrOf};
 ghost use Rattle.bb_net.specs.Completions.{table_bits, HaveSmallTables};
 ghost use Rattle.bb_expand.specs.ClauseCounts.{clause_total};
 ghost use Rattle.bb_expand.specs.declared.expanded.ExpandFault.TheVariants as fault;
 ghost use Rattle.bb_expand.specs.Expanded.{IsExpanded};
-ghost use Rattle.bb_expand.specs.Expansions.{expansion, all_vectors};
+ghost use Rattle.bb_expand.specs.GivenUp.{NeedsMoreClauses};
 
-use crate::counting::clause_count;
+use crate::counting::is_within_budget;
 use crate::expanded::{ExpandFault, Expanded};
-use crate::expansion::{all_vectors, expansion};
-use crate::laws::{expansions_and_tables, laws_below};
-use crate::tables::read_tables;
-use bb_bits::NoMemory;
+use crate::held::nothing_held;
+use crate::holding::hold_failures;
+use crate::seeking::{FILLED_BITS, failing_vectors};
+use crate::turns::{refuted, tables_of, zero_tables};
 use bb_cdcl::{Outcome, solve};
-use bb_cnf::Cnf;
-use bb_cnf::laws::refutations;
+use bb_filled::laws::vectors_are_few;
 use bb_net::Pair;
 use std::alloc::Global;
 
-// The number of table bits, where neither they nor the clauses are too many.
+// What the numbers of held vectors are mixed with to draw patterns.
+const SEED: u64 = 0x9e37_79b9_7f4a_7c15;
+
+// The number of table bits, where they are not too many.
 fn admit(pair: &Pair, clauses: u32) -> Result<u32, ExpandFault>
     requires budget { clauses ≤ 8000000 }
     ensures bits { IfOk result (λ bits. bits ≡ table_bits pair.now.imp.boxes) }
     ensures small { OnOk result (HaveSmallTables pair.now.imp.boxes) }
-    ensures few { OnOk result (clause_total pair.now.imp ≤ clauses) }
+    ensures large { OnOk result (2 ^ 20 < table_bits pair.now.imp.boxes → clause_total pair.now.imp ≤ clauses) }
     ensures wide { IsErrOf result fault.Wide → 2 ^ 24 < table_bits pair.now.imp.boxes }
     ensures wide_back { 2 ^ 24 < table_bits pair.now.imp.boxes → IsErrOf result fault.Wide }
-    ensures clauses { IsErrOf result fault.Clauses → HaveSmallTables pair.now.imp.boxes × clauses < clause_total pair.now.imp }
-    ensures clauses_back { HaveSmallTables pair.now.imp.boxes → clauses < clause_total pair.now.imp → IsErrOf result fault.Clauses }
+    ensures clauses { IsErrOf result fault.Clauses → HaveSmallTables pair.now.imp.boxes × NeedsMoreClauses pair.now.spec pair.now.imp clauses }
 {
     let Some(bits) = pair.imp().table_bits() else {
         return Err(ExpandFault::Wide);
     };
-    if clause_count(pair) > u64::from(clauses) {
+    if bits > FILLED_BITS && !is_within_budget(pair, clauses) {
         return Err(ExpandFault::Clauses);
     }
     Ok(bits)
 }
 
-// What the solver says of the expansion.
-fn decide(alloc: Global, pair: &Pair, cnf: Cnf) -> Result<Expanded, NoMemory>
-    requires cnf { cnf ≡ expansion pair.now.spec pair.now.imp (all_vectors pair.now.imp.inputs) }
-    requires small { HaveSmallTables pair.now.imp.boxes }
-    requires few { clause_total pair.now.imp ≤ 8000000 }
-    ensures { (budget : ℕ) → clause_total pair.now.imp ≤ budget → IfOk result (IsExpanded pair.now.spec pair.now.imp budget) }
-{
-    laws_below();
-    expansions_and_tables();
-    refutations();
-    let imp = pair.imp();
-    match solve(alloc, &cnf)? {
-        Outcome::Sat(model) => {
-            let tables = read_tables(alloc, imp.boxes(), &model)?;
-            Ok(Expanded::Repair(tables))
-        }
-        Outcome::Unsat(refutation) => {
-            let vectors = all_vectors(alloc, imp.inputs())?;
-            Ok(Expanded::Error {
-                vectors,
-                cnf,
-                refutation,
-            })
-        }
-    }
-}
-
 /// Decides by clauses whether some tables agree.
 ///
-/// `Wide` comes exactly where tables for all boxes have more than 2^24 bits; it is tried first. `Clauses` comes exactly where
-/// the expansion over all vectors has more than `clauses` clauses.
+/// It holds no vector at first, and begins with tables of zeros. In each turn a vector is sought at which the tables fail; it is held,
+/// its clauses are added, and a solver gives tables that agree at all held vectors. So it ends with tables that agree at all vectors, or with a refutation of the
+/// clauses over those that it holds.
+///
+/// `Wide` comes exactly where tables for all boxes have more than 2^24 bits; it is tried first. `Clauses` comes only where the
+/// clauses over all vectors are more than `clauses`, and either those over the vectors that had to be held are, or there are tables
+/// that agree at all of them and are too large to look for another vector.
 pub fn expand(alloc: Global, pair: &Pair, clauses: u32) -> Result<Expanded, ExpandFault>
     requires budget { clauses ≤ 8000000 }
     ensures ok { IfOk result (IsExpanded pair.now.spec pair.now.imp clauses) }
     ensures wide { IsErrOf result fault.Wide → 2 ^ 24 < table_bits pair.now.imp.boxes }
     ensures wide_back { 2 ^ 24 < table_bits pair.now.imp.boxes → IsErrOf result fault.Wide }
-    ensures clauses { IsErrOf result fault.Clauses → HaveSmallTables pair.now.imp.boxes × clauses < clause_total pair.now.imp }
-    ensures clauses_back { HaveSmallTables pair.now.imp.boxes → clauses < clause_total pair.now.imp → IsErrOf result fault.Clauses }
+    ensures clauses { IsErrOf result fault.Clauses → HaveSmallTables pair.now.imp.boxes × NeedsMoreClauses pair.now.spec pair.now.imp clauses }
 {
+    vectors_are_few();
     let bits = admit(pair, clauses)?;
-    let cnf = expansion(alloc, pair, bits)?;
-    let expanded = decide(alloc, pair, cnf)?;
-    Ok(expanded)
+    let mut held = nothing_held(alloc, pair, bits);
+    let mut tables = zero_tables(alloc, pair, bits)?;
+    loop {
+        let seed = held.vectors.len() as u64 ^ SEED;
+        let failing = failing_vectors(alloc, pair, &tables, bits, clauses, seed)?;
+        if failing.is_empty() {
+            return Ok(Expanded::Repair(tables));
+        }
+        held = hold_failures(alloc, pair, clauses, held, &tables, &failing)?;
+        match solve(alloc, &held.cnf)? {
+            Outcome::Sat(model) => tables = tables_of(alloc, pair, &held, &model)?,
+            Outcome::Unsat(refutation) => return Ok(refuted(pair, held, refutation)),
+        }
+    }
 }

@@ -3,10 +3,10 @@
 use bb_bits::{NoMemory, Table};
 use bb_cnf::{Cnf, Refutation};
 
-/// The tables agree; or no tables do, as the refutation of the expansion over all vectors shows.
+/// The tables agree; or no tables do, as the refutation of the expansion over some vectors shows.
 ///
-/// The vectors stand in rising order of the numbers that their bits spell, the first input most significant. The tables stand
-/// in the order of the implementation's boxes.
+/// No two of the vectors are one. They stand in the order in which they were held, and so do their clauses. The tables stand in the
+/// order of the implementation's boxes.
 #[derive(Drop)]
 pub enum Expanded {
     Error {
@@ -20,7 +20,8 @@ pub enum Expanded {
 /// Why a pair is not decided.
 #[derive(Clone, Copy, Debug, PartialEq, Eq)]
 pub enum ExpandFault {
-    /// The expansion has more clauses than the budget allows.
+    /// More clauses would be needed than the budget allows: those over all vectors are more, and either those over the vectors that
+    /// had to be held are, or there are tables that agree at all of them and are too large to look for another vector.
     Clauses,
     /// Tables for all boxes have more than 2^24 bits together.
     Wide,

@@ -5,7 +5,8 @@ ghost use Rattle.bb_expand.specs.Inside.LawsBelow.{Numbering, ValueExists, Value
 
 use bb_bits::{number_is_below, number_spelled, number_spelled_once};
 use bb_cnf::laws;
-use bb_net::{conditions_hold_or_not, value_exists, value_is_unique};
+use bb_filled::laws::{forced_are_distinct, vectors_are_few};
+use bb_net::{value_exists, value_is_unique};
 
 /// A cell's clauses say that its variable is the gate's bit; so an expansion has a model exactly where some tables give every
 /// output the wanted bit at each of its vectors, and over all vectors exactly where some tables agree.
@@ -24,15 +25,16 @@ pub fn expansions_and_tables()
     laws_below();
 }
 
-/// Where no tables agree the expansion over all vectors has a refutation, so a pair whose expansion is within the budget has an
-/// answer, unless every refutation has more steps than a list may hold.
+/// Where no tables agree the expansion over all vectors has a refutation. Each pair has an answer, or needs more clauses, where the
+/// clauses over any forced vectors, if they are within the budget and have no model, have a refutation that a list may hold.
 pub fn answers_exist()
     ensures refuted { ExpansionsAreRefuted }
     ensures answer { AnswersExist }
 {
     laws::refutations_exist();
     laws::models();
-    conditions_hold_or_not();
+    forced_are_distinct();
+    vectors_are_few();
     expansions_and_tables();
     laws_below();
 }

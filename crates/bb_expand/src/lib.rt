@@ -1,4 +1,4 @@
-//! The check of a pair by expansion: one list of clauses for all vectors, which has a model exactly where tables agree.
+//! The check of a pair by expansion: clauses for vectors that are held one after another, until tables agree everywhere or none do.
 #![tactic(auto)]
 
 mod cells;
@@ -6,16 +6,29 @@ mod clauses;
 mod counting;
 mod decision;
 mod expanded;
-mod expansion;
+mod free;
+mod free_cells;
+mod free_clauses;
+mod free_counting;
+mod free_laws;
+#[cfg(test)]
+mod free_tests;
+mod held;
+mod holding;
 mod laws;
 mod numbers;
 mod rows;
+mod seeking;
+mod sought;
+mod sweep;
 mod tables;
 #[cfg(test)]
 mod tests;
+mod turns;
 mod vectors;
 
 pub use counting::clause_count;
 pub use decision::expand;
 pub use expanded::{ExpandFault, Expanded};
+pub use free_laws::models_are_differences;
 pub use laws::{answers_exist, expansions_and_tables};

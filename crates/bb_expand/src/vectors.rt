@@ -12,7 +12,6 @@ ghost use Rattle.bb_expand.specs.Expansions.{having, vector_clauses};
 
 use crate::cells::push_cells;
 use crate::clauses::{having, push};
-use crate::numbers::spell;
 use bb_bits::NoMemory;
 use bb_cnf::Lit;
 use bb_net::Pair;
@@ -42,7 +41,7 @@ fn push_outputs(
 }
 
 // The clauses of the vector x with the number v. The bits of the specification's cells are written into `bits`.
-fn push_vector(
+pub(crate) fn push_vector(
     clauses: &mut Vec<SmallVec<Lit, 4>>,
     base: u32,
     pair: &Pair,
@@ -63,32 +62,4 @@ fn push_vector(
     spec.value(x, &[], bits);
     push_cells(clauses, base, imp, starts, x)?;
     push_outputs(clauses, base, imp.outs(), spec.outs(), bits)
-}
-
-// The clauses of the first vectors, where so many bits of tables stand before all cells.
-pub(crate) fn push_vectors(
-    clauses: &mut Vec<SmallVec<Lit, 4>>,
-    bits: u32,
-    pair: &Pair,
-    starts: &[u32],
-    count: u32,
-) -> Result<(), NoMemory>
-    requires small { HaveSmallTables pair.now.imp.boxes }
-    requires few { clause_total pair.now.imp ≤ 8000000 }
-    requires bits { bits ≡ table_bits pair.now.imp.boxes }
-    requires starts { AreStarts starts.now pair.now.imp.boxes }
-    requires vectors { count ≤ 2 ^ pair.now.imp.inputs }
-    ensures { OnOk result (lists_of clauses.new.items ≡ lists_of clauses.old.items
-        ++ flat_map (λ v. vector_clauses pair.now.spec pair.now.imp v (bits_of pair.now.imp.inputs v)) (range_with_len 0 count)) }
-{
-    let alloc = *clauses.allocator();
-    let (spec, imp) = (pair.spec(), pair.imp());
-    let cells = imp.cells().len() as u32;
-    let mut x = vec![in alloc; false; imp.inputs() as usize]?;
-    let mut values = vec![in alloc; false; spec.cells().len()]?;
-    for v in 0..count {
-        spell(v, &mut x);
-        push_vector(clauses, bits + v * cells, pair, starts, &x, &mut values)?;
-    }
-    Ok(())
 }

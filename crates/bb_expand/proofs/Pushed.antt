@@ -1,0 +1,53 @@
+-- The expansion over one vector more is that over the others with the clauses of that vector behind.
+use Rattle.std.proofs.Common.{◌≡◌, ℕ, ◌+◌, ◌*◌, ◌≤◌, Bool, List, [], ◌∷◌, ◌++◌, length, get_or, sym, ap, ap₂, ◌∙◌, arith}
+use Rattle.std.specs.List.{flat_map, range_with_len}
+use Rattle.std.proofs.lemmas.List.{length-append, get_or_append_left, get_or-append-add}
+use Rattle.std.proofs.lemmas.Nat.{mul-le}
+use Rattle.bb_cdcl.specs.Inside.Outcomes.{formula}
+use Rattle.bb_cnf.specs.declared.clauses.Lit.{Lit}
+use Rattle.bb_cnf.specs.Clauses.{Formula}
+use Rattle.bb_net.specs.Completions.{table_bits}
+use Rattle.bb_net.specs.Netlists.{Netlist}
+use Rattle.bb_expand.specs.ClauseCounts.{clauses_per_vector}
+use Rattle.bb_expand.specs.Expansions.{vector_clauses, expansion}
+use Rattle.bb_expand.specs.Laws.{ClausesAreCounted}
+use Rattle.bb_expand.proofs.Grows.{pieces_more}
+use Rattle.bb_expand.proofs.Pieces.{same_pieces}
+use Rattle.bb_expand.proofs.Sizes.{cells_count}
+
+last_of : {A : Type 0} (xs : List A) (x d : A) → get_or (xs ++ x ∷ []) (length xs) d ≡ x
+last_of xs x d =
+    let e : length xs + 0 ≡ length xs = omega arith in
+    ap (λ n. get_or (xs ++ x ∷ []) n d) (sym e) ∙ get_or-append-add xs (x ∷ []) 0 d
+
+pub one_longer : {A : Type 0} (xs : List A) (x : A) → length (xs ++ x ∷ []) ≡ length xs + 1
+one_longer xs x = length-append xs (x ∷ [])
+
+module _ (spec imp : Netlist) (vectors : List (List Bool)) (x : List Bool) where
+  abbrev at : ℕ → List (List Lit)
+  at v = vector_clauses spec imp v (get_or (vectors ++ x ∷ []) v [])
+
+  pub clauses_push : (expansion spec imp (vectors ++ x ∷ [])).clauses ≡ (expansion spec imp vectors).clauses ++ vector_clauses spec imp (length vectors) x
+  clauses_push =
+      ap (λ n. flat_map at (range_with_len 0 n)) (one_longer vectors x)
+      ∙ pieces_more at (length vectors)
+      ∙ ap₂ (λ front back. front ++ back)
+      (same_pieces at (λ v. vector_clauses spec imp v (get_or vectors v [])) (length vectors) (λ v h. ap (vector_clauses spec imp v) (get_or_append_left vectors (x ∷ []) [] v h)))
+      (ap (vector_clauses spec imp (length vectors)) (last_of vectors x []))
+
+  pub vars_push : (expansion spec imp (vectors ++ x ∷ [])).vars ≡ (expansion spec imp vectors).vars + length imp.cells
+  vars_push =
+      let more : length (vectors ++ x ∷ []) * length imp.cells ≡ (length vectors + 1) * length imp.cells = ap (λ n. n * length imp.cells) (one_longer vectors x) in
+      omega (arith, more)
+
+  pub expansion_push : (vars : ℕ) (clauses : List (List Lit)) → vars ≡ (expansion spec imp vectors).vars + length imp.cells
+      → clauses ≡ (expansion spec imp vectors).clauses ++ vector_clauses spec imp (length vectors) x → formula vars clauses ≡ expansion spec imp (vectors ++ x ∷ [])
+  expansion_push vars clauses some are = ap₂ formula (some ∙ sym vars_push) (are ∙ sym clauses_push)
+
+-- where the clauses of one vector more are few, so are the variables
+pub room_for_cells : ClausesAreCounted → (spec imp : Netlist) (vectors : List (List Bool)) (cnf : Formula) (most : ℕ) → cnf ≡ expansion spec imp vectors
+    → length cnf.clauses + clauses_per_vector imp ≤ most → cnf.vars + length imp.cells ≤ table_bits imp.boxes + most
+room_for_cells counted spec imp vectors cnf most is few =
+    let cells = cells_count imp.boxes imp.cells in
+    let bound : (length vectors + 1) * length imp.cells ≤ (length vectors + 1) * clauses_per_vector imp = mul-le (length vectors + 1) (length imp.cells) (length vectors + 1) (clauses_per_vector imp) (omega arith) (omega (arith, cells)) in
+    omega (arith, bound, few, counted spec imp vectors, ap (λ (f : Formula). f.vars) is, ap (λ (f : Formula). length f.clauses) is)

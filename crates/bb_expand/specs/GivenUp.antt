@@ -1,0 +1,30 @@
+-- When the check by expansion gives up: the clauses over all vectors are more than the budget, and for some list of vectors, at each
+-- of which some tables are wrong that agree at all before it, either the clauses over it are, or some tables that agree at all of it
+-- are too large for decision diagrams of the implementation filled with them.
+use Rattle.std.specs.Prelude.{◌⊎◌, ℕ, ◌<◌, ◌^◌, Bool, List, length, All}
+use Rattle.bb_bits.specs.Tables.{TableBits}
+use Rattle.bb_bits.specs.Truth.{IsBeadOfAny}
+use Rattle.bb_bits.specs.TruthSets.{HasMoreThan}
+use Rattle.bb_filled.specs.Filled.{IsFilled}
+use Rattle.bb_filled.specs.Forced.{AgreeAt, AreForced}
+use Rattle.bb_net.specs.Completions.{table_bits}
+use Rattle.bb_net.specs.Netlists.{Netlist, IsNetlist}
+use Rattle.bb_net.specs.Values.{FitBoxes}
+use Rattle.bb_sym.specs.Functions.{output_functions}
+use Rattle.bb_expand.specs.ClauseCounts.{clause_total}
+use Rattle.bb_expand.specs.Expansions.{expansion}
+
+-- with these tables in its boxes, the functions of the check of all outputs by diagrams have more than 1,000,000 beads
+abbrev pub FillTooLarge : Netlist → Netlist → List TableBits → Type 0
+FillTooLarge spec imp tables = (filled : Netlist) × (at : ℕ → ℕ) × IsNetlist filled × IsFilled imp tables filled at × HasMoreThan (IsBeadOfAny (output_functions spec filled)) 1000000
+
+-- some tables agree at all of these vectors, and have more than 2^20 bits or fill the boxes so
+abbrev pub SuitsLargeTables : Netlist → Netlist → List (List Bool) → Type 0
+SuitsLargeTables spec imp vectors = (tables : List TableBits) × FitBoxes tables imp.boxes × All (AgreeAt spec imp tables) vectors
+    × ((2 ^ 20 < table_bits imp.boxes) ⊎ FillTooLarge spec imp tables)
+
+pub record NeedsMoreClauses (spec imp : Netlist) (budget : ℕ) : Type 0 where
+  pub many : budget < clause_total imp
+  pub held : List (List Bool)
+  pub forced : AreForced spec imp held
+  pub cause : (budget < length (expansion spec imp held).clauses) ⊎ SuitsLargeTables spec imp held

@@ -1,0 +1,146 @@
+//! Vectors at which tables fail: by the netlist that they fill, or one vector after another.
+
+ghost use Rattle.std.specs.Prelude.{◌≡◌, ◌<◌, ◌≤◌, ◌^◌, ◌∷◌, [], map, vec_items, IfOk, IfSome, IfNone, IsErrOf};
+ghost use Rattle.bb_bits.specs.Truth.{IsBeadOfAny};
+ghost use Rattle.bb_bits.specs.TruthSets.{HasMoreThan};
+ghost use Rattle.bb_miter.specs.Inside.Equivalence.{AreComparable, AreEquivalent, DiffersAt};
+ghost use Rattle.bb_net.specs.Agreement.{TablesAgree};
+ghost use Rattle.bb_net.specs.Completions.{table_bits, HaveSmallTables};
+ghost use Rattle.bb_net.specs.Values.{FitBoxes};
+ghost use Rattle.bb_sym.specs.Functions.{output_functions};
+ghost use Rattle.bb_expand.specs.ClauseCounts.{clause_total};
+ghost use Rattle.bb_expand.specs.declared.expanded.ExpandFault.TheVariants as fault;
+ghost use Rattle.bb_expand.specs.GivenUp.{FillTooLarge};
+ghost use Rattle.bb_expand.specs.Inside.Failures.{AreDistinctWith, FailsAt};
+
+use crate::counting::is_within_budget;
+use crate::expanded::ExpandFault;
+use crate::free::by_solver;
+use crate::sought::Sought;
+use crate::sweep::first_failure;
+use bb_bits::{NoMemory, Table};
+use bb_filled::fill;
+use bb_filled::laws::filled_are_right;
+use bb_miter::{difference, differing_patterns};
+use bb_net::{Net, Pair};
+use bb_sym::RungFault;
+use std::alloc::Global;
+
+// How many beads the diagrams may hold, and how many results their cache.
+const NODES: u32 = 1_000_000;
+
+const CACHE: u32 = 65_536;
+
+/// The most bits of tables with which boxes are filled.
+pub(crate) const FILLED_BITS: u32 = 1 << 20;
+
+// A vector at which some output differs, if there is one: by the solver, and where it gives up by diagrams.
+fn seek_one(
+    alloc: Global,
+    spec: &Net,
+    filled: &Net,
+    clauses: u32,
+) -> Result<Option<Vec<bool>>, RungFault>
+    requires comparable { AreComparable spec.now filled.now }
+    requires budget { clauses ≤ 8000000 }
+    ensures found { IfOk result (λ found. IfSome found (λ x. DiffersAt spec.now filled.now x.items)) }
+    ensures none { IfOk result (λ found. IfNone found (AreEquivalent spec.now filled.now)) }
+    ensures nodes { IsErrOf result RungFault.Nodes → HasMoreThan (IsBeadOfAny (output_functions spec.now filled.now)) 1000000 }
+{
+    match by_solver(alloc, spec, filled, clauses)? {
+        Sought::At(x) => Ok(Some(x)),
+        Sought::Nowhere => Ok(None),
+        Sought::GivenUp => difference(alloc, spec, filled, NODES, CACHE),
+    }
+}
+
+// The vector alone, or no vector.
+fn list_of(alloc: Global, found: Option<Vec<bool>>) -> Result<Vec<Vec<bool>>, NoMemory>
+    ensures some { IfSome found (λ x. IfOk result (λ vectors. map vec_items vectors.items ≡ x.items ∷ [])) }
+    ensures none { IfNone found (IfOk result (λ vectors. vectors.items ≡ [])) }
+{
+    let mut vectors = Vec::new(alloc);
+    if let Some(x) = found {
+        vectors.push(x)?;
+    }
+    Ok(vectors)
+}
+
+// Vectors at which some output differs: those that patterns give, or else one. None only where there is none.
+fn seek(
+    alloc: Global,
+    spec: &Net,
+    filled: &Net,
+    clauses: u32,
+    seed: u64,
+) -> Result<Vec<Vec<bool>>, RungFault>
+    requires comparable { AreComparable spec.now filled.now }
+    requires budget { clauses ≤ 8000000 }
+    ensures found { IfOk result (λ found. AreDistinctWith (DiffersAt spec.now filled.now) (map vec_items found.items)) }
+    ensures none { IfOk result (λ found. found.items ≡ [] → AreEquivalent spec.now filled.now) }
+    ensures nodes { IsErrOf result RungFault.Nodes → HasMoreThan (IsBeadOfAny (output_functions spec.now filled.now)) 1000000 }
+{
+    let drawn = differing_patterns(alloc, spec, filled, seed)?;
+    if !drawn.is_empty() {
+        return Ok(drawn);
+    }
+    let found = seek_one(alloc, spec, filled, clauses)?;
+    let vectors = list_of(alloc, found)?;
+    Ok(vectors)
+}
+
+// Vectors at which the tables fail, by the netlist that they fill. None only where they agree.
+fn by_filling(
+    alloc: Global,
+    pair: &Pair,
+    tables: &[Table],
+    clauses: u32,
+    seed: u64,
+) -> Result<Vec<Vec<bool>>, RungFault>
+    requires budget { clauses ≤ 8000000 }
+    requires fit { FitBoxes tables.now pair.now.imp.boxes }
+    requires small { HaveSmallTables pair.now.imp.boxes }
+    ensures found { IfOk result (λ found. AreDistinctWith (FailsAt pair.now.spec pair.now.imp tables.now) (map vec_items found.items)) }
+    ensures none { IfOk result (λ found. found.items ≡ [] → TablesAgree pair.now.spec pair.now.imp tables.now) }
+    ensures nodes { IsErrOf result RungFault.Nodes → FillTooLarge pair.now.spec pair.now.imp tables.now }
+{
+    filled_are_right();
+    let filled = fill(alloc, pair.imp(), tables)?;
+    let _ = filled.inputs();
+    seek(alloc, pair.spec(), &filled, clauses, seed)
+}
+
+// Vectors at which the tables fail; none only where they agree. Where the boxes cannot be filled, or diagrams of the filled netlist
+// are too large, all vectors are looked at, if their clauses are within the budget.
+pub(crate) fn failing_vectors(
+    alloc: Global,
+    pair: &Pair,
+    tables: &[Table],
+    bits: u32,
+    clauses: u32,
+    seed: u64,
+) -> Result<Vec<Vec<bool>>, ExpandFault>
+    requires budget { clauses ≤ 8000000 }
+    requires fit { FitBoxes tables.now pair.now.imp.boxes }
+    requires small { HaveSmallTables pair.now.imp.boxes }
+    requires bits { bits ≡ table_bits pair.now.imp.boxes }
+    requires large { 2 ^ 20 < table_bits pair.now.imp.boxes → clause_total pair.now.imp ≤ clauses }
+    ensures found { IfOk result (λ found. AreDistinctWith (FailsAt pair.now.spec pair.now.imp tables.now) (map vec_items found.items)) }
+    ensures none { IfOk result (λ found. found.items ≡ [] → TablesAgree pair.now.spec pair.now.imp tables.now) }
+    ensures wide { IsErrOf result fault.Wide → ⊥ }
+    ensures clauses { IsErrOf result fault.Clauses → (clauses < clause_total pair.now.imp) × FillTooLarge pair.now.spec pair.now.imp tables.now }
+{
+    if bits <= FILLED_BITS {
+        match by_filling(alloc, pair, tables, clauses, seed) {
+            Ok(found) => return Ok(found),
+            Err(RungFault::NoMemory) => return Err(ExpandFault::NoMemory),
+            Err(RungFault::Nodes) if !is_within_budget(pair, clauses) => {
+                return Err(ExpandFault::Clauses);
+            }
+            Err(RungFault::Nodes) => {}
+        }
+    }
+    let found = first_failure(alloc, pair, tables)?;
+    let vectors = list_of(alloc, found)?;
+    Ok(vectors)
+}

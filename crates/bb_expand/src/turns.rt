@@ -1,0 +1,67 @@
+//! The tables with which a turn begins, and what it makes of the solver's answer.
+
+ghost use Rattle.std.specs.Prelude.{◌≡◌, ℕ, All, IfOk};
+ghost use Rattle.bb_cnf.specs.Chains.{IsRefutation};
+ghost use Rattle.bb_cnf.specs.Truth.{IsModel};
+ghost use Rattle.bb_filled.specs.Forced.{AgreeAt};
+ghost use Rattle.bb_net.specs.Completions.{table_bits, HaveSmallTables};
+ghost use Rattle.bb_net.specs.Values.{FitBoxes};
+ghost use Rattle.bb_expand.specs.Expanded.{IsExpanded};
+ghost use Rattle.bb_expand.specs.Expansions.{expansion};
+ghost use Rattle.bb_expand.specs.Inside.Holding.{IsHeld, held_vectors};
+
+use crate::expanded::Expanded;
+use crate::held::Held;
+use crate::laws::{expansions_and_tables, laws_below};
+use crate::tables::read_tables;
+use bb_bits::{NoMemory, Table};
+use bb_cnf::Refutation;
+use bb_cnf::laws::refutations;
+use bb_net::Pair;
+use std::alloc::Global;
+
+// The tables whose bits are all 0, where they have so many bits.
+pub(crate) fn zero_tables(alloc: Global, pair: &Pair, bits: u32) -> Result<Vec<Table>, NoMemory>
+    requires small { HaveSmallTables pair.now.imp.boxes }
+    requires bits { bits ≡ table_bits pair.now.imp.boxes }
+    ensures fit { IfOk result (λ tables. FitBoxes tables.items pair.now.imp.boxes) }
+{
+    let zeros = vec![in alloc; false; bits as usize]?;
+    let tables = read_tables(alloc, pair.imp().boxes(), &zeros)?;
+    Ok(tables)
+}
+
+// The tables that a model of the expansion has. They agree at all held vectors.
+pub(crate) fn tables_of(
+    alloc: Global,
+    pair: &Pair,
+    held: &Held,
+    model: &[bool],
+) -> Result<Vec<Table>, NoMemory>
+    requires small { HaveSmallTables pair.now.imp.boxes }
+    requires expands { held.now.cnf ≡ expansion pair.now.spec pair.now.imp (held_vectors held.now) }
+    requires holds { IsModel model.now held.now.cnf }
+    ensures fit { IfOk result (λ tables. FitBoxes tables.items pair.now.imp.boxes) }
+    ensures agree { IfOk result (λ tables. All (AgreeAt pair.now.spec pair.now.imp tables.items) (held_vectors held.now)) }
+{
+    laws_below();
+    let _ = held;
+    let tables = read_tables(alloc, pair.imp().boxes(), model)?;
+    Ok(tables)
+}
+
+// The answer where the expansion over the held vectors is refuted.
+pub(crate) fn refuted(pair: &Pair, held: Held, refutation: Refutation) -> Expanded
+    requires refuted { IsRefutation held.cnf.clauses refutation.steps.items }
+    ensures error { (budget : ℕ) → IsHeld pair.now.spec pair.now.imp budget held → IsExpanded pair.now.spec pair.now.imp budget result }
+{
+    laws_below();
+    expansions_and_tables();
+    refutations();
+    let _ = pair.imp();
+    Expanded::Error {
+        vectors: held.vectors,
+        cnf: held.cnf,
+        refutation,
+    }
+}
