@@ -102,9 +102,9 @@ module _ (laws : OneLaws) (p : NetPair) (o : Options) (kept : IsPair p) where
   expanded_alike s t fixed (TooWide wide same) (Decided small answer is also) st ts = absurd (above _ _ wide small)
   expanded_alike s t fixed (ClausesTooMany small many same) (TooWide wide also) st ts = absurd (above _ _ wide small)
   expanded_alike s t fixed (ClausesTooMany small many same) (ClausesTooMany smaller more also) st ts = one_said p o Expand s t _ same also
-  expanded_alike s t fixed (ClausesTooMany small many same) (Decided smaller answer is also) st ts = absurd (fixed small many)
+  expanded_alike s t fixed (ClausesTooMany small many same) (Decided smaller answer is also) st ts = absurd (fixed small many.many)
   expanded_alike s t fixed (Decided small answer is same) (TooWide wide also) st ts = absurd (above _ _ wide small)
-  expanded_alike s t fixed (Decided small answer is same) (ClausesTooMany smaller many also) st ts = absurd (fixed smaller many)
+  expanded_alike s t fixed (Decided small answer is same) (ClausesTooMany smaller many also) st ts = absurd (fixed smaller many.many)
   expanded_alike s t fixed (Decided small (expanded.Error vectors cnf refutation) is same) (Decided smaller (expanded.Error others clauses steps) be also) st ts =
       by_told p o Expand s t _ _ same also (say_alike p o Expand _ _ refl refl refl (λ plain. absurd (plain refl)))
   expanded_alike s t fixed (Decided small (expanded.Error vectors cnf refutation) is same) (Decided smaller (expanded.Repair tables) be also) st ts =

@@ -67,7 +67,7 @@ module _ (p : NetPair) (o : Options) where
   said_open Input said (Answered few choices.Clear is same) off none = inr is
   said_open Input said (Answered few (choices.Repair tables) is same) off none = no_repair said _ same refl none
   said_open Expand said (TooWide wide same) off none = inl wide
-  said_open Expand said (ClausesTooMany small many same) off none = inr many
+  said_open Expand said (ClausesTooMany small many same) off none = inr many.many
   said_open Expand said (Decided small (expanded.Error vectors cnf refutation) is same) off none = no_error said _ same refl off
   said_open Expand said (Decided small (expanded.Repair tables) is same) off none = no_repair said _ same refl none
 

@@ -5,7 +5,6 @@ use Rattle.std.proofs.lemmas.List.{length-take}
 use Rattle.std.proofs.lemmas.List.Elements.{All-contains, Contains-append_right}
 use Rattle.bb_bits.specs.Truth.{Truth}
 use Rattle.bb_bits.specs.Laws.TruthLaws.{SizeLaws}
-use Rattle.bb_expand.specs.ClauseCounts.{clause_total}
 use Rattle.bb_expand.specs.Laws.{AnswersExist}
 use Rattle.bb_input.specs.InputFunctions.{input_functions}
 use Rattle.bb_input.specs.Laws as choices
@@ -84,11 +83,9 @@ module _ (laws : LawsBelow) (p : NetPair) (o : Options) (pair : IsPair p) (bound
   expanded_or_not : Says p o Expand
   expanded_or_not = elim (cases_lt (2 ^ 24) (table_bits p.imp.boxes)) [
     | inl wide ↦ (Wide, TooWide wide refl)
-    | inr small ↦ elim (cases_lt o.clauses (clause_total p.imp)) [
-      | inl many ↦ (Clauses, ClausesTooMany small many refl)
-      | inr within ↦
-          let a = laws.expansions p.spec p.imp o.clauses pair.imp within (omega (arith, bounds.clauses)) (provable within) in
-          (told_expanded a.0, Decided small a.0 a.1 refl)
+    | inr small ↦ elim (laws.expansions p.spec p.imp o.clauses pair.imp (omega (arith, bounds.clauses)) (provable small)) [
+      | inl a ↦ (told_expanded a.0, Decided small a.0 a.1 refl)
+      | inr needs ↦ (Clauses, ClausesTooMany small needs refl)
     ]
   ]
 

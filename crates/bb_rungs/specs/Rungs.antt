@@ -1,6 +1,6 @@
 -- What each check of the ladder may say of a pair, and the checks one after another. A check by diagrams says that it needs too many
 -- nodes exactly where its functions have more beads than it may hold; the expansion, that its tables are too wide exactly where they
--- are, and that its clauses are too many only where those over all vectors are.
+-- are, and that its clauses are too many only where it needs more for some forced vectors.
 use Rattle.std.specs.Prelude.{◌≡◌, ℕ, ◌<◌, ◌^◌, ◌&&◌, ◌||◌, Bool, true, false, not, List, [], ◌∷◌, length, Option, Some, None, Result, Ok, Err, IfSome}
 use Rattle.std.specs.List.{slice_index_or}
 use Rattle.bb_bits.specs.Tables.{TableBits}
@@ -15,10 +15,10 @@ use Rattle.bb_net.specs.Completions.{HaveSmallTables, table_bits}
 use Rattle.bb_net.specs.Pairs.{NetPair, BoxTexts}
 use Rattle.bb_net.specs.Values.{table_at}
 use Rattle.bb_tern.specs.Patterns.{patterns}
-use Rattle.bb_expand.specs.ClauseCounts.{clause_total}
 use Rattle.bb_expand.specs.Expanded.{IsExpanded}
 use Rattle.bb_expand.specs.declared.expanded.Expanded.{Expanded}
 use Rattle.bb_expand.specs.declared.expanded.Expanded.TheVariants as expanded
+use Rattle.bb_expand.specs.GivenUp.{NeedsMoreClauses}
 use Rattle.bb_input.specs.Answers.{IsAnswer}
 use Rattle.bb_input.specs.InputFunctions.{input_functions}
 use Rattle.bb_input.specs.declared.InputAnswer.{InputAnswer}
@@ -106,10 +106,10 @@ pub data MayChoose (p : NetPair) (o : Options) (said : Said) : Type 0 where
   ChoicesTooMany : AreTooMany o (input_functions p.spec p.imp) → said ≡ Nodes → MayChoose p o said
   Answered : (AreTooMany o (input_functions p.spec p.imp) → ⊥) → (answer : InputAnswer) → IsAnswer p.spec p.imp answer → said ≡ told_answer answer → MayChoose p o said
 
--- what the expansion may say; where the clauses over all vectors are too many, it may find tables nevertheless
+-- what the expansion may say; where the clauses over all vectors are too many, it may decide nevertheless
 pub data MayExpand (p : NetPair) (o : Options) (said : Said) : Type 0 where
   TooWide : 2 ^ 24 < table_bits p.imp.boxes → said ≡ Wide → MayExpand p o said
-  ClausesTooMany : HaveSmallTables p.imp.boxes → o.clauses < clause_total p.imp → said ≡ Clauses → MayExpand p o said
+  ClausesTooMany : HaveSmallTables p.imp.boxes → NeedsMoreClauses p.spec p.imp o.clauses → said ≡ Clauses → MayExpand p o said
   Decided : HaveSmallTables p.imp.boxes → (answer : Expanded) → IsExpanded p.spec p.imp o.clauses answer → said ≡ told_expanded answer → MayExpand p o said
 
 abbrev pub MaySay : NetPair → Options → Rung → Said → Type 0

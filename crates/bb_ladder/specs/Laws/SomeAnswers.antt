@@ -1,5 +1,5 @@
--- A law of what may be answered to two texts: there is an answer. Where the expansion decides that no tables agree, its refutation has
--- to be short enough for a list in memory.
+-- A law of what may be answered to two texts: there is an answer. Refutations that the expansion may need have to be short enough for a
+-- list in memory.
 use Rattle.std.specs.Prelude.{ℕ, List}
 use Rattle.bb_net.specs.Pairs.{NetPair}
 use Rattle.bb_options.specs.Rungs.{AreBounds}
@@ -8,7 +8,7 @@ use Rattle.bb_ladder.specs.declared.asked.Asked.{Asked}
 use Rattle.bb_ladder.specs.TextAnswers.{Judges}
 use Rattle.bb_ladder.specs.TextPairs.{StandsForTexts}
 
--- a refutation that a pair of the two texts needs is short enough
+-- refutations that a pair of the two texts may need are short enough
 abbrev pub AreProvable : Asked → List ℕ → List ℕ → Type 0
 AreProvable asked spec imp = (p : NetPair) → StandsForTexts asked spec imp p → IsProvable p asked.options
 
