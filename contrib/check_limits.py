@@ -217,11 +217,11 @@ def stack(tally, folder):
 
 
 def memory(tally, folder):
-    """The largest budgets, with room for neither."""
-    inputs = ", ".join(f"a{i}" for i in range(14))
-    spec = f"module s({inputs}, y1, y2); input {inputs}; output y1, y2; xor(y1, {inputs}); and(y2, {inputs}); endmodule\n"
-    boxes = "module bx(i,o); input i; output o; endmodule\n"
-    pair = Pair(folder, spec, spec.replace("xor(y1, a0,", "bx u1(a0,z1); bx u2(a1,z2); xor(y1, z1,").replace("and(y2, a0,", "and(y2, z2,") + boxes)
+    """The largest budgets, with room for neither. Each vector has two clauses for each row of the box, and more than a few are needed."""
+    inputs = ", ".join(f"a{i}" for i in range(16))
+    spec = f"module s({inputs}, y); input {inputs}; output y; xor(y, {inputs}); endmodule\n"
+    box = f"module bx({inputs}, o); input {inputs}; output o; endmodule\n"
+    pair = Pair(folder, spec, spec.replace("xor(y,", "bx u(").replace("); endmodule", ", y); endmodule") + box)
     answers(tally, "--nodes 50000000 without their memory", run_limited([*pair.words, "--nodes", "50000000"], space=400_000), 5, "")
     words = ["--from", "expand", "--clauses", "8000000"]
     answers(tally, "--clauses 8000000 without their memory", run_limited([*pair.words, *words], space=100_000), 5, "")
