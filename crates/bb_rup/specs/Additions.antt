@@ -10,7 +10,7 @@ use Rattle.bb_rup.specs.declared.refutation.RupAnswer.TheVariants as answers
 abbrev pub with_empty : List (List Lit) → List (List Lit)
 with_empty adds = adds ++ [] ∷ []
 
--- each up to the first empty one follows from the clauses and the additions before it
+-- up to the first clause without a literal, whatever is added is implied, by unit propagation, by the clauses and what was added earlier
 abbrev pub Succeed : List (List Lit) → List (List Lit) → Type 0
 Succeed clauses adds = (front : List (List Lit)) (c : List Lit) (back : List (List Lit)) → with_empty adds ≡ front ++ c ∷ back
     → All (λ a. 0 < length a) front → Follows (clauses ++ front) c

@@ -1,6 +1,6 @@
 -- The words of a text in the format of the DIMACS challenge on satisfiability (1993). White space is a blank, a tab,
--- a line feed, a form feed or a carriage return, and a line feed alone ends a line. A line whose first byte that is not
--- white space is `c` is a comment, and has no words.
+-- a line feed, a form feed or a carriage return, and a line feed alone ends a line. A line that begins with `c`, blanks
+-- aside, is a comment, and has no words.
 use Rattle.std.specs.Prelude.{ℕ, ◌+◌, ◌==◌, Bool, not, List, [], ◌∷◌, ◌++◌, length, map, filter, slice_index, if◌then◌else◌}
 use Rattle.std.specs.List.{slice_split}
 use Rattle.std.specs.Char.{is_ascii_whitespace}
@@ -14,7 +14,7 @@ pub record Word : Type 0 where
 abbrev pub words_in : List ℕ → List (List ℕ)
 words_in line = filter (λ part. not (length part == 0)) (slice_split is_ascii_whitespace line)
 
--- the first byte that is not white space is `c`
+-- blanks aside, the line begins with the byte `c`
 abbrev pub is_comment : List ℕ → Bool
 is_comment line = slice_index (filter (λ b. not (is_ascii_whitespace b)) line) 0 == 99
 

@@ -121,43 +121,35 @@ pub(crate) fn add_word(
         WordOp::Right => add_shift(alloc, net, Direction::Down, left, right),
         WordOp::Equal => {
             let place = add_equal(alloc, net, left, right)?;
-            let places = alone(alloc, place)?;
-            Ok(places)
+            alone(alloc, place)
         }
         WordOp::NotEqual => {
             let place = add_unequal(alloc, net, left, right)?;
-            let places = alone(alloc, place)?;
-            Ok(places)
+            alone(alloc, place)
         }
         WordOp::Less => {
             let place = add_less(net, left, right)?;
-            let places = alone(alloc, place)?;
-            Ok(places)
+            alone(alloc, place)
         }
         WordOp::LessEqual => {
             let place = add_not_less(net, right, left)?;
-            let places = alone(alloc, place)?;
-            Ok(places)
+            alone(alloc, place)
         }
         WordOp::Greater => {
             let place = add_less(net, right, left)?;
-            let places = alone(alloc, place)?;
-            Ok(places)
+            alone(alloc, place)
         }
         WordOp::GreaterEqual => {
             let place = add_not_less(net, left, right)?;
-            let places = alone(alloc, place)?;
-            Ok(places)
+            alone(alloc, place)
         }
         WordOp::Both => {
             let place = add_truths(alloc, net, Joint::Both, left, right)?;
-            let places = alone(alloc, place)?;
-            Ok(places)
+            alone(alloc, place)
         }
         WordOp::Either => {
             let place = add_truths(alloc, net, Joint::Either, left, right)?;
-            let places = alone(alloc, place)?;
-            Ok(places)
+            alone(alloc, place)
         }
     }
 }
