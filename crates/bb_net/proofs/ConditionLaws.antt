@@ -160,7 +160,7 @@ suit_or_not spec imp chosen =
 pub choices_or_not : (spec imp : Netlist) → NoChoicesSuit spec imp ⊎ SomeChoicesSuit spec imp
 choices_or_not spec imp = turned (wins_or_not (Suit spec imp) (suit_or_not spec imp) imp.boxes [])
 
-agree_or_not : (spec imp : Netlist) (tables : List TableBits) → TablesAgree spec imp tables ⊎ (TablesAgree spec imp tables → ⊥)
+pub agree_or_not : (spec imp : Netlist) (tables : List TableBits) → TablesAgree spec imp tables ⊎ (TablesAgree spec imp tables → ⊥)
 agree_or_not spec imp tables = elim (lists_or_one (λ x. AllRight spec imp x (flat_with imp x tables)) (λ x. SomeWrong spec imp x (flat_with imp x tables)) imp.inputs (λ x len. all_right_cases spec imp x (flat_with imp x tables))) [
   | inl agree ↦ inl agree
   | inr fails ↦ inr (λ agree. let w = fails.2 in w.2 (agree fails.0 fails.1 w.0 w.1))

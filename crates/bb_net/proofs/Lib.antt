@@ -10,6 +10,10 @@ pub mod ValueLaws
 pub mod BuildLemmas
 pub mod TernLemmas
 pub mod TableLemmas
+pub mod KindLists
+pub mod KindNumbers
+pub mod SharedTables
+pub mod ShownLists
 pub mod PlaceLists
 pub mod WalkLemmas
 pub mod PlacedCells

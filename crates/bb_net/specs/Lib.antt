@@ -13,3 +13,4 @@ pub mod Rearrangements
 pub mod Ternary
 pub mod Values
 pub mod Inside
+pub mod Laws

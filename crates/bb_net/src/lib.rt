@@ -8,6 +8,7 @@ mod cell;
 mod components;
 mod conditions;
 mod flat;
+mod kinds;
 mod loose;
 mod net;
 mod numbering;
@@ -27,6 +28,10 @@ pub use conditions::{
     choices_are_tables, conditions_hold_or_not, conditions_weaken, hit_or_none, vectors_hold_or_not,
 };
 pub use flat::{Flat, FlatParts, Reg};
+pub use kinds::{
+    keys_have_kinds, kinds_are_counted, kinds_are_shown, kinds_may_differ, shared_tables_agree,
+    tables_are_spread,
+};
 pub use loose::{Loose, LooseCell};
 pub use net::{BoxPins, Net};
 pub use ordering::{NetFault, Ordered, order, order_exists, order_has_no_walk, order_keeps_values};

@@ -1,0 +1,2 @@
+-- Words that laws alone need.
+pub mod Kinds
