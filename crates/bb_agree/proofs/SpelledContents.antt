@@ -16,14 +16,14 @@ use Rattle.bb_agree.proofs.DesignAgreements.{Laws, box_count, from_pair, tables_
 
 -- tables that spell contents are their tables, box by box
 rows_each : (boxes : List BoxTexts) (tables : List TableBits) (contents : Contents) → AreSpelled boxes tables contents → (b : ℕ) → b < length boxes
-    → contents (get_or boxes b (record { path = []; ins = []; outs = [] })).path ≡ rows_of (table_at tables b)
+    → contents (get_or boxes b (record { path = []; «module» = []; ins = []; outs = [] })).path ≡ rows_of (table_at tables b)
 rows_each [] tables contents spelled b within = absurd (omega (arith, within))
 rows_each (box ∷ boxes) [] contents spelled b within = absurd spelled
 rows_each (box ∷ boxes) (t ∷ tables) contents spelled zero within = spelled.0
 rows_each (box ∷ boxes) (t ∷ tables) contents spelled (suc b) within = rows_each boxes tables contents spelled.1 b (omega (arith, within))
 
 spelled_by : (boxes : List BoxTexts) (tables : List TableBits) (contents : Contents) → length tables ≡ length boxes
-    → ((b : ℕ) → b < length boxes → contents (get_or boxes b (record { path = []; ins = []; outs = [] })).path ≡ rows_of (table_at tables b)) → AreSpelled boxes tables contents
+    → ((b : ℕ) → b < length boxes → contents (get_or boxes b (record { path = []; «module» = []; ins = []; outs = [] })).path ≡ rows_of (table_at tables b)) → AreSpelled boxes tables contents
 spelled_by [] [] contents count rows = tt
 spelled_by [] (t ∷ tables) contents count rows = absurd (omega (arith, count))
 spelled_by (box ∷ boxes) [] contents count rows = absurd (omega (arith, count))
@@ -36,7 +36,7 @@ module _ (laws : Laws) (spec imp : Design) (p : NetPair) (spec_allowed : IsAllow
   are_tables : (contents : Contents) → AreSpelled p.boxes tables contents → AreTablesOf pair.imp_net contents tables
   are_tables contents spelled = record {
     fit = from_pair laws spec imp p spec_allowed imp_allowed pair tables fit;
-    rows = λ b within. subst (λ (all : List BoxTexts). contents (get_or all b (record { path = []; ins = []; outs = [] })).path ≡ rows_of (table_at tables b)) pair.paired.boxes
+    rows = λ b within. subst (λ (all : List BoxTexts). contents (get_or all b (record { path = []; «module» = []; ins = []; outs = [] })).path ≡ rows_of (table_at tables b)) pair.paired.boxes
         (rows_each p.boxes tables contents spelled b (omega (arith, within, texts_count)));
   }
 
@@ -46,7 +46,7 @@ module _ (laws : Laws) (spec imp : Design) (p : NetPair) (spec_allowed : IsAllow
         c.0,
         c.1,
         spelled_by p.boxes tables c.0 (fit.count ∙ AllZip-long NamesPins p.boxes p.imp.boxes pair.kept.beside.boxes_named)
-            (λ b within. subst (λ (all : List BoxTexts). c.0 (get_or all b (record { path = []; ins = []; outs = [] })).path ≡ rows_of (table_at tables b)) (sym pair.paired.boxes)
+            (λ b within. subst (λ (all : List BoxTexts). c.0 (get_or all b (record { path = []; «module» = []; ins = []; outs = [] })).path ≡ rows_of (table_at tables b)) (sym pair.paired.boxes)
             (c.2.rows b (omega (arith, within, texts_count)))),
       )
 

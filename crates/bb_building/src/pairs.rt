@@ -38,9 +38,10 @@ fn box_name(alloc: Global, pins: &BoxPins) -> Result<BoxName, Fail>
     ensures { IfOk result (λ texts. NamesPins texts pins.now) }
 {
     let path = Name::of(alloc, b"u")?;
+    let module = Name::of(alloc, b"m")?;
     let ins = names(alloc, b"i", pins.ins().len())?;
     let outs = names(alloc, b"o", pins.outs().len())?;
-    Ok(BoxName::of(path, ins, outs))
+    Ok(BoxName::of(path, module, ins, outs))
 }
 
 // Whether two netlists may stand beside each other in a pair, where the second has one box.

@@ -61,7 +61,7 @@ one_place xs apart i j e p q same = by (less_or_same i j)
 
 module _ (d : Design) (f : FlatNet) (stands : StandsFor d f) where
   abbrev pub none : BoxTexts
-  none = record { path = []; ins = []; outs = [] }
+  none = record { path = []; «module» = []; ins = []; outs = [] }
 
   abbrev pub number_of_box : ℕ → ℕ
   number_of_box b = get_or stands.numbers b 0

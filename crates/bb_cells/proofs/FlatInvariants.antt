@@ -20,6 +20,7 @@ use Rattle.bb_design.specs.Refusals.{BoxTexts as BoxCause, RegisterTexts, PortTe
 use Rattle.bb_design.specs.Registers.{RegisterBit, registers, stored}
 use Rattle.bb_cells.specs.Stands.{IsClock, IsRegister, StandsFor, box_number}
 use Rattle.bb_design.specs.Texts.{bit_text, path_text}
+use Rattle.bb_cells.proofs.BoxModules.{pins_by_modules}
 use Rattle.bb_cells.proofs.CellCounts.{nets_are_no_larger}
 use Rattle.bb_cells.proofs.ContentTables.{one_place, none, number_of_box, box_of, list_count, text_count, text_is, path_is, pins_are, number_there}
 use Rattle.bb_lists.proofs.Zips.{zip_length}
@@ -145,6 +146,7 @@ module _ (of_designs : DesignLaws) (d : Design) (f : FlatNet) (bounded : IsBound
     named = are_named;
     apart = are_apart;
     printable = printable;
+    modules = pins_by_modules of_designs d bounded f stands;
     small = is_within;
     clocks = zip_all (IsRegister d) (λ r. IfSome r.clock (λ k. k < length f.ins)) clock_there (registers d) f.regs stands.regs;
   }

@@ -5,6 +5,7 @@ pub mod AlikePlaces
 pub mod BoxHeights
 pub mod BoxNeeds
 pub mod BoxOrders
+pub mod BoxModules
 pub mod CellCounts
 pub mod ClockInputs
 pub mod ContentTables

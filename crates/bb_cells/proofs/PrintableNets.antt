@@ -21,6 +21,7 @@ use Rattle.bb_cells.specs.Places.{pins_of}
 use Rattle.bb_cells.specs.Stands.{IsRegister, StandsFor, box_number, box_texts}
 use Rattle.bb_lists.proofs.Members.{all_from, from_flat, from_map, from_filter, from_find, into_flat, contains_here, contains_there, kept_from}
 use Rattle.bb_lists.proofs.Numbered.{length-enumerated}
+use Rattle.bb_cells.proofs.BoxModules.{box_scope, module_printable}
 use Rattle.bb_cells.proofs.PrintableTexts.{bit_printable, box_printable}
 
 -- a bit of some nets of the top is one of the design
@@ -48,17 +49,15 @@ module _ (of_designs : DesignLaws) (d : Design) (f : FlatNet) (bounded : IsBound
       let is = (of_designs.told_apart b.0 r.bit).0 (from_find (λ (r : RegisterBit). same_bit b.0 r.bit) (stored d) r b.2).1 in
       subst (Contains (net_order d)) is b.1
 
-  number_there : (b : ℕ) → Contains stands.numbers b → b < length (boxes d)
-  number_there b has =
-      let inside = (stands.ordered.boxes has.0 (omega (arith, has.1, stands.ordered.number_count))).0 in
-      let is : slice_index stands.numbers has.0 ≡ b = get_or_default stands.numbers has.0 0 b has.1 ∙ has.2 in
-      let listed = ap length stands.listed.boxes ∙ length-map (enumerate_from 0 (boxes d)) (pins_of stands.listed.number) ∙ length-enumerated 0 (boxes d) in
-      omega (arith, inside, is, listed)
-
   box_named : (x : BoxTexts) → Contains (map (λ b. box_texts d (box_number d b)) stands.numbers) x → IsPrintable x.path
   box_named x has =
-      let b = from_map (λ b. box_texts d (box_number d b)) stands.numbers x has in
-      subst (λ (y : BoxTexts). IsPrintable y.path) b.2 (box_printable of_designs d bounded (box_number d b.0) (Contains-get_or (boxes d) b.0 (root d) (number_there b.0 b.1)))
+      let s = box_scope d f stands x has in
+      subst (λ (y : BoxTexts). IsPrintable y.path) s.2 (box_printable of_designs d bounded s.0 s.1)
+
+  module_named : (x : BoxTexts) → Contains (map (λ b. box_texts d (box_number d b)) stands.numbers) x → IsPrintable x.module
+  module_named x has =
+      let s = box_scope d f stands x has in
+      subst (λ (y : BoxTexts). IsPrintable y.module) s.2 (module_printable of_designs d bounded s.0 s.1)
 
   pub net_printable : ArePrintable f
   net_printable = record {
@@ -66,6 +65,7 @@ module _ (of_designs : DesignLaws) (d : Design) (f : FlatNet) (bounded : IsBound
     regs = zip_each (IsRegister d) (λ (r : Reg). IsPrintable r.text) (registers d) f.regs (λ r reg has is. subst IsPrintable (sym is.text) (bit_printable of_designs d bounded r.bit (register_there r has))) stands.regs;
     outs = subst (All IsPrintable) (sym stands.outs) (texts_printable (top_outputs d) (ports_there d _));
     boxes = subst (All (λ (x : BoxTexts). IsPrintable x.path)) (sym stands.boxes) (all_from (λ (x : BoxTexts). IsPrintable x.path) (map (λ b. box_texts d (box_number d b)) stands.numbers) box_named);
+    modules = subst (All (λ (x : BoxTexts). IsPrintable x.module)) (sym stands.boxes) (all_from (λ (x : BoxTexts). IsPrintable x.module) (map (λ b. box_texts d (box_number d b)) stands.numbers) module_named);
   }
 
 pub standing_nets_are_printable : DesignLaws → StandingNetsArePrintable

@@ -81,7 +81,7 @@ module _ (of_designs : DesignLaws) (values : ValuesHaveWidth) (made : MadeHasVal
 
   box_same : (b p : ℕ) → b < length f.net.boxes → (ins : List Bool) → renumbered stands.numbers (given_by_contents d contents) b p ins ≡ given_by_paths f contents b p ins
   box_same b p fits ins =
-      let none : BoxTexts = record { path = []; ins = []; outs = [] } in
+      let none : BoxTexts = record { path = []; «module» = []; ins = []; outs = [] } in
       let there : b < length stands.numbers = omega (arith, fits, stands.ordered.box_count, stands.ordered.number_count) in
       let text : get_or f.boxes b none ≡ box_texts d (box_number d (get_or stands.numbers b 0)) = ap (λ all. get_or all b none) stands.boxes ∙ get_or-map (λ b. box_texts d (box_number d b)) stands.numbers b 0 none there in
       ap (λ (t : BoxTexts). output_bit (contents t.path) ins p) (sym text)

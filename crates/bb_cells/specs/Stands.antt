@@ -33,7 +33,7 @@ pub record IsRegister (d : Design) (r : RegisterBit) (reg : Reg) : Type 0 where
   pub clock : (b : Bit) × (written_bits r.scope r.item.clock ≡ b ∷ []) × IsClock d b reg.clock
 
 abbrev pub box_texts : Design → Scope → BoxTexts
-box_texts d s = record { path = path_text s.path; ins = map (pin_text d) (input_bits s); outs = map (pin_text d) (output_bits s) }
+box_texts d s = record { path = path_text s.path; «module» = s.source.name; ins = map (pin_text d) (input_bits s); outs = map (pin_text d) (output_bits s) }
 
 -- the box with a number, in elaboration order
 abbrev pub box_number : Design → ℕ → Scope

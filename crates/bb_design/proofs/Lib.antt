@@ -12,6 +12,7 @@ pub mod NextStates
 pub mod Operators
 pub mod PartBits
 pub mod ReadingLaw
+pub mod PinTexts
 pub mod RefusalLaws
 pub mod RegisterItems
 pub mod ScopeLaws

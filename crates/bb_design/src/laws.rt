@@ -1,6 +1,7 @@
 //! Laws of these definitions. Each function has a law as its contract and does nothing.
 
 ghost use Rattle.bb_design.specs.Inside.Allowed.{SoundTextsAreAllowed};
+ghost use Rattle.bb_design.specs.Laws.BitLaws.{PinTextsGoByModules};
 ghost use Rattle.bb_design.specs.Laws.DesignLaws.{DesignLaws};
 ghost use Rattle.bb_design.specs.Laws.DrivenWorlds.{ConstructsHoldBitByBit, WorldsAgreeWhereRead, VectorsHaveWorlds, WorldsAreDriven, SoundConstructsAreLegal};
 ghost use Rattle.bb_design.specs.Laws.HierarchyLaws.{CalleesAreInstantiated, SoundTextsHaveModulesApart, SoundTextsHaveTargets, WalksAreByPlaces};
@@ -102,6 +103,11 @@ pub fn sound_texts_have_names_apart()
 #[tactic(auto, using(crate::proofs::SoundModules::sound_texts_have_modules_apart))]
 pub fn sound_texts_have_modules_apart()
     ensures { SoundTextsHaveModulesApart }
+{}
+
+/// Scopes of one module have ports of the same texts.
+pub fn pin_texts_go_by_modules()
+    ensures { PinTextsGoByModules }
 {}
 
 /// In a text without faults what is instantiated is a module of the text.

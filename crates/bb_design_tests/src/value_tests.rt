@@ -55,6 +55,27 @@ fn names_of_designs(rt: HostRuntime) -> Result<(), Fail> {
     Ok(())
 }
 
+// Two boxes of one module, the second one level deeper than the first and with its connections by name.
+const ONE_MODULE: &[u8] = b"module t(a, b, y, z); input a, b; output y; output [1:0] z; bx u({b, a}, y, z[0]); m v(a, b, z[1]); endmodule
+module m(c, d, y); input c, d; output y; bx w(.s(y), .i({c, d}), .o()); endmodule
+module bx(i, o, s); input [1:0] i; output o, s; endmodule";
+
+#[test]
+fn modules_of_boxes(rt: HostRuntime) -> Result<(), Fail> {
+    let flat = flat_of(&rt, rt.alloc(), ONE_MODULE, Some(b"t"))?;
+    let mut told = String::new(rt.alloc());
+    for of in flat.boxes() {
+        tell_name(&mut told, of.path())?;
+        told.push(' ')?;
+        tell_name(&mut told, of.module())?;
+        tell_names(&mut told, of.ins())?;
+        tell_names(&mut told, of.outs())?;
+        told.push(';')?;
+    }
+    assert_eq!(&rt; told.as_str(), "u bx i[1] i[0] o s;v.w bx i[1] i[0] o s;");
+    Ok(())
+}
+
 // The tables whose rows stand one behind the other, with a blank between two.
 fn tables(alloc: Global, flat: &Flat, all: &str) -> Result<Vec<Table>, Fail> {
     let mut tables = Vec::new(alloc);

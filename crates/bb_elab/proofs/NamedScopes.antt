@@ -66,8 +66,8 @@ moved_at d small bits first own listed moved at same is =
     let fits = subst (All (λ i. first + i < 2 ^ 32)) (sym same) (few_numbers d small bits first own at) in
     subst (λ l. AreAt (net_order d) l bits) (sym (is fits ∙ ap (map (λ i. first + i)) same)) at
 
-pub box_is : (d : Design) (s : Scope) (n : BoxTexts) (path : List ℕ) (ins outs : List (List ℕ)) → n ≡ record { path = path; ins = ins; outs = outs }
-    → path ≡ path_text s.path → ins ≡ map (pin_text d) (input_bits s) → outs ≡ map (pin_text d) (output_bits s) → n ≡ box_texts d s
-box_is d s n path ins outs is p q r =
-    is ∙ ap (λ (x : List ℕ). record { path = x; ins = ins; outs = outs }) p ∙ ap (λ (x : List (List ℕ)). record { path = path_text s.path; ins = x; outs = outs }) q
-    ∙ ap (λ (x : List (List ℕ)). record { path = path_text s.path; ins = map (pin_text d) (input_bits s); outs = x }) r
+pub box_is : (d : Design) (s : Scope) (n : BoxTexts) (path name : List ℕ) (ins outs : List (List ℕ)) → n ≡ record { path = path; «module» = name; ins = ins; outs = outs }
+    → path ≡ path_text s.path → name ≡ s.source.name → ins ≡ map (pin_text d) (input_bits s) → outs ≡ map (pin_text d) (output_bits s) → n ≡ box_texts d s
+box_is d s n path name ins outs is p m q r =
+    is ∙ ap₂ (λ (x y : List ℕ). record { path = x; «module» = y; ins = ins; outs = outs }) p m
+    ∙ ap₂ (λ (x y : List (List ℕ)). record { path = path_text s.path; «module» = s.source.name; ins = x; outs = y }) q r

@@ -14,7 +14,7 @@ ghost use Rattle.bb_cells.specs.Stands.{box_number, box_texts};
 use crate::growing::Grown;
 use crate::naming::pin_names;
 use crate::repeats::first_repeat;
-use crate::texts::path_name;
+use crate::texts::{module_name, path_name};
 use bb_bits::{Name, NoMemory};
 use bb_blast::{Placed, moved, outline_of};
 use bb_design::ElabFault;
@@ -85,6 +85,7 @@ fn box_name(
     let outs = moved(alloc, at.first, &outline.outputs)?;
     Ok(BoxName::of(
         path_name(alloc, &grown.placed, scope)?,
+        module_name(alloc, checked, &grown.placed, scope)?,
         pin_names(alloc, checked, grown, &ins)?,
         pin_names(alloc, checked, grown, &outs)?,
     ))

@@ -114,6 +114,24 @@ fn scope_of_module(checked: &Checked, module: usize) -> &CheckedModule
     &checked.modules()[module]
 }
 
+/// The name of the module of a scope.
+pub(crate) fn module_name(
+    alloc: Global,
+    checked: &Checked,
+    placed: &[Placed],
+    scope: u32,
+) -> Result<Name, NoMemory>
+    requires design { (d : Design) × (d.text ≡ map syntax checked.now) × ArePlaced d placed.now }
+    requires there { scope < length placed.now }
+    ensures name { IfOk result (λ n. (d : Design) → d.text ≡ map syntax checked.now → ArePlaced d placed.now
+        → (s : Scope) → IsScopeAt d scope s → n ≡ s.source.name) }
+{
+    laws_of_modules();
+    let at = &placed[scope as usize];
+    let module = scope_of_module(checked, at.module);
+    Name::of(alloc, module.module.name.bytes())
+}
+
 // The outline of the module at a place.
 fn outline_of_module(outlines: &[Outline], module: usize) -> &Outline
     requires there { «module» < length outlines.now }

@@ -54,9 +54,11 @@ fn box_name(alloc: Global, path: &[u8]) -> Result<BoxName, Fail>
     ensures ins { IfOk result (λ texts. length texts.ins ≡ 1) }
     ensures outs { IfOk result (λ texts. length texts.outs ≡ 1) }
 {
+    let path = Name::of(alloc, path)?;
+    let module = Name::of(alloc, b"m")?;
     let ins = name(alloc, b"i")?;
     let outs = name(alloc, b"o")?;
-    Ok(BoxName::of(Name::of(alloc, path)?, ins, outs))
+    Ok(BoxName::of(path, module, ins, outs))
 }
 
 fn add_out_name(alloc: Global, names: &mut Vec<OutName>, text: &[u8]) -> Result<(), Fail>

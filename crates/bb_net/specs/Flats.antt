@@ -1,6 +1,6 @@
 -- A flat netlist: a netlist with the texts of its inputs, registers, outputs and boxes. Its inputs are those of the top and then
 -- the register bits; its outputs are those of the top and then the data of the registers. A text is a list of bytes.
-use Rattle.std.specs.Prelude.{◌≡◌, ◌≢◌, ℕ, ◌+◌, ◌<◌, ◌≤◌, List, map, length, All, AllPairs, IfSome}
+use Rattle.std.specs.Prelude.{◌≡◌, ◌≢◌, ℕ, ◌+◌, ◌<◌, ◌≤◌, List, map, length, All, AllPairs, Contains, IfSome}
 use Rattle.std.specs.List.{AllZip}
 use Rattle.bb_bits.specs.Names.{IsPrintable}
 use Rattle.bb_net.specs.Netlists.{Netlist, IsNetlist}
@@ -33,6 +33,11 @@ pub record ArePrintable (f : FlatNet) : Type 0 where
   pub regs : All (λ r. IsPrintable r.text) f.regs
   pub outs : All IsPrintable f.outs
   pub boxes : All (λ b. IsPrintable b.path) f.boxes
+  pub modules : All (λ b. IsPrintable b.module) f.boxes
+
+-- boxes of one module have pins of the same texts
+abbrev pub PinsGoByModules : List BoxTexts → Type 0
+PinsGoByModules boxes = (a b : BoxTexts) → Contains boxes a → Contains boxes b → a.module ≡ b.module → (a.ins ≡ b.ins) × (a.outs ≡ b.outs)
 
 -- it is not too large
 pub record IsWithin (f : FlatNet) : Type 0 where
@@ -46,6 +51,7 @@ pub record IsFlat (f : FlatNet) : Type 0 where
   pub named : AreNamed f
   pub apart : AreApart f
   pub printable : ArePrintable f
+  pub modules : PinsGoByModules f.boxes
   pub small : IsWithin f
   -- a clock is an input of the top
   pub clocks : All (λ r. IfSome r.clock (λ k. k < length f.ins)) f.regs

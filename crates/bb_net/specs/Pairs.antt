@@ -5,9 +5,10 @@ use Rattle.std.specs.List.{AllZip}
 use Rattle.bb_net.specs.declared.pair.OutName.{OutName}
 use Rattle.bb_net.specs.Netlists.{Netlist, Pins, IsNetlist}
 
--- the path of a box, and the texts of its pins in order
+-- the path of a box, the name of its module, and the texts of its pins in order
 pub record BoxTexts : Type 0 where
   pub path : List ℕ
+  pub «module» : List ℕ
   pub ins : List (List ℕ)
   pub outs : List (List ℕ)
 

@@ -18,8 +18,8 @@ pub struct Reg {
 /// A flat netlist: a netlist with the texts of its inputs, registers, outputs and boxes. Its inputs are those that have texts of
 /// their own and then the present states of the registers, its outputs those with texts and then the data of the registers.
 ///
-/// Texts of one kind differ, and each is one or more bytes from 33 to 126. There are at most 2,000,000 cells, 2,000,000 outputs
-/// and 1,000,000 boxes.
+/// Texts of one kind differ, and each is one or more bytes from 33 to 126, as the name of the module of each box is. Boxes of one
+/// module have pins of the same texts. There are at most 2,000,000 cells, 2,000,000 outputs and 1,000,000 boxes.
 #[derive(Debug, Drop)]
 pub struct Flat {
     net: Net,

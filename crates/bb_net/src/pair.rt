@@ -14,10 +14,11 @@ pub struct OutName {
     pub text: Name,
 }
 
-/// The path of a box and the texts of its pins, in pin order.
+/// The path of a box, the name of its module, and the texts of its pins, in pin order.
 #[derive(Debug, Drop)]
 pub struct BoxName {
     path: Name,
+    module: Name,
     ins: Vec<Name>,
     outs: Vec<Name>,
 }
@@ -27,15 +28,20 @@ impl Model for BoxName {
 
     ghost Value = { BoxTexts };
 
-    ghost view = { λ b. record { path = b.path; ins = b.ins.items; outs = b.outs.items } };
+    ghost view = { λ b. record { path = b.path; «module» = b.module; ins = b.ins.items; outs = b.outs.items } };
 }
 
 impl BoxName {
-    /// The name of a box with this path and these texts of its pins.
-    pub fn of(path: Name, ins: Vec<Name>, outs: Vec<Name>) -> BoxName
-        ensures name { result ≡ record { path = path; ins = ins.items; outs = outs.items } }
+    /// The name of a box with this path, of this module, and with these texts of its pins.
+    pub fn of(path: Name, module: Name, ins: Vec<Name>, outs: Vec<Name>) -> BoxName
+        ensures name { result ≡ record { path = path; «module» = «module»; ins = ins.items; outs = outs.items } }
     {
-        BoxName { path, ins, outs }
+        BoxName {
+            path,
+            module,
+            ins,
+            outs,
+        }
     }
 
     /// The instance names from the top to the box, joined by dots.
@@ -43,6 +49,13 @@ impl BoxName {
         ensures path { result.now ≡ self.now.path }
     {
         &self.path
+    }
+
+    /// The name of its module.
+    pub fn module(&self) -> &Name
+        ensures module { result.now ≡ self.now.module }
+    {
+        &self.module
     }
 
     /// The texts of the input pins.

@@ -54,7 +54,7 @@ told_expanded (expanded.Repair tables) = Repair tables
 
 -- the texts of box b; behind the last one count none
 abbrev pub texts_at : List BoxTexts → ℕ → BoxTexts
-texts_at boxes b = slice_index_or boxes b (record { path = []; ins = []; outs = [] })
+texts_at boxes b = slice_index_or boxes b (record { path = []; «module» = []; ins = []; outs = [] })
 
 -- what is found can be told: the output is one of the pair, and the vector has a bit for each input
 pub record Tells (p : NetPair) (found : Found) : Type 0 where

@@ -41,7 +41,7 @@ ListsGiveWorlds = (d : Design) (lowering : Lowering) (l : LooseList) → IsAllow
 
 -- the path of a box of a flat netlist
 abbrev pub path_of : FlatNet → ℕ → List ℕ
-path_of f b = (slice_index_or f.boxes b (record { path = []; ins = []; outs = [] })).path
+path_of f b = (slice_index_or f.boxes b (record { path = []; «module» = []; ins = []; outs = [] })).path
 
 -- what the boxes of a flat netlist give, where each has the contents of its path
 abbrev pub given_by_paths : FlatNet → Contents → ℕ → ℕ → List Bool → Bool

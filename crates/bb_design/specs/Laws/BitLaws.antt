@@ -1,5 +1,5 @@
 -- Laws of the bits of a design: bits are told apart, and where they stand.
-use Rattle.std.specs.Prelude.{◌≡◌, ◌↔◌, ◌≤◌, Bool, true, List, filter, flat_map, length, sum_by, All, Contains}
+use Rattle.std.specs.Prelude.{◌≡◌, ◌↔◌, ◌≤◌, Bool, true, List, filter, flat_map, length, map, sum_by, All, Contains}
 use Rattle.std.specs.List.{list_any}
 use Rattle.bb_ast.specs.Syntax.{Expression}
 use Rattle.bb_bits.specs.Closures.{IsDistinct}
@@ -14,7 +14,8 @@ use Rattle.bb_design.specs.Contexts.{width_of}
 use Rattle.bb_design.specs.Laws.DrivenWorlds.{IsLegal}
 use Rattle.bb_design.specs.Hierarchy.{Path, Design, Scope, scopes}
 use Rattle.bb_design.specs.Laws.{BitsAreThere, ScopesAreEnds}
-use Rattle.bb_design.specs.NetBits.{Bit, bits_of_net, net_order, same_bit, scope_bits, written_bits}
+use Rattle.bb_design.specs.NetBits.{Bit, bits_of_net, input_bits, net_order, output_bits, same_bit, scope_bits, written_bits}
+use Rattle.bb_design.specs.Texts.{pin_text}
 use Rattle.bb_design.specs.Laws.Wired.{IsWired}
 use Rattle.bb_design.specs.Worlds.{FitDesign}
 
@@ -49,6 +50,11 @@ ScopesAreOfTexts = (d : Design) (s : Scope) → Contains d.text d.top → Contai
 -- a part is a construct of its scope
 abbrev pub PartsAreConstructs : Type 0
 PartsAreConstructs = (d : Design) (s : Scope) (c : Construct) → Contains (parts d) (s, c) → Contains (scopes d) s × Contains (constructs_at d.text s) c
+
+-- scopes of one module have ports of the same texts
+abbrev pub PinTextsGoByModules : Type 0
+PinTextsGoByModules = (d : Design) → IsBounded d → (s t : Scope) → Contains (scopes d) s → Contains (scopes d) t → s.source.name ≡ t.source.name
+    → (map (pin_text d) (input_bits s) ≡ map (pin_text d) (input_bits t)) × (map (pin_text d) (output_bits s) ≡ map (pin_text d) (output_bits t))
 
 -- what holds of the design of a well-formed text without faults that is neither too deep nor too large: it is wired, so its bits
 -- are there, and a path leads to each of its scopes

@@ -1,5 +1,5 @@
 -- The laws of designs on which crates above rest, as one.
-use Rattle.bb_design.specs.Laws.BitLaws.{BitsAreDistinct, BitsAreFound, BitsAreToldApart, BoundedConstructsAreLegal, BoundedDesignsAreWired, BoundedDesignsHaveTheirBits, BoundedDesignsHaveTheirScopes, NetBitsAreOfScopes, NetsHaveTheirBits, PartsAreConstructs, ScopesAreOfTexts, WrittenBitsAreFew}
+use Rattle.bb_design.specs.Laws.BitLaws.{BitsAreDistinct, BitsAreFound, BitsAreToldApart, BoundedConstructsAreLegal, BoundedDesignsAreWired, BoundedDesignsHaveTheirBits, BoundedDesignsHaveTheirScopes, NetBitsAreOfScopes, NetsHaveTheirBits, PartsAreConstructs, PinTextsGoByModules, ScopesAreOfTexts, WrittenBitsAreFew}
 use Rattle.bb_design.specs.Laws.DriveLaws.{DependentBitsAreDriven, GatesGoByTerms, NextStatesGoByTerms, OutputsAreInOrder, OutputsGoByReadBits, RegistersAreAlwaysItems, RegistersAreParts, StoredBitsAreDriven, StoredBitsAreRegisters, TopInputsAreDriven}
 use Rattle.bb_design.specs.Laws.CauseLaws.{CausesAreInOrder, CyclesAreTold, RecursionsAreTold}
 use Rattle.bb_design.specs.Laws.DrivenWorlds.{SoundConstructsAreLegal, VectorsHaveWorlds, WorldsAgreeWhereRead, WorldsAreDriven}
@@ -16,6 +16,7 @@ pub record DesignLaws : Type 0 where
   pub written_few : WrittenBitsAreFew
   pub distinct : BitsAreDistinct
   pub of_text : ScopesAreOfTexts
+  pub pin_texts : PinTextsGoByModules
   pub part_of : PartsAreConstructs
   pub wired : BoundedDesignsAreWired
   pub bits_there : BoundedDesignsHaveTheirBits

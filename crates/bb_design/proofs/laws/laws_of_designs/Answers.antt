@@ -8,6 +8,7 @@ use Rattle.bb_design.proofs.DistinctBits.{distinct_bits}
 use Rattle.bb_design.proofs.KnownNets.{declared_net, filtered_there, header_net}
 use Rattle.bb_design.proofs.NetBits.{bits_long}
 use Rattle.bb_design.proofs.NextStates.{data_bits, output_bits_in, outputs_same, register_part, stored_by}
+use Rattle.bb_design.proofs.PinTexts.{pin_texts_by_modules}
 use Rattle.bb_design.proofs.RefusalLaws.{first_refusals_are_one, not_sound_and_refused}
 use Rattle.bb_design.proofs.RegisterItems.{always_item}
 use Rattle.bb_design.proofs.ScopeLaws.{paths_lead_to_scopes}
@@ -32,6 +33,7 @@ returns c = record {
   written_few = written_short;
   distinct = distinct_bits c.net_names_differ.ensures;
   of_text = source_there;
+  pin_texts = pin_texts_by_modules;
   part_of = part_of;
   wired = wired;
   bits_there = bits_there;

@@ -29,8 +29,8 @@ pin_names-requires c =
     let s = some_at (scopes given.0) c.args.scope (omega (arith, c.requires.there, given.1.grown.scopes.count)) in
     let kept = sym (ap (λ l. slice_get l p.module) c.deref.ensures.value) ∙ c.outline_of-outline.ensures.outline in
     let own = inputs_at (map syntax c.args.checked.now) given.0 g given.1 c.args.scope s.0 s.1 p there c.outline_of-outline.result.now kept in
-    let at = moved_at given.0 given.1.finite.bounded.small (input_bits s.0) p.first _ c.deref-2.result.now c.deref-5.result.now own c.deref-2.ensures.value (λ fits. c.deref-5.ensures.value ∙ c.in_ok-ins.ensures.small fits) in
-    record { design = (given.0, given.1, at_below (net_order given.0) c.deref-5.result.now (input_bits s.0) at) }
+    let at = moved_at given.0 given.1.finite.bounded.small (input_bits s.0) p.first _ c.deref-2.result.now c.deref-6.result.now own c.deref-2.ensures.value (λ fits. c.deref-6.ensures.value ∙ c.in_ok-ins.ensures.small fits) in
+    record { design = (given.0, given.1, at_below (net_order given.0) c.deref-6.result.now (input_bits s.0) at) }
 
 pub pin_names-requires-2 : goal.pin_names-requires-2
 pin_names-requires-2 c =
@@ -41,8 +41,8 @@ pin_names-requires-2 c =
     let s = some_at (scopes given.0) c.args.scope (omega (arith, c.requires.there, given.1.grown.scopes.count)) in
     let kept = sym (ap (λ l. slice_get l p.module) c.deref.ensures.value) ∙ c.outline_of-outline.ensures.outline in
     let own = outputs_at (map syntax c.args.checked.now) given.0 g given.1 c.args.scope s.0 s.1 p there c.outline_of-outline.result.now kept in
-    let at = moved_at given.0 given.1.finite.bounded.small (output_bits s.0) p.first _ c.deref-3.result.now c.deref-6.result.now own c.deref-3.ensures.value (λ fits. c.deref-6.ensures.value ∙ c.in_ok-outs.ensures.small fits) in
-    record { design = (given.0, given.1, at_below (net_order given.0) c.deref-6.result.now (output_bits s.0) at) }
+    let at = moved_at given.0 given.1.finite.bounded.small (output_bits s.0) p.first _ c.deref-3.result.now c.deref-7.result.now own c.deref-3.ensures.value (λ fits. c.deref-7.ensures.value ∙ c.in_ok-outs.ensures.small fits) in
+    record { design = (given.0, given.1, at_below (net_order given.0) c.deref-7.result.now (output_bits s.0) at) }
 
 pub returns : goal.returns
 returns c = record {
@@ -53,8 +53,9 @@ returns c = record {
       let o = c.outline_of-outline.result.now in
       let there = slice_get_read g.placed.items (length g.placed.items) c.args.scope p refl c.requires.there c.index-at.ensures in
       let kept = sym (ap (λ l. slice_get l p.module) c.deref.ensures.value) ∙ c.outline_of-outline.ensures.outline in
-      let ins = moved_at d has.finite.bounded.small (input_bits s) p.first _ c.deref-2.result.now c.deref-5.result.now (inputs_at text d g has c.args.scope s at p there o kept) c.deref-2.ensures.value (λ fits. c.deref-5.ensures.value ∙ c.in_ok-ins.ensures.small fits) in
-      let outs = moved_at d has.finite.bounded.small (output_bits s) p.first _ c.deref-3.result.now c.deref-6.result.now (outputs_at text d g has c.args.scope s at p there o kept) c.deref-3.ensures.value (λ fits. c.deref-6.ensures.value ∙ c.in_ok-outs.ensures.small fits) in
-      box_is d s c.of.result c.in_ok-path_name.field-0 c.in_ok-pin_names.field-0.items c.in_ok-pin_names-2.field-0.items c.of.ensures.name (c.in_ok-path_name.ensures.name d (subst (ArePlaced d) (sym c.deref-4.ensures.value) has.grown.scopes) s at)
+      let ins = moved_at d has.finite.bounded.small (input_bits s) p.first _ c.deref-2.result.now c.deref-6.result.now (inputs_at text d g has c.args.scope s at p there o kept) c.deref-2.ensures.value (λ fits. c.deref-6.ensures.value ∙ c.in_ok-ins.ensures.small fits) in
+      let outs = moved_at d has.finite.bounded.small (output_bits s) p.first _ c.deref-3.result.now c.deref-7.result.now (outputs_at text d g has c.args.scope s at p there o kept) c.deref-3.ensures.value (λ fits. c.deref-7.ensures.value ∙ c.in_ok-outs.ensures.small fits) in
+      box_is d s c.of.result c.in_ok-path_name.field-0 c.in_ok-module_name.field-0 c.in_ok-pin_names.field-0.items c.in_ok-pin_names-2.field-0.items c.of.ensures.name (c.in_ok-path_name.ensures.name d (subst (ArePlaced d) (sym c.deref-4.ensures.value) has.grown.scopes) s at)
+      (c.in_ok-module_name.ensures.name d has.of_text (subst (ArePlaced d) (sym c.deref-5.ensures.value) has.grown.scopes) s at)
       (c.in_ok-pin_names.ensures.names d has (input_bits s) ins) (c.in_ok-pin_names-2.ensures.names d has (output_bits s) outs);
 }
