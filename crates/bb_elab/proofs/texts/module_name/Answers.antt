@@ -1,6 +1,6 @@
-use Rattle.std.proofs.Common.{◌≡◌, ◌<◌, ℕ, List, Some, length, map, refl, sym, ap, ◌∙◌, arith}
+use Rattle.std.proofs.Common.{◌≡◌, ℕ, List, Some, length, map, refl, sym, ap, ◌∙◌, arith}
 use Rattle.std.specs.Prelude.{slice_get}
-use Rattle.std.proofs.lemmas.Option.{slice_get_read, slice_get_within}
+use Rattle.std.proofs.lemmas.Option.{slice_get_read}
 use Rattle.std.proofs.lemmas.Result.{IfOk-weaker}
 use Rattle.bb_ast.specs.Syntax.{PlainModule}
 use Rattle.bb_names.specs.Inside.Checked.{ModuleFacts, module_facts, syntax}
@@ -26,8 +26,8 @@ scope_of_module-module-requires c =
     let d = c.requires.design in
     let all = c.args.placed.now in
     let k = c.args.scope in
-    let p = c.index-at.result.now in
-    let there = slice_get_read all (length all) k p refl c.requires.there c.index-at.ensures in
+    let p = c.index-placed-scope.result in
+    let there = slice_get_read all (length all) k p refl c.requires.there c.index-placed-scope.is in
     let s = some_at (scopes d.0) k (omega (arith, c.requires.there, d.2.count)) in
     record { there = (c.laws_of_modules.ensures.checked c.args.checked.now p.module s.0.source (source_at c.laws_of_modules.ensures c.args.checked.now all d.0 d.1 d.2 k s.0 s.1 p there)).0 }
 
@@ -36,8 +36,8 @@ returns c = record {
   name =
       let all = c.args.placed.now in
       let k = c.args.scope in
-      let p = c.index-at.result.now in
-      let there = slice_get_read all (length all) k p refl c.requires.there c.index-at.ensures in
+      let p = c.index-placed-scope.result in
+      let there = slice_get_read all (length all) k p refl c.requires.there c.index-placed-scope.is in
       let f = module_facts c.scope_of_module-module.result.now in
       IfOk-weaker c.of.result (λ n. n ≡ c.bytes.result.now)
       (λ n. (d : Design) → d.text ≡ map syntax c.args.checked.now → ArePlaced d all → (s : Scope) → IsScopeAt d k s → n ≡ s.source.name)
