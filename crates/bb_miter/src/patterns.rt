@@ -1,7 +1,8 @@
 //! Patterns at which two netlists differ.
 
-ghost use Rattle.std.specs.Prelude.{◌≡◌, ◌≢◌, ◌≤◌, All, AllPairs, length, map, vec_items, IfOk};
-ghost use Rattle.bb_miter.specs.Inside.Equivalence.{AreComparable, DiffersAt};
+ghost use Rattle.std.specs.Prelude.{◌≡◌, ◌≢◌, ◌≤◌, [], All, AllPairs, length, map, vec_items, IfOk};
+ghost use Rattle.bb_miter.specs.Inside.Equivalence.{AreComparable, DiffersAt, SameAt};
+ghost use Rattle.bb_tern.specs.Patterns.{patterns as drawn_patterns};
 
 use bb_bits::NoMemory;
 use bb_net::Net;
@@ -14,8 +15,8 @@ const LANES: usize = 64;
 /// How many patterns are drawn, behind those with at most one bit that differs from the others.
 const DRAWN: u32 = 512;
 
-/// Vectors at which some output differs, at most 64 and no two of them one, among patterns that are drawn from `seed`. There may be
-/// others where it gives none.
+/// Vectors at which some output differs, at most 64 and no two of them one. They are among the patterns of a simulation, of which 512 are
+/// drawn from `seed`; it gives none only where all outputs are the same at all of these.
 pub fn differing_patterns(
     alloc: Global,
     spec: &Net,
@@ -26,6 +27,7 @@ pub fn differing_patterns(
     ensures differ { IfOk result (λ vectors. All (DiffersAt spec.now imp.now) (map vec_items vectors.items)) }
     ensures distinct { IfOk result (λ vectors. AllPairs ◌≢◌ (map vec_items vectors.items)) }
     ensures few { IfOk result (λ vectors. length vectors.items ≤ 64) }
+    ensures none { IfOk result (λ vectors. vectors.items ≡ [] → All (SameAt spec.now imp.now) (drawn_patterns imp.now.inputs 512 seed)) }
 {
     laws::patterns_are_vectors();
     let all = patterns(alloc, imp.inputs(), DRAWN, seed)?;
@@ -54,6 +56,7 @@ fn differing_among(
     ensures differ { IfOk result (λ vectors. All (DiffersAt spec.now imp.now) (map vec_items vectors.items)) }
     ensures distinct { IfOk result (λ vectors. AllPairs ◌≢◌ (map vec_items vectors.items)) }
     ensures few { IfOk result (λ vectors. length vectors.items ≤ length patterns.now) }
+    ensures none { IfOk result (λ vectors. vectors.items ≡ [] → All (SameAt spec.now imp.now) (map vec_items patterns.now)) }
 {
     let marks = differ_at(alloc, spec, imp, patterns)?;
     let mut vectors = Vec::new(alloc);

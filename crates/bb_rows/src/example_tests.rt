@@ -1,5 +1,5 @@
 //! The pairs under examples/, by equal bytes.
-use crate::tests::expect;
+use crate::expecting::expect;
 use std::test::Fail;
 
 const ADDER_SPEC: &str = r#"// A full adder.

@@ -1,5 +1,5 @@
 //! The expansion under its options: how many clauses it may hold, and the proof of a mistake.
-use crate::option_tests::expect_asked;
+use crate::expecting::expect_asked;
 use crate::run_in_memory;
 use std::test::Fail;
 

@@ -1,25 +1,8 @@
 //! Pairs that are settled only by what boxes may hold, with the tables that finish them, worked out by hand.
-use crate::row_tests::{BUFFER, MAPPED, ONE};
+use crate::expecting::expect;
 use crate::run_in_memory;
-use crate::tests::{EQUAL, expect};
+use crate::texts::{BUFFER, COUNTER, EQUAL, MAPPED, ONE, TWO_BOXES};
 use std::test::Fail;
-
-/// Two boxes of an input each.
-pub const TWO_BOXES: &str =
-    "module t(a,b,y1,y2); input a,b; output y1,y2; bx u1(a,y1); bx u2(b,y2); endmodule module bx(i,o); input i; output o; endmodule";
-
-/// A counter as RTL has it, of two modules.
-pub const COUNTER: &str = "module cnt(clk, d, y);
-  input clk; input [1:0] d; output y;
-  stage u1(.clk(clk), .d(d), .y(y));
-endmodule
-module stage(clk, d, y);
-  input clk; input [1:0] d; output y;
-  reg [1:0] q;
-  always @(posedge clk) q <= d ^ q;
-  assign y = q[1] & ~q[0];
-endmodule
-";
 
 // No single vector shows a mistake; boxes that depend on their inputs alone do.
 const CHOSEN: [(&str, &str, u8, &str); 9] = [

@@ -1,5 +1,5 @@
 //! Made pairs through the top call: a hole where a full adder stood is filled by its sum and its carry.
-use crate::option_tests::expect_asked;
+use crate::expecting::expect_asked;
 use std::alloc::Global;
 use std::process::Abort;
 use std::test::Fail;

@@ -18,8 +18,8 @@ pub struct Outcome {
     pub report: Vec<u8>,
 }
 
-// The words of a command line.
-pub(crate) fn words(alloc: Global, texts: &[&str]) -> Result<Vec<String>, AllocError>
+/// The words of a command line.
+pub fn words(alloc: Global, texts: &[&str]) -> Result<Vec<String>, AllocError>
     ensures { IfOk result (λ words. map string_bytes words.items ≡ map (λ text. text.now) texts.now) }
 {
     let mut words = Vec::new(alloc);
@@ -38,8 +38,8 @@ fn file(alloc: Global, name: &str, text: &[u8]) -> Result<(String, Vec<u8>), All
     ))
 }
 
-// The two files in memory.
-pub(crate) fn held_files(
+/// The two files in memory, `s.v` and `i.v`. Reads of these numbers fail.
+pub fn held_files(
     alloc: Global,
     spec: &[u8],
     imp: &[u8],
@@ -54,8 +54,8 @@ pub(crate) fn held_files(
     Ok(MemFiles::new(held, failing))
 }
 
-// An empty sink with room for any report.
-pub(crate) fn planned_sink(alloc: Global, plan: Vec<Take>) -> Result<MemSink, AllocError>
+/// An empty sink with room for any report.
+pub fn planned_sink(alloc: Global, plan: Vec<Take>) -> Result<MemSink, AllocError>
     ensures { IfOk result (λ sink. sink.bytes ≡ []) }
 {
     let mut sink = MemSink::new(alloc, plan);

@@ -1,4 +1,5 @@
 //! What the options ask for: reports under bounds and of some of the checks, tops by their names, and words that ask for nothing.
+use crate::expecting::expect_asked;
 use crate::run_in_memory;
 use std::alloc::{AllocError, Global};
 use std::process::Abort;
@@ -8,26 +9,6 @@ const INVERTER: &str = "module s(a,y); input a; output y; not g(y,a); endmodule"
 
 const BOX: &str =
     "module t(a,y); input a; output y; bx u(a,y); endmodule module bx(i,o); input i; output o; endmodule";
-
-/// Compares the status and the report for words with a blank between two.
-pub fn expect_asked<R: Abort>(
-    rt: &R,
-    alloc: Global,
-    line: &str,
-    texts: (&str, &str),
-    status: u8,
-    report: &str,
-) -> Result<(), Fail> {
-    let mut words = Vec::new(alloc);
-    for word in line.split(' ') {
-        words.push(word)?;
-    }
-    let (spec, imp) = (texts.0.as_bytes(), texts.1.as_bytes());
-    let found = run_in_memory(alloc, &words, spec, imp, Vec::new(alloc), Vec::new(alloc))?;
-    assert_eq!(rt; found.report.as_slice(), report.as_bytes(), "{line}");
-    assert_eq!(rt; found.status, status, "{line}");
-    Ok(())
-}
 
 #[test]
 fn patterns_are_as_many_as_asked(rt: HostRuntime) -> Result<(), Fail> {

@@ -1,40 +1,11 @@
 //! Pairs of texts with their reports, worked out by hand. They come in the order of the checks that settle them; the refusals of a text or
 //! a pair stand behind them.
-use crate::tests::expect;
+use crate::expecting::expect;
+use crate::texts::BUFFER;
 use std::test::Fail;
-
-/// Copies its input.
-pub const BUFFER: &str = "module s(a,y); input a; output y; buf(y,a); endmodule";
-
-/// Gives 1.
-pub const ONE: &str = "module s(y); output y; assign y = 1'b1; endmodule";
 
 const REGISTER: &str =
     "module s(c,d,y); input c,d; output y; reg q; always @(posedge c) q <= d; buf(y,q); endmodule";
-
-/// A counter as a synthesis tool writes it, with a box in place of its output's function, without its last word.
-pub const MAPPED: &str = "`timescale 1ns/1ps
-(* top = 1, src = \"a.v:1 *)\" *)
-module cnt(clk, d, y);
-  input clk; wire clk;
-  input [1:0] d; wire [1:0] d;
-  output y; wire y;
-  reg \\u1.q[1] ;
-  reg \\u1.q[0] ;
-  wire _0_, _1_;
-  always @(posedge clk)
-    \\u1.q[1] <= _1_;
-  always @(posedge clk)
-    \\u1.q[0] <= _0_;
-  xor g0(_0_, d[0], \\u1.q[0] );
-  xor g1(_1_, d[1], \\u1.q[1] );
-  hole h(.i({\\u1.q[1] , \\u1.q[0] }), .o(y));
-endmodule
-(* blackbox *)
-module hole(i, o);
-  input [1:0] i;
-  output o;
-";
 
 // At one vector an output is wrong whatever the boxes give.
 const MISTAKEN: [(&str, &str, &str); 6] = [

@@ -17,6 +17,10 @@ pub record AreComparable (spec imp : Netlist) : Type 0 where
 abbrev pub DiffersAt : Netlist → Netlist → List Bool → Type 0
 DiffersAt spec imp x = IsVector imp x × SomeWrong spec imp x (flat imp x [])
 
--- at every vector all outputs are the same
+-- at the vector all outputs are the same
+abbrev pub SameAt : Netlist → Netlist → List Bool → Type 0
+SameAt spec imp x = AllRight spec imp x (flat imp x [])
+
+-- at every vector they are
 abbrev pub AreEquivalent : Netlist → Netlist → Type 0
-AreEquivalent spec imp = (x : List Bool) → IsVector imp x → AllRight spec imp x (flat imp x [])
+AreEquivalent spec imp = (x : List Bool) → IsVector imp x → SameAt spec imp x

@@ -1,5 +1,5 @@
 //! Formulas and clause additions through the top call: rows worked out by hand, and texts that are refused.
-use crate::option_tests::expect_asked;
+use bb_rows::expecting::expect_asked;
 use std::test::Fail;
 
 // Four clauses of two variables that no assignment makes true.

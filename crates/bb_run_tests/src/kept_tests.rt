@@ -1,7 +1,7 @@
 //! Which files a run reads, in which order, and what they give: the list that the files kept of it.
-use crate::memory::{held_files, planned_sink, words};
 use bb_ladder::run;
 use bb_outside::KeptFiles;
+use bb_rows::memory::{held_files, planned_sink, words};
 use std::alloc::Global;
 use std::process::Abort;
 use std::test::Fail;

@@ -1,8 +1,7 @@
 //! Runs that are stopped: by files and sinks that fail, and by texts that are cut off.
-use crate::finish_tests::COUNTER;
-use crate::row_tests::{BUFFER, MAPPED};
-use crate::run_in_memory;
 use bb_outside::Take;
+use bb_rows::run_in_memory;
+use bb_rows::texts::{BUFFER, COUNTER, MAPPED};
 use std::alloc::Global;
 use std::process::Abort;
 use std::test::Fail;

@@ -1,6 +1,7 @@
 //! The top call in memory: the order of refusals, files and sinks that fail, other words, long texts.
-use crate::run_in_memory;
 use bb_outside::Take;
+use bb_rows::expecting::expect;
+use bb_rows::run_in_memory;
 use std::alloc::Global;
 use std::process::Abort;
 use std::test::Fail;
@@ -15,32 +16,6 @@ const UNDRIVEN: &str = "module t(a,y); input a; output y; not(z,a); endmodule";
 const BUFFER: &str = "module s(a,y); input a; output y; buf(y,a); endmodule";
 
 const INVERTER: &str = "module t(a,y); input a; output y; not(y,a); endmodule";
-
-/// The report of a pair without boxes that agrees.
-pub const EQUAL: &str =
-    "rung ternary none\nrung symbolic none\nrung local none\nrung output none\nrung input repair\nverdict repairable\n";
-
-/// Compares the status and the report of a pair, read with good words and ample memory.
-pub fn expect<R: Abort>(
-    rt: &R,
-    alloc: Global,
-    spec: &str,
-    imp: &str,
-    status: u8,
-    report: &str,
-) -> Result<(), Fail> {
-    let found = run_in_memory(
-        alloc,
-        &["bbeq", "s.v", "i.v"],
-        spec.as_bytes(),
-        imp.as_bytes(),
-        Vec::new(alloc),
-        Vec::new(alloc),
-    )?;
-    assert_eq!(rt; found.report.as_slice(), report.as_bytes(), "{spec} {imp}");
-    assert_eq!(rt; found.status, status, "{spec} {imp}");
-    Ok(())
-}
 
 // What is wrong with the specification comes first, then what is wrong with the implementation, then what is wrong with the two.
 #[test]

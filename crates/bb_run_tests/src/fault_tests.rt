@@ -1,6 +1,6 @@
 //! First faults of a text, and texts that are close to one.
-use crate::row_tests::MAPPED as CUT_OFF;
-use crate::tests::{EQUAL, expect};
+use bb_rows::expecting::expect;
+use bb_rows::texts::{EQUAL, MAPPED as CUT_OFF};
 use std::alloc::Global;
 use std::test::Fail;
 

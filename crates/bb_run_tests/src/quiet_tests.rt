@@ -1,9 +1,9 @@
 //! Files and a sink that never fail, and the top call over them.
-use crate::finish_tests::TWO_BOXES;
-use crate::memory::words;
 use crate::outside_tests::held;
 use bb_ladder::run_quietly;
 use bb_outside::{FileFault, Files, QuietFiles, QuietSink, Sink, put_all};
+use bb_rows::memory::words;
+use bb_rows::texts::TWO_BOXES;
 use std::alloc::Global;
 use std::process::Abort;
 use std::test::Fail;
