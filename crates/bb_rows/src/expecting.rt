@@ -1,8 +1,9 @@
 //! Runs that have to give a status and a report.
 
 use crate::run_in_memory;
-use std::alloc::{AllocError, Global};
+use std::alloc::Global;
 use std::process::Abort;
+use std::test::Fail;
 
 /// Compares the status and the report for words with a blank between two.
 pub fn expect_asked<R: Abort>(
@@ -12,7 +13,7 @@ pub fn expect_asked<R: Abort>(
     texts: (&str, &str),
     status: u8,
     report: &str,
-) -> Result<(), AllocError> {
+) -> Result<(), Fail> {
     let mut words = Vec::new(alloc);
     for word in line.split(' ') {
         words.push(word)?;
@@ -32,6 +33,6 @@ pub fn expect<R: Abort>(
     imp: &str,
     status: u8,
     report: &str,
-) -> Result<(), AllocError> {
+) -> Result<(), Fail> {
     expect_asked(rt, alloc, "bbeq s.v i.v", (spec, imp), status, report)
 }

@@ -1,7 +1,7 @@
 //! Pairs of texts with their reports, worked out by hand. They come in the order of the checks that settle them; the refusals of a text or
 //! a pair stand behind them.
 use crate::expecting::expect;
-use crate::texts::BUFFER;
+use crate::texts::{BUFFER, MAPPED, ONE};
 use std::test::Fail;
 
 const REGISTER: &str =
