@@ -194,7 +194,7 @@ first_plain n (suc (suc j)) b p lt is =
     let own : Input j ≡ BoxOut b p = sym (get_or-map-range_with_len Input 0 n j j (Const false) (omega (arith, lt)) (omega arith)) ∙ is in
     grind (arith, own)
 
-cost_some : (boxes : List Pins) (c : Cell) → 1 ≤ cost boxes c
+pub cost_some : (boxes : List Pins) (c : Cell) → 1 ≤ cost boxes c
 cost_some boxes (Const b) = omega arith
 cost_some boxes (Input i) = omega arith
 cost_some boxes (Not a) = omega arith

@@ -5,3 +5,6 @@ pub mod FillingSteps
 pub mod ForcedVectors
 pub mod CellCosts
 pub mod ChoiceTrees
+pub mod GateCells
+pub mod SomeTrees
+pub mod SomeFilled

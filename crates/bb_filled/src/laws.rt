@@ -1,7 +1,7 @@
 //! Laws of netlists that stand in others, of filled netlists, and of forced vectors. Each function has a law as its contract and does nothing.
 
 ghost use Rattle.bb_filled.specs.Laws.EmbeddingLaws.{StandingKeepsBits, TreesChoose};
-ghost use Rattle.bb_filled.specs.Laws.FilledLaws.{FilledHaveBits, FilledAreRight, FilledAreWrong, FilledArePairs};
+ghost use Rattle.bb_filled.specs.Laws.FilledLaws.{FilledExist, FilledHaveBits, FilledAreRight, FilledAreWrong, FilledArePairs};
 ghost use Rattle.bb_filled.specs.Laws.ForcedLaws.{ForcedAreDistinct, VectorsAreFew};
 
 use bb_bits::{number_is_below, number_spelled_once};
@@ -22,6 +22,11 @@ pub fn trees_choose()
     value_exists();
     number_is_below();
 }
+
+/// A netlist may be filled with any tables that fit its boxes.
+pub fn filled_exist()
+    ensures { FilledExist }
+{}
 
 /// Each cell of a filled netlist has at its new place the bit that it has with the tables in the boxes.
 pub fn filled_have_bits()

@@ -1,5 +1,5 @@
--- Laws of filled netlists: their bits are those that the tables give, and a pair stays one.
-use Rattle.std.specs.Prelude.{◌≡◌, ◌↔◌, ℕ, ◌<◌, ◌≤◌, ◌^◌, Bool, List, [], length}
+-- Laws of filled netlists: there is one, its bits are those that the tables give, and a pair stays one.
+use Rattle.std.specs.Prelude.{◌≡◌, ◌↔◌, ℕ, ◌+◌, ◌<◌, ◌≤◌, ◌^◌, Bool, List, [], length}
 use Rattle.bb_bits.specs.Tables.{TableBits}
 use Rattle.bb_net.specs.Agreement.{AllRight, SomeWrong}
 use Rattle.bb_net.specs.Completions.{table_bits}
@@ -8,6 +8,11 @@ use Rattle.bb_net.specs.Pairs.{NetPair, IsPair}
 use Rattle.bb_net.specs.Values.{bit_of, flat, flat_with, FitBoxes}
 use Rattle.bb_filled.specs.Filled.{IsFilled}
 use Rattle.bb_filled.specs.Forced.{AgreeAt, FailAt}
+
+-- a netlist may be filled with any tables that fit its boxes, where there are numbers for the places of all cells
+abbrev pub FilledExist : Type 0
+FilledExist = (old : Netlist) (tables : List TableBits) → IsNetlist old → FitBoxes tables old.boxes → length old.cells + table_bits old.boxes < 2 ^ 32
+    → (new : Netlist) × (at : ℕ → ℕ) × IsNetlist new × IsFilled old tables new at
 
 -- each cell has at its new place the bit that it has with the tables in the boxes
 abbrev pub FilledHaveBits : Type 0
