@@ -8,3 +8,4 @@ pub mod ChoiceTrees
 pub mod GateCells
 pub mod SomeTrees
 pub mod SomeFilled
+pub mod AlikeFilled

@@ -1,9 +1,11 @@
 //! Laws of netlists that stand in others, of filled netlists, and of forced vectors. Each function has a law as its contract and does nothing.
 
+ghost use Rattle.bb_filled.specs.Laws.AlikeLaws.{AlikeFilledHaveSameBits};
 ghost use Rattle.bb_filled.specs.Laws.EmbeddingLaws.{StandingKeepsBits, TreesChoose};
 ghost use Rattle.bb_filled.specs.Laws.FilledLaws.{FilledExist, FilledHaveBits, FilledAreRight, FilledAreWrong, FilledArePairs};
 ghost use Rattle.bb_filled.specs.Laws.ForcedLaws.{ForcedAreDistinct, VectorsAreFew};
 
+use bb_alike::laws::{alike_cells_have_one_bit, alike_nets_have_cells, formulas_are_of_cells};
 use bb_bits::{number_is_below, number_spelled_once};
 use bb_net::{value_exists, value_is_unique};
 
@@ -45,6 +47,17 @@ pub fn filled_are_right()
     standing_keeps_bits();
     trees_choose();
     number_is_below();
+}
+
+/// Netlists that are alike have the same bits when they are filled with the same tables.
+pub fn alike_filled_have_same_bits()
+    ensures { AlikeFilledHaveSameBits }
+{
+    formulas_are_of_cells();
+    alike_nets_have_cells();
+    alike_cells_have_one_bit();
+    filled_have_bits();
+    trees_choose();
 }
 
 /// A filled netlist stands beside the specification as the old one did.
