@@ -36,7 +36,7 @@ pub record ShareBits (a b : Netlist) : Type 0 where
   pub box_bits : (x z : List Bool) → all_ins a.boxes (flat a x z) ≡ all_ins b.boxes (flat b x z)
   pub cells : (k : ℕ) → k < length a.cells → (m : ℕ) × (m < length b.cells) × ((x z : List Bool) → bit_of (flat a x z) k ≡ bit_of (flat b x z) m)
 
-at_same : {F : Type 0} (f g : ℕ → F) (xs ys : List ℕ) → map f xs ≡ map g ys → (j : ℕ) → j < length xs → f (slice_index xs j) ≡ g (slice_index ys j)
+pub at_same : {F : Type 0} (f g : ℕ → F) (xs ys : List ℕ) → map f xs ≡ map g ys → (j : ℕ) → j < length xs → f (slice_index xs j) ≡ g (slice_index ys j)
 at_same f g xs ys e j l =
     let other : j < length ys = omega (arith, l, ap length e, length-map xs f, length-map ys g) in
     sym (get_or-map f xs j 0 (f 0) l) ∙ ap (λ fs. get_or fs j (f 0)) e ∙ get_or-map g ys j 0 (f 0) other

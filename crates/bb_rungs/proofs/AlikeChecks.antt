@@ -28,7 +28,7 @@ module _ (p q : NetPair) (to : Share p q) (from : Share q p) (o : Options) where
   open_alike Input (inl many) = inl (too_many_among o _ _ to.input many)
   open_alike Input (inr (suits, none)) = inr (choices_alike p.spec p.imp q.spec q.imp to.nets suits, λ finishable. none (finishable_alike q p from finishable))
   open_alike Expand (inl wide) = inl (subst (λ n. 2 ^ 24 < n) (bits_alike p q to) wide)
-  open_alike Expand (inr many) = inr (subst (λ n. o.clauses < n) to.clauses many)
+  open_alike Expand (inr needs) = inr (to.needs o.clauses needs)
 
   stays_alike : (r : Rung) → StaysOpen p o r → StaysOpen q o r
   stays_alike Ternary stays = open_alike Ternary stays
@@ -39,7 +39,7 @@ module _ (p q : NetPair) (to : Share p q) (from : Share q p) (o : Options) where
   stays_alike Expand wide = subst (λ n. 2 ^ 24 < n) (bits_alike p q to) wide
 
   pub depends_alike : MayDependOnSearch p o → MayDependOnSearch q o
-  depends_alike h = record { asked = h.asked; small = small_alike p q to h.small; many = subst (λ n. o.clauses < n) to.clauses h.many }
+  depends_alike h = record { asked = h.asked; small = small_alike p q to h.small; needs = to.needs o.clauses h.needs }
 
   decides_alike : (r : Rung) → Decides p o r → Decides q o r
   decides_alike Ternary h = h

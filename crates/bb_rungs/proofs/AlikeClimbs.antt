@@ -23,8 +23,8 @@ use Rattle.bb_rungs.specs.Reports.{details, input_line, rung_line, told_output}
 use Rattle.bb_options.specs.Rungs.{asked_rungs, rank, rung_name}
 use Rattle.bb_rungs.specs.Rungs.{MaySay, TooWide, ClausesTooMany, Decided, Climbs, IsClimb, Top, End, Step, ends, is_error, is_repair}
 use Rattle.bb_rungs.specs.TableLines.{table_lines}
-use Rattle.bb_rungs.proofs.AlikeShared.{PairLaws, Share, alike_itself, bits_alike, share, share_back, small_alike}
-use Rattle.bb_rungs.proofs.AlikeTold.{IsRefuted, told_or_own}
+use Rattle.bb_rungs.proofs.AlikeShared.{PairLaws, Share, alike_itself, bits_alike, share, share_back}
+use Rattle.bb_rungs.proofs.AlikeTold.{IsRefuted, told_or_refuted}
 use Rattle.bb_rungs.proofs.AlikeWitnesses.{completion_alike}
 use Rattle.bb_rungs.proofs.StayLaw.{asked_rise, first_rises, rest_rises}
 use Rattle.bb_rungs.proofs.AlikeChecks.{depends_alike}
@@ -57,16 +57,15 @@ module _ (laws : OneLaws) (p q : NetPair) (to : Share p q) (from : Share q p) (a
   -- where the clauses of the one are refuted, those of the other are
   refuted_alike : (r : Rung) (s t : Said) → (r ≡ Expand → IsFixed q o) → IsRefuted p o r s → MaySay q o Expand t → SayAlike q o r s t
   refuted_alike r s t fixed h (TooWide wide same) = absurd (above _ _ (subst (λ n. 2 ^ 24 < n) (sym (bits_alike p q to)) wide) h.small)
-  refuted_alike r s t fixed h (ClausesTooMany small many same) = absurd (fixed h.at small many.many)
+  refuted_alike r s t fixed h (ClausesTooMany small many same) = absurd (fixed h.at small many)
   refuted_alike r s t fixed h (Decided small (expanded.Error vectors cnf refutation) is same) = by_told q o r s t _ _ h.same same (say_alike q o r _ _ refl refl refl (λ plain. absurd (plain h.at)))
   refuted_alike r s t fixed h (Decided small (expanded.Repair tables) is same) =
       let own = completion_alike q.spec q.imp p.spec p.imp from.nets tables.items is in absurd (h.none tables.items own.fit own.agree)
 
   pairs_alike : (r : Rung) (s t : Said) → (r ≡ Expand → IsFixed q o) → MaySay p o r s → MaySay q o r t → SayAlike q o r s t
-  pairs_alike r s t fixed one other = elim (told_or_own p q to from o r s one) [
+  pairs_alike r s t fixed one other = elim (told_or_refuted p q to from o r s one) [
     | inl told ↦ said_alike laws q o kept r s t fixed told other
-    | inr (inl refuted) ↦ refuted_alike r s t fixed refuted (subst (λ rung. MaySay q o rung t) refuted.at other)
-    | inr (inr given_up) ↦ absurd (fixed given_up.at (small_alike p q to given_up.small) (subst (λ n. o.clauses < n) to.clauses given_up.many))
+    | inr refuted ↦ refuted_alike r s t fixed refuted (subst (λ rung. MaySay q o rung t) refuted.at other)
   ]
 
   -- everything is called the same
@@ -100,7 +99,7 @@ module _ (laws : OneLaws) (p q : NetPair) (to : Share p q) (from : Share q p) (a
           ap₂ ◌++◌ (same_line r l m at also same) (same_details l.said ∙ same.text (λ e. plain (at ∙ e)));
     };
     line = λ none.
-        let fixed : r ≡ Expand → IsFixed q o = λ e small many. none (depends_alike q p from to o (record { asked = subst (Contains (asked_rungs o)) e asked; small = small; many = many })) in
+        let fixed : r ≡ Expand → IsFixed q o = λ e small needs. none (depends_alike q p from to o (record { asked = subst (Contains (asked_rungs o)) e asked; small = small; needs = needs })) in
         same_line r l m at also (pairs_alike r l.said m.said fixed says tells);
   }
 

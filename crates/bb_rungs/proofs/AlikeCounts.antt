@@ -9,7 +9,7 @@ use Rattle.std.proofs.lemmas.List.Sums.{sum_by-cons, sum_by-drop_more, sum_by-ta
 use Rattle.bb_net.specs.declared.cell.Cell.{Cell}
 use Rattle.bb_net.specs.declared.cell.Cell.TheVariants as cell
 use Rattle.bb_net.specs.Netlists.{Netlist, Pins, IsNetlist, box_at, cell_at, first_cells}
-use Rattle.bb_expand.specs.ClauseCounts.{cell_clause_count, clause_total}
+use Rattle.bb_expand.specs.ClauseCounts.{cell_clause_count, clause_total, clauses_per_vector}
 use Rattle.bb_alike.specs.Laws.Alike.{AreAlike}
 use Rattle.bb_alike.specs.Laws.Formulas.{Formula, Const, Input, Not, And, Or, Xor, Mux, BoxOut, cell_formula, cell_formulas, formula_at}
 use Rattle.bb_alike.specs.Laws.{FormulasAreOfCells}
@@ -104,14 +104,18 @@ cells_count formulas net is =
     (length net.cells - n) n (omega (arith, front_there net is)) in
     omega (arith, whole, front, behind)
 
-pub clause_totals_alike : FormulasAreOfCells → (a b : Netlist) → IsNetlist a → IsNetlist b → AreAlike a b → AreAsMany a.boxes b.boxes → length a.outs ≡ length b.outs → clause_total a ≡ clause_total b
-clause_totals_alike formulas a b one other alike boxes outs =
-    ap₂ (λ (n m : ℕ). 2 ^ n * m) alike.inputs
-    (ap₂ (λ (n m : ℕ). n + m)
+-- the clauses of a vector
+pub per_vector_alike : FormulasAreOfCells → (a b : Netlist) → IsNetlist a → IsNetlist b → AreAlike a b → AreAsMany a.boxes b.boxes → length a.outs ≡ length b.outs → clauses_per_vector a ≡ clauses_per_vector b
+per_vector_alike formulas a b one other alike boxes outs =
+    ap₂ (λ (n m : ℕ). n + m)
     (cells_count formulas a one
     ∙ ap₂ (λ (n m : ℕ). n + m)
     (ap (λ (n : ℕ). sum_by (cell_clause_count a.boxes) (first_cells n)) alike.inputs ∙ front_same a.boxes b.boxes b.inputs)
     (sums_same (formula_clauses a.boxes) (formula_clauses b.boxes) (same_clauses a.boxes b.boxes boxes) (cell_formulas a)
     ∙ sym (sum_by-IsPermutation (formula_clauses b.boxes) (cell_formulas a) (cell_formulas b) alike.cells))
     ∙ sym (cells_count formulas b other))
-    outs)
+    outs
+
+-- those of all vectors
+pub clause_totals_alike : (a b : Netlist) → a.inputs ≡ b.inputs → clauses_per_vector a ≡ clauses_per_vector b → clause_total a ≡ clause_total b
+clause_totals_alike a b inputs clauses = ap₂ (λ (n m : ℕ). 2 ^ n * m) inputs clauses

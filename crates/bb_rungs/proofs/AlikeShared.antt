@@ -1,5 +1,6 @@
--- What pairs that are alike share: their bits, values where boxes are unknown, clauses, and the functions of each check.
-use Rattle.std.proofs.Common.{◌≡◌, ◌≤◌, ◌^◌, refl, sym, subst}
+-- What pairs that are alike share: their bits, values where boxes are unknown, clauses and the need of more of them, and the functions
+-- of each check.
+use Rattle.std.proofs.Common.{ℕ, ◌≡◌, ◌≤◌, ◌^◌, refl, sym, subst}
 use Rattle.std.proofs.lemmas.List.Sorted.{IsPermutation-refl}
 use Rattle.bb_net.specs.Completions.{HaveSmallTables, table_bits}
 use Rattle.bb_net.specs.Netlists.{Netlist}
@@ -7,15 +8,17 @@ use Rattle.bb_net.specs.Pairs.{NetPair, IsPair}
 use Rattle.bb_sym.specs.Functions.{symbolic_functions, local_functions, output_functions}
 use Rattle.bb_input.specs.Answers.{IsFinishable}
 use Rattle.bb_input.specs.InputFunctions.{input_functions}
-use Rattle.bb_expand.specs.ClauseCounts.{clause_total}
+use Rattle.bb_expand.specs.ClauseCounts.{clause_total, clauses_per_vector}
+use Rattle.bb_expand.specs.GivenUp.{NeedsMoreClauses}
 use Rattle.bb_alike.specs.Laws.Alike.{AreAlike, ArePairsAlike}
 use Rattle.bb_alike.specs.Laws.Formulas.{cell_formulas}
 use Rattle.bb_alike.specs.Laws.{AlikeCellsAreKnownAlike}
 use Rattle.bb_rungs.proofs.AlikeBits.{BitLaws, known_outputs, share_bits}
 use Rattle.bb_rungs.proofs.AlikeBoxes.{box_count_alike, table_bits_alike}
 use Rattle.bb_rungs.proofs.AlikeConditions.{AreKnownAlike}
-use Rattle.bb_rungs.proofs.AlikeCounts.{clause_totals_alike}
+use Rattle.bb_rungs.proofs.AlikeCounts.{clause_totals_alike, per_vector_alike}
 use Rattle.bb_rungs.proofs.AlikeFunctions.{ShareAll, local_among, output_among}
+use Rattle.bb_rungs.proofs.AlikeGivenUp.{GivenLaws, needs_alike}
 use Rattle.bb_rungs.proofs.AlikeInputs.{input_among}
 use Rattle.bb_rungs.proofs.AlikeKnown.{symbolic_among}
 use Rattle.bb_rungs.proofs.AlikeTables.{FunctionsFixTables, AreAmong}
@@ -25,12 +28,14 @@ pub record PairLaws : Type 0 where
   pub bits : BitLaws
   pub known : AlikeCellsAreKnownAlike
   pub fix : FunctionsFixTables
+  pub given : GivenLaws
 
 -- what goes from one pair to another
 pub record Share (p q : NetPair) : Type 0 where
   pub nets : ShareAll p.spec p.imp q.spec q.imp
   pub known : AreKnownAlike p.imp q.imp
   pub clauses : clause_total p.imp ≡ clause_total q.imp
+  pub needs : (budget : ℕ) → NeedsMoreClauses p.spec p.imp budget → NeedsMoreClauses q.spec q.imp budget
   pub symbolic : AreAmong (symbolic_functions p.spec p.imp) (symbolic_functions q.spec q.imp)
   pub local : AreAmong (local_functions p.spec p.imp) (local_functions q.spec q.imp)
   pub output : AreAmong (output_functions p.spec p.imp) (output_functions q.spec q.imp)
@@ -60,11 +65,18 @@ module _ (laws : PairLaws) (p q : NetPair) (one : IsPair p) (other : IsPair q) (
   outputs_known : AreKnownAlike p.imp q.imp
   outputs_known = known_outputs p.imp q.imp one.imp other.imp alike.imp laws.known
 
+  per_vector : clauses_per_vector p.imp ≡ clauses_per_vector q.imp
+  per_vector = per_vector_alike laws.bits.formulas p.imp q.imp one.imp other.imp alike.imp nets.imp.boxes nets.imp.outputs
+
+  totals : clause_total p.imp ≡ clause_total q.imp
+  totals = clause_totals_alike p.imp q.imp nets.imp.inputs per_vector
+
   pub share : Share p q
   share = record {
     nets = nets;
     known = outputs_known;
-    clauses = clause_totals_alike laws.bits.formulas p.imp q.imp one.imp other.imp alike.imp nets.imp.boxes nets.imp.outputs;
+    clauses = totals;
+    needs = needs_alike laws.given laws.fix p.spec p.imp q.spec q.imp nets one.imp other.imp alike.imp other.small.imp_cells totals per_vector;
     symbolic = symbolic_among (record { formulas = laws.bits.formulas; cells = laws.bits.cells; known = laws.known; fix = laws.fix }) p.spec p.imp q.spec q.imp nets one.imp other.imp alike.imp outputs_known;
     local = local_among laws.fix p.spec p.imp q.spec q.imp nets;
     output = output_among laws.fix p.spec p.imp q.spec q.imp nets;

@@ -7,6 +7,7 @@ use Rattle.std.proofs.lemmas.List.Concat.{flat_map_single}
 use Rattle.std.proofs.lemmas.List.Elements.{All-weaker, Contains-append_cases, Contains-append_left, Contains-append_right}
 use Rattle.std.proofs.lemmas.Simd.{map-map}
 use Rattle.bb_bits.specs.Truth.{Truth, IsBeadOfAny}
+use Rattle.bb_bits.specs.TruthSets.{HasMoreThan}
 use Rattle.bb_sym.specs.Plain.{Function, table, tables, one_of}
 use Rattle.bb_options.specs.declared.options.Options.{Options}
 use Rattle.bb_rungs.specs.Rungs.{AreTooMany}
@@ -22,8 +23,12 @@ table_same fix n m e f g same = fix n f g (λ x l. same x) ∙ ap (λ (k : ℕ).
 abbrev pub AreAmong : List Truth → List Truth → Type 0
 AreAmong ts us = (t : Truth) → Contains ts t → Contains us t
 
+-- so the beads of the second are as many at least
+pub more_among : (n : ℕ) (ts us : List Truth) → AreAmong ts us → HasMoreThan (IsBeadOfAny ts) n → HasMoreThan (IsBeadOfAny us) n
+more_among n ts us among many = (many.0, many.1, All-weaker (IsBeadOfAny ts) (IsBeadOfAny us) (λ b h. (h.0, among h.0 h.1, h.2)) many.0 many.2, many.3)
+
 pub too_many_among : (o : Options) (ts us : List Truth) → AreAmong ts us → AreTooMany o ts → AreTooMany o us
-too_many_among o ts us among many = (many.0, many.1, All-weaker (IsBeadOfAny ts) (IsBeadOfAny us) (λ b h. (h.0, among h.0 h.1, h.2)) many.0 many.2, many.3)
+too_many_among o ts us among many = more_among o.nodes ts us among many
 
 pub among_same : (ts us : List Truth) → ts ≡ us → AreAmong ts us
 among_same ts us e t has = subst (λ l. Contains l t) e has

@@ -1,4 +1,4 @@
--- What a check may say of a pair it may say of one that is alike, unless it speaks of the clauses of the one.
+-- What a check may say of a pair it may say of one that is alike, unless it refutes the clauses of the one.
 use Rattle.std.proofs.Common.{◌≡◌, ◌<◌, ◌^◌, ◌⊎◌, inl, inr, refl, subst}
 use Rattle.std.specs.Prelude.{List}
 use Rattle.bb_bits.specs.Truth.{Truth}
@@ -8,7 +8,6 @@ use Rattle.bb_net.specs.Pairs.{NetPair}
 use Rattle.bb_tern.specs.Patterns.{patterns}
 use Rattle.bb_sym.specs.declared.found.Found.{Found}
 use Rattle.bb_sym.specs.Finds.{IsSometimesRight}
-use Rattle.bb_expand.specs.ClauseCounts.{clause_total}
 use Rattle.bb_expand.specs.declared.expanded.Expanded.TheVariants as expanded
 use Rattle.bb_input.specs.declared.InputAnswer.{InputAnswer}
 use Rattle.bb_input.specs.declared.InputAnswer.TheVariants as choices
@@ -16,11 +15,11 @@ use Rattle.bb_input.specs.Answers.{IsAnswer}
 use Rattle.bb_rungs.specs.declared.line.Evidence.TheVariants.{Refutation}
 use Rattle.bb_rungs.specs.declared.line.Proof.{Proof}
 use Rattle.bb_rungs.specs.declared.line.Said.{Said}
-use Rattle.bb_rungs.specs.declared.line.Said.TheVariants.{Clauses, Error}
+use Rattle.bb_rungs.specs.declared.line.Said.TheVariants.{Error}
 use Rattle.bb_options.specs.declared.options.Options.{Options}
 use Rattle.bb_options.specs.declared.rung.Rung.{Rung}
 use Rattle.bb_options.specs.declared.rung.Rung.TheVariants.{Ternary, Symbolic, Local, Output, Input, Expand}
-use Rattle.bb_rungs.specs.Laws.AlikePairs.{AlikePairsAreTold, SpeaksOfNoClauses}
+use Rattle.bb_rungs.specs.Laws.AlikePairs.{AlikePairsAreTold, IsNoRefutation}
 use Rattle.bb_rungs.specs.Rungs.{IsFirstOf, IsLeastOf, MaySay, MayHit, Hit, NoHit, MayFind, TooMany, Finding, Without, MayChoose, ChoicesTooMany, Answered, TooWide, ClausesTooMany, Decided}
 use Rattle.bb_rungs.proofs.AlikeConditions.{right_among_alike, right_everywhere_alike, each_right_alike, all_right_alike, choices_alike, may_be_right}
 use Rattle.bb_rungs.proofs.AlikeShared.{PairLaws, Share, bits_alike, small_alike, finishable_alike, share, share_back}
@@ -34,13 +33,6 @@ pub record IsRefuted (p : NetPair) (o : Options) (r : Rung) (said : Said) : Type
   pub proof : Proof
   pub same : said ≡ Error (Refutation proof)
   pub none : NoTablesAgree p.spec p.imp
-
--- more clauses would be needed
-pub record IsGivenUp (p : NetPair) (o : Options) (r : Rung) (said : Said) : Type 0 where
-  pub at : r ≡ Expand
-  pub small : HaveSmallTables p.imp.boxes
-  pub many : o.clauses < clause_total p.imp
-  pub same : said ≡ Clauses
 
 module _ (p q : NetPair) (to : Share p q) (from : Share q p) (o : Options) where
   hits_told : (said : Said) → MayHit p o said → MayHit q o said
@@ -93,22 +85,21 @@ module _ (p q : NetPair) (to : Share p q) (from : Share q p) (o : Options) where
   chosen_told said (ChoicesTooMany many same) = ChoicesTooMany (too_many_among o _ _ to.input many) same
   chosen_told said (Answered few answer is same) = Answered (λ many. few (too_many_among o _ _ from.input many)) answer (answers_told answer is) same
 
-  pub told_or_own : (r : Rung) (said : Said) → MaySay p o r said → MaySay q o r said ⊎ (IsRefuted p o r said ⊎ IsGivenUp p o r said)
-  told_or_own Ternary said says = inl (hits_told said says)
-  told_or_own Symbolic said says = inl (finds_told _ _ to.symbolic from.symbolic _ _ known_told _ _ (right_everywhere_alike p.spec p.imp q.spec q.imp to.nets to.known) said says)
-  told_or_own Local said says = inl (finds_told _ _ to.local from.local _ _ always_told _ _ (each_right_alike p.spec p.imp q.spec q.imp to.nets) said says)
-  told_or_own Output said says = inl (finds_told _ _ to.output from.output _ _ least_told _ _ (all_right_alike p.spec p.imp q.spec q.imp to.nets) said says)
-  told_or_own Input said says = inl (chosen_told said says)
-  told_or_own Expand said (TooWide wide same) = inl (TooWide (subst (λ n. 2 ^ 24 < n) (bits_alike p q to) wide) same)
-  told_or_own Expand said (ClausesTooMany small many same) = inr (inr (record { at = refl; small = small; many = many.many; same = same }))
-  told_or_own Expand said (Decided small (expanded.Error vectors cnf refutation) is same) =
-      inr (inl (record { at = refl; small = small; proof = record { vectors = vectors; cnf = cnf; refutation = refutation }; same = same; none = is.none }))
-  told_or_own Expand said (Decided small (expanded.Repair tables) is same) =
+  pub told_or_refuted : (r : Rung) (said : Said) → MaySay p o r said → MaySay q o r said ⊎ IsRefuted p o r said
+  told_or_refuted Ternary said says = inl (hits_told said says)
+  told_or_refuted Symbolic said says = inl (finds_told _ _ to.symbolic from.symbolic _ _ known_told _ _ (right_everywhere_alike p.spec p.imp q.spec q.imp to.nets to.known) said says)
+  told_or_refuted Local said says = inl (finds_told _ _ to.local from.local _ _ always_told _ _ (each_right_alike p.spec p.imp q.spec q.imp to.nets) said says)
+  told_or_refuted Output said says = inl (finds_told _ _ to.output from.output _ _ least_told _ _ (all_right_alike p.spec p.imp q.spec q.imp to.nets) said says)
+  told_or_refuted Input said says = inl (chosen_told said says)
+  told_or_refuted Expand said (TooWide wide same) = inl (TooWide (subst (λ n. 2 ^ 24 < n) (bits_alike p q to) wide) same)
+  told_or_refuted Expand said (ClausesTooMany small needs same) = inl (ClausesTooMany (small_alike p q to small) (to.needs o.clauses needs) same)
+  told_or_refuted Expand said (Decided small (expanded.Error vectors cnf refutation) is same) =
+      inr (record { at = refl; small = small; proof = record { vectors = vectors; cnf = cnf; refutation = refutation }; same = same; none = is.none })
+  told_or_refuted Expand said (Decided small (expanded.Repair tables) is same) =
       inl (Decided (small_alike p q to small) (expanded.Repair tables) (completion_alike p.spec p.imp q.spec q.imp to.nets tables.items is) same)
 
 pub alike_pairs_are_told : PairLaws → AlikePairsAreTold
-alike_pairs_are_told laws p q o r said one other alike plain says = elim (told_or_own p q (share laws p q one other alike) (share_back laws p q one other alike) o r said says) [
+alike_pairs_are_told laws p q o r said one other alike plain says = elim (told_or_refuted p q (share laws p q one other alike) (share_back laws p q one other alike) o r said says) [
   | inl told ↦ told
-  | inr (inl refuted) ↦ absurd (subst SpeaksOfNoClauses refuted.same plain)
-  | inr (inr given_up) ↦ absurd (subst SpeaksOfNoClauses given_up.same plain)
+  | inr refuted ↦ absurd (subst IsNoRefutation refuted.same plain)
 ]

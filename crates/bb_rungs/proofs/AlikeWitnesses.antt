@@ -2,11 +2,11 @@
 use Rattle.std.proofs.Common.{ℕ, ◌<◌, Bool, List, [], ◌∷◌, ◌∙◌, sym, subst, arith}
 use Rattle.bb_bits.specs.Numbers.{number_of}
 use Rattle.bb_bits.specs.Tables.{TableBits, row_of}
-use Rattle.bb_net.specs.Agreement.{IsOutput}
+use Rattle.bb_net.specs.Agreement.{AllRight, IsOutput, SomeWrong}
 use Rattle.bb_net.specs.Completions.{AreCompletion}
 use Rattle.bb_net.specs.Conditions.{IsKnownWrong, IsFirstHit, IsAlwaysWrong, HasAlwaysWrong}
 use Rattle.bb_net.specs.Netlists.{Netlist}
-use Rattle.bb_net.specs.Values.{table_at}
+use Rattle.bb_net.specs.Values.{FitBoxes, flat_with, table_at}
 use Rattle.bb_sym.specs.Finds.{IsLeastVector, IsFirstFound, IsSometimesRight}
 use Rattle.bb_input.specs.Answers.{AreLeastOutputs, AreLeastTables}
 use Rattle.bb_rungs.proofs.AlikeBoxes.{box_count_alike, output_pins_alike, pins_at_alike}
@@ -44,21 +44,31 @@ module _ (spec imp other_spec other_imp : Netlist) (share : ShareAll spec imp ot
     first = λ i l. may_be_right spec imp other_spec other_imp share known x i (omega (arith, l, h.there)) (h.first i l);
   }
 
-  pub completion_alike : (tables : List TableBits) → AreCompletion spec imp tables → AreCompletion other_spec other_imp tables
-  completion_alike tables h =
+  pub fit_alike : (tables : List TableBits) → FitBoxes tables imp.boxes → FitBoxes tables other_imp.boxes
+  fit_alike tables fit =
       let count = box_count_alike imp.boxes other_imp.boxes share.imp.boxes in
       let pins = pins_at_alike imp.boxes other_imp.boxes share.imp.boxes in
       record {
-        fit = record {
-          count = h.fit.count ∙ count;
-          inputs = λ b l. h.fit.inputs b (omega (arith, l, count)) ∙ (pins b).0;
-          outputs = λ b l. h.fit.outputs b (omega (arith, l, count)) ∙ (pins b).1;
-          whole = λ b l. h.fit.whole b (omega (arith, l, count));
-        };
-        agree = λ x long j l.
-            let own = there spec imp other_spec other_imp share j l in
-            sym (share.imp.tabled_bits x tables j own) ∙ h.agree x (vector spec imp other_spec other_imp share x long) j own ∙ wanted_alike spec imp other_spec other_imp share x j own;
+        count = fit.count ∙ count;
+        inputs = λ b l. fit.inputs b (omega (arith, l, count)) ∙ (pins b).0;
+        outputs = λ b l. fit.outputs b (omega (arith, l, count)) ∙ (pins b).1;
+        whole = λ b l. fit.whole b (omega (arith, l, count));
       }
+
+  -- with tables in the boxes an output is right or wrong where it was
+  pub agree_alike : (tables : List TableBits) (x : List Bool) → AllRight spec imp x (flat_with imp x tables) → AllRight other_spec other_imp x (flat_with other_imp x tables)
+  agree_alike tables x right j l =
+      let own = there spec imp other_spec other_imp share j l in
+      sym (share.imp.tabled_bits x tables j own) ∙ right j own ∙ wanted_alike spec imp other_spec other_imp share x j own
+
+  pub fail_alike : (tables : List TableBits) (x : List Bool) → SomeWrong spec imp x (flat_with imp x tables) → SomeWrong other_spec other_imp x (flat_with other_imp x tables)
+  fail_alike tables x (j, l, off) = (j, here j l, λ same. off (share.imp.tabled_bits x tables j l ∙ same ∙ sym (wanted_alike spec imp other_spec other_imp share x j l)))
+
+  pub completion_alike : (tables : List TableBits) → AreCompletion spec imp tables → AreCompletion other_spec other_imp tables
+  completion_alike tables h = record {
+    fit = fit_alike tables h.fit;
+    agree = λ x long. agree_alike tables x (h.agree x (vector spec imp other_spec other_imp share x long));
+  }
 
 -- both ways
 module _ (spec imp other_spec other_imp : Netlist) (to : ShareAll spec imp other_spec other_imp) (from : ShareAll other_spec other_imp spec imp) where

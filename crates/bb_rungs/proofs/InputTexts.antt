@@ -3,7 +3,7 @@ use Rattle.std.proofs.Common.{◌≡◌, ◌+◌, ℕ, Bool, List, [], ◌∷◌
 use Rattle.std.specs.Prelude.{zip, codes}
 use Rattle.std.specs.List.{flat_map}
 use Rattle.std.proofs.lemmas.List.{append_cancel_left, append_cancel_right, length-append}
-use Rattle.bb_rungs.specs.Reports.{input_text, input_line}
+use Rattle.bb_rungs.specs.Reports.{input_text}
 use Rattle.bb_rungs.specs.Laws.ShownVectors.{InputLinesFixVectors}
 use Rattle.bb_rungs.specs.TableLines.{bit_text}
 use Rattle.bb_rungs.proofs.TableTexts.{one_byte, same_bit, same_fronts}

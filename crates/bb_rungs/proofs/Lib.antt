@@ -5,6 +5,7 @@ pub mod AlikeClimbs
 pub mod AlikeConditions
 pub mod AlikeCounts
 pub mod AlikeFunctions
+pub mod AlikeGivenUp
 pub mod AlikeInputs
 pub mod AlikeKnown
 pub mod AlikeShared

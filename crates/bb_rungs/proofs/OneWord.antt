@@ -8,8 +8,8 @@ use Rattle.bb_bits.specs.Truth.{Truth}
 use Rattle.bb_tern.specs.Patterns.{PatternsAreVectors}
 use Rattle.bb_sym.specs.declared.found.Found.{Found}
 use Rattle.bb_sym.specs.Finds.{IsSometimesRight}
-use Rattle.bb_expand.specs.ClauseCounts.{clause_total}
 use Rattle.bb_expand.specs.declared.expanded.Expanded.TheVariants as expanded
+use Rattle.bb_expand.specs.GivenUp.{NeedsMoreClauses}
 use Rattle.bb_input.specs.declared.InputAnswer.{InputAnswer}
 use Rattle.bb_input.specs.declared.InputAnswer.TheVariants as choices
 use Rattle.bb_input.specs.Laws.{IsSameAnswer, OneAnswer}
@@ -42,7 +42,7 @@ pub record SayAlike (p : NetPair) (o : Options) (r : Rung) (s t : Said) : Type 0
 
 -- the word of the expansion does not depend on the search
 abbrev pub IsFixed : NetPair → Options → Type 0
-IsFixed p o = HaveSmallTables p.imp.boxes → o.clauses < clause_total p.imp → ⊥
+IsFixed p o = HaveSmallTables p.imp.boxes → NeedsMoreClauses p.spec p.imp o.clauses → ⊥
 
 pub above : (n m : ℕ) → n < m → m ≤ n → ⊥
 above n m less more = omega (arith, less, more)
@@ -102,9 +102,9 @@ module _ (laws : OneLaws) (p : NetPair) (o : Options) (kept : IsPair p) where
   expanded_alike s t fixed (TooWide wide same) (Decided small answer is also) st ts = absurd (above _ _ wide small)
   expanded_alike s t fixed (ClausesTooMany small many same) (TooWide wide also) st ts = absurd (above _ _ wide small)
   expanded_alike s t fixed (ClausesTooMany small many same) (ClausesTooMany smaller more also) st ts = one_said p o Expand s t _ same also
-  expanded_alike s t fixed (ClausesTooMany small many same) (Decided smaller answer is also) st ts = absurd (fixed small many.many)
+  expanded_alike s t fixed (ClausesTooMany small many same) (Decided smaller answer is also) st ts = absurd (fixed small many)
   expanded_alike s t fixed (Decided small answer is same) (TooWide wide also) st ts = absurd (above _ _ wide small)
-  expanded_alike s t fixed (Decided small answer is same) (ClausesTooMany smaller many also) st ts = absurd (fixed smaller many.many)
+  expanded_alike s t fixed (Decided small answer is same) (ClausesTooMany smaller many also) st ts = absurd (fixed smaller many)
   expanded_alike s t fixed (Decided small (expanded.Error vectors cnf refutation) is same) (Decided smaller (expanded.Error others clauses steps) be also) st ts =
       by_told p o Expand s t _ _ same also (say_alike p o Expand _ _ refl refl refl (λ plain. absurd (plain refl)))
   expanded_alike s t fixed (Decided small (expanded.Error vectors cnf refutation) is same) (Decided smaller (expanded.Repair tables) be also) st ts =

@@ -67,7 +67,7 @@ module _ (p : NetPair) (o : Options) where
   said_open Input said (Answered few choices.Clear is same) off none = inr is
   said_open Input said (Answered few (choices.Repair tables) is same) off none = no_repair said _ same refl none
   said_open Expand said (TooWide wide same) off none = inl wide
-  said_open Expand said (ClausesTooMany small many same) off none = inr many.many
+  said_open Expand said (ClausesTooMany small needs same) off none = inr needs
   said_open Expand said (Decided small (expanded.Error vectors cnf refutation) is same) off none = no_error said _ same refl off
   said_open Expand said (Decided small (expanded.Repair tables) is same) off none = no_repair said _ same refl none
 
@@ -157,7 +157,7 @@ staying_open_is_left_open p o Output stays = stays
 staying_open_is_left_open p o Input stays = stays
 staying_open_is_left_open p o Expand wide = inl wide
 
--- and what is left open stays open, or the tables of the expansion may be written down and its clauses over all vectors are too many
+-- and what is left open stays open, or the tables of the expansion may be written down and it may need more clauses
 stays_or_depends : (p : NetPair) (o : Options) (r : Rung) → (MayDependOnSearch p o → ⊥) → Contains (asked_rungs o) r → LeavesOpen p o r → StaysOpen p o r
 stays_or_depends p o Ternary fixed asked left = left
 stays_or_depends p o Symbolic fixed asked left = left
@@ -165,9 +165,9 @@ stays_or_depends p o Local fixed asked left = left
 stays_or_depends p o Output fixed asked left = left
 stays_or_depends p o Input fixed asked left = left
 stays_or_depends p o Expand fixed asked (inl wide) = wide
-stays_or_depends p o Expand fixed asked (inr many) = elim (cases_lt (2 ^ 24) (table_bits p.imp.boxes)) [
+stays_or_depends p o Expand fixed asked (inr needs) = elim (cases_lt (2 ^ 24) (table_bits p.imp.boxes)) [
   | inl wide ↦ wide
-  | inr small ↦ absurd (fixed (record { asked = asked; small = small; many = many }))
+  | inr small ↦ absurd (fixed (record { asked = asked; small = small; needs = needs }))
 ]
 
 pub left_open_stays_open : LeftOpenStaysOpen
@@ -183,7 +183,7 @@ not_both p o Output leaves decides = decides
 not_both p o Input (inl many) decides = decides.1 many
 not_both p o Input (inr none) decides = none.1 decides.0
 not_both p o Expand (inl wide) decides = above (2 ^ 24) (table_bits p.imp.boxes) wide decides.0
-not_both p o Expand (inr many) decides = above o.clauses (clause_total p.imp) many decides.1
+not_both p o Expand (inr needs) decides = above o.clauses (clause_total p.imp) needs.many decides.1
 
 pub deciders_decide : DecidersDecide
 deciders_decide p o lines climb (r, asked, decides) verdict = not_both p o r (All-contains (LeavesOpen p o) (asked_rungs o) r (climbs_leave_open p o lines climb verdict) asked) decides

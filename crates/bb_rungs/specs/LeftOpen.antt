@@ -9,6 +9,7 @@ use Rattle.bb_sym.specs.Functions.{symbolic_functions, local_functions, output_f
 use Rattle.bb_input.specs.Answers.{IsFinishable}
 use Rattle.bb_input.specs.InputFunctions.{input_functions}
 use Rattle.bb_expand.specs.ClauseCounts.{clause_total}
+use Rattle.bb_expand.specs.GivenUp.{NeedsMoreClauses}
 use Rattle.bb_options.specs.declared.options.Options.{Options}
 use Rattle.bb_options.specs.declared.rung.Rung.{Rung}
 use Rattle.bb_options.specs.declared.rung.Rung.TheVariants.{Ternary, Symbolic, Local, Output, Input, Expand}
@@ -22,13 +23,13 @@ LeavesOpen p o Symbolic = AreTooMany o (symbolic_functions p.spec p.imp) ⊎ May
 LeavesOpen p o Local = AreTooMany o (local_functions p.spec p.imp) ⊎ EachSometimesRight p.spec p.imp
 LeavesOpen p o Output = AreTooMany o (output_functions p.spec p.imp) ⊎ AllSometimesRight p.spec p.imp
 LeavesOpen p o Input = AreTooMany o (input_functions p.spec p.imp) ⊎ (SomeChoicesSuit p.spec p.imp × (IsFinishable p.imp → ⊥))
-LeavesOpen p o Expand = (2 ^ 24 < table_bits p.imp.boxes) ⊎ (o.clauses < clause_total p.imp)
+LeavesOpen p o Expand = (2 ^ 24 < table_bits p.imp.boxes) ⊎ NeedsMoreClauses p.spec p.imp o.clauses
 
 abbrev pub AllLeaveOpen : NetPair → Options → Type 0
 AllLeaveOpen p o = All (LeavesOpen p o) (asked_rungs o)
 
--- what makes the question stay open with a check, whatever the solver does: the same but at the expansion, where fewer vectors may tell
--- when the clauses over all of them are too many, so that tables that are too wide are the only cause
+-- what makes the question stay open with a check, whatever the solver does: the same but at the expansion, which may find vectors that
+-- tell where others would need more clauses, so that tables that are too wide are the only cause
 abbrev pub StaysOpen : NetPair → Options → Rung → Type 0
 StaysOpen p o Expand = 2 ^ 24 < table_bits p.imp.boxes
 StaysOpen p o r = LeavesOpen p o r

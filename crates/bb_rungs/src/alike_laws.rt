@@ -8,8 +8,10 @@ use bb_alike::laws::{
     formulas_are_of_cells,
 };
 use bb_bits::number_spelled_once;
+use bb_expand::expansions_and_tables;
+use bb_filled::laws::{alike_filled_have_same_bits, filled_exist};
 use bb_input::answers_are_one;
-use bb_net::conditions_weaken;
+use bb_net::{conditions_weaken, value_goes_by_boxes};
 use bb_sym::laws::functions;
 use bb_tern::laws::patterns_are_vectors;
 
@@ -26,6 +28,10 @@ pub fn alike_pairs_are_left_open()
     alike_nets_have_cells();
     alike_cells_have_one_bit();
     alike_cells_are_known_alike();
+    filled_exist();
+    alike_filled_have_same_bits();
+    value_goes_by_boxes();
+    expansions_and_tables();
 }
 
 /// Where it decides one, it decides the other.
@@ -38,6 +44,10 @@ pub fn alike_pairs_are_decided()
     alike_nets_have_cells();
     alike_cells_have_one_bit();
     alike_cells_are_known_alike();
+    filled_exist();
+    alike_filled_have_same_bits();
+    value_goes_by_boxes();
+    expansions_and_tables();
 }
 
 /// What a check may say of one pair it may say of the other, unless it refutes the clauses of the one.
@@ -50,6 +60,10 @@ pub fn alike_pairs_are_told()
     alike_nets_have_cells();
     alike_cells_have_one_bit();
     alike_cells_are_known_alike();
+    filled_exist();
+    alike_filled_have_same_bits();
+    value_goes_by_boxes();
+    expansions_and_tables();
 }
 
 /// Reports of pairs that are alike are the same, but for what stands behind the line of the expansion, and but for this line where it
@@ -64,6 +78,10 @@ pub fn alike_reports_are_one()
     alike_nets_have_cells();
     alike_cells_have_one_bit();
     alike_cells_are_known_alike();
+    filled_exist();
+    alike_filled_have_same_bits();
+    value_goes_by_boxes();
+    expansions_and_tables();
     conditions_weaken();
     patterns_are_vectors();
     number_spelled_once();
@@ -87,6 +105,10 @@ pub fn alike_verdicts_never_clash()
     alike_nets_have_cells();
     alike_cells_have_one_bit();
     alike_cells_are_known_alike();
+    filled_exist();
+    alike_filled_have_same_bits();
+    value_goes_by_boxes();
+    expansions_and_tables();
     errors_exclude_tables();
     repairs_agree();
 }

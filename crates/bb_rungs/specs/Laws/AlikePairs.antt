@@ -1,5 +1,5 @@
 -- What checks say does not depend on the order of cells: pairs that are alike are left open alike and decided alike, may be told the
--- same, but for what speaks of clauses, and have the same reports, but for what stands behind the line of the expansion, and for this line itself
+-- same, but for refutations, and have the same reports, but for what stands behind the line of the expansion, and for this line itself
 -- where it may depend on the search. There too no two verdicts contradict each other.
 use Rattle.std.specs.Prelude.{◌≡◌, List, map}
 use Rattle.std.specs.List.{AllZip}
@@ -34,20 +34,20 @@ AlikePairsDependAlike = (p q : NetPair) (o : Options) → IsPair p → IsPair q 
 abbrev pub AlikePairsAreDecided : Type 0
 AlikePairsAreDecided = (p q : NetPair) (o : Options) (r : Rung) → IsPair p → IsPair q → ArePairsAlike p q → Decides p o r → Decides q o r
 
--- what is said does not rest on clauses: it is no refutation, and not that more clauses would be needed
-abbrev pub SpeaksOfNoClauses : Said → Type 0
-SpeaksOfNoClauses (Error (Vector found)) = Unit {0}
-SpeaksOfNoClauses (Error NoChoices) = Unit {0}
-SpeaksOfNoClauses (Error (Refutation proof)) = ⊥
-SpeaksOfNoClauses Nothing = Unit {0}
-SpeaksOfNoClauses (Repair tables) = Unit {0}
-SpeaksOfNoClauses Nodes = Unit {0}
-SpeaksOfNoClauses Clauses = ⊥
-SpeaksOfNoClauses Wide = Unit {0}
+-- what stands behind the line of the check is not a refutation
+abbrev pub IsNoRefutation : Said → Type 0
+IsNoRefutation (Error (Vector found)) = Unit {0}
+IsNoRefutation (Error NoChoices) = Unit {0}
+IsNoRefutation (Error (Refutation proof)) = ⊥
+IsNoRefutation Nothing = Unit {0}
+IsNoRefutation (Repair tables) = Unit {0}
+IsNoRefutation Nodes = Unit {0}
+IsNoRefutation Clauses = Unit {0}
+IsNoRefutation Wide = Unit {0}
 
--- what a check may say of a pair it may say of one that is alike; what it says of clauses is of those of one pair alone
+-- what a check may say of a pair it may say of one that is alike; a refutation is one of the clauses of the one pair
 abbrev pub AlikePairsAreTold : Type 0
-AlikePairsAreTold = (p q : NetPair) (o : Options) (r : Rung) (said : Said) → IsPair p → IsPair q → ArePairsAlike p q → SpeaksOfNoClauses said → MaySay p o r said → MaySay q o r said
+AlikePairsAreTold = (p q : NetPair) (o : Options) (r : Rung) (said : Said) → IsPair p → IsPair q → ArePairsAlike p q → IsNoRefutation said → MaySay p o r said → MaySay q o r said
 
 -- two lines of one check, with the same text unless it is the expansion
 pub record AreToldAlikeBefore (p q : NetPair) (o : Options) (l m : Line) : Type 0 where

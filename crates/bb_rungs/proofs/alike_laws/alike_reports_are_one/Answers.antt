@@ -14,6 +14,12 @@ returns c =
       };
       known = c.alike_cells_are_known_alike.ensures;
       fix = c.functions.ensures.same;
+      given = record {
+        exist = c.filled_exist.ensures;
+        same = c.alike_filled_have_same_bits.ensures;
+        boxes = c.value_goes_by_boxes.ensures;
+        counted = c.expansions_and_tables.ensures.counted;
+      };
     } in
     let one : OneLaws = record {
       weakens = record {

@@ -11,4 +11,10 @@ returns c = alike_verdicts_never_clash (record {
   };
   known = c.alike_cells_are_known_alike.ensures;
   fix = c.functions.ensures.same;
+  given = record {
+    exist = c.filled_exist.ensures;
+    same = c.alike_filled_have_same_bits.ensures;
+    boxes = c.value_goes_by_boxes.ensures;
+    counted = c.expansions_and_tables.ensures.counted;
+  };
 }) c.errors_exclude_tables.ensures c.repairs_agree.ensures
