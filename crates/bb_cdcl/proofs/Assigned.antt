@@ -14,7 +14,7 @@ get_or_past [] k d past = refl
 get_or_past (x ∷ xs) zero d past = absurd (omega (arith, past))
 get_or_past (x ∷ xs) (suc k) d past = get_or_past xs k d (omega (arith, past))
 
-under_or_past : (a b : ℕ) → (a < b) ⊎ (b ≤ a)
+pub under_or_past : (a b : ℕ) → (a < b) ⊎ (b ≤ a)
 under_or_past a b = elim (nat_lt a b) as (λ t. nat_lt a b ≡ t → (a < b) ⊎ (b ≤ a)) [
   | true ↦ λ yes. inl (grind (arith, yes))
   | false ↦ λ no. inr (grind (arith, no))

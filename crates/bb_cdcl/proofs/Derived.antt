@@ -1,12 +1,12 @@
 -- What a learned clause leaves true.
-use Rattle.std.proofs.Common.{◌≡◌, ◌<◌, ℕ, ◌+◌, ◌-◌, false, Option, Some, None, IfSome, IfNone, IsSomeAnd, option_map, option_and_then, List, [], ◌∷◌, ◌++◌, length, map, take, slice_get, refl, sym, ◌∙◌, ap, subst, arith, length-append}
-use Rattle.std.proofs.lemmas.List.{append_assoc, append-nil, map-append, length-map}
+use Rattle.std.proofs.Common.{◌≡◌, ◌<◌, ℕ, ◌+◌, ◌-◌, false, Option, Some, None, IfSome, IfNone, IsSomeAnd, option_map, List, [], ◌∷◌, ◌++◌, length, map, take, slice_get, refl, sym, ◌∙◌, ap, subst, arith, length-append}
+use Rattle.std.proofs.lemmas.List.{append_assoc, append-nil, length-map}
 use Rattle.std.proofs.lemmas.Option.{slice_get-map}
 use Rattle.smallvec.specs.SmallVec.{SmallVec}
 use Rattle.bb_cnf.specs.declared.clauses.Lit.{Lit}
 use Rattle.bb_cnf.specs.declared.refutation.Step.{Step}
 use Rattle.bb_cnf.specs.Clauses.{Literals, literals_of, lists_of}
-use Rattle.bb_cnf.specs.Chains.{derived, made_by, IsEmpty, EndsEmpty, IsRefutation}
+use Rattle.bb_cnf.specs.Chains.{made_by, IsEmpty}
 use Rattle.bb_cnf.specs.Laws.{ChainLaws}
 use Rattle.bb_cdcl.specs.declared.analysis.Jump.{Jump}
 use Rattle.bb_cdcl.specs.declared.state.State.{State}
@@ -15,16 +15,11 @@ use Rattle.bb_cdcl.specs.declared.trail.Trail.{Trail}
 use Rattle.bb_cnf.specs.Inside.PartialResolvent.{held, AreListed}
 use Rattle.bb_cdcl.specs.Inside.Trails.{opposite, AreNew, HaveReasons, IsReason, AreValues, HasRoom}
 use Rattle.bb_cdcl.specs.Inside.Analysis.{IsJump}
-use Rattle.bb_cdcl.specs.Inside.States.{all_clauses, IsDerived, IsReady, Grows, Leads, Learns, Advances, left_of}
+use Rattle.bb_cdcl.specs.Inside.Dates.{AreDerived}
+use Rattle.bb_cdcl.specs.Inside.States.{all_clauses, IsDerived, Refutes, IsReady, Grows, Leads, Learns, Advances, left_of}
 use Rattle.bb_cdcl.specs.Inside.Measure.{left}
+use Rattle.bb_cdcl.proofs.Dates.{derived_today}
 use Rattle.bb_cdcl.proofs.Extended.{get_last, more_reasons, reasons_push, reasons_front, lists_of-push}
-
-derived_push : ChainLaws → (given all : List Literals) (steps : List Step) (step : Step) (c : Literals) → derived given steps ≡ Some all → made_by all step ≡ Some c
-    → derived given (steps ++ step ∷ []) ≡ Some (all ++ c ∷ [])
-derived_push laws given all steps step c before made =
-    laws.steps_in_parts given steps (step ∷ [])
-    ∙ ap (option_and_then (λ a. derived a (step ∷ []))) before
-    ∙ ap (option_and_then (λ d. Some (all ++ d ∷ []))) made
 
 -- all clauses, with one more
 lists_more : (given : List (List Lit)) (old new : State) (clause : SmallVec Lit) → new.learned.items ≡ old.learned.items ++ clause ∷ [] → all_clauses given new ≡ all_clauses given old ++ clause.items ∷ []
@@ -34,13 +29,14 @@ lists_more given old new clause more =
 
 -- a clause more, and the step that makes it
 added : ChainLaws → (given : List (List Lit)) (old new : State) (clause : SmallVec Lit) (step : Step) → IsDerived given old → new.learned.items ≡ old.learned.items ++ clause ∷ []
-    → new.steps.items ≡ old.steps.items ++ step ∷ [] → made_by (map literals_of (all_clauses given old)) step ≡ Some (literals_of clause.items) → new.trail ≡ old.trail → IsDerived given new
+    → new.steps.items ≡ old.steps.items ++ record { given = length given; step = step } ∷ [] → made_by (map literals_of (all_clauses given old)) step ≡ Some (literals_of clause.items)
+    → new.trail ≡ old.trail → IsDerived given new
 added laws given old new clause step before more steps made trail =
     let all = lists_more given old new clause more in
     record {
-      derives = ap (derived (map literals_of given)) steps
-          ∙ derived_push laws (map literals_of given) (map literals_of (all_clauses given old)) old.steps.items step (literals_of clause.items) before.derives made
-          ∙ ap Some (sym (ap (map literals_of) all ∙ map-append literals_of (all_clauses given old) (clause.items ∷ [])));
+      derives = subst (λ dated. AreDerived given dated (all_clauses given new)) (sym steps)
+          (subst (AreDerived given (old.steps.items ++ record { given = length given; step = step } ∷ [])) (sym all)
+          (derived_today given (all_clauses given old) old.steps.items step clause.items before.derives made));
       reasons = subst (λ (t : Trail). HaveReasons (all_clauses given new) t.entries.items) (sym trail)
           (subst (λ clauses. HaveReasons clauses old.trail.entries.items) (sym all) (more_reasons (all_clauses given old) clause.items old.trail.entries.items before.reasons));
     }
@@ -49,8 +45,8 @@ pub grows_not : (given : List (List Lit)) (s : State) → IsDerived given s → 
 grows_not given s before = record { derived = before; more = []; clauses = sym (append-nil (all_clauses given s)); trail = refl; resolvent = refl }
 
 pub grows_by : ChainLaws → (given : List (List Lit)) (old new : State) (clause : SmallVec Lit) (step : Step) → IsDerived given old → new.learned.items ≡ old.learned.items ++ clause ∷ []
-    → new.steps.items ≡ old.steps.items ++ step ∷ [] → made_by (map literals_of (all_clauses given old)) step ≡ Some (literals_of clause.items) → new.trail ≡ old.trail
-    → new.resolvent ≡ old.resolvent → Grows given old new
+    → new.steps.items ≡ old.steps.items ++ record { given = length given; step = step } ∷ [] → made_by (map literals_of (all_clauses given old)) step ≡ Some (literals_of clause.items)
+    → new.trail ≡ old.trail → new.resolvent ≡ old.resolvent → Grows given old new
 grows_by laws given old new clause step before more steps made trail resolvent = record {
   derived = added laws given old new clause step before more steps made trail;
   more = clause.items ∷ [];
@@ -76,14 +72,15 @@ last_of xs x =
 
 -- the last clause is empty
 refuted : (given : List (List Lit)) (s : State) (clause : List Lit) → IsDerived given s → 0 < length s.steps.items → slice_get (all_clauses given s) (length (all_clauses given s) - 1) ≡ Some clause
-    → IsEmpty (literals_of clause) → IsRefutation given s.steps.items
+    → IsEmpty (literals_of clause) → Refutes given s
 refuted given s clause before some last empty =
-    let all = all_clauses given s in (
-      some,
-      subst (λ o. IsSomeAnd o EndsEmpty) (sym before.derives)
-          (subst (λ o. IsSomeAnd o IsEmpty)
-          (sym (ap (λ n. slice_get (map literals_of all) (n - 1)) (length-map all literals_of) ∙ slice_get-map literals_of all (length all - 1) ∙ ap (option_map literals_of) last)) empty),
-    )
+    let all = all_clauses given s in
+    record {
+      derived = before;
+      some = some;
+      empty = subst (λ o. IsSomeAnd o IsEmpty)
+          (sym (ap (λ n. slice_get (map literals_of all) (n - 1)) (length-map all literals_of) ∙ slice_get-map literals_of all (length all - 1) ∙ ap (option_map literals_of) last)) empty;
+    }
 
 if_none : (jump : Option Jump) (A B : Type 0) → (A → B) → IfNone jump A → IfNone jump B
 if_none None A B f a = f a
@@ -91,19 +88,19 @@ if_none (Some j) A B f a = tt
 
 -- the clause that the step leads to is the last
 pub learned_last : ChainLaws → (given : List (List Lit)) (old mid new : State) (jump : Option Jump) (step : Step) (clause : SmallVec Lit) → Leads given old mid jump step
-    → literals_of clause.items ≡ held mid.resolvent → new.learned.items ≡ mid.learned.items ++ clause ∷ [] → new.steps.items ≡ mid.steps.items ++ step ∷ [] → new.trail ≡ mid.trail
+    → literals_of clause.items ≡ held mid.resolvent → new.learned.items ≡ mid.learned.items ++ clause ∷ [] → new.steps.items ≡ mid.steps.items ++ record { given = length given; step = step } ∷ [] → new.trail ≡ mid.trail
     → ((l : Lit) → held new.resolvent l ≡ false) → AreListed new.resolvent → Learns given old new jump
 learned_last laws given old mid new jump step clause leads is more steps trail empty listed =
     let derived = added laws given mid new clause step leads.derived more steps (leads.made ∙ ap (λ (k : Literals). Some k) (sym is)) trail in
     let last = ap (λ all. slice_get all (length all - 1)) (lists_more given mid new clause more) ∙ last_of (all_clauses given mid) clause.items in
-    let longer : length new.steps.items ≡ length mid.steps.items + 1 = ap length steps ∙ length-append mid.steps.items (step ∷ []) in
+    let longer : length new.steps.items ≡ length mid.steps.items + 1 = ap length steps ∙ length-append mid.steps.items (record { given = length given; step = step } ∷ []) in
     record {
       derived = derived;
       trail = trail ∙ leads.trail;
       clause = clause.items;
       last = last;
       some = subst (λ k. IfSome jump (λ j. IsJump old.trail.entries.items k j.place j.back)) (sym is) leads.some;
-      none = if_none jump (IsEmpty (held mid.resolvent)) (IsRefutation given new.steps.items)
+      none = if_none jump (IsEmpty (held mid.resolvent)) (Refutes given new)
           (λ nothing. refuted given new clause.items derived (omega (arith, longer)) last (subst IsEmpty (sym is) nothing)) leads.none;
       empty = empty;
       listed = listed;
@@ -121,7 +118,7 @@ learned_ready given old new jump ready learns = record {
 pub derived_kept : (given : List (List Lit)) (old new : State) (entries : List Entry) → IsDerived given old → new.learned.items ≡ old.learned.items → new.steps.items ≡ old.steps.items
     → new.trail.entries.items ≡ entries → HaveReasons (all_clauses given old) entries → IsDerived given new
 derived_kept given old new entries before learned steps is reasons = record {
-  derives = ap (derived (map literals_of given)) steps ∙ before.derives ∙ ap (λ more. Some (map literals_of (given ++ lists_of more))) (sym learned);
+  derives = subst (λ more. AreDerived given new.steps.items (given ++ lists_of more)) (sym learned) (subst (λ dated. AreDerived given dated (all_clauses given old)) (sym steps) before.derives);
   reasons = subst (λ more. HaveReasons (given ++ lists_of more) new.trail.entries.items) (sym learned) (subst (HaveReasons (all_clauses given old)) (sym is) reasons);
 }
 

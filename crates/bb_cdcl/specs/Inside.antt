@@ -1,7 +1,10 @@
 -- What the code says to itself: no clause of the top call rests on it.
 pub mod Analysis
+pub mod Dates
 pub mod Events
 pub mod Measure
 pub mod Outcomes
+pub mod Resting
+pub mod Solved
 pub mod States
 pub mod Trails

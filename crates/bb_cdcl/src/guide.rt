@@ -1,10 +1,13 @@
 //! What guides the search: scores of variables, their last bits, and the levels of the trail. No answer depends on it.
 
 use crate::NoMemory;
+use crate::examination::value;
 use crate::retention::Retention;
 use crate::scores::Scores;
+use crate::trail::Entry;
 use bb_cnf::{Lit, PartialResolvent};
 use bb_watch::{read, write};
+use smallvec::SmallVec;
 use std::alloc::Global;
 
 /// Scores, the last bit of each variable, and the level of each that has a value with its place on the trail; and for
@@ -30,8 +33,8 @@ pub(crate) struct Guide {
 const AWAITED: u32 = u32::MAX;
 
 impl Guide {
-    /// No variable has a value.
-    pub(crate) fn new(alloc: Global, vars: u32, given: usize) -> Result<Guide, NoMemory> {
+    /// No variable has a value, or is to be decided.
+    pub(crate) fn new(alloc: Global, vars: u32) -> Result<Guide, NoMemory> {
         let size = vars as usize + 1;
         Ok(Guide {
             scores: Scores::new(alloc, vars)?,
@@ -44,8 +47,42 @@ impl Guide {
             found: vec![in alloc; 0; size]?,
             count: 0,
             units: vec![in alloc; 0; size]?,
-            retention: Retention::new(alloc, given),
+            retention: Retention::new(alloc),
         })
+    }
+
+    /// There are variables up to this one.
+    pub(crate) fn widen(&mut self, vars: u32) -> Result<(), NoMemory> {
+        let size = vars as usize + 1;
+        self.scores.widen(vars)?;
+        self.bits.resize(size, false)?;
+        self.levels.resize(size, 0)?;
+        self.places.resize(size, 0)?;
+        self.found.resize(size, 0)?;
+        self.units.resize(size, 0)
+    }
+
+    /// The variables of a new clause are to be decided.
+    pub(crate) fn meets(&mut self, clause: &[Lit], values: &[Option<bool>]) {
+        for lit in clause {
+            if value(values, lit.var).is_none() {
+                self.scores.insert(lit.var);
+            }
+        }
+    }
+
+    /// There were `known` given clauses, and are `given`. Each unit clause that was made is of a literal of these entries.
+    pub(crate) fn more_given(&mut self, known: usize, given: usize, entries: &[Entry]) {
+        self.retention.more_given(given);
+        for entry in entries {
+            match self.unit(entry.lit.var) {
+                Some(number) if number >= known => {
+                    let moved = (number - known).saturating_add(given);
+                    self.has_unit(entry.lit.var, moved);
+                }
+                _ => {}
+            }
+        }
     }
 
     /// The variable with the highest score of those that have no value, with its last bit.
@@ -125,21 +162,64 @@ impl Guide {
         highest
     }
 
-    /// Two literals of a clause with the highest levels. They are one literal where the clause has one.
-    pub(crate) fn last_two(&self, clause: &[Lit]) -> (Lit, Lit) {
+    // The level on which the literal became false; the highest number where it is not false.
+    fn falls(&self, lit: Lit, values: &[Option<bool>]) -> u32 {
+        if value(values, lit.var) == Some(lit.neg) {
+            read(&self.levels, lit.var)
+        } else {
+            u32::MAX
+        }
+    }
+
+    /// Two literals of a clause that are not false, or became so on the highest levels. They are one literal where the clause has
+    /// one.
+    pub(crate) fn last_two(&self, clause: &[Lit], values: &[Option<bool>]) -> (Lit, Lit) {
         let none = Lit { var: 0, neg: false };
         let mut first = clause.first().copied().unwrap_or(none);
         let mut second = clause.last().copied().unwrap_or(none);
         for lit in clause {
-            let level = read(&self.levels, lit.var);
-            if level > read(&self.levels, first.var) {
+            let level = self.falls(*lit, values);
+            if level > self.falls(first, values) {
                 second = first;
                 first = *lit;
-            } else if *lit != first && level > read(&self.levels, second.var) || second == first {
+            } else if *lit != first && level > self.falls(second, values) || second == first {
                 second = *lit;
             }
         }
         (first, second)
+    }
+
+    // Is the literal true since this level or a lower one?
+    fn holds_since(&self, lit: Lit, level: u32, values: &[Option<bool>]) -> bool {
+        value(values, lit.var) == Some(!lit.neg) && read(&self.levels, lit.var) <= level
+    }
+
+    // The level down to which the trail is to be taken back for a clause: there it has two literals that are not false, or one
+    // that it implies since no lower level.
+    fn asked_by(&self, clause: &[Lit], values: &[Option<bool>]) -> u32 {
+        let (first, second) = self.last_two(clause, values);
+        let high = self.falls(first, values);
+        let low = if second == first {
+            0
+        } else {
+            self.falls(second, values)
+        };
+        if self.holds_since(first, low, values) {
+            u32::MAX
+        } else if high > low {
+            low
+        } else {
+            low.saturating_sub(1)
+        }
+    }
+
+    /// The level down to which the trail is to be taken back for these clauses.
+    pub(crate) fn asked(&self, clauses: &[SmallVec<Lit, 4>], values: &[Option<bool>]) -> u32 {
+        let mut asked = u32::MAX;
+        for clause in clauses {
+            asked = asked.min(self.asked_by(clause.as_slice(), values));
+        }
+        asked
     }
 
     // The resolvent gets a literal of this variable.

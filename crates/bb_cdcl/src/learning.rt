@@ -95,6 +95,6 @@ pub(crate) fn learn(
     laws::chains();
     let (jump, step) = conflict_step(alloc, given, s, number, guide)?;
     let clause = drained(alloc, &mut s.resolvent)?;
-    add(s, clause, step)?;
+    add(s, given.len(), clause, step)?;
     Ok(jump)
 }

@@ -19,15 +19,21 @@ pub(crate) struct Retention {
 }
 
 impl Retention {
-    /// Nothing was learned.
-    pub(crate) fn new(alloc: Global, given: usize) -> Retention {
+    /// Nothing is given, and nothing was learned.
+    pub(crate) fn new(alloc: Global) -> Retention {
         Retention {
-            given,
+            given: 0,
             uses: Vec::new(alloc),
             conflicts: 0,
             watched: 0,
-            limit: (given / 3).saturating_add(LEAST),
+            limit: 0,
         }
+    }
+
+    /// There are so many given clauses.
+    pub(crate) fn more_given(&mut self, given: usize) {
+        self.given = given;
+        self.limit = self.limit.max((given / 3).saturating_add(LEAST));
     }
 
     /// A conflict begins.
@@ -70,7 +76,7 @@ impl Retention {
             if 0 < self.uses[place] && self.uses[place] < conflict {
                 self.uses[place] = 0;
                 self.watched = self.watched.saturating_sub(1);
-                watches.forget(self.given.saturating_add(place));
+                watches.forget(place);
             }
         }
     }

@@ -19,26 +19,25 @@ pub(crate) struct Scores {
     spots: Vec<u32>,
 }
 
-// The numbers from 0 to `last`.
-fn numbers(alloc: Global, last: u32) -> Result<Vec<u32>, NoMemory> {
-    let mut all = Vec::with_capacity(alloc, last as usize + 1)?;
-    for number in 0..last {
-        all.push(number)?;
-    }
-    all.push(last)?;
-    Ok(all)
-}
-
 impl Scores {
-    /// All variables from 1 on are in the heap, in their order.
+    /// No variable is in the heap.
     pub(crate) fn new(alloc: Global, vars: u32) -> Result<Scores, NoMemory> {
+        let size = vars as usize + 1;
         Ok(Scores {
-            scores: vec![in alloc; 0; vars as usize + 1]?,
+            scores: vec![in alloc; 0; size]?,
             reward: 1 << 20,
-            heap: numbers(alloc, vars)?,
-            count: vars,
-            spots: numbers(alloc, vars)?,
+            heap: vec![in alloc; 0; size]?,
+            count: 0,
+            spots: vec![in alloc; 0; size]?,
         })
+    }
+
+    /// There are variables up to this one.
+    pub(crate) fn widen(&mut self, vars: u32) -> Result<(), NoMemory> {
+        let size = vars as usize + 1;
+        self.scores.resize(size, 0)?;
+        self.heap.resize(size, 0)?;
+        self.spots.resize(size, 0)
     }
 
     fn score(&self, var: u32) -> u64 {

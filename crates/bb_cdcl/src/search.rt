@@ -5,8 +5,9 @@ ghost use Rattle.bb_cnf.specs.Clauses.{lists_of, IsWithin};
 ghost use Rattle.bb_cdcl.specs.Inside.States.{IsDerived, IsReady, Ends, Pauses};
 
 use crate::NoMemory;
+use crate::helpers::Helpers;
 use crate::state::{State, Turn};
-use crate::turn::{Helpers, restart, turn};
+use crate::turn::{take_back, turn};
 use bb_cnf::Lit;
 use smallvec::SmallVec;
 use std::alloc::Global;
@@ -83,7 +84,7 @@ fn run_again(
         if let Some(end) = run_to(alloc, given, s, helpers, learned)? {
             return Ok(Some(end));
         }
-        restart(s, helpers);
+        take_back(s, helpers, 0);
         more = more.saturating_add(more / 10);
     }
     Ok(None)

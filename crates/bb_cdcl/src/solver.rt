@@ -1,33 +1,41 @@
-//! The calls.
+//! The calls on clauses that stay as they are.
 
-ghost use Rattle.std.specs.Prelude.{ℕ, ◌≡◌, ◌+◌, ◌≤◌, ◌<◌, ◌↔◌, true, length, IfOk, List};
-ghost use Rattle.bb_cnf.specs.declared.clauses.Lit.{Lit as Literal};
+ghost use Rattle.std.specs.Prelude.{ℕ, ◌≡◌, ◌+◌, ◌≤◌, ◌<◌, ◌↔◌, true, false, length, IfOk};
 ghost use Rattle.bb_cnf.specs.Clauses.{lists_of, IsWithin};
 ghost use Rattle.bb_cdcl.specs.Inside.Outcomes.{IfSat, IfUnsat, IsSat, HasModel, formula, IfDecided, IfSpent, Derive};
 ghost use Rattle.bb_cdcl.specs.declared.state.State.{State as SolverState};
-ghost use Rattle.bb_cdcl.specs.Inside.States.{Ends};
+ghost use Rattle.bb_cdcl.specs.Inside.States.{Ends, Refutes};
 
+use crate::handing_out::{refutation, spent};
+use crate::helpers::Helpers;
+use crate::resumption::resume;
 use crate::search::{search, search_within};
-use crate::start::{helpers, model, start};
+use crate::start::{model, start};
 use crate::state::State;
 use crate::{Attempt, NoMemory, Outcome};
-use bb_cnf::{Cnf, Lit, Refutation, laws};
+use bb_cnf::{Cnf, Lit, laws};
 use smallvec::SmallVec;
 use std::alloc::Global;
 
 // What the end of a search says of the clauses.
-fn outcome(alloc: Global, s: State, satisfied: bool) -> Result<Outcome, NoMemory>
-    requires { satisfied ≡ true → 0 < length s.trail.values.items }
-    ensures sat { IfOk result (λ outcome. (vars : ℕ) (given : List (List Literal)) (old : SolverState) → length old.trail.values.items ≡ vars + 1
-        → IsWithin vars given → Ends given old s satisfied → IfSat outcome (formula vars given)) }
-    ensures unsat { IfOk result (λ outcome. (vars : ℕ) (given : List (List Literal)) (old : SolverState) → Ends given old s satisfied
-        → IfUnsat outcome (formula vars given)) }
+fn outcome(
+    alloc: Global,
+    given: &[SmallVec<Lit, 4>],
+    s: State,
+    satisfied: bool,
+) -> Result<Outcome, NoMemory>
+    requires some { satisfied ≡ true → 0 < length s.trail.values.items }
+    requires refutes { satisfied ≡ false → Refutes (lists_of given.now) s }
+    ensures sat { IfOk result (λ outcome. (vars : ℕ) (old : SolverState) → length old.trail.values.items ≡ vars + 1
+        → IsWithin vars (lists_of given.now) → Ends (lists_of given.now) old s satisfied → IfSat outcome (formula vars (lists_of given.now))) }
+    ensures unsat { IfOk result (λ outcome. (vars : ℕ) → IfUnsat outcome (formula vars (lists_of given.now))) }
 {
     if satisfied {
         let bits = model(alloc, &s.trail.values)?;
         Ok(Outcome::Sat(bits))
     } else {
-        Ok(Outcome::Unsat(Refutation { steps: s.steps }))
+        let refutation = refutation(alloc, given, s)?;
+        Ok(Outcome::Unsat(refutation))
     }
 }
 
@@ -38,9 +46,10 @@ fn decide(alloc: Global, vars: u32, given: &[SmallVec<Lit, 4>]) -> Result<Outcom
     ensures unsat { IfOk result (λ outcome. IfUnsat outcome (formula vars (lists_of given.now))) }
 {
     let mut s = start(alloc, vars)?;
-    let mut helpers = helpers(alloc, vars, given)?;
+    let mut helpers = Helpers::new(alloc, vars, given.len())?;
+    resume(given, 0, vars, &mut s, &mut helpers)?;
     let satisfied = search(alloc, given, &mut s, &mut helpers)?;
-    let outcome = outcome(alloc, s, satisfied)?;
+    let outcome = outcome(alloc, given, s, satisfied)?;
     Ok(outcome)
 }
 
@@ -57,13 +66,17 @@ fn decide_within(
     ensures spent { IfOk result (λ attempt. IfSpent attempt (λ steps. (learned ≤ length steps) × Derive (lists_of given.now) steps)) }
 {
     let mut s = start(alloc, vars)?;
-    let mut helpers = helpers(alloc, vars, given)?;
+    let mut helpers = Helpers::new(alloc, vars, given.len())?;
+    resume(given, 0, vars, &mut s, &mut helpers)?;
     match search_within(alloc, given, &mut s, &mut helpers, learned)? {
         Some(satisfied) => {
-            let outcome = outcome(alloc, s, satisfied)?;
+            let outcome = outcome(alloc, given, s, satisfied)?;
             Ok(Attempt::Decided(outcome))
         }
-        None => Ok(Attempt::Spent(s.steps)),
+        None => {
+            let steps = spent(alloc, given, s)?;
+            Ok(Attempt::Spent(steps))
+        }
     }
 }
 

@@ -8,13 +8,9 @@ ghost use Rattle.bb_cdcl.specs.Inside.Events.{IsSatisfied};
 ghost use Rattle.bb_cdcl.specs.Inside.States.{IsDerived, IsReady};
 
 use crate::NoMemory;
-use crate::guide::Guide;
 use crate::state::State;
 use crate::trail::Trail;
-use crate::turn::Helpers;
-use bb_cnf::{Lit, PartialResolvent};
-use bb_watch::Watches;
-use smallvec::SmallVec;
+use bb_cnf::PartialResolvent;
 use std::alloc::Global;
 
 /// No variable has a value, and nothing was learned.
@@ -33,29 +29,6 @@ pub(crate) fn start(alloc: Global, vars: u32) -> Result<State, NoMemory>
         },
         resolvent: PartialResolvent::new(alloc),
     })
-}
-
-// Watches the first and the last literal of each clause.
-fn watch_all(watches: &mut Watches, given: &[SmallVec<Lit, 4>]) -> Result<(), NoMemory> {
-    for clause in given {
-        let none = Lit { var: 0, neg: false };
-        let first = clause.first().copied().unwrap_or(none);
-        let last = clause.last().copied().unwrap_or(none);
-        watches.add(first, last)?;
-    }
-    Ok(())
-}
-
-/// What makes the search quick, before the first turn.
-pub(crate) fn helpers(
-    alloc: Global,
-    vars: u32,
-    given: &[SmallVec<Lit, 4>],
-) -> Result<Helpers, NoMemory> {
-    let mut watches = Watches::new(alloc, vars, given.len())?;
-    watch_all(&mut watches, given)?;
-    let guide = Guide::new(alloc, vars, given.len())?;
-    Ok(Helpers { watches, guide })
 }
 
 /// The bits of the variables from 1 on; 0 where a variable has no value.

@@ -12,6 +12,7 @@ ghost use Rattle.bb_cdcl.specs.Inside.States.{IsReady, Advances};
 use crate::NoMemory;
 use crate::analysis::{Jump, entry_at};
 use crate::guide::Guide;
+use crate::numbers::DatedStep;
 use crate::trail::{Trail, assign, negation, pop_to};
 use bb_cnf::{Lit, PartialResolvent, Step};
 use smallvec::SmallVec;
@@ -22,7 +23,7 @@ use std::alloc::Global;
 #[derive(Drop)]
 pub(crate) struct State {
     pub(crate) learned: Vec<SmallVec<Lit, 4>>,
-    pub(crate) steps: Vec<Step>,
+    pub(crate) steps: Vec<DatedStep>,
     pub(crate) trail: Trail,
     pub(crate) resolvent: PartialResolvent,
 }
@@ -65,15 +66,20 @@ pub(crate) fn drained(
     Ok(clause)
 }
 
-/// Adds a clause, and the step that makes it.
-pub(crate) fn add(s: &mut State, clause: SmallVec<Lit, 4>, step: Step) -> Result<(), NoMemory>
+/// Adds a clause, and the step that makes it behind so many given clauses.
+pub(crate) fn add(
+    s: &mut State,
+    given: usize,
+    clause: SmallVec<Lit, 4>,
+    step: Step,
+) -> Result<(), NoMemory>
     ensures learned { OnOk result (s.new.learned.items ≡ s.old.learned.items ++ clause ∷ []) }
-    ensures steps { OnOk result (s.new.steps.items ≡ s.old.steps.items ++ step ∷ []) }
+    ensures steps { OnOk result (s.new.steps.items ≡ s.old.steps.items ++ record { given = given; step = step } ∷ []) }
     ensures trail { s.new.trail ≡ s.old.trail }
     ensures resolvent { s.new.resolvent ≡ s.old.resolvent }
 {
     s.learned.push(clause)?;
-    s.steps.push(step)?;
+    s.steps.push(DatedStep { given, step })?;
     Ok(())
 }
 

@@ -1,10 +1,13 @@
 //! The trail of assigned literals, and the value of each variable.
 
-ghost use Rattle.std.specs.Prelude.{ℕ, ◌≡◌, ◌-◌, ◌<◌, ◌≤◌, ◌++◌, ◌∷◌, [], length, take, not, None, Some, OnOk, List};
-ghost use Rattle.bb_cdcl.specs.Inside.Trails.{value_at, AreNew, AreValues, HasRoom, opposite};
+ghost use Rattle.std.specs.Prelude.{ℕ, ◌≡◌, ◌+◌, ◌-◌, ◌^◌, ◌<◌, ◌≤◌, ◌++◌, ◌∷◌, [], length, take, map, not, None, Some, All, IfSome, OnOk, List};
+ghost use Rattle.bb_cdcl.specs.declared.trail.Entry.{Entry as TrailEntry};
+ghost use Rattle.bb_cdcl.specs.Laws.Numbers.{moved_number};
+ghost use Rattle.bb_cdcl.specs.Inside.Trails.{value_at, AreNew, AreValues, HasRoom, opposite, moved_entry};
 
 use crate::NoMemory;
 use crate::guide::Guide;
+use crate::numbers::moved;
 use bb_cnf::Lit;
 
 /// A literal, and the number of the clause that implies it; none where it was decided.
@@ -79,5 +82,47 @@ pub(crate) fn pop_to(trail: &mut Trail, guide: &mut Guide, place: usize)
 {
     while trail.entries.len() > place {
         pop(trail, guide);
+    }
+}
+
+/// There are variables up to this one.
+pub(crate) fn widen(trail: &mut Trail, vars: u32) -> Result<(), NoMemory>
+    requires values { AreValues trail.old.entries.items trail.old.values.items }
+    requires room { HasRoom trail.old.entries.items trail.old.values.items }
+    requires few { length trail.old.values.items ≤ vars + 1 }
+    ensures entries { trail.new.entries.items ≡ trail.old.entries.items }
+    ensures values { OnOk result (AreValues trail.new.entries.items trail.new.values.items) }
+    ensures room { OnOk result (HasRoom trail.new.entries.items trail.new.values.items) }
+    ensures all { OnOk result (length trail.new.values.items ≡ vars + 1) }
+{
+    while trail.values.len() <= vars as usize {
+        trail.values.push(None)?;
+    }
+    Ok(())
+}
+
+// The entry where so many more given clauses come behind the first ones.
+fn moved_reason(entry: Entry, given: usize, more: usize) -> Entry
+    requires { IfSome entry.reason (λ number. moved_number given more number < 2 ^ 64) }
+    ensures { result ≡ moved_entry given more entry }
+{
+    match entry.reason {
+        Some(number) => Entry {
+            lit: entry.lit,
+            reason: Some(moved(number as u64, given, more) as usize),
+        },
+        None => entry,
+    }
+}
+
+/// Moves the numbers of all reasons where so many more given clauses come behind the first ones.
+pub(crate) fn move_reasons(trail: &mut Trail, given: usize, more: usize)
+    requires { All (λ (e : TrailEntry). IfSome e.reason (λ number. moved_number given more number < 2 ^ 64)) trail.old.entries.items }
+    ensures entries { trail.new.entries.items ≡ map (moved_entry given more) trail.old.entries.items }
+    ensures values { trail.new.values ≡ trail.old.values }
+{
+    for place in 0..trail.entries.len() {
+        let entry = trail.entries[place];
+        trail.entries[place] = moved_reason(entry, given, more);
     }
 }

@@ -10,21 +10,15 @@ ghost use Rattle.bb_cdcl.specs.Inside.States.{all_clauses, IsDerived, IsReady, T
 use crate::NoMemory;
 use crate::events::{Event, unsatisfied};
 use crate::guide::Guide;
+use crate::helpers::Helpers;
 use crate::learning::learn;
 use crate::state::{State, Turn, extend, go_back};
 use crate::trail::{Entry, pop_to};
 use crate::watches::propagated;
 use bb_cnf::{Lit, laws};
-use bb_watch::{Clauses, Watches};
+use bb_watch::Clauses;
 use smallvec::SmallVec;
 use std::alloc::Global;
-
-/// What makes the search quick.
-#[derive(Drop)]
-pub(crate) struct Helpers {
-    pub(crate) watches: Watches,
-    pub(crate) guide: Guide,
-}
 
 // Can the literal be decided?
 fn is_free(values: &[Option<bool>], lit: Lit) -> bool
@@ -56,7 +50,7 @@ fn next_event(given: &[SmallVec<Lit, 4>], s: &State, helpers: &mut Helpers) -> E
 {
     let clauses = Clauses::new(given, &s.learned);
     let (entries, values) = (&s.trail.entries, &s.trail.values);
-    match propagated(&mut helpers.watches, &clauses, entries, values) {
+    match propagated(helpers, &clauses, given.len(), entries, values) {
         Event::Quiet => choice(given, values, &mut helpers.guide),
         event => event,
     }
@@ -66,16 +60,17 @@ fn next_event(given: &[SmallVec<Lit, 4>], s: &State, helpers: &mut Helpers) -> E
 // that became false last of the others.
 fn watch_from(
     alloc: Global,
-    learned: &[SmallVec<Lit, 4>],
+    s: &State,
     place: usize,
     helpers: &mut Helpers,
 ) -> Result<(), NoMemory> {
-    for at in place..learned.len() {
-        let (first, second) = helpers.guide.last_two(learned[at].as_slice());
-        helpers.watches.add(first, second)?;
+    for at in place..s.learned.len() {
+        let clause = s.learned[at].as_slice();
+        let (first, second) = helpers.guide.last_two(clause, &s.trail.values);
+        helpers.learned.add(first, second)?;
         helpers.guide.retention.learned()?;
     }
-    helpers.guide.retention.reduce(alloc, &mut helpers.watches)
+    helpers.guide.retention.reduce(alloc, &mut helpers.learned)
 }
 
 // Learns from a false clause, and goes back.
@@ -96,8 +91,8 @@ fn resolve_conflict(
     match learn(alloc, given, s, number, &mut helpers.guide)? {
         None => Ok(Turn::Refuted),
         Some(jump) => {
-            helpers.watches.taken_back(jump.back);
-            watch_from(alloc, &s.learned, known, helpers)?;
+            helpers.taken_back(jump.back);
+            watch_from(alloc, s, known, helpers)?;
             let last = Clauses::new(given, &s.learned).len().saturating_sub(1);
             go_back(s, jump, last, &mut helpers.guide)?;
             Ok(Turn::Going)
@@ -149,26 +144,30 @@ pub(crate) fn turn(
     }
 }
 
-// How many entries stand before the first decision.
-fn before_decisions(entries: &[Entry]) -> usize
+// The place of the first decision behind so many; the end of the trail where there are no more.
+fn behind_decisions(entries: &[Entry], count: u32) -> usize
     ensures { result ≤ length entries.now }
 {
+    let mut decisions: u32 = 0;
     for place in 0..entries.len() {
         if entries[place].reason.is_none() {
-            return place;
+            if decisions >= count {
+                return place;
+            }
+            decisions = decisions.saturating_add(1);
         }
     }
     entries.len()
 }
 
-/// Takes all decisions back.
-pub(crate) fn restart(s: &mut State, helpers: &mut Helpers)
+/// Takes the trail back to so many decisions.
+pub(crate) fn take_back(s: &mut State, helpers: &mut Helpers, decisions: u32)
     requires { IsReady s.old }
     ensures ready { IsReady s.new }
     ensures same { length s.new.trail.values.items ≡ length s.old.trail.values.items }
     ensures derived { (given : List (List Literal)) → IsDerived given s.old → IsDerived given s.new }
 {
-    let place = before_decisions(&s.trail.entries);
+    let place = behind_decisions(&s.trail.entries, decisions);
     pop_to(&mut s.trail, &mut helpers.guide, place);
-    helpers.watches.taken_back(place);
+    helpers.taken_back(place);
 }

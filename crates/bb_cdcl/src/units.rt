@@ -137,7 +137,7 @@ fn make_unit(
     let step = unit_step(alloc, resolvent, &clauses, var, reason, guide)?;
     guide.has_unit(var, clauses.len());
     let clause = drained(alloc, resolvent)?;
-    add(s, clause, step)?;
+    add(s, given.len(), clause, step)?;
     Ok(())
 }
 

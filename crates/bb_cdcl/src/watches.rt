@@ -5,6 +5,7 @@ ghost use Rattle.bb_cdcl.specs.Inside.Events.{Comes};
 
 use crate::events::{Event, event_of};
 use crate::examination::value;
+use crate::helpers::Helpers;
 use crate::trail::{Entry, negation};
 use bb_cnf::Lit;
 use bb_watch::{Clauses, Watches, other_node};
@@ -26,10 +27,16 @@ fn not_false(clause: &[Lit], values: &[Option<bool>], but: Lit) -> Option<Lit> {
 }
 
 // Looks at the clause of the node, of which one literal became false.
-fn look(watches: &mut Watches, clauses: &Clauses<'_>, values: &[Option<bool>], lit: Lit) -> Event
+fn look(
+    watches: &mut Watches,
+    first: usize,
+    clauses: &Clauses<'_>,
+    values: &[Option<bool>],
+    lit: Lit,
+) -> Event
     ensures { Comes clauses.now values.now result }
 {
-    let number = (watches.node.saturating_sub(2) / 2) as usize;
+    let number = first.saturating_add((watches.node.saturating_sub(2) / 2) as usize);
     if watches.is_forgotten() {
         watches.take_out(lit);
         return Event::Quiet;
@@ -52,7 +59,13 @@ fn look(watches: &mut Watches, clauses: &Clauses<'_>, values: &[Option<bool>], l
 }
 
 // Looks at the clauses that watch a literal that became false.
-fn visit(watches: &mut Watches, clauses: &Clauses<'_>, values: &[Option<bool>], lit: Lit) -> Event
+fn visit(
+    watches: &mut Watches,
+    first: usize,
+    clauses: &Clauses<'_>,
+    values: &[Option<bool>],
+    lit: Lit,
+) -> Event
     ensures { Comes clauses.now values.now result }
 {
     if watches.is_new {
@@ -64,7 +77,7 @@ fn visit(watches: &mut Watches, clauses: &Clauses<'_>, values: &[Option<bool>], 
         if watches.node == 0 {
             return Event::Quiet;
         }
-        match look(watches, clauses, values, lit) {
+        match look(watches, first, clauses, values, lit) {
             Event::Quiet => {}
             event => return event,
         }
@@ -73,11 +86,18 @@ fn visit(watches: &mut Watches, clauses: &Clauses<'_>, values: &[Option<bool>], 
 }
 
 // Looks once at each clause that was not looked at before.
-fn first_look(watches: &mut Watches, clauses: &Clauses<'_>, values: &[Option<bool>]) -> Event
+fn first_look(
+    watches: &mut Watches,
+    first: usize,
+    end: usize,
+    clauses: &Clauses<'_>,
+    values: &[Option<bool>],
+) -> Event
     ensures { Comes clauses.now values.now result }
 {
-    for number in watches.looked_at..clauses.len() {
-        watches.looked_at = number + 1;
+    let end = end.min(clauses.len());
+    for number in first.saturating_add(watches.looked_at)..end {
+        watches.looked_at = watches.looked_at.saturating_add(1);
         match event_of(clauses, values, number) {
             Event::Quiet => {}
             event => return event,
@@ -89,6 +109,7 @@ fn first_look(watches: &mut Watches, clauses: &Clauses<'_>, values: &[Option<boo
 // Follows the trail.
 fn follow(
     watches: &mut Watches,
+    first: usize,
     clauses: &Clauses<'_>,
     entries: &[Entry],
     values: &[Option<bool>],
@@ -97,7 +118,13 @@ fn follow(
 {
     for place in watches.place..entries.len() {
         watches.place = place;
-        match visit(watches, clauses, values, negation(entries[place].lit)) {
+        match visit(
+            watches,
+            first,
+            clauses,
+            values,
+            negation(entries[place].lit),
+        ) {
             Event::Quiet => watches.is_new = true,
             event => return event,
         }
@@ -106,17 +133,38 @@ fn follow(
     Event::Quiet
 }
 
-/// A clause that is false or implies a literal.
-pub(crate) fn propagated(
+// What comes of the clauses that have the numbers from `first` on, before `end`.
+fn comes_of(
     watches: &mut Watches,
+    first: usize,
+    end: usize,
     clauses: &Clauses<'_>,
     entries: &[Entry],
     values: &[Option<bool>],
 ) -> Event
     ensures { Comes clauses.now values.now result }
 {
-    match first_look(watches, clauses, values) {
-        Event::Quiet => follow(watches, clauses, entries, values),
+    match first_look(watches, first, end, clauses, values) {
+        Event::Quiet => follow(watches, first, clauses, entries, values),
+        event => event,
+    }
+}
+
+/// A clause that is false or implies a literal: one of the `given` first ones, or else a learned one.
+pub(crate) fn propagated(
+    helpers: &mut Helpers,
+    clauses: &Clauses<'_>,
+    given: usize,
+    entries: &[Entry],
+    values: &[Option<bool>],
+) -> Event
+    ensures { Comes clauses.now values.now result }
+{
+    match comes_of(&mut helpers.given, 0, given, clauses, entries, values) {
+        Event::Quiet => {
+            let end = clauses.len();
+            comes_of(&mut helpers.learned, given, end, clauses, entries, values)
+        }
         event => event,
     }
 }

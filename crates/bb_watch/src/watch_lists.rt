@@ -78,6 +78,11 @@ impl Watches {
         })
     }
 
+    /// There are variables up to this one.
+    pub fn widen(&mut self, vars: u32) -> Result<(), NoMemory> {
+        self.heads.resize(2 * (vars as usize + 1), 0)
+    }
+
     /// The first node of the literal's list.
     pub fn head(&self, lit: Lit) -> u32 {
         read(&self.heads, Code::of(lit).0)

@@ -3,12 +3,13 @@ use Rattle.std.specs.Prelude.{ℕ, ◌≡◌, ◌<◌, Bool, false, true, Some, 
 use Rattle.bb_cnf.specs.declared.clauses.Lit.{Lit}
 use Rattle.bb_cnf.specs.declared.refutation.Step.{Step}
 use Rattle.bb_cnf.specs.Clauses.{literals_of, lists_of}
-use Rattle.bb_cnf.specs.Chains.{derived, made_by, IsEmpty, IsRefutation}
+use Rattle.bb_cnf.specs.Chains.{made_by, IsEmpty, EndsEmpty}
 use Rattle.bb_cnf.specs.Inside.PartialResolvent.{held, AreListed}
 use Rattle.bb_cdcl.specs.declared.analysis.Jump.{Jump}
 use Rattle.bb_cdcl.specs.declared.state.State.{State}
 use Rattle.bb_cdcl.specs.declared.state.Turn.{Turn}
 use Rattle.bb_cdcl.specs.declared.state.Turn.TheVariants as turns
+use Rattle.bb_cdcl.specs.Inside.Dates.{AreDerived}
 use Rattle.bb_cdcl.specs.Inside.Trails.{AreNew, HaveReasons, AreValues, HasRoom}
 use Rattle.bb_cdcl.specs.Inside.Analysis.{IsJump}
 use Rattle.bb_cdcl.specs.Inside.Events.{IsSatisfied}
@@ -20,8 +21,14 @@ all_clauses given s = given ++ lists_of s.learned.items
 
 -- The steps derive what was learned, and each implied literal has a reason among all clauses.
 pub record IsDerived (given : List (List Lit)) (s : State) : Type 0 where
-  pub derives : derived (map literals_of given) s.steps.items ≡ Some (map literals_of (all_clauses given s))
+  pub derives : AreDerived given s.steps.items (all_clauses given s)
   pub reasons : HaveReasons (all_clauses given s) s.trail.entries.items
+
+-- The steps refute the given clauses: the last clause that they derive is empty.
+pub record Refutes (given : List (List Lit)) (s : State) : Type 0 where
+  pub derived : IsDerived given s
+  pub some : 0 < length s.steps.items
+  pub empty : EndsEmpty (map literals_of (all_clauses given s))
 
 -- The trail is in order, and between two analyses the resolvent is empty.
 pub record IsReady (s : State) : Type 0 where
@@ -57,7 +64,7 @@ pub record Learns (given : List (List Lit)) (old new : State) (jump : Option Jum
   pub clause : List Lit
   pub last : slice_get (all_clauses given new) (length (all_clauses given new) - 1) ≡ Some clause
   pub some : IfSome jump (λ j. IsJump old.trail.entries.items (literals_of clause) j.place j.back)
-  pub none : IfNone jump (IsRefutation given new.steps.items)
+  pub none : IfNone jump (Refutes given new)
   pub empty : (l : Lit) → held new.resolvent l ≡ false
   pub listed : AreListed new.resolvent
 
@@ -71,18 +78,23 @@ pub record Advances (old new : State) : Type 0 where
   pub less : left_of new < left_of old
   pub same : length new.trail.values.items ≡ length old.trail.values.items
 
-abbrev pub Turns : List (List Lit) → State → State → Turn → Type 0
-Turns given old new turns.Going = IsDerived given new × Advances old new
-Turns given old new turns.Satisfied = All (IsSatisfied new.trail.values.items) given × (length new.trail.values.items ≡ length old.trail.values.items)
-Turns given old new turns.Refuted = IsRefutation given new.steps.items
-
--- At the end all clauses are true, or the steps refute them.
-abbrev pub Ends : List (List Lit) → State → State → Bool → Type 0
-Ends given old new true = All (IsSatisfied new.trail.values.items) given × (length new.trail.values.items ≡ length old.trail.values.items)
-Ends given old new false = IsRefutation given new.steps.items
-
 -- The search may go on.
 pub record Pauses (given : List (List Lit)) (old new : State) : Type 0 where
   pub derived : IsDerived given new
   pub ready : IsReady new
   pub same : length new.trail.values.items ≡ length old.trail.values.items
+
+-- All clauses are true, and the search may go on where more come.
+pub record Rests (given : List (List Lit)) (old new : State) : Type 0 where
+  pub satisfied : All (IsSatisfied new.trail.values.items) given
+  pub pauses : Pauses given old new
+
+abbrev pub Turns : List (List Lit) → State → State → Turn → Type 0
+Turns given old new turns.Going = IsDerived given new × Advances old new
+Turns given old new turns.Satisfied = Rests given old new
+Turns given old new turns.Refuted = Refutes given new
+
+-- At the end all clauses are true, or the steps refute them.
+abbrev pub Ends : List (List Lit) → State → State → Bool → Type 0
+Ends given old new true = Rests given old new
+Ends given old new false = Refutes given new

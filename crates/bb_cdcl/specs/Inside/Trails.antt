@@ -1,11 +1,12 @@
 -- The trail: literals that are assumed true, in the order in which they were assigned. Each is a decision, or is
 -- implied by a clause whose other literals were false before.
-use Rattle.std.specs.Prelude.{ℕ, ◌≡◌, ◌+◌, Bool, true, false, not, ◌||◌, Option, Some, None, IfSome, List, length, take, slice_get, slice_index_or}
+use Rattle.std.specs.Prelude.{ℕ, ◌≡◌, ◌+◌, Bool, true, false, not, ◌||◌, Option, Some, None, IfSome, option_map, List, length, take, slice_get, slice_index_or}
 use Rattle.std.specs.List.{list_any, sum_by}
 use mathlib.Core.Bool.{beq}
 use Rattle.bb_cnf.specs.declared.clauses.Lit.{Lit}
 use Rattle.bb_cnf.specs.Clauses.{Literals, literals_of, same_literal}
 use Rattle.bb_cdcl.specs.declared.trail.Entry.{Entry}
+use Rattle.bb_cdcl.specs.Laws.Numbers.{moved_number}
 
 abbrev pub opposite : Lit → Lit
 opposite l = record { var = l.var; neg = not l.neg }
@@ -53,6 +54,10 @@ HaveReasons clauses entries = (i : ℕ) (e : Entry) → slice_get entries i ≡ 
 -- the values are those of the entries
 abbrev pub AreValues : List Entry → List (Option Bool) → Type 0
 AreValues entries values = (m : Lit) → is_false values m ≡ falsified entries m
+
+-- the entry where `more` given clauses come behind the first `given` ones
+abbrev pub moved_entry : ℕ → ℕ → Entry → Entry
+moved_entry given more e = record { lit = e.lit; reason = option_map (moved_number given more) e.reason }
 
 -- there are as many values as entries
 abbrev pub HasRoom : List Entry → List (Option Bool) → Type 0

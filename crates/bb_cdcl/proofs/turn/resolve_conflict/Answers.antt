@@ -22,7 +22,7 @@ returns-in_ok-go_back-in-Some c =
     let learns = subst (Learns (lists_of c.args.given.now) c.args.s.now c.learn.new.s) c.in-Some.is c.in_ok-learn.ensures in
     let jump = subst (λ (t : Trail). IsJump t.entries.items (literals_of learns.clause) c.in-Some.jump.place c.in-Some.jump.back) (sym learns.trail) learns.some in
     let count : c.saturating_sub-last.result ≡ length (all_clauses (lists_of c.args.given.now) c.learn.new.s) - 1 =
-    c.saturating_sub-last.ensures ∙ ap (λ n. n - 1) (c.len.ensures ∙ ap length (c.new.ensures ∙ ap (λ more. lists_of c.args.given.now ++ lists_of more) c.deref-in-Some.ensures.value)) in (
+    c.saturating_sub-last.ensures ∙ ap (λ n. n - 1) (c.len.ensures ∙ ap length (c.new.ensures ∙ ap (λ more. lists_of c.args.given.now ++ lists_of more) c.deref.ensures.value)) in (
       derived_jumped _ _ _ _ _ _ learns.clause learns.derived c.in_ok-go_back-in-Some.ensures.learned c.in_ok-go_back-in-Some.ensures.steps
           (ap (slice_get (all_clauses (lists_of c.args.given.now) c.learn.new.s)) count ∙ learns.last) jump
           (c.in_ok-go_back-in-Some.ensures.entries jump.covered.entry jump.covered.at_place),

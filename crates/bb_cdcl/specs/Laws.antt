@@ -1,0 +1,2 @@
+-- Laws of steps where more given clauses come.
+pub mod Numbers

@@ -1,0 +1,43 @@
+//! The steps that a search hands out, numbered among the given clauses of today.
+
+ghost use Rattle.std.specs.Prelude.{◌≤◌, length, IfOk};
+ghost use Rattle.bb_cnf.specs.Clauses.{lists_of};
+ghost use Rattle.bb_cnf.specs.Chains.{IsRefutation};
+ghost use Rattle.bb_cdcl.specs.Inside.Outcomes.{Derive};
+ghost use Rattle.bb_cdcl.specs.Inside.States.{IsDerived, Refutes};
+
+use crate::NoMemory;
+use crate::numbers::steps_of;
+use crate::state::State;
+use bb_cnf::{Lit, Refutation, Step};
+use smallvec::SmallVec;
+use std::alloc::Global;
+
+/// The refutation that the steps are.
+pub(crate) fn refutation(
+    alloc: Global,
+    given: &[SmallVec<Lit, 4>],
+    s: State,
+) -> Result<Refutation, NoMemory>
+    requires { Refutes (lists_of given.now) s }
+    ensures { IfOk result (λ refutation. IsRefutation (lists_of given.now) refutation.steps.items) }
+{
+    let _all = given.len() + s.learned.len();
+    let steps = steps_of(alloc, s.steps, given.len())?;
+    Ok(Refutation { steps })
+}
+
+/// The steps of a search that is given up.
+pub(crate) fn spent(
+    alloc: Global,
+    given: &[SmallVec<Lit, 4>],
+    s: State,
+) -> Result<Vec<Step>, NoMemory>
+    requires { IsDerived (lists_of given.now) s }
+    ensures enough { IfOk result (λ steps. length s.learned.items ≤ length steps.items) }
+    ensures derive { IfOk result (λ steps. Derive (lists_of given.now) steps.items) }
+{
+    let _all = given.len() + s.learned.len();
+    let steps = steps_of(alloc, s.steps, given.len())?;
+    Ok(steps)
+}
