@@ -4,6 +4,7 @@ use crate::NoMemory;
 use crate::examination::value;
 use crate::retention::Retention;
 use crate::scores::Scores;
+use crate::spare::Spare;
 use crate::trail::Entry;
 use bb_cnf::{Lit, PartialResolvent};
 use bb_watch::{read, write};
@@ -13,7 +14,7 @@ use std::alloc::Global;
 /// Scores, the last bit of each variable, and the level of each that has a value with its place on the trail; and for
 /// the analysis of a conflict its level, how many literals of that level the resolvent has, and the variables of the
 /// other literals that it got: the first `count` ones of a list. Each variable of level 0 that a conflict met has the
-/// number of its unit clause, counted from 1.
+/// number of its unit clause, counted from 1. A resolvent is kept for the making of these clauses.
 #[derive(Drop)]
 pub(crate) struct Guide {
     scores: Scores,
@@ -27,6 +28,7 @@ pub(crate) struct Guide {
     count: usize,
     units: Vec<u32>,
     pub(crate) retention: Retention,
+    pub(crate) spare: Spare,
 }
 
 // The unit clause is about to be made.
@@ -48,6 +50,7 @@ impl Guide {
             count: 0,
             units: vec![in alloc; 0; size]?,
             retention: Retention::new(alloc),
+            spare: Spare::new(alloc),
         })
     }
 

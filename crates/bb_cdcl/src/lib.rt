@@ -20,6 +20,7 @@ mod scores;
 mod search;
 mod shortening;
 mod solver;
+mod spare;
 mod start;
 mod state;
 mod trail;

@@ -1,6 +1,6 @@
-//! Unit clauses of literals of level 0, which the clauses alone imply. Each is derived once, when a conflict first has
-//! its negation, and takes the place of the literal's reason from then on: so learned clauses have no such literals,
-//! and no chain goes over their reasons again.
+//! Unit clauses of literals of level 0, which the clauses alone imply: a learned clause is resolved with them where it has their
+//! negations. Which of them are made, and when, is a guess, and no answer depends on it: a clause is taken for a unit clause only
+//! where it is seen to have one literal.
 
 ghost use Rattle.std.specs.Prelude.{◌≡◌, ◌<◌, ◌∷◌, [], ℕ, false, length, map, slice_get, Some, IfOk, IfSome, OnOk, List};
 ghost use Rattle.bb_cnf.specs.declared.clauses.Lit.{Lit as Literal};
@@ -152,10 +152,11 @@ fn make_units(
     requires { IsDerived (lists_of given.now) s.old }
     ensures { OnOk result (Grows (lists_of given.now) s.old s.new) }
 {
-    let mut resolvent = PartialResolvent::new(alloc);
+    let mut resolvent = guide.spare.lend(alloc);
     for place in places {
         make_unit(alloc, given, s, *place, &mut resolvent, guide)?;
     }
+    guide.spare.put_back(resolvent);
     Ok(())
 }
 

@@ -1,8 +1,10 @@
 //! The solver, through public calls. Each refutation is checked.
 
+ghost use Rattle.std.specs.Prelude.{◌≡◌, ◌≤◌, true, All};
+
 use crate::clause_tests::clauses;
 use crate::words::{digits, halves, number};
-use bb_cdcl::{Outcome, solve};
+use bb_cdcl::{Outcome, Solved, Solver, solve};
 use bb_cnf::{Cnf, Lit, check};
 use smallvec::SmallVec;
 use std::alloc::Global;
@@ -97,5 +99,78 @@ fn chains(alloc: Global) -> Result<Vec<SmallVec<Lit, 4>>, Fail> {
 fn a_contradiction_between_two_chains_is_learned(rt: HostRuntime) -> Result<(), Fail> {
     let found = told(rt.alloc(), 202, chains(rt.alloc())?)?;
     assert_eq!(rt; found.as_str(), "refuted");
+    Ok(())
+}
+
+// Is each variable from 1 to `vars`?
+fn are_within(lits: &[Lit], vars: u32) -> bool
+    ensures { result ≡ true → All (λ l. (1 ≤ l.var) × (l.var ≤ vars)) lits.now }
+{
+    lits.iter().all(|lit| 1 <= lit.var && lit.var <= vars)
+}
+
+// Gives the solver further variables and clauses.
+fn give(solver: &mut Solver, vars: u32, lists: Vec<SmallVec<Lit, 4>>) -> Result<(), Fail> {
+    if solver.cnf().vars <= vars {
+        solver.raise_vars(vars);
+    }
+    for list in lists {
+        if !are_within(list.as_slice(), solver.cnf().vars) {
+            return Err(Fail::new("a variable that is not there"));
+        }
+        solver.push(list)?;
+    }
+    Ok(())
+}
+
+// What the solver says, and the solver where it may go on. A refutation is checked.
+fn go_on(alloc: Global, solver: Solver) -> Result<(String, Option<Solver>), Fail> {
+    match solver.solve()? {
+        Solved::Sat(bits, solver) => {
+            let bits = digits(alloc, &bits)?;
+            let said = format!(in alloc; "model:{}", bits.as_str())?;
+            Ok((said, Some(solver)))
+        }
+        Solved::Unsat(cnf, refutation) => {
+            if check(alloc, &cnf, &refutation)? {
+                let said = String::from_str(alloc, "refuted")?;
+                Ok((said, None))
+            } else {
+                Err(Fail::new("a refutation that is refused"))
+            }
+        }
+    }
+}
+
+// What comes in each turn, as above, and what the solver says then.
+const TURNS: &str = "\
+// two clauses are learned, and the last of them serves in later turns
+3: 1 2 3 0 1 -2 3 0 1 2 -3 0 1 -2 -3 0 => model:1..
+4: -1 4 0 => model:1..1
+5: 5 -2 0 -5 -2 0 -3 2 5 0 => model:10.1.
+5: 3 0 => model:10111
+5: -4 -1 0 => refuted";
+
+#[test]
+fn a_solver_goes_on(rt: HostRuntime) -> Result<(), Fail> {
+    let alloc = rt.alloc();
+    let Some(none) = Cnf::new(0, Vec::new(alloc)) else {
+        return Err(Fail::new("no formula"));
+    };
+    let mut next = Some(Solver::new(alloc, none)?);
+    for line in TURNS.lines() {
+        if line.starts_with("//") {
+            continue;
+        }
+        let Some(mut solver) = next else {
+            return Err(Fail::new("a turn behind the last"));
+        };
+        let (formula, expected) = halves(line);
+        let (vars, lists) = formula.split_once(':').unwrap_or((formula, ""));
+        give(&mut solver, number(vars, 0), clauses(alloc, lists)?)?;
+        let (said, rest) = go_on(alloc, solver)?;
+        assert!(rt; fits(&said, expected), "{line}");
+        next = rest;
+    }
     Ok(())
 }

@@ -1,0 +1,42 @@
+//! An empty resolvent that is kept from one use to the next, since its marks take memory.
+
+ghost use Rattle.std.specs.Prelude.{◌≡◌, false};
+ghost use Rattle.bb_cnf.specs.declared.clauses.Lit.{Lit as Literal};
+ghost use Rattle.bb_cnf.specs.Inside.PartialResolvent.{held, AreListed};
+
+use bb_cnf::PartialResolvent;
+use std::alloc::Global;
+use std::mem;
+
+/// An empty resolvent.
+#[derive(Drop)]
+pub(crate) struct Spare {
+    resolvent: PartialResolvent,
+    ghost empty: { (l : Literal) → held resolvent l ≡ false },
+    ghost listed: { AreListed resolvent },
+}
+
+impl Spare {
+    /// A new one.
+    pub(crate) fn new(alloc: Global) -> Spare {
+        Spare {
+            resolvent: PartialResolvent::new(alloc),
+        }
+    }
+
+    /// Hands it out, until it is put back.
+    pub(crate) fn lend(&mut self, alloc: Global) -> PartialResolvent
+        ensures empty { (l : Literal) → held result l ≡ false }
+        ensures listed { AreListed result }
+    {
+        mem::replace(self, Spare::new(alloc)).resolvent
+    }
+
+    /// Takes it back.
+    pub(crate) fn put_back(&mut self, resolvent: PartialResolvent)
+        requires empty { (l : Literal) → held resolvent l ≡ false }
+        requires listed { AreListed resolvent }
+    {
+        *self = Spare { resolvent };
+    }
+}
