@@ -22,7 +22,6 @@ pub(crate) fn refutation(
     requires { Refutes (lists_of given.now) s }
     ensures { IfOk result (λ refutation. IsRefutation (lists_of given.now) refutation.steps.items) }
 {
-    let _all = given.len() + s.learned.len();
     let steps = steps_of(alloc, s.steps, given.len())?;
     Ok(Refutation { steps })
 }
@@ -37,7 +36,6 @@ pub(crate) fn spent(
     ensures enough { IfOk result (λ steps. length s.learned.items ≤ length steps.items) }
     ensures derive { IfOk result (λ steps. Derive (lists_of given.now) steps.items) }
 {
-    let _all = given.len() + s.learned.len();
     let steps = steps_of(alloc, s.steps, given.len())?;
     Ok(steps)
 }

@@ -21,7 +21,6 @@ fn move_trail(given: &[SmallVec<Lit, 4>], known: usize, s: &mut State)
     ensures ready { IsReady s.new }
     ensures same { length s.new.trail.values.items ≡ length s.old.trail.values.items }
 {
-    let _all = given.len() + s.learned.len();
     move_reasons(&mut s.trail, known, given.len() - known);
 }
 

@@ -16,7 +16,7 @@ move_reasons-requires c =
     let more = length-map c.args.s.now.learned.items (λ (clause : SmallVec Lit). clause.items) in
     let all = length-append (take c.args.known given) (lists_of c.args.s.now.learned.items) in
     reasons_short (all_clauses (take c.args.known given) c.args.s.now) c.args.s.now.trail.entries.items c.args.known (length c.args.given.now - c.args.known) 18446744073709551616
-    (omega (arith, count, front, more, all, c.len.ensures, c.requires.known)) c.requires.derived.reasons
+    (omega (arith, count, front, more, all, c.args.s.now.learned.ok.0, c.args.s.now.learned.small, c.requires.known)) c.requires.derived.reasons
 
 pub returns-clause-derived : goal.returns-clause-derived
 returns-clause-derived c =
