@@ -34,13 +34,13 @@ agree_at_all spec imp tables vectors whole agree k d h = agree _ (whole k d h)
 pub refuted_is_error : Numbering → ValueExists → ((clauses : List (List Lit)) (steps : List Step) → IsRefutation clauses steps → HaveNoModel clauses)
     → (spec imp : Netlist) → IsNetlist imp → (budget : ℕ) (held : Held) (steps : List Step) → IsHeld spec imp budget held → IsRefutation held.cnf.clauses steps → IsError spec imp budget (held_vectors held) held.cnf steps
 refuted_is_error numbering exists sound spec imp kept budget held steps is refuted = record {
-  whole = is.may.whole;
-  distinct = is.may.distinct;
+  whole = is.each.each;
+  distinct = is.each.distinct;
   expands = is.expands;
   within = is.within;
   refuted = refuted;
   none = λ tables fit agree.
-      let right = agree_at_all spec imp tables (held_vectors held) is.may.whole agree in
+      let right = agree_at_all spec imp tables (held_vectors held) is.each.each agree in
       let model = bits_model numbering exists spec imp kept (held_vectors held) tables fit right in
       sound (expansion spec imp (held_vectors held)).clauses steps (subst (λ (f : Formula). IsRefutation f.clauses steps) is.expands refuted)
       (assignment_of (bits numbering exists spec imp kept (held_vectors held) tables fit right)) model.1;

@@ -2,21 +2,23 @@
 use Rattle.std.proofs.Common.{◌≡◌, ◌≢◌, ◌⊎◌, ℕ, ◌+◌, ◌*◌, ◌-◌, ◌^◌, ◌<◌, ◌≤◌, suc, Bool, List, [], ◌∷◌, ◌++◌, length, map, take, drop, get_or, All, Vec, Global, append_assoc, drop-cons, refl, sym, ap, ap₂, subst, ◌∙◌, inl, inr, arith}
 use Rattle.std.specs.Prelude.{AllPairs, vec_items}
 use Rattle.std.proofs.lemmas.Bool.{cases_lt}
-use Rattle.std.proofs.lemmas.List.{length-append, get_or_append_left, get_or-append_right, map-append, take-append-drop, take_more}
+use Rattle.std.proofs.lemmas.List.{get_or-map, length-append, length-map, get_or_append_left, get_or-append_right, map-append, take-append-drop, take_more}
 use Rattle.std.proofs.lemmas.List.Elements.{All-nil, All-cons, All-append, All-get_or}
 use Rattle.std.proofs.lemmas.Nat.{mul-le}
 use Rattle.bb_bits.specs.Tables.{TableBits}
 use Rattle.bb_filled.specs.Forced.{AgreeAt, FailAt, AreForced}
-use Rattle.bb_filled.specs.Laws.ForcedLaws.{VectorsAreFew}
+use Rattle.bb_filled.specs.Laws.ForcedLaws.{ForcedAreDistinct, VectorsAreFew}
 use Rattle.bb_net.specs.Agreement.{IsVector}
 use Rattle.bb_net.specs.Netlists.{Netlist}
 use Rattle.bb_net.specs.Values.{FitBoxes}
 use Rattle.bb_expand.specs.ClauseCounts.{clauses_per_vector, clause_total}
+use Rattle.bb_expand.specs.declared.held.Held.{Held}
 use Rattle.bb_expand.specs.Expansions.{expansion}
 use Rattle.bb_expand.specs.GivenUp.{NeedsMoreClauses}
 use Rattle.bb_expand.specs.Laws.{ClausesAreCounted}
-use Rattle.bb_expand.specs.Inside.Holding.{MayBeHeld}
 use Rattle.bb_expand.specs.Inside.Failures.{AreDistinctWith, FailsAt}
+use Rattle.bb_expand.specs.Inside.Holding.{IsHeld, forced_vectors, held_vectors}
+use Rattle.bb_expand.proofs.ForcedAmong.{all_among}
 use Rattle.bb_expand.proofs.Pieces.{all_left}
 use Rattle.bb_expand.proofs.Pushed.{one_longer}
 
@@ -40,18 +42,14 @@ pairs_append xs ys first second apart i j d less within same = elim (cases_lt j 
       ]
 ]
 
-forced_left : (spec imp : Netlist) (xs ys : List (List Bool)) → AreForced spec imp (xs ++ ys) → AreForced spec imp xs
+pub forced_left : (spec imp : Netlist) (xs ys : List (List Bool)) → AreForced spec imp (xs ++ ys) → AreForced spec imp xs
 forced_left spec imp xs ys forced = record {
   whole = all_left (IsVector imp) xs ys forced.whole;
   each = λ before after x is. forced.each before (after ++ ys) x (ap (λ l. l ++ ys) is ∙ append_assoc before (x ∷ after) ys);
 }
 
-pub may_left : (spec imp : Netlist) (budget : ℕ) (xs ys : List (List Bool)) → MayBeHeld spec imp budget (xs ++ ys) → MayBeHeld spec imp budget xs
-may_left spec imp budget xs ys may = record {
-  whole = all_left (IsVector imp) xs ys may.whole;
-  distinct = pairs_left xs ys may.distinct;
-  forced = λ many. forced_left spec imp xs ys (may.forced many);
-}
+pub distinct_left : (P : List Bool → Type 0) (xs ys : List (List Bool)) → AreDistinctWith P (xs ++ ys) → AreDistinctWith P xs
+distinct_left P xs ys are = record { each = all_left P xs ys are.each; distinct = pairs_left xs ys are.distinct }
 
 -- where an entry stands in a list with one more at its end
 snoc_split : {A : Type 0} (xs : List A) (x : A) (before after : List A) (y : A) → xs ++ x ∷ [] ≡ before ++ y ∷ after → ((before ≡ xs) × (y ≡ x)) ⊎ ((rest : List A) × (xs ≡ before ++ y ∷ rest))
@@ -84,28 +82,17 @@ module _ (spec imp : Netlist) (tables : List TableBits) (fit : FitBoxes tables i
       let right = subst (AgreeAt spec imp tables) same (All-get_or (AgreeAt spec imp tables) vectors i d here agree) in
       wrong.1.2 (right wrong.1.0 wrong.1.1)
 
-  may_append : (budget : ℕ) (found : List (List Bool)) → MayBeHeld spec imp budget vectors → AreDistinctWith (FailsAt spec imp tables) found
-      → (budget < clause_total imp → AreForced spec imp (vectors ++ found)) → MayBeHeld spec imp budget (vectors ++ found)
-  may_append budget found may are forced = record {
-    whole = All-append (IsVector imp) vectors found may.whole (λ k d h. (are.each k d h).0);
-    distinct = pairs_append vectors found may.distinct are.distinct (differ found are.each);
-    forced = forced;
+  -- so vectors at which they fail may be held beside these
+  pub failures_behind : (found : List (List Bool)) → AreDistinctWith (IsVector imp) vectors → AreDistinctWith (FailsAt spec imp tables) found → AreDistinctWith (IsVector imp) (vectors ++ found)
+  failures_behind found held are = record {
+    each = All-append (IsVector imp) vectors found held.each (λ k d h. (are.each k d h).0);
+    distinct = pairs_append vectors found held.distinct are.distinct (differ found are.each);
   }
 
-  -- so all vectors that are found may be held where the clauses over all vectors are few, and else the first
-  pub may_all : (budget : ℕ) (found : List (List Bool)) → MayBeHeld spec imp budget vectors → AreDistinctWith (FailsAt spec imp tables) found → clause_total imp ≤ budget → MayBeHeld spec imp budget (vectors ++ found)
-  may_all budget found may are few = may_append budget found may are (λ many. absurd (omega (arith, few, many)))
-
-  pub may_one : (budget : ℕ) (x : List Bool) → MayBeHeld spec imp budget vectors → FailsAt spec imp tables x → budget < clause_total imp → MayBeHeld spec imp budget (vectors ++ x ∷ [])
-  may_one budget x may fails many = may_append budget (x ∷ []) may (record {
-    each = All-cons (FailsAt spec imp tables) x [] fails (All-nil (FailsAt spec imp tables));
-    distinct = λ i j d less within. absurd (omega (arith, less, within));
-  }) (λ more. forced_push (may.forced more) x fails)
-
 -- distinct vectors are at most all vectors, so their clauses are within the total
-pub clauses_of_distinct : VectorsAreFew → ClausesAreCounted → (spec imp : Netlist) (budget : ℕ) (vectors : List (List Bool)) → MayBeHeld spec imp budget vectors → length (expansion spec imp vectors).clauses ≤ clause_total imp
-clauses_of_distinct few counted spec imp budget vectors may =
-    let at_most : length vectors ≤ 2 ^ imp.inputs = few imp.inputs vectors may.whole may.distinct in
+pub clauses_of_distinct : VectorsAreFew → ClausesAreCounted → (spec imp : Netlist) (vectors : List (List Bool)) → AreDistinctWith (IsVector imp) vectors → length (expansion spec imp vectors).clauses ≤ clause_total imp
+clauses_of_distinct few counted spec imp vectors are =
+    let at_most : length vectors ≤ 2 ^ imp.inputs = few imp.inputs vectors are.each are.distinct in
     let product : length vectors * clauses_per_vector imp ≤ 2 ^ imp.inputs * clauses_per_vector imp = mul-le (length vectors) (clauses_per_vector imp) (2 ^ imp.inputs) (clauses_per_vector imp) at_most (omega arith) in
     omega (arith, product, counted spec imp vectors)
 
@@ -114,13 +101,14 @@ clauses_of_one_more counted spec imp vectors x =
     let more : length (vectors ++ x ∷ []) * clauses_per_vector imp ≡ (length vectors + 1) * clauses_per_vector imp = ap (λ n. n * clauses_per_vector imp) (one_longer vectors x) in
     omega (arith, more, counted spec imp vectors, counted spec imp (vectors ++ x ∷ []))
 
--- where a vector that may be held has no room, more clauses are needed
-pub no_room : VectorsAreFew → ClausesAreCounted → (spec imp : Netlist) (budget : ℕ) (vectors : List (List Bool)) (x : List Bool) → MayBeHeld spec imp budget (vectors ++ x ∷ [])
+-- where the forced vectors have no room for a further one, more clauses are needed
+pub no_room : VectorsAreFew → ForcedAreDistinct → ClausesAreCounted → (spec imp : Netlist) (budget : ℕ) (vectors : List (List Bool)) (x : List Bool) → AreForced spec imp (vectors ++ x ∷ [])
     → budget < length (expansion spec imp vectors).clauses + clauses_per_vector imp → NeedsMoreClauses spec imp budget
-no_room few counted spec imp budget vectors x may none =
-    let over : budget < length (expansion spec imp (vectors ++ x ∷ [])).clauses = omega (arith, none, clauses_of_one_more counted spec imp vectors x) in
-    let many : budget < clause_total imp = omega (arith, over, clauses_of_distinct few counted spec imp budget (vectors ++ x ∷ []) may) in
-    record { many = many; held = vectors ++ x ∷ []; forced = may.forced many; cause = inl over }
+no_room few apart counted spec imp budget vectors x forced none =
+    let all = vectors ++ x ∷ [] in
+    let over : budget < length (expansion spec imp all).clauses = omega (arith, none, clauses_of_one_more counted spec imp vectors x) in
+    let most = clauses_of_distinct few counted spec imp all (record { each = forced.whole; distinct = apart spec imp all forced }) in
+    record { many = omega (arith, over, most); held = all; forced = forced; cause = inl over }
 
 -- the front of some vectors, up to the next one
 split_next : {A : Type 0} (xs : List A) (i : ℕ) (d : A) → i < length xs → xs ≡ take i xs ++ get_or xs i d ∷ drop (suc i) xs
@@ -133,14 +121,12 @@ front_next f start xs i d h =
     ∙ sym (append_assoc start (map f (take i xs)) (f (get_or xs i d) ∷ map f (drop (suc i) xs)))
     ∙ sym (append_assoc (start ++ map f (take i xs)) (f (get_or xs i d) ∷ []) (map f (drop (suc i) xs)))
 
--- vectors that may be held one after another
-module _ (spec imp : Netlist) (budget : ℕ) {A : Type 0} (f : A → List Bool) (start now : List (List Bool)) (xs : List A) (i : ℕ) (v : A) (x : List Bool) (there : i < length xs) (next : v ≡ get_or xs i v) (is : x ≡ f v)
+-- vectors that are held one after another
+module _ {A : Type 0} (f : A → List Bool) (start now : List (List Bool)) (xs : List A) (i : ℕ) (v : A) (x : List Bool) (there : i < length xs) (next : v ≡ get_or xs i v) (is : x ≡ f v)
     (so_far : now ≡ start ++ map f (take i xs)) where
-  pub may_next : MayBeHeld spec imp budget (start ++ map f xs) → MayBeHeld spec imp budget (now ++ x ∷ [])
-  may_next may =
-      let one : x ≡ f (get_or xs i v) = is ∙ ap f next in
-      subst (MayBeHeld spec imp budget) (ap₂ (λ l y. l ++ y ∷ []) (sym so_far) (sym one))
-      (may_left spec imp budget ((start ++ map f (take i xs)) ++ f (get_or xs i v) ∷ []) (map f (drop (suc i) xs)) (subst (MayBeHeld spec imp budget) (front_next f start xs i v there) may))
+  -- up to the next one they are a front of all
+  pub up_to_next : start ++ map f xs ≡ (now ++ x ∷ []) ++ map f (drop (suc i) xs)
+  up_to_next = front_next f start xs i v there ∙ ap₂ (λ l y. (l ++ y ∷ []) ++ map f (drop (suc i) xs)) (sym so_far) (sym (is ∙ ap f next))
 
   pub taken_next : now ++ x ∷ [] ≡ start ++ map f (take (i + 1) xs)
   taken_next =
@@ -149,8 +135,41 @@ module _ (spec imp : Netlist) (budget : ℕ) {A : Type 0} (f : A → List Bool) 
       ∙ ap (λ l. start ++ l) (sym (map-append f (take i xs) (get_or xs i v ∷ [])))
       ∙ ap (λ l. start ++ map f l) (sym (take_more xs i v there))
 
--- the first of the vectors that are found
-pub may_first : (spec imp : Netlist) (tables : List TableBits) → FitBoxes tables imp.boxes → (vectors : List (List Bool)) → All (AgreeAt spec imp tables) vectors → (budget : ℕ) (found : List (Vec Bool Global)) → 0 < length found
-    → MayBeHeld spec imp budget vectors → AreDistinctWith (FailsAt spec imp tables) (map vec_items found) → budget < clause_total imp → MayBeHeld spec imp budget (vectors ++ map vec_items (take 1 found))
-may_first spec imp tables fit vectors agree budget [] some may are many = absurd (omega (arith, some))
-may_first spec imp tables fit vectors agree budget (v ∷ found) some may are many = may_one spec imp tables fit vectors agree budget (vec_items v) may (are.each 0 [] (omega arith)) many
+-- the first of some vectors alone, and those behind it up to a number
+pub some_taken : {A : Type 0} (P : List Bool → Type 0) (f : A → List Bool) (start : List (List Bool)) (xs : List A) (n : ℕ) → AreDistinctWith P (start ++ map f xs) → AreDistinctWith P (start ++ map f (take n xs))
+some_taken P f start xs n are =
+    let parts = ap (map f) (sym (take-append-drop n xs)) ∙ map-append f (take n xs) (drop n xs) in
+    distinct_left P (start ++ map f (take n xs)) (map f (drop n xs)) (subst (AreDistinctWith P) (ap (λ l. start ++ l) parts ∙ sym (append_assoc start (map f (take n xs)) (map f (drop n xs)))) are)
+
+take-first : {A B : Type 0} (f : A → B) (xs : List A) (d : A) (n : ℕ) → 0 < length xs → map f (take (suc n) xs) ≡ f (get_or xs 0 d) ∷ map f (take n (drop 1 xs))
+take-first f [] d n some = absurd (omega (arith, some))
+take-first f (x ∷ xs) d n some = refl
+
+module _ (spec imp : Netlist) (tables : List TableBits) (fit : FitBoxes tables imp.boxes) (held : List (List Bool)) (agree : All (AgreeAt spec imp tables) held) (each : AreDistinctWith (IsVector imp) held)
+    (failures : List (Vec Bool Global)) (some : 0 < length failures) (are : AreDistinctWith (FailsAt spec imp tables) (map vec_items failures)) (d : Vec Bool Global) where
+  abbrev first : List Bool
+  first = vec_items (get_or failures 0 d)
+
+  all : AreDistinctWith (IsVector imp) (held ++ map vec_items failures)
+  all = failures_behind spec imp tables fit held agree (map vec_items failures) each are
+
+  pub first_beside : AreDistinctWith (IsVector imp) (held ++ first ∷ [])
+  first_beside = subst (λ l. AreDistinctWith (IsVector imp) (held ++ l)) (take-first vec_items failures d 0 some) (some_taken (IsVector imp) vec_items held failures 1 all)
+
+  pub others_beside : (n : ℕ) → AreDistinctWith (IsVector imp) ((held ++ first ∷ []) ++ map vec_items (take n (drop 1 failures)))
+  others_beside n =
+      let rest = map vec_items (take n (drop 1 failures)) in
+      subst (AreDistinctWith (IsVector imp)) (ap (λ l. held ++ l) (take-first vec_items failures d n some) ∙ sym (append_assoc held (first ∷ []) rest)) (some_taken (IsVector imp) vec_items held failures (suc n) all)
+
+  pub first_fails : FailsAt spec imp tables first
+  first_fails = subst (FailsAt spec imp tables) (get_or-map vec_items failures 0 d (vec_items d) some) (are.each 0 (vec_items d) (omega (arith, some, length-map failures vec_items)))
+
+-- where there is no room beside the forced vectors for the first of those at which they fail, more clauses are needed
+pub first_has_no_room : VectorsAreFew → ForcedAreDistinct → ClausesAreCounted → (spec imp : Netlist) (budget : ℕ) (tables : List TableBits) → FitBoxes tables imp.boxes → (held : Held) → IsHeld spec imp budget held
+    → All (AgreeAt spec imp tables) (held_vectors held) → (failures : List (Vec Bool Global)) → 0 < length failures → AreDistinctWith (FailsAt spec imp tables) (map vec_items failures)
+    → budget < length (expansion spec imp (forced_vectors held)).clauses + clauses_per_vector imp → NeedsMoreClauses spec imp budget
+first_has_no_room few apart counted spec imp budget tables fit held is agree [] some are none = absurd (omega (arith, some))
+first_has_no_room few apart counted spec imp budget tables fit held is agree (v ∷ failures) some are none =
+    let forced_agree = all_among (AgreeAt spec imp tables) (forced_vectors held) (held_vectors held) agree is.among in
+    let forced = forced_push spec imp tables fit (forced_vectors held) forced_agree is.forced (vec_items v) (are.each 0 [] (omega arith)) in
+    no_room few apart counted spec imp budget (forced_vectors held) (vec_items v) forced none

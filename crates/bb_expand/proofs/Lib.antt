@@ -15,6 +15,7 @@ pub mod FreeVectors
 pub mod FromModel
 pub mod GateSame
 pub mod Grows
+pub mod ForcedAmong
 pub mod HeldVectors
 pub mod Pieces
 pub mod Pushed

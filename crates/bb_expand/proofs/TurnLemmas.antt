@@ -1,11 +1,11 @@
 -- How the search begins, and where it gives up.
 use Rattle.std.proofs.Common.{◌≡◌, ℕ, ◌-◌, ◌^◌, ◌<◌, Bool, false, List, [], ◌∷◌, length, map, All, ap, sym, subst, inl, inr, arith}
-use Rattle.std.specs.Prelude.{vec_items, replicate}
+use Rattle.std.specs.Prelude.{Contains, vec_items, replicate}
 use Rattle.std.proofs.lemmas.List.{length-append, length-replicate}
 use Rattle.std.proofs.lemmas.List.Elements.{All-nil}
 use Rattle.bb_bits.specs.Tables.{TableBits}
 use Rattle.bb_filled.specs.Forced.{AgreeAt, AreForced}
-use Rattle.bb_filled.specs.Laws.ForcedLaws.{VectorsAreFew}
+use Rattle.bb_filled.specs.Laws.ForcedLaws.{ForcedAreDistinct, VectorsAreFew}
 use Rattle.bb_net.specs.Agreement.{IsVector}
 use Rattle.bb_net.specs.Completions.{table_bits}
 use Rattle.bb_net.specs.Netlists.{Netlist}
@@ -14,8 +14,10 @@ use Rattle.bb_expand.specs.ClauseCounts.{clause_total}
 use Rattle.bb_expand.specs.declared.held.Held.{Held}
 use Rattle.bb_expand.specs.Expansions.{expansion}
 use Rattle.bb_expand.specs.GivenUp.{FillTooLarge, NeedsMoreClauses}
-use Rattle.bb_expand.specs.Inside.Holding.{IsHeld, MayBeHeld, held_vectors}
+use Rattle.bb_expand.specs.Inside.Failures.{AreDistinctWith}
+use Rattle.bb_expand.specs.Inside.Holding.{IsHeld, forced_vectors, held_vectors}
 use Rattle.bb_expand.specs.Inside.ReadTables.{tables_in}
+use Rattle.bb_expand.proofs.ForcedAmong.{all_among}
 use Rattle.bb_expand.proofs.TableBits.{read_fit}
 
 forced_none : (spec imp : Netlist) → AreForced spec imp []
@@ -24,18 +26,14 @@ forced_none spec imp = record {
   each = λ before after x is. absurd (let long = ap length is in omega (arith, long, length-append before (x ∷ after)));
 }
 
-may_none : (spec imp : Netlist) (budget : ℕ) → MayBeHeld spec imp budget []
-may_none spec imp budget = record {
-  whole = All-nil (IsVector imp);
-  distinct = λ i j d less within. absurd (omega (arith, within));
-  forced = λ many. forced_none spec imp;
-}
-
-pub nothing_held : (spec imp : Netlist) (budget : ℕ) (held : Held) → held.vectors.items ≡ [] → held.cnf ≡ expansion spec imp [] → IsHeld spec imp budget held
-nothing_held spec imp budget held none is =
+pub nothing_held : (spec imp : Netlist) (budget : ℕ) (held : Held) → held.vectors.items ≡ [] → held.forced.items ≡ [] → held.cnf ≡ expansion spec imp [] → IsHeld spec imp budget held
+nothing_held spec imp budget held none no_forced is =
     let empty : held_vectors held ≡ [] = ap (map vec_items) none in
+    let bare : forced_vectors held ≡ [] = ap (map vec_items) no_forced in
     record {
-      may = subst (MayBeHeld spec imp budget) (sym empty) (may_none spec imp budget);
+      each = subst (AreDistinctWith (IsVector imp)) (sym empty) (record { each = All-nil (IsVector imp); distinct = λ i j d less within. absurd (omega (arith, within)) });
+      forced = subst (AreForced spec imp) (sym bare) (forced_none spec imp);
+      among = subst (All (Contains (held_vectors held))) (sym bare) (All-nil (Contains (held_vectors held)));
       expands = subst (λ vectors. held.cnf ≡ expansion spec imp vectors) (sym empty) is;
       within = rw is (omega arith);
     }
@@ -50,9 +48,16 @@ large_tables spec imp budget many large =
 -- nor are those whose filled netlist has too large diagrams
 pub large_fill : (spec imp : Netlist) (budget : ℕ) (held : Held) (tables : List TableBits) → IsHeld spec imp budget held → FitBoxes tables imp.boxes → All (AgreeAt spec imp tables) (held_vectors held)
     → budget < clause_total imp → FillTooLarge spec imp tables → NeedsMoreClauses spec imp budget
-large_fill spec imp budget held tables is fit agree many large = record { many = many; held = held_vectors held; forced = is.may.forced many; cause = inr (tables, fit, agree, inr large) }
+large_fill spec imp budget held tables is fit agree many large = record {
+  many = many;
+  held = forced_vectors held;
+  forced = is.forced;
+  cause = inr (tables, fit, all_among (AgreeAt spec imp tables) (forced_vectors held) (held_vectors held) agree is.among, inr large);
+}
 
--- a turn after which more vectors are held brings the search nearer to its end
-pub fewer_left : VectorsAreFew → (spec imp : Netlist) (budget : ℕ) (old new : Held) → IsHeld spec imp budget new → length (held_vectors old) < length (held_vectors new)
-    → 2 ^ imp.inputs - length (held_vectors new) < 2 ^ imp.inputs - length (held_vectors old)
-fewer_left few spec imp budget old new is more = let most = few imp.inputs (held_vectors new) is.may.whole is.may.distinct in omega (arith, most, more)
+-- a turn after which more vectors are forced brings the search nearer to its end
+pub fewer_left : VectorsAreFew → ForcedAreDistinct → (spec imp : Netlist) (budget : ℕ) (old new : Held) → IsHeld spec imp budget new → length (forced_vectors old) < length (forced_vectors new)
+    → 2 ^ imp.inputs - length (forced_vectors new) < 2 ^ imp.inputs - length (forced_vectors old)
+fewer_left few apart spec imp budget old new is more =
+    let most = few imp.inputs (forced_vectors new) is.forced.whole (apart spec imp (forced_vectors new) is.forced) in
+    omega (arith, most, more)

@@ -14,11 +14,11 @@ use crate::holding::hold_failures;
 use crate::seeking::{FILLED_BITS, failing_vectors};
 use crate::turns::{refuted, tables_of, zero_tables};
 use bb_cdcl::{Outcome, solve};
-use bb_filled::laws::vectors_are_few;
+use bb_filled::laws::{forced_are_distinct, vectors_are_few};
 use bb_net::Pair;
 use std::alloc::Global;
 
-// What the numbers of held vectors are mixed with to draw patterns.
+// What the numbers of turns are mixed with to draw patterns.
 const SEED: u64 = 0x9e37_79b9_7f4a_7c15;
 
 // The number of table bits, where they are not too many.
@@ -42,9 +42,9 @@ fn admit(pair: &Pair, clauses: u32) -> Result<u32, ExpandFault>
 
 /// Decides by clauses whether some tables agree.
 ///
-/// It holds no vector at first, and begins with tables of zeros. In each turn a vector is sought at which the tables fail; it is held,
-/// its clauses are added, and a solver gives tables that agree at all held vectors. So it ends with tables that agree at all vectors, or with a refutation of the
-/// clauses over those that it holds.
+/// It holds no vector at first, and begins with tables of zeros. In each turn vectors are sought at which the tables fail; one is held,
+/// and some of the others as long as there is room, their clauses are added, and a solver gives tables that agree at all held vectors.
+/// So it ends with tables that agree at all vectors, or with a refutation of the clauses over those that it holds.
 ///
 /// `Wide` comes exactly where tables for all boxes have more than 2^24 bits; it is tried first. `Clauses` comes only where the
 /// clauses over all vectors are more than `clauses`, and either those over the vectors that had to be held are, or there are tables
@@ -57,16 +57,17 @@ pub fn expand(alloc: Global, pair: &Pair, clauses: u32) -> Result<Expanded, Expa
     ensures clauses { IsErrOf result fault.Clauses → HaveSmallTables pair.now.imp.boxes × NeedsMoreClauses pair.now.spec pair.now.imp clauses }
 {
     vectors_are_few();
+    forced_are_distinct();
     let bits = admit(pair, clauses)?;
     let mut held = nothing_held(alloc, pair, bits);
     let mut tables = zero_tables(alloc, pair, bits)?;
     loop {
-        let seed = held.vectors.len() as u64 ^ SEED;
+        let seed = held.forced.len() as u64 ^ SEED;
         let failing = failing_vectors(alloc, pair, &tables, bits, clauses, seed)?;
         if failing.is_empty() {
             return Ok(Expanded::Repair(tables));
         }
-        held = hold_failures(alloc, pair, clauses, held, &tables, &failing)?;
+        held = hold_failures(alloc, pair, bits, clauses, held, &tables, &failing)?;
         match solve(alloc, &held.cnf)? {
             Outcome::Sat(model) => tables = tables_of(alloc, pair, &held, &model)?,
             Outcome::Unsat(refutation) => return Ok(refuted(pair, held, refutation)),

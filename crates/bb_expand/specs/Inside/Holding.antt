@@ -1,23 +1,23 @@
 -- Vectors that the search holds.
-use Rattle.std.specs.Prelude.{◌≡◌, ◌≢◌, ℕ, ◌<◌, ◌≤◌, Bool, List, length, map, vec_items, All, AllPairs}
+use Rattle.std.specs.Prelude.{◌≡◌, ℕ, ◌≤◌, Bool, List, length, map, vec_items, All, Contains}
 use Rattle.bb_filled.specs.Forced.{AreForced}
 use Rattle.bb_net.specs.Agreement.{IsVector}
 use Rattle.bb_net.specs.Netlists.{Netlist}
-use Rattle.bb_expand.specs.ClauseCounts.{clause_total}
 use Rattle.bb_expand.specs.declared.held.Held.{Held}
 use Rattle.bb_expand.specs.Expansions.{expansion}
+use Rattle.bb_expand.specs.Inside.Failures.{AreDistinctWith}
 
 abbrev pub held_vectors : Held → List (List Bool)
 held_vectors held = map vec_items held.vectors.items
 
--- no two of them are one, and they are forced where the clauses over all vectors are more than the budget
-pub record MayBeHeld (spec imp : Netlist) (budget : ℕ) (vectors : List (List Bool)) : Type 0 where
-  pub whole : All (IsVector imp) vectors
-  pub distinct : AllPairs ◌≢◌ vectors
-  pub forced : budget < clause_total imp → AreForced spec imp vectors
+-- those of them that are known to be forced
+abbrev pub forced_vectors : Held → List (List Bool)
+forced_vectors held = map vec_items held.forced.items
 
--- and their expansion is within the budget
+-- no two of the held vectors are one, those that are known to be forced are among them, and the expansion is within the budget
 pub record IsHeld (spec imp : Netlist) (budget : ℕ) (held : Held) : Type 0 where
-  pub may : MayBeHeld spec imp budget (held_vectors held)
+  pub each : AreDistinctWith (IsVector imp) (held_vectors held)
+  pub forced : AreForced spec imp (forced_vectors held)
+  pub among : All (Contains (held_vectors held)) (forced_vectors held)
   pub expands : held.cnf ≡ expansion spec imp (held_vectors held)
   pub within : length held.cnf.clauses ≤ budget

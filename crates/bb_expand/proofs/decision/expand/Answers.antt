@@ -1,8 +1,13 @@
-use Rattle.std.proofs.Common.{◌≡◌, ℕ, ◌==◌, Bool, true, List, [], ◌∷◌, length, All, vec_len, refl, sym, subst, arith}
+use Rattle.std.proofs.Common.{rules, ◌<◌, ◌≡◌, ℕ, ◌==◌, Bool, true, List, [], ◌∷◌, length, All, vec_len, refl, sym, subst, arith}
+use Rattle.std.specs.Prelude.{IsErrOf}
 use Rattle.bb_cnf.specs.Truth.{IsModel}
 use Rattle.bb_filled.specs.Forced.{AgreeAt}
 use Rattle.bb_net.specs.Agreement.{TablesAgree}
+use Rattle.bb_expand.specs.ClauseCounts.{clause_total}
+use Rattle.bb_expand.specs.declared.expanded.ExpandFault.TheVariants as fault
+use Rattle.bb_expand.specs.GivenUp.{FillTooLarge}
 use Rattle.bb_expand.specs.Inside.Holding.{held_vectors}
+use Rattle.bb_expand.proofs.TurnLemmas.{fewer_left, large_fill}
 use Rattle.bb_expand.proofs.decision.expand.Goals as goal
 
 is_zero : (n : ℕ) (b : Bool) → b ≡ (n == 0) → b ≡ true → n ≡ 0
@@ -28,3 +33,15 @@ tables_of-requires-clause-holds c =
 
 pub returns-in-Unsat-clause-ok : goal.returns-in-Unsat-clause-ok
 returns-in-Unsat-clause-ok c = c.refuted.ensures.error c.args.clauses c.in_ok-held.ensures.held
+
+pub returns-in_err-failing-clause-clauses : goal.returns-in_err-failing-clause-clauses
+returns-in_err-failing-clause-clauses c e =
+    let spec = c.args.pair.now.spec in
+    let imp = c.args.pair.now.imp in
+    let told : IsErrOf c.from_residual-in_err-failing.result fault.Clauses → (c.args.clauses < clause_total imp) × FillTooLarge spec imp c.deref.result.now = search rules in
+    let large = subst (FillTooLarge spec imp) c.deref.ensures.value (told e).1 in
+    (c.in_ok-bits.ensures.small, large_fill spec imp c.args.clauses c.loop-tables.held c.loop-tables.tables.items c.loop-tables.invariant.held c.loop-tables.invariant.fit c.loop-tables.invariant.agree (told e).0 large)
+
+pub loop-tables-smaller : goal.loop-tables-smaller
+loop-tables-smaller c =
+    fewer_left c.vectors_are_few.ensures c.forced_are_distinct.ensures c.args.pair.now.spec c.args.pair.now.imp c.args.clauses c.loop-tables.held c.in_ok-held.held c.in_ok-held.ensures.held c.in_ok-held.ensures.more

@@ -1,7 +1,7 @@
 use Rattle.std.proofs.Common.{◌-◌, ◌^◌, length, All}
 use Rattle.bb_filled.specs.Forced.{AgreeAt}
 use Rattle.bb_net.specs.Values.{FitBoxes}
-use Rattle.bb_expand.specs.Inside.Holding.{IsHeld, held_vectors}
+use Rattle.bb_expand.specs.Inside.Holding.{IsHeld, forced_vectors, held_vectors}
 use Rattle.bb_expand.proofs.decision.expand.Given as goal
 
 abbrev pub invariant-loop-tables : goal.invariant-loop-tables
@@ -12,4 +12,4 @@ invariant-loop-tables l = record {
 }
 
 abbrev pub decreases-loop-tables : goal.decreases-loop-tables
-decreases-loop-tables l = 2 ^ l.pair.imp.inputs - length (held_vectors l.held)
+decreases-loop-tables l = 2 ^ l.pair.imp.inputs - length (forced_vectors l.held)

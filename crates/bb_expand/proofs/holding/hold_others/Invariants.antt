@@ -1,10 +1,11 @@
 use Rattle.std.proofs.Common.{◌≡◌, ◌++◌, map, take}
 use Rattle.std.specs.Prelude.{vec_items}
 use Rattle.bb_expand.specs.Inside.Holding.{IsHeld, held_vectors}
-use Rattle.bb_expand.proofs.holding.hold_each.Given as goal
+use Rattle.bb_expand.proofs.holding.hold_others.Given as goal
 
 abbrev pub invariant-loop-x : goal.invariant-loop-x
 invariant-loop-x l = record {
   vectors : held_vectors l.held ≡ held_vectors l.initial.held ++ map vec_items (take l.x-index l.vectors);
+  forced : l.held.forced.items ≡ l.initial.held.forced.items;
   held : IsHeld l.pair.spec l.pair.imp l.clauses l.held;
 }

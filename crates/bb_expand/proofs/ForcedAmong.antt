@@ -1,0 +1,75 @@
+-- Forced vectors among those that are held.
+use Rattle.std.proofs.Common.{◌*◌, ◌≡◌, ◌≢◌, ℕ, ◌≤◌, ◌+◌, refl, suc, Bool, List, [], ◌∷◌, ◌++◌, length, get_or, All, sym, ap, ◌∙◌, subst, arith}
+use Rattle.std.specs.Prelude.{AllPairs, Contains, remove}
+use Rattle.std.proofs.lemmas.Grind.{in_remove}
+use Rattle.std.proofs.lemmas.List.{get_or_default, length-append}
+use Rattle.std.proofs.lemmas.List.Edits.{length-remove}
+use Rattle.std.proofs.lemmas.List.Elements.{All-append, All-cons, All-nil, All-contains, Contains-append_left, Contains-append_right, Contains-get_or}
+use Rattle.std.proofs.lemmas.Nat.{mul-le}
+use Rattle.bb_cnf.specs.Clauses.{Formula}
+use Rattle.bb_filled.specs.Forced.{AreForced}
+use Rattle.bb_filled.specs.Laws.ForcedLaws.{ForcedAreDistinct}
+use Rattle.bb_lists.proofs.Apart.{pairs_tail}
+use Rattle.bb_net.specs.Agreement.{IsVector}
+use Rattle.bb_net.specs.Netlists.{Netlist}
+use Rattle.bb_expand.specs.ClauseCounts.{clauses_per_vector}
+use Rattle.bb_expand.specs.declared.held.Held.{Held}
+use Rattle.bb_expand.specs.Expansions.{expansion}
+use Rattle.bb_expand.specs.Inside.Failures.{AreDistinctWith}
+use Rattle.bb_expand.specs.Inside.Holding.{IsHeld, forced_vectors, held_vectors}
+use Rattle.bb_expand.specs.Laws.{ClausesAreCounted}
+
+-- entries that differ and all stand in a second list are at most as many as that has
+pub fewer_among : {A : Type 0} (xs ys : List A) → AllPairs ◌≢◌ xs → All (Contains ys) xs → length xs ≤ length ys
+fewer_among [] ys apart among = omega arith
+fewer_among (x ∷ xs) ys apart among =
+    let here = among 0 x (omega arith) in
+    let rest = fewer_among xs (remove ys here.0) (pairs_tail ◌≢◌ x xs apart) (λ k d lt.
+    let there = among (suc k) d (omega (arith, lt)) in
+    let s = get_or xs k d in
+    let other : there.0 ≢ here.0 = λ same. apart 0 (suc k) d (omega arith) (omega (arith, lt))
+    (sym here.2 ∙ (get_or_default ys here.0 x s here.1 ∙ (ap (λ j. get_or ys j s) (sym same) ∙ there.2))) in
+    (in_remove ys here.0 there.0 s here.1 there.1 (sym there.2) other).1) in
+    omega (arith, rest, length-remove ys here.0 here.1)
+
+-- what holds of each entry of a list holds of those that stand in it
+pub all_among : {A : Type 0} (P : A → Type 0) (xs ys : List A) → All P ys → All (Contains ys) xs → All P xs
+all_among P xs ys all among k d lt = All-contains P ys (get_or xs k d) all (among k d lt)
+
+pub all_in_itself : {A : Type 0} (xs : List A) → All (Contains xs) xs
+all_in_itself xs k d lt = Contains-get_or xs k d lt
+
+-- one more may stand behind both lists, or behind the second alone
+pub among_behind : {A : Type 0} (xs ys : List A) (x : A) → All (Contains ys) xs → All (Contains (ys ++ x ∷ [])) xs
+among_behind xs ys x among k d lt = Contains-append_left ys (x ∷ []) (get_or xs k d) (among k d lt)
+
+pub among_both : {A : Type 0} (xs ys : List A) (x : A) → All (Contains ys) xs → All (Contains (ys ++ x ∷ [])) (xs ++ x ∷ [])
+among_both xs ys x among =
+    All-append (Contains (ys ++ x ∷ [])) xs (x ∷ []) (among_behind xs ys x among)
+    (All-cons (Contains (ys ++ x ∷ [])) x [] (Contains-append_right ys (x ∷ []) x (0, omega arith, refl)) (All-nil (Contains (ys ++ x ∷ []))))
+
+-- of the same held vectors others may be known to be forced
+pub with_forced : (spec imp : Netlist) (budget : ℕ) (old new : Held) → IsHeld spec imp budget old → held_vectors new ≡ held_vectors old → new.cnf ≡ old.cnf → AreForced spec imp (forced_vectors new)
+    → All (Contains (held_vectors old)) (forced_vectors new) → IsHeld spec imp budget new
+with_forced spec imp budget old new is vectors cnf forced among = record {
+  each = subst (AreDistinctWith (IsVector imp)) (sym vectors) is.each;
+  forced = forced;
+  among = subst (λ xs. All (Contains xs) (forced_vectors new)) (sym vectors) among;
+  expands = cnf ∙ (is.expands ∙ ap (expansion spec imp) (sym vectors));
+  within = subst (λ (f : Formula). length f.clauses ≤ budget) (sym cnf) is.within;
+}
+
+-- the clauses over fewer vectors are fewer
+clauses_of_fewer : ClausesAreCounted → (spec imp : Netlist) (xs ys : List (List Bool)) → length xs ≤ length ys → length (expansion spec imp xs).clauses ≤ length (expansion spec imp ys).clauses
+clauses_of_fewer counted spec imp xs ys few =
+    let product : length xs * clauses_per_vector imp ≤ length ys * clauses_per_vector imp = mul-le (length xs) (clauses_per_vector imp) (length ys) (clauses_per_vector imp) few (omega arith) in
+    omega (arith, product, counted spec imp xs, counted spec imp ys)
+
+pub clauses_of_front : ClausesAreCounted → (spec imp : Netlist) (all xs ys : List (List Bool)) → all ≡ xs ++ ys → length (expansion spec imp xs).clauses ≤ length (expansion spec imp all).clauses
+clauses_of_front counted spec imp all xs ys is = clauses_of_fewer counted spec imp xs all (let long = length-append xs ys in omega (arith, long, ap length is))
+
+-- so those over the forced ones fit where those over all held ones do
+pub forced_fit : ClausesAreCounted → ForcedAreDistinct → (spec imp : Netlist) (budget : ℕ) (held : Held) → IsHeld spec imp budget held → length (expansion spec imp (forced_vectors held)).clauses ≤ budget
+forced_fit counted apart spec imp budget held is =
+    let few = fewer_among (forced_vectors held) (held_vectors held) (apart spec imp (forced_vectors held) is.forced) is.among in
+    omega (arith, clauses_of_fewer counted spec imp (forced_vectors held) (held_vectors held) few, is.within, ap (λ (f : Formula). length f.clauses) is.expands)
