@@ -32,7 +32,7 @@ pub agree_at_all : (spec imp : Netlist) (tables : List TableBits) (vectors : Lis
 agree_at_all spec imp tables vectors whole agree k d h = agree _ (whole k d h)
 
 pub refuted_is_error : Numbering → ValueExists → ((clauses : List (List Lit)) (steps : List Step) → IsRefutation clauses steps → HaveNoModel clauses)
-    → (spec imp : Netlist) → IsNetlist imp → (budget : ℕ) (held : Held) (steps : List Step) → IsHeld spec imp budget held → IsRefutation held.cnf.clauses steps → IsError spec imp budget (held_vectors held) held.cnf steps
+    → (spec imp : Netlist) → IsNetlist imp → (budget : ℕ) (held : Held) (steps : List Step) → IsHeld spec imp budget held → IsRefutation held.solver.clauses steps → IsError spec imp budget (held_vectors held) held.solver steps
 refuted_is_error numbering exists sound spec imp kept budget held steps is refuted = record {
   whole = is.each.each;
   distinct = is.each.distinct;

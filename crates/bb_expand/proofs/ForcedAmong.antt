@@ -1,5 +1,5 @@
 -- Forced vectors among those that are held.
-use Rattle.std.proofs.Common.{◌*◌, ◌≡◌, ◌≢◌, ℕ, ◌≤◌, ◌+◌, refl, suc, Bool, List, [], ◌∷◌, ◌++◌, length, get_or, All, sym, ap, ◌∙◌, subst, arith}
+use Rattle.std.proofs.Common.{◌*◌, ◌≡◌, ◌≢◌, ℕ, ◌≤◌, refl, suc, Bool, List, [], ◌∷◌, ◌++◌, length, get_or, All, sym, ap, ◌∙◌, subst, arith}
 use Rattle.std.specs.Prelude.{AllPairs, Contains, remove}
 use Rattle.std.proofs.lemmas.Grind.{in_remove}
 use Rattle.std.proofs.lemmas.List.{get_or_default, length-append}
@@ -49,7 +49,7 @@ among_both xs ys x among =
     (All-cons (Contains (ys ++ x ∷ [])) x [] (Contains-append_right ys (x ∷ []) x (0, omega arith, refl)) (All-nil (Contains (ys ++ x ∷ []))))
 
 -- of the same held vectors others may be known to be forced
-pub with_forced : (spec imp : Netlist) (budget : ℕ) (old new : Held) → IsHeld spec imp budget old → held_vectors new ≡ held_vectors old → new.cnf ≡ old.cnf → AreForced spec imp (forced_vectors new)
+pub with_forced : (spec imp : Netlist) (budget : ℕ) (old new : Held) → IsHeld spec imp budget old → held_vectors new ≡ held_vectors old → new.solver ≡ old.solver → AreForced spec imp (forced_vectors new)
     → All (Contains (held_vectors old)) (forced_vectors new) → IsHeld spec imp budget new
 with_forced spec imp budget old new is vectors cnf forced among = record {
   each = subst (AreDistinctWith (IsVector imp)) (sym vectors) is.each;

@@ -1,18 +1,18 @@
 -- The expansion over one vector more is that over the others with the clauses of that vector behind.
-use Rattle.std.proofs.Common.{◌≡◌, ℕ, ◌+◌, ◌*◌, ◌≤◌, Bool, List, [], ◌∷◌, ◌++◌, length, get_or, sym, ap, ap₂, ◌∙◌, arith}
+use Rattle.std.proofs.Common.{◌≡◌, ℕ, ◌+◌, ◌*◌, ◌≤◌, Bool, List, [], ◌∷◌, ◌++◌, length, get_or, All, refl, sym, ap, ap₂, subst, ◌∙◌, arith}
 use Rattle.std.specs.List.{flat_map, range_with_len}
 use Rattle.std.proofs.lemmas.List.{length-append, get_or_append_left, get_or-append-add}
 use Rattle.std.proofs.lemmas.Nat.{mul-le}
 use Rattle.bb_cdcl.specs.Inside.Outcomes.{formula}
 use Rattle.bb_cnf.specs.declared.clauses.Lit.{Lit}
-use Rattle.bb_cnf.specs.Clauses.{Formula}
+use Rattle.bb_cnf.specs.Clauses.{Formula, IsWithin}
 use Rattle.bb_net.specs.Completions.{table_bits}
-use Rattle.bb_net.specs.Netlists.{Netlist}
+use Rattle.bb_net.specs.Netlists.{Netlist, IsNetlist}
 use Rattle.bb_expand.specs.ClauseCounts.{clauses_per_vector}
 use Rattle.bb_expand.specs.Expansions.{vector_clauses, expansion}
-use Rattle.bb_expand.specs.Laws.{ClausesAreCounted}
+use Rattle.bb_expand.specs.Laws.{ClausesAreCounted, VariablesAreWithin}
 use Rattle.bb_expand.proofs.Grows.{pieces_more}
-use Rattle.bb_expand.proofs.Pieces.{same_pieces}
+use Rattle.bb_expand.proofs.Pieces.{all_right, same_pieces}
 use Rattle.bb_expand.proofs.Sizes.{cells_count}
 
 last_of : {A : Type 0} (xs : List A) (x d : A) → get_or (xs ++ x ∷ []) (length xs) d ≡ x
@@ -43,6 +43,14 @@ module _ (spec imp : Netlist) (vectors : List (List Bool)) (x : List Bool) where
   pub expansion_push : (vars : ℕ) (clauses : List (List Lit)) → vars ≡ (expansion spec imp vectors).vars + length imp.cells
       → clauses ≡ (expansion spec imp vectors).clauses ++ vector_clauses spec imp (length vectors) x → formula vars clauses ≡ expansion spec imp (vectors ++ x ∷ [])
   expansion_push vars clauses some are = ap₂ formula (some ∙ sym vars_push) (are ∙ sym clauses_push)
+
+  -- the variables of the new clauses are in the range of all
+  pub pushed_within : VariablesAreWithin → IsNetlist imp → (vars : ℕ) → vars ≡ (expansion spec imp vectors).vars + length imp.cells → IsWithin vars (vector_clauses spec imp (length vectors) x)
+  pushed_within within kept vars some =
+      let old = (expansion spec imp vectors).clauses in
+      let new = vector_clauses spec imp (length vectors) x in
+      all_right (All (λ (l : Lit). (1 ≤ l.var) × (l.var ≤ vars))) old new
+      (subst (λ (f : Formula). IsWithin f.vars f.clauses) (sym (expansion_push vars (old ++ new) some refl)) (within spec imp kept (vectors ++ x ∷ [])))
 
 -- where the clauses of one vector more are few, so are the variables
 pub room_for_cells : ClausesAreCounted → (spec imp : Netlist) (vectors : List (List Bool)) (cnf : Formula) (most : ℕ) → cnf ≡ expansion spec imp vectors

@@ -1,5 +1,5 @@
 -- What can be told by trying: whether a formula has a model, and whether tables agree at all vectors.
-use Rattle.std.proofs.Common.{◌≡◌, ◌≢◌, ◌⊎◌, ◌<◌, ◌≤◌, ◌+◌, ◌∙◌, ℕ, zero, suc, Bool, true, false, List, [], ◌∷◌, length, All, Contains, refl, sym, ap, subst, inl, inr, arith}
+use Rattle.std.proofs.Common.{◌≡◌, ◌≢◌, ◌⊎◌, ◌<◌, ◌≤◌, ◌∙◌, ℕ, zero, suc, Bool, true, false, List, [], ◌∷◌, length, All, Contains, refl, sym, subst, inl, inr, arith}
 use Rattle.std.proofs.lemmas.Bool.{cases_lt, true≢false}
 use Rattle.std.proofs.lemmas.List.Elements.{All-cons, All-contains, All-nil}
 use Rattle.std.proofs.lemmas.List.Folds.{Any-from_list_any, list_any-from_Any}
@@ -13,7 +13,7 @@ use Rattle.bb_cnf.specs.Truth.{HaveNoModel, IsModel, IsTrueClause, Satisfies, as
 use Rattle.bb_cdcl.specs.Inside.Outcomes.{HasModel}
 use Rattle.bb_bits.specs.Tables.{TableBits}
 use Rattle.bb_filled.specs.Forced.{AgreeAt, FailAt}
-use Rattle.bb_net.specs.Agreement.{IsRight, IsWrong, AllRight, SomeWrong}
+use Rattle.bb_net.specs.Agreement.{IsRight, IsWrong}
 use Rattle.bb_net.specs.Netlists.{Netlist}
 use Rattle.bb_net.specs.Values.{flat_with}
 use Rattle.bb_expand.specs.Expansions.{all_vectors}

@@ -26,7 +26,7 @@ forced_none spec imp = record {
   each = λ before after x is. absurd (let long = ap length is in omega (arith, long, length-append before (x ∷ after)));
 }
 
-pub nothing_held : (spec imp : Netlist) (budget : ℕ) (held : Held) → held.vectors.items ≡ [] → held.forced.items ≡ [] → held.cnf ≡ expansion spec imp [] → IsHeld spec imp budget held
+pub nothing_held : (spec imp : Netlist) (budget : ℕ) (held : Held) → held.vectors.items ≡ [] → held.forced.items ≡ [] → held.solver ≡ expansion spec imp [] → IsHeld spec imp budget held
 nothing_held spec imp budget held none no_forced is =
     let empty : held_vectors held ≡ [] = ap (map vec_items) none in
     let bare : forced_vectors held ≡ [] = ap (map vec_items) no_forced in
@@ -34,7 +34,7 @@ nothing_held spec imp budget held none no_forced is =
       each = subst (AreDistinctWith (IsVector imp)) (sym empty) (record { each = All-nil (IsVector imp); distinct = λ i j d less within. absurd (omega (arith, within)) });
       forced = subst (AreForced spec imp) (sym bare) (forced_none spec imp);
       among = subst (All (Contains (held_vectors held))) (sym bare) (All-nil (Contains (held_vectors held)));
-      expands = subst (λ vectors. held.cnf ≡ expansion spec imp vectors) (sym empty) is;
+      expands = subst (λ vectors. held.solver ≡ expansion spec imp vectors) (sym empty) is;
       within = rw is (omega arith);
     }
 

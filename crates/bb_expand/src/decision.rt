@@ -9,11 +9,11 @@ ghost use Rattle.bb_expand.specs.GivenUp.{NeedsMoreClauses};
 
 use crate::counting::is_within_budget;
 use crate::expanded::{ExpandFault, Expanded};
-use crate::held::nothing_held;
+use crate::held::{Held, nothing_held};
 use crate::holding::hold_failures;
 use crate::seeking::{FILLED_BITS, failing_vectors};
 use crate::turns::{refuted, tables_of, zero_tables};
-use bb_cdcl::{Outcome, solve};
+use bb_cdcl::Solved;
 use bb_filled::laws::{forced_are_distinct, vectors_are_few};
 use bb_net::Pair;
 use std::alloc::Global;
@@ -59,7 +59,7 @@ pub fn expand(alloc: Global, pair: &Pair, clauses: u32) -> Result<Expanded, Expa
     vectors_are_few();
     forced_are_distinct();
     let bits = admit(pair, clauses)?;
-    let mut held = nothing_held(alloc, pair, bits);
+    let mut held = nothing_held(alloc, pair, bits)?;
     let mut tables = zero_tables(alloc, pair, bits)?;
     loop {
         let seed = held.forced.len() as u64 ^ SEED;
@@ -67,10 +67,21 @@ pub fn expand(alloc: Global, pair: &Pair, clauses: u32) -> Result<Expanded, Expa
         if failing.is_empty() {
             return Ok(Expanded::Repair(tables));
         }
-        held = hold_failures(alloc, pair, bits, clauses, held, &tables, &failing)?;
-        match solve(alloc, &held.cnf)? {
-            Outcome::Sat(model) => tables = tables_of(alloc, pair, &held, &model)?,
-            Outcome::Unsat(refutation) => return Ok(refuted(pair, held, refutation)),
+        let Held {
+            vectors,
+            forced,
+            solver,
+        } = hold_failures(alloc, pair, bits, clauses, held, &tables, &failing)?;
+        match solver.solve()? {
+            Solved::Sat(model, solver) => {
+                held = Held {
+                    vectors,
+                    forced,
+                    solver,
+                };
+                tables = tables_of(alloc, pair, &held, &model)?;
+            }
+            Solved::Unsat(cnf, refutation) => return Ok(refuted(pair, vectors, cnf, refutation)),
         }
     }
 }

@@ -37,7 +37,7 @@ fn hold(alloc: Global, pair: &Pair, clauses: u32, held: Held, x: &[bool]) -> Res
     requires small { HaveSmallTables pair.now.imp.boxes }
     requires held { IsHeld pair.now.spec pair.now.imp clauses held }
     requires each { AreDistinctWith (IsVector pair.now.imp) (held_vectors held ++ x.now ∷ []) }
-    requires room { length held.cnf.clauses + clauses_per_vector pair.now.imp ≤ clauses }
+    requires room { length held.solver.clauses + clauses_per_vector pair.now.imp ≤ clauses }
     ensures vectors { IfOk result (λ new. held_vectors new ≡ held_vectors held ++ x.now ∷ []) }
     ensures forced { IfOk result (λ new. new.forced.items ≡ held.forced.items) }
     ensures held { IfOk result (IsHeld pair.now.spec pair.now.imp clauses) }
@@ -60,7 +60,7 @@ fn hold_forced(
     requires small { HaveSmallTables pair.now.imp.boxes }
     requires held { IsHeld pair.now.spec pair.now.imp clauses held }
     requires each { AreDistinctWith (IsVector pair.now.imp) (held_vectors held ++ x.now ∷ []) }
-    requires room { length held.cnf.clauses + clauses_per_vector pair.now.imp ≤ clauses }
+    requires room { length held.solver.clauses + clauses_per_vector pair.now.imp ≤ clauses }
     requires forced { AreForced pair.now.spec pair.now.imp (forced_vectors held ++ x.now ∷ []) }
     ensures vectors { IfOk result (λ new. held_vectors new ≡ held_vectors held ++ x.now ∷ []) }
     ensures forced { IfOk result (λ new. forced_vectors new ≡ forced_vectors held ++ x.now ∷ []) }
@@ -87,7 +87,7 @@ fn hold_others(
     ensures held { IfOk result (IsHeld pair.now.spec pair.now.imp clauses) }
 {
     for x in vectors {
-        if !has_room(pair.imp(), &held.cnf, clauses) {
+        if !has_room(pair.imp(), held.solver.cnf(), clauses) {
             return Ok(held);
         }
         held = hold(alloc, pair, clauses, held, x)?;
@@ -114,7 +114,7 @@ fn forced_alone(
 {
     expansions_and_tables();
     forced_are_distinct();
-    let mut alone = nothing_held(alloc, pair, bits);
+    let mut alone = nothing_held(alloc, pair, bits)?;
     for x in &forced {
         alone = hold(alloc, pair, clauses, alone, x)?;
     }
@@ -134,7 +134,7 @@ fn make_room(
     requires bits { bits ≡ table_bits pair.now.imp.boxes }
     requires small { HaveSmallTables pair.now.imp.boxes }
     requires held { IsHeld pair.now.spec pair.now.imp clauses held }
-    ensures room { IfOk result (λ new. length new.cnf.clauses + clauses_per_vector pair.now.imp ≤ clauses) }
+    ensures room { IfOk result (λ new. length new.solver.clauses + clauses_per_vector pair.now.imp ≤ clauses) }
     ensures among { IfOk result (λ new. All (Contains (held_vectors held)) (held_vectors new)) }
     ensures forced { IfOk result (λ new. new.forced.items ≡ held.forced.items) }
     ensures held { IfOk result (IsHeld pair.now.spec pair.now.imp clauses) }
@@ -143,11 +143,11 @@ fn make_room(
 {
     expansions_and_tables();
     forced_are_distinct();
-    if has_room(pair.imp(), &held.cnf, clauses) {
+    if has_room(pair.imp(), held.solver.cnf(), clauses) {
         return Ok(held);
     }
     let alone = forced_alone(alloc, pair, bits, clauses, held.forced)?;
-    if !has_room(pair.imp(), &alone.cnf, clauses) {
+    if !has_room(pair.imp(), alone.solver.cnf(), clauses) {
         return Err(ExpandFault::Clauses);
     }
     Ok(alone)

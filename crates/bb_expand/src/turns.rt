@@ -1,11 +1,12 @@
 //! The tables with which a turn begins, and what it makes of the solver's answer.
 
-ghost use Rattle.std.specs.Prelude.{◌≡◌, ℕ, All, IfOk};
+ghost use Rattle.std.specs.Prelude.{◌≡◌, ℕ, All, map, vec_items, IfOk};
 ghost use Rattle.bb_cnf.specs.Chains.{IsRefutation};
 ghost use Rattle.bb_cnf.specs.Truth.{IsModel};
 ghost use Rattle.bb_filled.specs.Forced.{AgreeAt};
 ghost use Rattle.bb_net.specs.Completions.{table_bits, HaveSmallTables};
 ghost use Rattle.bb_net.specs.Values.{FitBoxes};
+ghost use Rattle.bb_expand.specs.declared.held.Held.{Held as HeldVectors};
 ghost use Rattle.bb_expand.specs.Expanded.{IsExpanded};
 ghost use Rattle.bb_expand.specs.Expansions.{expansion};
 ghost use Rattle.bb_expand.specs.Inside.Holding.{IsHeld, held_vectors};
@@ -15,8 +16,8 @@ use crate::held::Held;
 use crate::laws::{expansions_and_tables, laws_below};
 use crate::tables::read_tables;
 use bb_bits::{NoMemory, Table};
-use bb_cnf::Refutation;
 use bb_cnf::laws::refutations;
+use bb_cnf::{Cnf, Refutation};
 use bb_net::Pair;
 use std::alloc::Global;
 
@@ -39,8 +40,8 @@ pub(crate) fn tables_of(
     model: &[bool],
 ) -> Result<Vec<Table>, NoMemory>
     requires small { HaveSmallTables pair.now.imp.boxes }
-    requires expands { held.now.cnf ≡ expansion pair.now.spec pair.now.imp (held_vectors held.now) }
-    requires holds { IsModel model.now held.now.cnf }
+    requires expands { held.now.solver ≡ expansion pair.now.spec pair.now.imp (held_vectors held.now) }
+    requires holds { IsModel model.now held.now.solver }
     ensures fit { IfOk result (λ tables. FitBoxes tables.items pair.now.imp.boxes) }
     ensures agree { IfOk result (λ tables. All (AgreeAt pair.now.spec pair.now.imp tables.items) (held_vectors held.now)) }
 {
@@ -51,17 +52,22 @@ pub(crate) fn tables_of(
 }
 
 // The answer where the expansion over the held vectors is refuted.
-pub(crate) fn refuted(pair: &Pair, held: Held, refutation: Refutation) -> Expanded
-    requires refuted { IsRefutation held.cnf.clauses refutation.steps.items }
-    ensures error { (budget : ℕ) → IsHeld pair.now.spec pair.now.imp budget held → IsExpanded pair.now.spec pair.now.imp budget result }
+pub(crate) fn refuted(
+    pair: &Pair,
+    vectors: Vec<Vec<bool>>,
+    cnf: Cnf,
+    refutation: Refutation,
+) -> Expanded
+    requires refuted { IsRefutation cnf.clauses refutation.steps.items }
+    ensures error { (budget : ℕ) (held : HeldVectors) → IsHeld pair.now.spec pair.now.imp budget held → held_vectors held ≡ map vec_items vectors.items → held.solver ≡ cnf → IsExpanded pair.now.spec pair.now.imp budget result }
 {
     laws_below();
     expansions_and_tables();
     refutations();
     let _ = pair.imp();
     Expanded::Error {
-        vectors: held.vectors,
-        cnf: held.cnf,
+        vectors,
+        cnf,
         refutation,
     }
 }

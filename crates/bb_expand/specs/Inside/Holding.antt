@@ -19,5 +19,5 @@ pub record IsHeld (spec imp : Netlist) (budget : ℕ) (held : Held) : Type 0 whe
   pub each : AreDistinctWith (IsVector imp) (held_vectors held)
   pub forced : AreForced spec imp (forced_vectors held)
   pub among : All (Contains (held_vectors held)) (forced_vectors held)
-  pub expands : held.cnf ≡ expansion spec imp (held_vectors held)
-  pub within : length held.cnf.clauses ≤ budget
+  pub expands : held.solver ≡ expansion spec imp (held_vectors held)
+  pub within : length held.solver.clauses ≤ budget

@@ -1,5 +1,8 @@
-use Rattle.std.proofs.Common.{rules, ◌<◌, ◌≡◌, ℕ, ◌==◌, Bool, true, List, [], ◌∷◌, length, All, vec_len, refl, sym, subst, arith}
-use Rattle.std.specs.Prelude.{IsErrOf}
+use Rattle.std.proofs.Common.{rules, ◌<◌, ◌≡◌, ℕ, ◌==◌, Bool, true, List, [], ◌∷◌, length, map, All, vec_len, refl, sym, ap, subst, ◌∙◌, arith}
+use Rattle.std.specs.Prelude.{IsErrOf, vec_items}
+use Rattle.std.proofs.lemmas.List.Elements.{All-nil}
+use Rattle.bb_cnf.specs.Chains.{IsRefutation}
+use Rattle.bb_cnf.specs.Clauses.{Formula}
 use Rattle.bb_cnf.specs.Truth.{IsModel}
 use Rattle.bb_filled.specs.Forced.{AgreeAt}
 use Rattle.bb_net.specs.Agreement.{TablesAgree}
@@ -7,7 +10,8 @@ use Rattle.bb_expand.specs.ClauseCounts.{clause_total}
 use Rattle.bb_expand.specs.declared.expanded.ExpandFault.TheVariants as fault
 use Rattle.bb_expand.specs.GivenUp.{FillTooLarge}
 use Rattle.bb_expand.specs.Inside.Holding.{held_vectors}
-use Rattle.bb_expand.proofs.TurnLemmas.{fewer_left, large_fill}
+use Rattle.bb_expand.proofs.ForcedAmong.{with_forced}
+use Rattle.bb_expand.proofs.TurnLemmas.{fewer_left, large_fill, nothing_held}
 use Rattle.bb_expand.proofs.decision.expand.Goals as goal
 
 is_zero : (n : ℕ) (b : Bool) → b ≡ (n == 0) → b ≡ true → n ≡ 0
@@ -26,13 +30,46 @@ returns-then-is_empty-clause-ok c =
 pub hold_failures-requires-clause-agree : goal.hold_failures-requires-clause-agree
 hold_failures-requires-clause-agree c = subst (λ tables. All (AgreeAt c.args.pair.now.spec c.args.pair.now.imp tables) (held_vectors c.loop-tables.held)) (sym c.deref-in-loop-tables.ensures.value) c.loop-tables.invariant.agree
 
+pub loop-tables-init : goal.loop-tables-init
+loop-tables-init c =
+    let spec = c.args.pair.now.spec in
+    let imp = c.args.pair.now.imp in
+    let none : held_vectors c.in_ok-held.held ≡ [] = ap (map vec_items) c.in_ok-held.ensures.none in
+    record {
+      held = nothing_held spec imp c.args.clauses c.in_ok-held.held c.in_ok-held.ensures.none c.in_ok-held.ensures.forced c.in_ok-held.ensures.cnf;
+      fit = c.in_ok-tables.ensures.fit;
+      agree = subst (All (AgreeAt spec imp c.in_ok-tables.tables.items)) (sym none) (All-nil (AgreeAt spec imp c.in_ok-tables.tables.items));
+    }
+
+pub tables_of-requires-clause-expands : goal.tables_of-requires-clause-expands
+tables_of-requires-clause-expands c =
+    let solved = rw c.in-Sat.is at c.in_ok-model.ensures.sat in
+    solved.1 ∙ c.in_ok-vectors.ensures.held.expands
+
 pub tables_of-requires-clause-holds : goal.tables_of-requires-clause-holds
 tables_of-requires-clause-holds c =
-    let model = rw c.in-Sat.is at c.in_ok-model.ensures.sat in
-    subst (λ m. IsModel m c.in_ok-held.held.cnf) (sym c.deref-in-Sat.ensures.value) model
+    let solved = rw c.in-Sat.is at c.in_ok-model.ensures.sat in
+    subst (λ m. IsModel m c.in-Sat.solver) (sym c.deref-in-Sat.ensures.value) (subst (IsModel c.in-Sat.model.items) (sym solved.1) solved.0)
+
+pub loop-tables-preserved : goal.loop-tables-preserved
+loop-tables-preserved c =
+    let solved = rw c.in-Sat.is at c.in_ok-model.ensures.sat in
+    let is = c.in_ok-vectors.ensures.held in
+    record {
+      held = with_forced c.args.pair.now.spec c.args.pair.now.imp c.args.clauses _ _ is refl solved.1 is.forced is.among;
+      fit = c.in_ok-tables-in-Sat.ensures.fit;
+      agree = c.in_ok-tables-in-Sat.ensures.agree;
+    }
+
+pub refuted-requires : goal.refuted-requires
+refuted-requires c =
+    let solved = rw c.in-Unsat.is at c.in_ok-model.ensures.unsat in
+    record { refuted = subst (λ (f : Formula). IsRefutation f.clauses c.in-Unsat.refutation.steps.items) (sym solved.1) solved.0 }
 
 pub returns-in-Unsat-clause-ok : goal.returns-in-Unsat-clause-ok
-returns-in-Unsat-clause-ok c = c.refuted.ensures.error c.args.clauses c.in_ok-held.ensures.held
+returns-in-Unsat-clause-ok c =
+    let solved = rw c.in-Unsat.is at c.in_ok-model.ensures.unsat in
+    c.refuted.ensures.error c.args.clauses _ c.in_ok-vectors.ensures.held refl (sym solved.1)
 
 pub returns-in_err-failing-clause-clauses : goal.returns-in_err-failing-clause-clauses
 returns-in_err-failing-clause-clauses c e =
@@ -44,4 +81,4 @@ returns-in_err-failing-clause-clauses c e =
 
 pub loop-tables-smaller : goal.loop-tables-smaller
 loop-tables-smaller c =
-    fewer_left c.vectors_are_few.ensures c.forced_are_distinct.ensures c.args.pair.now.spec c.args.pair.now.imp c.args.clauses c.loop-tables.held c.in_ok-held.held c.in_ok-held.ensures.held c.in_ok-held.ensures.more
+    fewer_left c.vectors_are_few.ensures c.forced_are_distinct.ensures c.args.pair.now.spec c.args.pair.now.imp c.args.clauses c.loop-tables.held _ c.in_ok-vectors.ensures.held c.in_ok-vectors.ensures.more

@@ -1,29 +1,38 @@
-use Rattle.std.proofs.Common.{◌≡◌, ◌+◌, [], ◌∷◌, ◌++◌, length, map, ap, sym, subst, ◌∙◌, arith}
+use Rattle.std.proofs.Common.{◌≡◌, ◌+◌, ◌++◌, length, map, refl, ap, ap₂, sym, subst, ◌∙◌, arith}
 use Rattle.std.specs.Prelude.{vec_items}
 use Rattle.bb_cdcl.specs.Inside.Outcomes.{formula}
 use Rattle.bb_cnf.specs.Clauses.{Formula, IsWithin, lists_of}
 use Rattle.bb_net.specs.Netlists.{Netlist}
 use Rattle.bb_expand.specs.Expansions.{expansion, vector_clauses}
-use Rattle.bb_expand.proofs.Pushed.{expansion_push}
+use Rattle.bb_expand.proofs.Pushed.{expansion_push, pushed_within}
 use Rattle.bb_expand.proofs.held.with_vector.Goals as goal
 
-pub invariant_of-result : goal.invariant_of-result
-invariant_of-result c =
+pub push_all-requires : goal.push_all-requires
+push_all-requires c =
+    let spec = c.args.pair.now.spec in
+    let imp = c.args.pair.now.imp in
     let vectors = map vec_items c.args.held.vectors.items in
-    let was : formula c.cnf.inside.vars (lists_of c.cnf.inside.clauses.items) ≡ expansion c.args.pair.now.spec c.args.pair.now.imp vectors = c.cnf.view_is ∙ c.requires.expands in
+    let vars = c.behind-solver.inside.vars + length c.cells-2.result.now in
+    let was : formula c.behind-solver.inside.vars (lists_of c.behind-solver.inside.clauses.items) ≡ expansion spec imp vectors = c.behind-solver.view_is ∙ (c.cnf.ensures ∙ c.requires.expands) in
     let base = ap (λ (f : Formula). f.vars) was in
-    let pushed = c.in_ok-push_vector.ensures.pushed (length vectors) base in
     let cells = ap length (c.cells-2.ensures.cells ∙ ap (λ (n : Netlist). n.cells) c.imp-2.ensures.imp) in
-    let is = expansion_push c.args.pair.now.spec c.args.pair.now.imp vectors c.args.x.now (c.cnf.inside.vars + length c.cells-2.result.now) (lists_of c.push_vector.new.clauses.items) (omega (arith, base, cells))
-    (pushed ∙ ap (λ (f : Formula). f.clauses ++ vector_clauses c.args.pair.now.spec c.args.pair.now.imp (length vectors) c.args.x.now) was) in
-    subst (λ (f : Formula). IsWithin f.vars f.clauses) (sym is) (c.expansions_and_tables.ensures.within c.args.pair.now.spec c.args.pair.now.imp c.imp-2.ensures.kept.imp (vectors ++ c.args.x.now ∷ []))
+    let pushed = c.in_ok-push_vector.ensures.pushed (length vectors) base ∙ ap (λ l. lists_of l ++ vector_clauses spec imp (length vectors) c.args.x.now) c.new-clauses.ensures.items in
+    record {
+      within = subst (λ n. IsWithin n (lists_of c.push_vector.new.clauses.items)) (sym (ap (λ (f : Formula). f.vars) c.raise_vars.ensures))
+          (subst (IsWithin vars) (sym pushed) (pushed_within spec imp vectors c.args.x.now c.expansions_and_tables.ensures.within c.imp-2.ensures.kept.imp vars (omega (arith, base, cells))));
+    }
 
 pub returns-clause-cnf : goal.returns-clause-cnf
 returns-clause-cnf c =
+    let spec = c.args.pair.now.spec in
+    let imp = c.args.pair.now.imp in
     let vectors = map vec_items c.args.held.vectors.items in
-    let was : formula c.cnf.inside.vars (lists_of c.cnf.inside.clauses.items) ≡ expansion c.args.pair.now.spec c.args.pair.now.imp vectors = c.cnf.view_is ∙ c.requires.expands in
+    let vars = c.behind-solver.inside.vars + length c.cells-2.result.now in
+    let was : formula c.behind-solver.inside.vars (lists_of c.behind-solver.inside.clauses.items) ≡ expansion spec imp vectors = c.behind-solver.view_is ∙ (c.cnf.ensures ∙ c.requires.expands) in
     let base = ap (λ (f : Formula). f.vars) was in
-    let pushed = c.in_ok-push_vector.ensures.pushed (length vectors) base in
     let cells = ap length (c.cells-2.ensures.cells ∙ ap (λ (n : Netlist). n.cells) c.imp-2.ensures.imp) in
-    expansion_push c.args.pair.now.spec c.args.pair.now.imp vectors c.args.x.now (c.cnf.inside.vars + length c.cells-2.result.now) (lists_of c.push_vector.new.clauses.items) (omega (arith, base, cells))
-    (pushed ∙ ap (λ (f : Formula). f.clauses ++ vector_clauses c.args.pair.now.spec c.args.pair.now.imp (length vectors) c.args.x.now) was)
+    let pushed = c.in_ok-push_vector.ensures.pushed (length vectors) base ∙ ap (λ l. lists_of l ++ vector_clauses spec imp (length vectors) c.args.x.now) c.new-clauses.ensures.items in
+    let front = ap (λ (f : Formula). f.clauses) c.raise_vars.ensures ∙ ap (λ (f : Formula). f.clauses) c.requires.expands in
+    c.in_ok-push_all.ensures.pushed
+    ∙ (ap₂ formula (ap (λ (f : Formula). f.vars) c.raise_vars.ensures) (ap₂ (λ xs ys. xs ++ ys) front pushed)
+    ∙ expansion_push spec imp vectors c.args.x.now vars ((expansion spec imp vectors).clauses ++ vector_clauses spec imp (length vectors) c.args.x.now) (omega (arith, base, cells)) refl)

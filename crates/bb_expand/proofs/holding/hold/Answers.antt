@@ -18,7 +18,7 @@ with_vector-requires-clause-inputs c = All-head (IsVector c.args.pair.now.imp) c
 
 pub with_vector-requires-clause-fits : goal.with_vector-requires-clause-fits
 with_vector-requires-clause-fits c =
-    let room = room_for_cells c.expansions_and_tables.ensures.counted c.args.pair.now.spec c.args.pair.now.imp (held_vectors c.args.held) c.args.held.cnf c.args.clauses c.requires.held.expands c.requires.room in
+    let room = room_for_cells c.expansions_and_tables.ensures.counted c.args.pair.now.spec c.args.pair.now.imp (held_vectors c.args.held) c.args.held.solver c.args.clauses c.requires.held.expands c.requires.room in
     omega (arith, room, c.requires.small, c.requires.budget)
 
 pub returns-clause-held : goal.returns-clause-held

@@ -1,5 +1,8 @@
-use Rattle.std.proofs.Common.{All, sym, subst}
+use Rattle.std.proofs.Common.{length, All, ap, sym, subst, ◌∙◌, arith}
 use Rattle.std.specs.Prelude.{Contains}
+use Rattle.bb_cnf.specs.Clauses.{Formula}
+use Rattle.bb_expand.specs.ClauseCounts.{clauses_per_vector}
+use Rattle.bb_expand.specs.Expansions.{expansion}
 use Rattle.bb_expand.specs.Inside.Holding.{held_vectors}
 use Rattle.bb_expand.proofs.ForcedAmong.{forced_fit}
 use Rattle.bb_expand.proofs.holding.make_room.Goals as goal
@@ -9,3 +12,12 @@ forced_alone-requires-clause-within c = forced_fit c.expansions_and_tables.ensur
 
 pub returns-clause-among : goal.returns-clause-among
 returns-clause-among c = subst (All (Contains (held_vectors c.args.held))) (sym c.in_ok-alone.ensures.vectors) c.requires.held.among
+
+pub returns-then-has_room-clause-room : goal.returns-then-has_room-clause-room
+returns-then-has_room-clause-room c =
+    omega (arith, c.has_room.ensures.yes c.if-has_room.true, ap (λ (f : Formula). length f.clauses) c.cnf.ensures, ap clauses_per_vector c.imp.ensures.imp)
+
+pub returns-then-not-has_room-clause-clauses : goal.returns-then-not-has_room-clause-clauses
+returns-then-not-has_room-clause-clauses c e =
+    let is = c.cnf-2.ensures ∙ (c.in_ok-alone.ensures.held.expands ∙ ap (expansion c.args.pair.now.spec c.args.pair.now.imp) c.in_ok-alone.ensures.vectors) in
+    omega (arith, c.has_room-2.ensures.no c.if-not-has_room.true, ap (λ (f : Formula). length f.clauses) is, ap clauses_per_vector c.imp-2.ensures.imp)

@@ -1,8 +1,20 @@
+use Rattle.std.proofs.Common.{sym, subst, map}
+use Rattle.std.specs.Prelude.{vec_items}
+use Rattle.bb_cnf.specs.Chains.{IsRefutation}
+use Rattle.bb_cnf.specs.Clauses.{Formula}
+use Rattle.bb_expand.specs.Expanded.{IsError}
 use Rattle.bb_expand.proofs.Decided.{refuted_is_error}
 use Rattle.bb_expand.proofs.turns.refuted.Goals as goal
 
 pub returns : goal.returns
-returns c = record {
-  error = λ budget is.
-      refuted_is_error c.laws_below.ensures.numbering c.laws_below.ensures.exists c.refutations.ensures.refutation c.args.pair.now.spec c.args.pair.now.imp c.imp.ensures.kept.imp budget c.args.held c.args.refutation.steps.items is c.requires.refuted;
-}
+returns c =
+    let spec = c.args.pair.now.spec in
+    let imp = c.args.pair.now.imp in
+    let steps = c.args.refutation.steps.items in
+    record {
+      error = λ budget held is vectors cnf.
+          subst (λ (f : Formula). IsError spec imp budget (map vec_items c.args.vectors.items) f steps) cnf
+          (subst (λ xs. IsError spec imp budget xs held.solver steps) vectors
+          (refuted_is_error c.laws_below.ensures.numbering c.laws_below.ensures.exists c.refutations.ensures.refutation spec imp c.imp.ensures.kept.imp budget held steps is
+          (subst (λ (f : Formula). IsRefutation f.clauses steps) (sym cnf) c.requires.refuted)));
+    }
