@@ -41,8 +41,7 @@ module _ (of_designs : DesignLaws) (d : Design) (bounded : IsBounded d) where
   pins_by_modules f stands a b a_there b_there same =
       let x = box_scope d f stands a (subst (λ (l : List BoxTexts). Contains l a) stands.boxes a_there) in
       let y = box_scope d f stands b (subst (λ (l : List BoxTexts). Contains l b) stands.boxes b_there) in
-      let pins = of_designs.pin_texts d bounded x.0 y.0 (box_is_scope d x.0 x.1) (box_is_scope d y.0 y.1) (ap (λ (t : BoxTexts). t.module) x.2 ∙ same ∙ sym (ap (λ (t : BoxTexts). t.module) y.2)) in
-      (
+      let pins = of_designs.pin_texts d bounded x.0 y.0 (box_is_scope d x.0 x.1) (box_is_scope d y.0 y.1) (ap (λ (t : BoxTexts). t.module) x.2 ∙ same ∙ sym (ap (λ (t : BoxTexts). t.module) y.2)) in (
         sym (ap (λ (t : BoxTexts). t.ins) x.2) ∙ pins.0 ∙ ap (λ (t : BoxTexts). t.ins) y.2,
         sym (ap (λ (t : BoxTexts). t.outs) x.2) ∙ pins.1 ∙ ap (λ (t : BoxTexts). t.outs) y.2,
       )

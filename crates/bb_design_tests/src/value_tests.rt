@@ -56,7 +56,8 @@ fn names_of_designs(rt: HostRuntime) -> Result<(), Fail> {
 }
 
 // Two boxes of one module, the second one level deeper than the first and with its connections by name.
-const ONE_MODULE: &[u8] = b"module t(a, b, y, z); input a, b; output y; output [1:0] z; bx u({b, a}, y, z[0]); m v(a, b, z[1]); endmodule
+const ONE_MODULE: &[u8] =
+    b"module t(a, b, y, z); input a, b; output y; output [1:0] z; bx u({b, a}, y, z[0]); m v(a, b, z[1]); endmodule
 module m(c, d, y); input c, d; output y; bx w(.s(y), .i({c, d}), .o()); endmodule
 module bx(i, o, s); input [1:0] i; output o, s; endmodule";
 

@@ -20,7 +20,13 @@ pub fn expect_asked<R: Abort>(
     }
     let (spec, imp) = (texts.0.as_bytes(), texts.1.as_bytes());
     let found = run_in_memory(alloc, &words, spec, imp, Vec::new(alloc), Vec::new(alloc))?;
-    assert_eq!(rt; found.report.as_slice(), report.as_bytes(), "{line} {} {}", texts.0, texts.1);
+    assert_eq!(rt;
+        found.report.as_slice(),
+        report.as_bytes(),
+        "{line} {} {}",
+        texts.0,
+        texts.1
+    );
     assert_eq!(rt; found.status, status, "{line} {} {}", texts.0, texts.1);
     Ok(())
 }

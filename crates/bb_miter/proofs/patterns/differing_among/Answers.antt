@@ -42,16 +42,20 @@ loop-k-preserved c = elim c.if-index.branch [
       let x = pattern_at (map vec_items c.args.patterns.now) c.loop-k.k in
       let same : ℕ → Type 0 = λ j. SameAt spec imp (pattern_at (map vec_items c.args.patterns.now) j) in
       subst (λ (vectors : Vec (Vec Bool Global) Global). All (DiffersAt c.args.spec.now c.args.imp.now) (map vec_items vectors.items) × AllPairs ◌≢◌ (map vec_items vectors.items) × (length vectors.items ≤ c.loop-k.k + 1)
-        × (vectors.items ≡ [] → (j : ℕ) → j < c.loop-k.k + 1 → SameAt c.args.spec.now c.args.imp.now (pattern_at (map vec_items c.args.patterns.now) j))) (sym w.vectors-is)
-      (c.loop-k.invariant.0, c.loop-k.invariant.1, omega (arith, c.loop-k.invariant.2), λ e. up_to same (c.loop-k.invariant.3 e) (elim w.else-index.branch [
-        | else-index-via-then-index+else-not-contains v ↦
-            let pattern = c.index-patterns-k.result in
-            let some : list_any (λ (y : Vec Bool Global). pointwise beq (vec_items y) pattern.items) c.loop-k.vectors.items ≡ true = subst (λ (vs : List (Vec Bool Global)). list_any (λ (y : Vec Bool Global). pointwise beq (vec_items y) pattern.items) vs ≡ true) v.deref.ensures.value (sym v.contains.ensures.value ∙ v.if-not-contains.false) in
-            absurd (true≢false (sym some ∙ ap (list_any (λ (y : Vec Bool Global). pointwise beq (vec_items y) pattern.items)) e))
-        | else-index-via-else-index v ↦
-            let mark : bit_of c.in_ok-marks.marks.items c.loop-k.k ≡ false = get_or_default c.in_ok-marks.marks.items c.loop-k.k false c.index.result.now (omega (arith, c.loop-k-test.true, c.in_ok-marks.ensures.len)) ∙ (sym c.index.ensures ∙ v.if-index.false) in
-            MatchBool-at_false (SomeWrong spec imp x (flat imp x [])) (AllRight spec imp x (flat imp x [])) mark (c.in_ok-marks.ensures.marks c.loop-k.k c.loop-k-test.true)
-      ]))
+      × (vectors.items ≡ [] → (j : ℕ) → j < c.loop-k.k + 1 → SameAt c.args.spec.now c.args.imp.now (pattern_at (map vec_items c.args.patterns.now) j))) (sym w.vectors-is) (
+        c.loop-k.invariant.0,
+        c.loop-k.invariant.1,
+        omega (arith, c.loop-k.invariant.2),
+        λ e. up_to same (c.loop-k.invariant.3 e) (elim w.else-index.branch [
+          | else-index-via-then-index+else-not-contains v ↦
+              let pattern = c.index-patterns-k.result in
+              let some : list_any (λ (y : Vec Bool Global). pointwise beq (vec_items y) pattern.items) c.loop-k.vectors.items ≡ true = subst (λ (vs : List (Vec Bool Global)). list_any (λ (y : Vec Bool Global). pointwise beq (vec_items y) pattern.items) vs ≡ true) v.deref.ensures.value (sym v.contains.ensures.value ∙ v.if-not-contains.false) in
+              absurd (true≢false (sym some ∙ ap (list_any (λ (y : Vec Bool Global). pointwise beq (vec_items y) pattern.items)) e))
+          | else-index-via-else-index v ↦
+              let mark : bit_of c.in_ok-marks.marks.items c.loop-k.k ≡ false = get_or_default c.in_ok-marks.marks.items c.loop-k.k false c.index.result.now (omega (arith, c.loop-k-test.true, c.in_ok-marks.ensures.len)) ∙ (sym c.index.ensures ∙ v.if-index.false) in
+              MatchBool-at_false (SomeWrong spec imp x (flat imp x [])) (AllRight spec imp x (flat imp x [])) mark (c.in_ok-marks.ensures.marks c.loop-k.k c.loop-k-test.true)
+        ]),
+      )
 ]
 
 pub returns-clause-none : goal.returns-clause-none

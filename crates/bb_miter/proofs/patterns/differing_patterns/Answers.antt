@@ -37,8 +37,7 @@ loop-start-preserved c =
     let n : ℕ = end - start in
     let vectors = c.in_ok-vectors.vectors in
     let none : vectors.items ≡ [] = is_nil vectors.items (omega (arith, vectors.ok, is_zero (vec_len vectors) c.is_empty.result c.is_empty.ensures c.if-not-is_empty.false)) in
-    let here : All (SameAt spec imp) (map vec_items (take n (drop start all))) = subst (λ (xs : List (Vec Bool Global)). All (SameAt spec imp) (map vec_items (take n (drop start xs)))) c.deref.ensures.value (c.in_ok-vectors.ensures.none none) in
-    (
+    let here : All (SameAt spec imp) (map vec_items (take n (drop start all))) = subst (λ (xs : List (Vec Bool Global)). All (SameAt spec imp) (map vec_items (take n (drop start xs)))) c.deref.ensures.value (c.in_ok-vectors.ensures.none none) in (
       omega (arith, c.min-end.ensures, c.loop-start-test.true),
       λ j l. elim (cases_lt j start) [
         | inl before ↦ c.loop-start.invariant.1 j before
