@@ -208,7 +208,7 @@ fn examples_have_their_reports(rt: HostRuntime) -> Result<(), Fail> {
             "refused impl token line 4\n",
         ),
     ] {
-        expect(&rt, alloc, spec, imp, status, report)?;
+        expect(alloc, spec, imp, status, report)?;
     }
     Ok(())
 }

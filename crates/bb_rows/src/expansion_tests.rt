@@ -26,7 +26,7 @@ fn clauses_are_bounded(rt: HostRuntime) -> Result<(), Fail> {
             "rung input none\nverdict open\n",
         ),
     ] {
-        expect_asked(&rt, rt.alloc(), line, (same, boxes), status, report)?;
+        expect_asked(rt.alloc(), line, (same, boxes), status, report)?;
     }
     Ok(())
 }
@@ -39,7 +39,6 @@ fn one_table_of_many_is_found(rt: HostRuntime) -> Result<(), Fail> {
     let imp =
         "module t(a,y); input [5:0] a; output y; b6 u(a,y); endmodule module b6(p,o); input [5:0] p; output o; endmodule";
     expect_asked(
-        &rt,
         rt.alloc(),
         "bbeq s.v i.v --from expand",
         (spec, imp),
@@ -93,7 +92,6 @@ fn few_vectors_refute(rt: HostRuntime) -> Result<(), Fail> {
     let imp =
         "module t(a,b,c,y1,y2); input a,b; input [19:0] c; output y1,y2; bx u1(a,y1); bx u2(b,y2); endmodule module bx(i,o); input i; output o; endmodule";
     expect_asked(
-        &rt,
         rt.alloc(),
         "bbeq s.v i.v --from input",
         (spec, imp),

@@ -88,7 +88,7 @@ const EXPANDED: [(&str, &str, u8, &str); 3] = [
 #[test]
 fn boxes_are_chosen(rt: HostRuntime) -> Result<(), Fail> {
     for (spec, imp, status, report) in CHOSEN {
-        expect(&rt, rt.alloc(), spec, imp, status, report)?;
+        expect(rt.alloc(), spec, imp, status, report)?;
     }
     Ok(())
 }
@@ -96,7 +96,7 @@ fn boxes_are_chosen(rt: HostRuntime) -> Result<(), Fail> {
 #[test]
 fn pairs_are_expanded(rt: HostRuntime) -> Result<(), Fail> {
     for (spec, imp, status, report) in EXPANDED {
-        expect(&rt, rt.alloc(), spec, imp, status, report)?;
+        expect(rt.alloc(), spec, imp, status, report)?;
     }
     Ok(())
 }
@@ -126,5 +126,5 @@ fn a_netlist_of_a_tool_is_finished(rt: HostRuntime) -> Result<(), Fail> {
     mapped.push_str("endmodule\n")?;
     let report =
         "rung ternary none\nrung symbolic none\nrung local none\nrung output none\nrung input repair\ntable h o 0010\nverdict repairable\n";
-    expect(&rt, rt.alloc(), COUNTER, &mapped, 0, report)
+    expect(rt.alloc(), COUNTER, &mapped, 0, report)
 }

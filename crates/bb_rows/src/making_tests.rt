@@ -1,7 +1,6 @@
 //! Made pairs through the top call: a hole where a full adder stood is filled by its sum and its carry.
 use crate::expecting::expect_asked;
 use std::alloc::Global;
-use std::process::Abort;
 use std::test::Fail;
 
 // The two files are never read, so they may hold anything.
@@ -17,30 +16,24 @@ fn report(alloc: Global, n: u32, inputs: u32, hole: u32) -> Result<String, Fail>
     Ok(text)
 }
 
-fn expect_made<R: Abort>(
-    rt: &R,
-    alloc: Global,
-    n: u32,
-    inputs: u32,
-    hole: u32,
-) -> Result<(), Fail> {
+fn expect_made(alloc: Global, n: u32, inputs: u32, hole: u32) -> Result<(), Fail> {
     let mut line = String::new(alloc);
     write!(line, "bbeq --make {n}")?;
     let report = report(alloc, n, inputs, hole)?;
-    expect_asked(rt, alloc, line.as_str(), UNREAD, 0, report.as_str())
+    expect_asked(alloc, line.as_str(), UNREAD, 0, report.as_str())
 }
 
 #[test]
 fn holes_are_filled_by_full_adders(rt: HostRuntime) -> Result<(), Fail> {
     for (n, inputs, hole) in [(1, 3, 0), (2, 5, 1), (3, 7, 1), (16, 33, 8), (64, 129, 32)] {
-        expect_made(&rt, rt.alloc(), n, inputs, hole)?;
+        expect_made(rt.alloc(), n, inputs, hole)?;
     }
     Ok(())
 }
 
 #[test]
 fn the_widest_pair_is_finished(rt: HostRuntime) -> Result<(), Fail> {
-    expect_made(&rt, rt.alloc(), 256, 513, 128)
+    expect_made(rt.alloc(), 256, 513, 128)
 }
 
 #[test]
@@ -54,7 +47,7 @@ fn made_pairs_stand_alone(rt: HostRuntime) -> Result<(), Fail> {
         "bbeq --make 4 --rup",
         "bbeq --make 4 --make 4",
     ] {
-        expect_asked(&rt, rt.alloc(), line, UNREAD, 2, "refused usage\n")?;
+        expect_asked(rt.alloc(), line, UNREAD, 2, "refused usage\n")?;
     }
     Ok(())
 }
@@ -64,7 +57,6 @@ fn made_pairs_are_checked_as_asked(rt: HostRuntime) -> Result<(), Fail> {
     // The width is told as a number, with no zeros before it.
     let found = "make 4\ninputs 9\nrung local none\nverdict open\n";
     expect_asked(
-        &rt,
         rt.alloc(),
         "bbeq --make 004 --from local --to local",
         UNREAD,
@@ -75,7 +67,6 @@ fn made_pairs_are_checked_as_asked(rt: HostRuntime) -> Result<(), Fail> {
     let expanded =
         "make 1\ninputs 3\nrung expand repair\ntable u0 s 01101001\ntable u0 o 00010111\nverdict repairable\n";
     expect_asked(
-        &rt,
         rt.alloc(),
         "bbeq --make 1 --from expand --proof",
         UNREAD,

@@ -14,7 +14,6 @@ const BOX: &str =
 fn patterns_are_as_many_as_asked(rt: HostRuntime) -> Result<(), Fail> {
     // Only a and b are 1 where the specification gives 1; there c is 0, and the implementation gives 0.
     expect_asked(
-        &rt,
         rt.alloc(),
         "bbeq s.v i.v --patterns 0",
         (
@@ -26,7 +25,6 @@ fn patterns_are_as_many_as_asked(rt: HostRuntime) -> Result<(), Fail> {
     )?;
     // The first pattern that is drawn hits.
     expect_asked(
-        &rt,
         rt.alloc(),
         "bbeq s.v i.v --patterns 1",
         (
@@ -41,7 +39,6 @@ fn patterns_are_as_many_as_asked(rt: HostRuntime) -> Result<(), Fail> {
 #[test]
 fn checks_are_those_asked_for(rt: HostRuntime) -> Result<(), Fail> {
     expect_asked(
-        &rt,
         rt.alloc(),
         "bbeq s.v i.v --from local",
         (
@@ -72,7 +69,7 @@ fn checks_are_those_asked_for(rt: HostRuntime) -> Result<(), Fail> {
             "refused usage\n",
         ),
     ] {
-        expect_asked(&rt, rt.alloc(), line, pair, status, report)?;
+        expect_asked(rt.alloc(), line, pair, status, report)?;
     }
     Ok(())
 }
@@ -95,11 +92,11 @@ fn nodes_are_bounded(rt: HostRuntime) -> Result<(), Fail> {
     ] {
         let line = one_check(rt.alloc(), rung, nodes)?;
         let report = format!(in rt.alloc(); "rung {rung} {said}\nverdict open\n")?;
-        expect_asked(&rt, rt.alloc(), &line, (INVERTER, BOX), 3, &report)?;
+        expect_asked(rt.alloc(), &line, (INVERTER, BOX), 3, &report)?;
     }
     let line = one_check(rt.alloc(), "input", "12")?;
     let report = "rung input repair\ntable u o 10\nverdict repairable\n";
-    expect_asked(&rt, rt.alloc(), &line, (INVERTER, BOX), 0, report)
+    expect_asked(rt.alloc(), &line, (INVERTER, BOX), 0, report)
 }
 
 #[test]
@@ -123,7 +120,7 @@ fn tops_are_named(rt: HostRuntime) -> Result<(), Fail> {
             "refused spec notop\n",
         ),
     ] {
-        expect_asked(&rt, rt.alloc(), line, (two, two), status, report)?;
+        expect_asked(rt.alloc(), line, (two, two), status, report)?;
     }
     Ok(())
 }
@@ -144,7 +141,7 @@ fn other_words_ask_for_nothing(rt: HostRuntime) -> Result<(), Fail> {
         "bbeq s.v i.v -h",
     ] {
         let texts = (INVERTER, BOX);
-        expect_asked(&rt, rt.alloc(), line, texts, 2, "refused usage\n")?;
+        expect_asked(rt.alloc(), line, texts, 2, "refused usage\n")?;
     }
     Ok(())
 }

@@ -64,10 +64,10 @@ const MISTAKEN_LATER: [(&str, &str, &str); 2] = [
 #[test]
 fn mistakes_are_reported(rt: HostRuntime) -> Result<(), Fail> {
     for (spec, imp, report) in MISTAKEN {
-        expect(&rt, rt.alloc(), spec, imp, 1, report)?;
+        expect(rt.alloc(), spec, imp, 1, report)?;
     }
     for (spec, imp, report) in MISTAKEN_LATER {
-        expect(&rt, rt.alloc(), spec, imp, 1, report)?;
+        expect(rt.alloc(), spec, imp, 1, report)?;
     }
     Ok(())
 }
@@ -105,7 +105,7 @@ fn implementations_are_refused(rt: HostRuntime) -> Result<(), Fail> {
         ),
         (MAPPED, "refused impl unended\n"),
     ] {
-        expect(&rt, rt.alloc(), ONE, imp, 2, report)?;
+        expect(rt.alloc(), ONE, imp, 2, report)?;
     }
     Ok(())
 }
@@ -144,7 +144,7 @@ fn specifications_are_refused(rt: HostRuntime) -> Result<(), Fail> {
             "refused spec twice line 2 c\n",
         ),
     ] {
-        expect(&rt, rt.alloc(), spec, BUFFER, 2, report)?;
+        expect(rt.alloc(), spec, BUFFER, 2, report)?;
     }
     Ok(())
 }
@@ -173,7 +173,7 @@ fn pairs_are_refused(rt: HostRuntime) -> Result<(), Fail> {
             "refused pair specbox u\n",
         ),
     ] {
-        expect(&rt, rt.alloc(), spec, imp, 2, report)?;
+        expect(rt.alloc(), spec, imp, 2, report)?;
     }
     Ok(())
 }

@@ -33,7 +33,7 @@ fn first_fault_of_the_specification_is_told(rt: HostRuntime) -> Result<(), Fail>
         ),
     ];
     for (spec, report) in rows {
-        expect(&rt, alloc, spec, "/* never closed", 2, report)?;
+        expect(alloc, spec, "/* never closed", 2, report)?;
     }
     Ok(())
 }
@@ -58,7 +58,7 @@ fn first_fault_of_the_implementation_is_told(rt: HostRuntime) -> Result<(), Fail
         ),
     ];
     for (imp, report) in rows {
-        expect(&rt, alloc, BUFFER, imp, 2, report)?;
+        expect(alloc, BUFFER, imp, 2, report)?;
     }
     Ok(())
 }
@@ -81,10 +81,10 @@ fn in_brackets(alloc: Global, count: usize) -> Result<String, Fail> {
 fn statements_nest_up_to_200_deep(rt: HostRuntime) -> Result<(), Fail> {
     let alloc = rt.alloc();
     let deep = in_brackets(alloc, 201)?;
-    expect(&rt, alloc, &deep, BUFFER, 2, "refused spec deep line 2\n")?;
-    expect(&rt, alloc, BUFFER, &deep, 2, "refused impl deep line 2\n")?;
+    expect(alloc, &deep, BUFFER, 2, "refused spec deep line 2\n")?;
+    expect(alloc, BUFFER, &deep, 2, "refused impl deep line 2\n")?;
     let good = in_brackets(alloc, 200)?;
-    expect(&rt, alloc, &good, BUFFER, 0, EQUAL)
+    expect(alloc, &good, BUFFER, 0, EQUAL)
 }
 
 // A full adder, and one that a tool wrote: the sum is inverted, the carry is left to a box.
@@ -105,9 +105,8 @@ fn texts_are_read_as_tools_write_them(rt: HostRuntime) -> Result<(), Fail> {
     let alloc = rt.alloc();
     let escaped =
         "module t(a,y); input a; output y; wire \\w;x ; buf(\\w;x ,a); buf(y,\\w;x ); endmodule";
-    expect(&rt, alloc, BUFFER, escaped, 0, EQUAL)?;
+    expect(alloc, BUFFER, escaped, 0, EQUAL)?;
     expect(
-        &rt,
         alloc,
         ADDER,
         MAPPED,

@@ -29,7 +29,7 @@ fn texts_are_refused_in_order(rt: HostRuntime) -> Result<(), Fail> {
         (NOR, INVERTER, "refused pair port b\n"),
         (BUFFER, NOR, "refused pair port b\n"),
     ] {
-        expect(&rt, rt.alloc(), spec, imp, 2, report)?;
+        expect(rt.alloc(), spec, imp, 2, report)?;
     }
     Ok(())
 }

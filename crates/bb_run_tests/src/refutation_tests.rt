@@ -27,7 +27,7 @@ fn additions_are_checked(rt: HostRuntime) -> Result<(), Fail> {
         // A carriage return is white space; a number may begin with zeros.
         ("p cnf 1 2\r1 0\r-01 0", "", 0, "rup yes\n"),
     ] {
-        expect_asked(&rt, rt.alloc(), WORDS, (first, second), status, line)?;
+        expect_asked(rt.alloc(), WORDS, (first, second), status, line)?;
     }
     Ok(())
 }
@@ -57,7 +57,7 @@ fn texts_of_refutations_are_refused(rt: HostRuntime) -> Result<(), Fail> {
         // The first text comes first, also where its fault is the last that is looked for.
         ("p cnf 1 2\n1 0", "x", "refused cnf count\n"),
     ] {
-        expect_asked(&rt, rt.alloc(), WORDS, (first, second), 2, line)?;
+        expect_asked(rt.alloc(), WORDS, (first, second), 2, line)?;
     }
     Ok(())
 }
@@ -74,7 +74,7 @@ fn words_of_refutations_are_looked_at_first(rt: HostRuntime) -> Result<(), Fail>
         "bbeq --rup s.v i.v --nodes 1000000",
         "bbeq -- --rup s.v i.v",
     ] {
-        expect_asked(&rt, rt.alloc(), line, texts, 2, "refused usage\n")?;
+        expect_asked(rt.alloc(), line, texts, 2, "refused usage\n")?;
     }
     Ok(())
 }
