@@ -14,15 +14,9 @@ use Rattle.bb_net.specs.Values.{bit_of, flat, flat_with, free_bit, tabled_bit, v
 use Rattle.bb_input.specs.InputFunctions.{in_places}
 use Rattle.bb_alike.specs.Laws.Alike.{AreAlike}
 use Rattle.bb_alike.specs.Laws.Formulas.{formula_at, pin_formulas}
-use Rattle.bb_alike.specs.Laws.{FormulasAreOfCells, AlikeIsMutual, AlikeNetsHaveCells, AlikeCellsHaveOneBit, AlikeCellsAreKnownAlike}
+use Rattle.bb_alike.specs.Laws.{AlikeCellsHaveOneBit, AlikeCellsAreKnownAlike}
+use Rattle.bb_rungs.specs.Inside.AlikeLaws.{BitLaws}
 use Rattle.bb_rungs.proofs.AlikeBoxes.{AreAsMany, as_many, first_boxes_alike, output_pins_alike}
-
--- the laws on which this rests
-pub record BitLaws : Type 0 where
-  pub formulas : FormulasAreOfCells
-  pub back : AlikeIsMutual
-  pub cells : AlikeNetsHaveCells
-  pub bits : AlikeCellsHaveOneBit
 
 -- what nets that are alike share
 pub record ShareBits (a b : Netlist) : Type 0 where

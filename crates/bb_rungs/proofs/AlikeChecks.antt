@@ -11,7 +11,8 @@ use Rattle.bb_rungs.specs.Laws.AlikePairs.{AlikePairsAreLeftOpen, AlikePairsStay
 use Rattle.bb_rungs.specs.LeftOpen.{LeavesOpen, StaysOpen, Decides}
 use Rattle.bb_rungs.specs.Laws.Searches.{MayDependOnSearch}
 use Rattle.bb_rungs.proofs.AlikeConditions.{right_among_alike, right_everywhere_alike, each_right_alike, all_right_alike, choices_alike}
-use Rattle.bb_rungs.proofs.AlikeShared.{PairLaws, Share, bits_alike, small_alike, finishable_alike, share, share_back}
+use Rattle.bb_rungs.specs.Inside.AlikeLaws.{PairLaws}
+use Rattle.bb_rungs.proofs.AlikeShared.{Share, bits_alike, small_alike, finishable_alike, share, share_back}
 use Rattle.bb_rungs.proofs.AlikeTables.{too_many_among}
 
 module _ (p q : NetPair) (to : Share p q) (from : Share q p) (o : Options) where

@@ -23,7 +23,8 @@ use Rattle.bb_rungs.specs.Reports.{details, input_line, rung_line, told_output}
 use Rattle.bb_options.specs.Rungs.{asked_rungs, rank, rung_name}
 use Rattle.bb_rungs.specs.Rungs.{MaySay, TooWide, ClausesTooMany, Decided, Climbs, IsClimb, Top, End, Step, ends, is_error, is_repair}
 use Rattle.bb_rungs.specs.TableLines.{table_lines}
-use Rattle.bb_rungs.proofs.AlikeShared.{PairLaws, Share, alike_itself, bits_alike, share, share_back}
+use Rattle.bb_rungs.specs.Inside.AlikeLaws.{PairLaws}
+use Rattle.bb_rungs.proofs.AlikeShared.{Share, alike_itself, bits_alike, share, share_back}
 use Rattle.bb_rungs.proofs.AlikeTold.{IsRefuted, told_or_refuted}
 use Rattle.bb_rungs.proofs.AlikeWitnesses.{completion_alike}
 use Rattle.bb_rungs.proofs.StayLaw.{asked_rise, first_rises, rest_rises}

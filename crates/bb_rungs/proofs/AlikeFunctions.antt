@@ -9,9 +9,10 @@ use Rattle.bb_net.specs.Netlists.{Netlist}
 use Rattle.bb_net.specs.Values.{bit_of, flat, output_pins}
 use Rattle.bb_sym.specs.Functions.{inputs_and_pins, inputs_first, is_wrong, plain_functions, for_all_pins, wrong_for_all_pins, local_functions, some_wrong, first_some_wrong, output_functions}
 use Rattle.bb_sym.specs.Plain.{Function, Reading, table, tables, variables, places, outputs, one_of, first_of, without_pins, cell_bit, is_wrong_at, plain_functions_at, block_functions}
+use Rattle.bb_rungs.specs.Inside.AlikeLaws.{FunctionsFixTables}
 use Rattle.bb_rungs.proofs.AlikeBits.{ShareBits}
 use Rattle.bb_rungs.proofs.AlikeBoxes.{output_pins_alike}
-use Rattle.bb_rungs.proofs.AlikeTables.{FunctionsFixTables, AreAmong, among_same, among_append, among_each, among_tables, among_two_tables, one_of_same, table_same}
+use Rattle.bb_rungs.proofs.AlikeTables.{AreAmong, among_same, among_append, among_each, among_tables, among_two_tables, one_of_same, table_same}
 
 -- points are read alike
 pub record AreReadAlike (r s : Reading) : Type 0 where

@@ -8,10 +8,8 @@ use Rattle.bb_bits.specs.Tables.{TableBits}
 use Rattle.bb_expand.specs.ClauseCounts.{clause_total, clauses_per_vector}
 use Rattle.bb_expand.specs.Expansions.{expansion}
 use Rattle.bb_expand.specs.GivenUp.{FillTooLarge, NeedsMoreClauses, SuitsLargeTables}
-use Rattle.bb_expand.specs.Laws.{ClausesAreCounted}
 use Rattle.bb_filled.specs.Forced.{AgreeAt, AreForced}
-use Rattle.bb_filled.specs.Laws.AlikeLaws.{AlikeFilledHaveSameBits, HaveSameBits}
-use Rattle.bb_filled.specs.Laws.FilledLaws.{FilledExist}
+use Rattle.bb_filled.specs.Laws.AlikeLaws.{HaveSameBits}
 use Rattle.bb_alike.specs.Laws.Alike.{AreAlike}
 use Rattle.bb_net.specs.Agreement.{IsVector, out_bit}
 use Rattle.bb_net.specs.Completions.{table_bits}
@@ -20,18 +18,12 @@ use Rattle.bb_net.specs.Netlists.{Netlist, Pins, IsNetlist}
 use Rattle.bb_net.specs.Values.{FitBoxes, ValueGoesByBoxes, bit_of, flat, free_bit, tabled_bit, value_of}
 use Rattle.bb_input.specs.InputFunctions.{in_places}
 use Rattle.bb_sym.specs.Functions.{output_functions}
+use Rattle.bb_rungs.specs.Inside.AlikeLaws.{FunctionsFixTables, GivenLaws}
 use Rattle.bb_rungs.proofs.AlikeBits.{ShareBits, at_same}
 use Rattle.bb_rungs.proofs.AlikeBoxes.{AreAsMany, table_bits_alike}
 use Rattle.bb_rungs.proofs.AlikeFunctions.{ShareAll, output_among}
-use Rattle.bb_rungs.proofs.AlikeTables.{FunctionsFixTables, more_among}
+use Rattle.bb_rungs.proofs.AlikeTables.{more_among}
 use Rattle.bb_rungs.proofs.AlikeWitnesses.{agree_alike, fail_alike, fit_alike}
-
--- the laws on which this rests
-pub record GivenLaws : Type 0 where
-  pub exist : FilledExist
-  pub same : AlikeFilledHaveSameBits
-  pub boxes : ValueGoesByBoxes
-  pub counted : ClausesAreCounted
 
 -- netlists without boxes
 module _ (by_boxes : ValueGoesByBoxes) (a b : Netlist) (one : IsNetlist a) (other : IsNetlist b) (same : HaveSameBits a b) (own : a.boxes ≡ []) (also : b.boxes ≡ []) where

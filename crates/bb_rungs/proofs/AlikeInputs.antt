@@ -10,9 +10,10 @@ use Rattle.bb_net.specs.Pairs.{pin_count}
 use Rattle.bb_net.specs.Values.{bit_of}
 use Rattle.bb_sym.specs.Plain.{Function, table, tables, outputs, one_of, first_of, plain_functions_at, block_functions}
 use Rattle.bb_input.specs.InputFunctions.{pins_and_inputs, boxes_first, in_places, in_pins, is_missed, is_wrong_output, has_wrong, leads, refutes, refuted, boxes_functions, wrong_functions, missed_functions, quantified_functions, input_functions}
+use Rattle.bb_rungs.specs.Inside.AlikeLaws.{FunctionsFixTables}
 use Rattle.bb_rungs.proofs.AlikeBoxes.{boxes_functions_alike, in_places_alike, pin_bits_alike, pin_count_alike}
 use Rattle.bb_rungs.proofs.AlikeFunctions.{AreReadAlike, ShareAll, cell_bit_alike, plain_among, wrong_tables_among, first_tables_among, some_wrong_alike}
-use Rattle.bb_rungs.proofs.AlikeTables.{FunctionsFixTables, AreAmong, among_same, among_append, among_tables, one_of_same, table_same}
+use Rattle.bb_rungs.proofs.AlikeTables.{AreAmong, among_same, among_append, among_tables, one_of_same, table_same}
 
 module _ (fix : FunctionsFixTables) (spec imp other_spec other_imp : Netlist) (share : ShareAll spec imp other_spec other_imp) where
   pins_alike : pin_count imp.boxes ≡ pin_count other_imp.boxes

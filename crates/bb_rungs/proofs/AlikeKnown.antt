@@ -12,9 +12,10 @@ use Rattle.bb_sym.specs.Plain.{tables, variables, places, outputs}
 use Rattle.bb_alike.specs.Laws.Alike.{AreAlike}
 use Rattle.bb_alike.specs.Laws.Formulas.{Formula, Const, Input, Not, And, Or, Xor, Mux, BoxOut, cell_formula, formula_at}
 use Rattle.bb_alike.specs.Laws.{FormulasAreOfCells, AlikeNetsHaveCells, AlikeCellsAreKnownAlike}
+use Rattle.bb_rungs.specs.Inside.AlikeLaws.{FunctionsFixTables}
 use Rattle.bb_rungs.proofs.AlikeConditions.{AreKnownAlike}
 use Rattle.bb_rungs.proofs.AlikeFunctions.{ShareAll}
-use Rattle.bb_rungs.proofs.AlikeTables.{FunctionsFixTables, AreAmong, among_append, among_each, among_tables, table_same}
+use Rattle.bb_rungs.proofs.AlikeTables.{AreAmong, among_append, among_each, among_tables, table_same}
 
 -- a place with a formula
 abbrev IsPlaceOf : ℕ → (ℕ → Formula) → ℕ → Formula → Type 0

@@ -12,23 +12,16 @@ use Rattle.bb_expand.specs.ClauseCounts.{clause_total, clauses_per_vector}
 use Rattle.bb_expand.specs.GivenUp.{NeedsMoreClauses}
 use Rattle.bb_alike.specs.Laws.Alike.{AreAlike, ArePairsAlike}
 use Rattle.bb_alike.specs.Laws.Formulas.{cell_formulas}
-use Rattle.bb_alike.specs.Laws.{AlikeCellsAreKnownAlike}
-use Rattle.bb_rungs.proofs.AlikeBits.{BitLaws, known_outputs, share_bits}
+use Rattle.bb_rungs.specs.Inside.AlikeLaws.{PairLaws}
+use Rattle.bb_rungs.proofs.AlikeBits.{known_outputs, share_bits}
 use Rattle.bb_rungs.proofs.AlikeBoxes.{box_count_alike, table_bits_alike}
 use Rattle.bb_rungs.proofs.AlikeConditions.{AreKnownAlike}
 use Rattle.bb_rungs.proofs.AlikeCounts.{clause_totals_alike, per_vector_alike}
 use Rattle.bb_rungs.proofs.AlikeFunctions.{ShareAll, local_among, output_among}
-use Rattle.bb_rungs.proofs.AlikeGivenUp.{GivenLaws, needs_alike}
+use Rattle.bb_rungs.proofs.AlikeGivenUp.{needs_alike}
 use Rattle.bb_rungs.proofs.AlikeInputs.{input_among}
 use Rattle.bb_rungs.proofs.AlikeKnown.{symbolic_among}
-use Rattle.bb_rungs.proofs.AlikeTables.{FunctionsFixTables, AreAmong}
-
--- the laws on which this rests
-pub record PairLaws : Type 0 where
-  pub bits : BitLaws
-  pub known : AlikeCellsAreKnownAlike
-  pub fix : FunctionsFixTables
-  pub given : GivenLaws
+use Rattle.bb_rungs.proofs.AlikeTables.{AreAmong}
 
 -- what goes from one pair to another
 pub record Share (p q : NetPair) : Type 0 where

@@ -10,11 +10,8 @@ use Rattle.bb_bits.specs.Truth.{Truth, IsBeadOfAny}
 use Rattle.bb_bits.specs.TruthSets.{HasMoreThan}
 use Rattle.bb_sym.specs.Plain.{Function, table, tables, one_of}
 use Rattle.bb_options.specs.declared.options.Options.{Options}
+use Rattle.bb_rungs.specs.Inside.AlikeLaws.{FunctionsFixTables}
 use Rattle.bb_rungs.specs.Rungs.{AreTooMany}
-
--- functions that agree have one table
-abbrev pub FunctionsFixTables : Type 0
-FunctionsFixTables = (n : ℕ) (f g : Function) → ((x : List Bool) → length x ≡ n → f x ≡ g x) → table n f ≡ table n g
 
 pub table_same : FunctionsFixTables → (n m : ℕ) → n ≡ m → (f g : Function) → ((x : List Bool) → f x ≡ g x) → table n f ≡ table m g
 table_same fix n m e f g same = fix n f g (λ x l. same x) ∙ ap (λ (k : ℕ). table k g) e

@@ -22,7 +22,8 @@ use Rattle.bb_options.specs.declared.rung.Rung.TheVariants.{Ternary, Symbolic, L
 use Rattle.bb_rungs.specs.Laws.AlikePairs.{AlikePairsAreTold, IsNoRefutation}
 use Rattle.bb_rungs.specs.Rungs.{IsFirstOf, IsLeastOf, MaySay, MayHit, Hit, NoHit, MayFind, TooMany, Finding, Without, MayChoose, ChoicesTooMany, Answered, TooWide, ClausesTooMany, Decided}
 use Rattle.bb_rungs.proofs.AlikeConditions.{right_among_alike, right_everywhere_alike, each_right_alike, all_right_alike, choices_alike, may_be_right}
-use Rattle.bb_rungs.proofs.AlikeShared.{PairLaws, Share, bits_alike, small_alike, finishable_alike, share, share_back}
+use Rattle.bb_rungs.specs.Inside.AlikeLaws.{PairLaws}
+use Rattle.bb_rungs.proofs.AlikeShared.{Share, bits_alike, small_alike, finishable_alike, share, share_back}
 use Rattle.bb_rungs.proofs.AlikeTables.{AreAmong, too_many_among}
 use Rattle.bb_rungs.proofs.AlikeWitnesses.{known_wrong_alike, always_wrong_alike, sometimes_right_alike, has_wrong_alike, first_hit_alike, completion_alike, least_vector_alike, first_found_alike, least_tables_alike}
 

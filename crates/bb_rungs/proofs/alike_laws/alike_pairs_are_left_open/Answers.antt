@@ -1,27 +1,9 @@
 use Rattle.bb_rungs.proofs.AlikeChecks.{alike_pairs_are_left_open, alike_pairs_depend_alike, alike_pairs_stay_open}
-use Rattle.bb_rungs.proofs.AlikeShared.{PairLaws}
 use Rattle.bb_rungs.proofs.alike_laws.alike_pairs_are_left_open.Goals as goal
 
 pub returns : goal.returns
-returns c =
-    let laws : PairLaws = record {
-      bits = record {
-        formulas = c.formulas_are_of_cells.ensures;
-        back = c.alike_is_mutual.ensures;
-        cells = c.alike_nets_have_cells.ensures;
-        bits = c.alike_cells_have_one_bit.ensures;
-      };
-      known = c.alike_cells_are_known_alike.ensures;
-      fix = c.functions.ensures.same;
-      given = record {
-        exist = c.filled_exist.ensures;
-        same = c.alike_filled_have_same_bits.ensures;
-        boxes = c.value_goes_by_boxes.ensures;
-        counted = c.expansions_and_tables.ensures.counted;
-      };
-    } in
-    record {
-      left = alike_pairs_are_left_open laws;
-      stays = alike_pairs_stay_open laws;
-      search = alike_pairs_depend_alike laws;
-    }
+returns c = record {
+  left = alike_pairs_are_left_open c.laws_below.ensures;
+  stays = alike_pairs_stay_open c.laws_below.ensures;
+  search = alike_pairs_depend_alike c.laws_below.ensures;
+}

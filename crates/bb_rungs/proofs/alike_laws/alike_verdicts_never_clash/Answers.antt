@@ -2,19 +2,4 @@ use Rattle.bb_rungs.proofs.AlikeClimbs.{alike_verdicts_never_clash}
 use Rattle.bb_rungs.proofs.alike_laws.alike_verdicts_never_clash.Goals as goal
 
 pub returns : goal.returns
-returns c = alike_verdicts_never_clash (record {
-  bits = record {
-    formulas = c.formulas_are_of_cells.ensures;
-    back = c.alike_is_mutual.ensures;
-    cells = c.alike_nets_have_cells.ensures;
-    bits = c.alike_cells_have_one_bit.ensures;
-  };
-  known = c.alike_cells_are_known_alike.ensures;
-  fix = c.functions.ensures.same;
-  given = record {
-    exist = c.filled_exist.ensures;
-    same = c.alike_filled_have_same_bits.ensures;
-    boxes = c.value_goes_by_boxes.ensures;
-    counted = c.expansions_and_tables.ensures.counted;
-  };
-}) c.errors_exclude_tables.ensures c.repairs_agree.ensures
+returns c = alike_verdicts_never_clash c.laws_below.ensures c.errors_exclude_tables.ensures c.repairs_agree.ensures
