@@ -1,5 +1,8 @@
 -- Pairs of the same designs are alike: their netlists are, and so they are rearranged in one way.
 use Rattle.std.proofs.Common.{◌≡◌, ◌++◌, map, sym, ap, ap₂, subst, ◌∙◌}
+use Rattle.bb_net.specs.Kinds.{AreKinds}
+use Rattle.bb_net.specs.Laws.KindLaws.{KindsAreOne}
+use Rattle.bb_net.specs.Pairs.{BoxTexts}
 use Rattle.bb_net.specs.Rearrangements.{IsRearranged}
 use Rattle.bb_alike.specs.Laws.Alike.{AreAlike}
 use Rattle.bb_alike.specs.Laws.{RearrangedStayAlike}
@@ -18,13 +21,14 @@ inputs_alike f g alike = ap₂ (λ ins regs. map TopInput ins ++ map State (map 
 outputs_alike : (f g : FlatNet) → AreNamedAlike f g → cut_outputs f ≡ cut_outputs g
 outputs_alike f g alike = ap₂ (λ outs regs. map TopOutput outs ++ map NextState (map (λ r. r.text) regs)) alike.outs alike.regs
 
-pub pairs_for_designs_are_alike : RearrangedStayAlike → FlatNetsHaveCutsApart → StandingNetsAreNamedAlike → StandingNetsAreAlike → PairsForDesignsAreAlike
-pairs_for_designs_are_alike rearranged_alike apart named alike spec imp p q allowed also a b = record {
+pub pairs_for_designs_are_alike : KindsAreOne → RearrangedStayAlike → FlatNetsHaveCutsApart → StandingNetsAreNamedAlike → StandingNetsAreAlike → PairsForDesignsAreAlike
+pairs_for_designs_are_alike one rearranged_alike apart named alike spec imp p q allowed also a b = record {
   spec = subst (λ net. AreAlike net q.spec) (sym a.paired.spec_stays) (subst (AreAlike a.spec_net.net) (sym b.paired.spec_stays) (alike spec a.spec_net b.spec_net allowed a.spec_stands b.spec_stands));
   imp = rearranged_alike a.paired.numbers a.paired.picks a.imp_net.net p.imp b.imp_net.net q.imp a.imp_flat.net a.kept.imp b.imp_flat.net b.kept.imp a.paired.rearranged rearranged (alike imp a.imp_net b.imp_net also a.imp_stands b.imp_stands);
   ins = a.paired.ins ∙ ap (map input_text) spec_inputs ∙ sym b.paired.ins;
   outs = a.paired.outs ∙ ap (map output_name) spec_outputs ∙ sym b.paired.outs;
   boxes = a.paired.boxes ∙ of_imp.boxes ∙ sym b.paired.boxes;
+  kinds = one (map (λ (t : BoxTexts). t.path) b.imp_net.boxes) p.kinds q.kinds (subst (λ texts. AreKinds (map (λ (t : BoxTexts). t.path) texts) p.kinds) of_imp.boxes a.paired.kinds) b.paired.kinds;
 }
   where
     of_spec : AreNamedAlike a.spec_net b.spec_net

@@ -19,7 +19,7 @@ use bb_match::laws::{
     causes_are_ranked, fitting_have_kept_pair, fitting_have_pair, fitting_nets_have_their_outputs,
     flat_nets_have_cuts_apart,
 };
-use bb_net::{rearranged_keeps_values, value_goes_by_boxes};
+use bb_net::{keys_have_kinds, rearranged_keeps_values, value_goes_by_boxes};
 
 /// Tables agree in a pair that stands for two sound designs exactly where the contents agree whose tables they are.
 pub fn tables_agree_as_contents()
@@ -155,6 +155,7 @@ pub fn designs_agree_with_themselves()
 pub fn pairs_for_designs_are_alike()
     ensures { PairsForDesignsAreAlike }
 {
+    keys_have_kinds();
     rearranged_stay_alike();
     flat_nets_have_cuts_apart();
     standing_nets_are_named_alike();

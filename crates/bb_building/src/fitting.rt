@@ -1,6 +1,7 @@
 //! Tables that fit the boxes of a netlist.
 
-ghost use Rattle.std.specs.Prelude.{◌≡◌, true};
+ghost use Rattle.std.specs.Prelude.{◌≡◌, true, length};
+ghost use Rattle.bb_net.specs.Kinds.{spread};
 ghost use Rattle.bb_net.specs.Values.{FitBoxes};
 
 use bb_bits::{Table, tables_have_all_bits};
@@ -24,6 +25,14 @@ pub fn table_of(alloc: Global, ins: usize, outs: usize, rows: &[bool]) -> Result
     Ok(table)
 }
 
+// Whether a table has as many pins as a box.
+fn has_pins(table: &Table, pins: &BoxPins) -> bool
+    ensures inputs { result ≡ true → table.now.inputs ≡ length pins.now.ins }
+    ensures outputs { result ≡ true → table.now.outputs ≡ length pins.now.outs }
+{
+    table.inputs() as usize == pins.ins().len() && table.outputs() as usize == pins.outs().len()
+}
+
 /// Whether there is a table for each box, with as many pins.
 pub fn fit(tables: &[Table], boxes: &[BoxPins]) -> bool
     ensures { result ≡ true → FitBoxes tables.now boxes.now }
@@ -33,9 +42,26 @@ pub fn fit(tables: &[Table], boxes: &[BoxPins]) -> bool
         return false;
     }
     for b in 0..boxes.len() {
-        if tables[b].inputs() as usize != boxes[b].ins().len()
-            || tables[b].outputs() as usize != boxes[b].outs().len()
-        {
+        if !has_pins(&tables[b], &boxes[b]) {
+            return false;
+        }
+    }
+    true
+}
+
+/// Whether each box has a kind, which names a table with as many pins.
+pub fn fit_kinds(tables: &[Table], kinds: &[u32], boxes: &[BoxPins]) -> bool
+    ensures { result ≡ true → FitBoxes (spread kinds.now tables.now) boxes.now }
+{
+    tables_have_all_bits(tables);
+    if kinds.len() != boxes.len() {
+        return false;
+    }
+    for (b, kind) in kinds.iter().enumerate() {
+        let Some(table) = tables.get(*kind as usize) else {
+            return false;
+        };
+        if !has_pins(table, &boxes[b]) {
             return false;
         }
     }

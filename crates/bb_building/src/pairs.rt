@@ -4,7 +4,7 @@ ghost use Rattle.std.specs.Prelude.{◌≡◌, ◌+◌, ◌≤◌, true, [], len
 ghost use Rattle.bb_net.specs.Pairs.{NamesPins};
 
 use bb_bits::Name;
-use bb_net::{BoxName, BoxPins, Net, OutName, Pair};
+use bb_net::{BoxName, BoxPins, Net, OutName, Pair, kinds_may_differ, own_kinds};
 use std::alloc::Global;
 use std::test::Fail;
 
@@ -67,6 +67,7 @@ pub fn pair(alloc: Global, spec: Net, imp: Net) -> Result<Pair, Fail>
     ensures spec { IfOk result (λ pair. pair.spec ≡ spec) }
     ensures imp { IfOk result (λ pair. pair.imp ≡ imp) }
 {
+    kinds_may_differ();
     if !fit(&spec, &imp) {
         return Err(Fail::new("netlists that are no pair"));
     }
@@ -76,5 +77,6 @@ pub fn pair(alloc: Global, spec: Net, imp: Net) -> Result<Pair, Fail>
         [pins] if pins.ins().len() <= 500 && pins.outs().len() <= 500 => box_name(alloc, pins)?,
         _ => return Err(Fail::new("not one box")),
     };
-    Ok(Pair::of(spec, imp, ins, outs, vec![in alloc; name]?))
+    let kinds = own_kinds(alloc, 1)?;
+    Ok(Pair::of(spec, imp, ins, outs, vec![in alloc; name]?, kinds))
 }

@@ -1,8 +1,8 @@
 //! Bits as digits, and the outputs of a netlist for a list of bits.
 
 use bb_bits::Table;
-use bb_building::fit;
-use bb_net::Net;
+use bb_building::fit_kinds;
+use bb_net::{Net, own_kinds};
 use std::alloc::{AllocError, Global};
 use std::process::Abort;
 use std::test::Fail;
@@ -35,9 +35,11 @@ pub(crate) fn outputs<R: Abort>(
 ) -> Result<String, Fail> {
     let x = bits(alloc, x)?;
     assert!(rt; x.len() == net.inputs() as usize);
-    assert!(rt; fit(tables, net.boxes()));
+    assert!(rt; net.boxes().len() <= 1000);
+    let kinds = own_kinds(alloc, net.boxes().len() as u32)?;
+    assert!(rt; fit_kinds(tables, &kinds, net.boxes()));
     let mut values = vec![in alloc; false; net.cells().len()]?;
-    net.value_with(&x, tables, &mut values);
+    net.value_with(&x, tables, &kinds, &mut values);
     let mut found = Vec::new(alloc);
     for place in net.outs() {
         found.push(*values.get(*place as usize).ok_or("no such cell")?)?;

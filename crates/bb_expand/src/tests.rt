@@ -7,7 +7,7 @@ ghost use Rattle.bb_net.specs.Pairs.{NamesPins};
 use crate::{ExpandFault, Expanded, clause_count, expand};
 use bb_bits::{Name, Table};
 use bb_cnf::check;
-use bb_net::{BoxName, Cell, Net, OutName, Pair};
+use bb_net::{BoxName, Cell, Net, OutName, Pair, kinds_may_differ, own_kinds};
 use std::alloc::Global;
 use std::test::Fail;
 
@@ -101,12 +101,14 @@ fn box_names(alloc: Global) -> Result<Vec<BoxName>, Fail>
 // Two outputs, each of a box of its own that reads one of the two inputs. The first is to be the first input, and the second
 // is to be the second input or the first.
 fn two_boxes(alloc: Global, second: bool) -> Result<Pair, Fail> {
+    kinds_may_differ();
     let ins = input_names(alloc)?;
     let outs = output_names(alloc)?;
     let boxes = box_names(alloc)?;
     let spec = specification(alloc, if second { 3 } else { 2 })?;
     let imp = implementation(alloc)?;
-    Ok(Pair::of(spec, imp, ins, outs, boxes))
+    let kinds = own_kinds(alloc, 2)?;
+    Ok(Pair::of(spec, imp, ins, outs, boxes, kinds))
 }
 
 // Whether the answer is a refutation, which the checker accepts, of 14 clauses for each of its vectors.

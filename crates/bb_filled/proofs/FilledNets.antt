@@ -15,6 +15,8 @@ use Rattle.bb_net.specs.Pairs.{NamesPins, pin_count}
 use Rattle.bb_net.specs.Values.{bit_of, flat, flat_with, free_bit, tabled_bit, table_at, FitBoxes}
 use Rattle.bb_filled.specs.Filled.{column, IsFilled}
 use Rattle.bb_filled.specs.Laws.EmbeddingLaws.{StandingKeepsBits, TreesChoose}
+use Rattle.bb_net.specs.Kinds.{FitKinds}
+use Rattle.bb_net.specs.Laws.KindLaws.{PlacesFit}
 use Rattle.bb_filled.specs.Laws.FilledLaws.{FilledHaveBits, FilledAreRight, FilledAreWrong, FilledArePairs}
 use Rattle.bb_filled.proofs.ChoiceTrees.{NumbersAreBelow}
 
@@ -75,8 +77,8 @@ module _ (keep : StandingKeepsBits) (choose : TreesChoose) (below : NumbersAreBe
 few : (n m t : ℕ) → n ≤ m + t → m ≤ 6000000 → t ≤ 2 ^ 20 → n ≤ 8000000
 few n m t a b c = omega (arith, a, b, c)
 
-pub filled_are_pairs : FilledArePairs
-filled_are_pairs p new tables at kept kept_new filled cells bits = record {
+pub filled_are_pairs : PlacesFit → FilledArePairs
+filled_are_pairs places p new tables at kept kept_new filled cells bits = record {
   spec = kept.spec;
   imp = kept_new;
   beside = record {
@@ -86,11 +88,13 @@ filled_are_pairs p new tables at kept kept_new filled cells bits = record {
     ins_named = kept.beside.ins_named ∙ sym filled.stands.inputs;
     outs_named = kept.beside.outs_named ∙ sym (ap length filled.outs ∙ length-map p.imp.outs at);
     boxes_named = subst (λ (b : List Pins). AllZip NamesPins [] b) (sym filled.boxes) tt;
+    kinds = subst (FitKinds []) (sym filled.boxes) (places []);
   };
   small = record {
     spec_cells = kept.small.spec_cells;
     imp_cells = few (length new.cells) (length p.imp.cells) (table_bits p.imp.boxes) filled.few cells bits;
     outs = subst (λ n. n ≤ 2000000) (sym (ap length filled.outs ∙ length-map p.imp.outs at)) kept.small.outs;
+    boxes = subst (λ (b : List Pins). length b ≤ 1000000) (sym filled.boxes) (omega arith);
     pins = subst (λ (b : List Pins). new.inputs + pin_count b ≤ 2048) (sym filled.boxes) (omega (arith, kept.small.pins, filled.stands.inputs));
   };
 }

@@ -7,7 +7,7 @@ ghost use Rattle.bb_filled.specs.Laws.ForcedLaws.{ForcedAreDistinct, VectorsAreF
 
 use bb_alike::laws::{alike_cells_have_one_bit, alike_nets_have_cells, formulas_are_of_cells};
 use bb_bits::{number_is_below, number_spelled_once};
-use bb_net::{value_exists, value_is_unique};
+use bb_net::{kinds_may_differ, value_exists, value_is_unique};
 
 /// Where what stands for the output pins of boxes gives what the boxes give, each cell has at its place the bit that it had.
 pub fn standing_keeps_bits()
@@ -25,7 +25,7 @@ pub fn trees_choose()
     number_is_below();
 }
 
-/// A netlist may be filled with any tables that fit its boxes.
+/// A netlist may be filled with any tables that fit its boxes, where its cells and the bits of the tables are together fewer than 2^32.
 pub fn filled_exist()
     ensures { FilledExist }
 {}
@@ -63,7 +63,9 @@ pub fn alike_filled_have_same_bits()
 /// A filled netlist stands beside the specification as the old one did.
 pub fn filled_are_pairs()
     ensures { FilledArePairs }
-{}
+{
+    kinds_may_differ();
+}
 
 /// No vector stands twice among forced ones.
 pub fn forced_are_distinct()

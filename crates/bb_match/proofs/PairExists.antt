@@ -3,6 +3,7 @@ use Rattle.std.proofs.Common.{ℕ, ◌-◌, List, [], ◌∷◌, All, Contains, 
 use Rattle.std.specs.Prelude.{Some}
 use Rattle.std.proofs.lemmas.List.Elements.{All-head, All-tail}
 use Rattle.std.proofs.lemmas.Option.{slice_get-get_or}
+use Rattle.bb_net.specs.Laws.KindLaws.{PlacesAreKinds, PlacesFit}
 use Rattle.bb_net.specs.Rearrangements.{RearrangedNetsExist}
 use Rattle.bb_net.specs.CutPoints.{cut_inputs, cut_outputs}
 use Rattle.bb_match.specs.Refusals.{ImpInput, ImpRegister, SpecOutput, SpecRegister}
@@ -19,8 +20,8 @@ places_exist xs (u ∷ us) all =
     let rest = places_exist xs us (All-tail (Contains xs) u us all) in
     (has.0 ∷ rest.0, ap₂ (λ x l. x ∷ l) (slice_get-get_or xs has.0 u has.1 ∙ ap Some has.2) rest.1)
 
-pub fitting_have_kept_pair : RearrangedNetsExist → FittingHaveKeptPair
-fitting_have_kept_pair exist spec imp flat_spec flat_imp fit =
+pub fitting_have_kept_pair : RearrangedNetsExist → PlacesFit → PlacesAreKinds → FittingHaveKeptPair
+fitting_have_kept_pair exist places_fit places_are_kinds spec imp flat_spec flat_imp fit =
     let numbers = places_exist (cut_inputs spec) (cut_inputs imp) (inputs_among imp spec (fit ImpInput) (fit ImpRegister)) in
     let picks = places_exist (cut_outputs imp) (cut_outputs spec) (outputs_among spec imp (fit SpecOutput) (fit SpecRegister)) in
     let new = exist imp.net numbers.0 picks.0 flat_imp.net (numbers_count spec imp numbers.0 flat_imp numbers.1) (numbers_there spec imp numbers.0 flat_spec flat_imp fit numbers.1) (picks_there spec imp picks.0 flat_imp picks.1) in (
@@ -28,8 +29,8 @@ fitting_have_kept_pair exist spec imp flat_spec flat_imp fit =
       record {
         spec = flat_spec.net;
         imp = new.1;
-        beside = beside spec imp numbers.0 picks.0 new.0 flat_spec flat_imp fit new.2 picks.1;
+        beside = beside spec imp numbers.0 picks.0 new.0 flat_spec flat_imp fit new.2 picks.1 places_fit;
         small = small spec imp numbers.0 picks.0 new.0 flat_spec flat_imp fit new.2 picks.1;
       },
-      pair_of spec imp numbers.0 picks.0 new.0 fit new.2 numbers.1 picks.1,
+      pair_of spec imp numbers.0 picks.0 new.0 fit new.2 numbers.1 picks.1 flat_imp places_are_kinds,
     )

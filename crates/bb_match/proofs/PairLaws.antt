@@ -10,7 +10,8 @@ use Rattle.std.proofs.lemmas.Option.{get_or_from_slice_get, slice_get-get_or, sl
 use Rattle.bb_net.specs.declared.cell.Cell.{Cell}
 use Rattle.bb_net.specs.declared.cell.Cell.TheVariants.{Const}
 use Rattle.bb_net.specs.Netlists.{Netlist, Pins, cell_at}
-use Rattle.bb_net.specs.Pairs.{NetPair}
+use Rattle.bb_net.specs.Laws.KindLaws.{KindsAreOne}
+use Rattle.bb_net.specs.Pairs.{NetPair, BoxTexts}
 use Rattle.bb_net.specs.Rearrangements.{IsRearranged, new_place}
 use Rattle.bb_net.specs.Flats.{FlatNet, IsFlat}
 use Rattle.bb_net.specs.CutPoints.{TopInput, State, TopOutput, NextState, register_texts, cut_inputs, cut_outputs}
@@ -101,13 +102,14 @@ one_net numbers picks old a b found x y =
     get_or_default a.cells m d (Const false) lt ∙ at_m ∙ sym (get_or_default b.cells m d (Const false) (omega (arith, lt, x.cell_count, y.cell_count)))) in
     ap (λ n. mk_net n a.cells a.boxes a.outs) (x.inputs ∙ sym y.inputs) ∙ ap (λ l. mk_net b.inputs l a.boxes a.outs) cells ∙ ap (λ l. mk_net b.inputs b.cells l a.outs) (x.boxes ∙ sym y.boxes) ∙ ap (λ l. mk_net b.inputs b.cells b.boxes l) (x.outs ∙ sym y.outs)
 
-pub pairs_are_one : (spec imp : FlatNet) (p q : NetPair) → IsFlat spec → IsFlat imp → IsPairOf spec imp p → IsPairOf spec imp q → p ≡ q
-pairs_are_one spec imp p q flat_spec flat_imp a b =
+pub pairs_are_one : KindsAreOne → (spec imp : FlatNet) (p q : NetPair) → IsFlat spec → IsFlat imp → IsPairOf spec imp p → IsPairOf spec imp q → p ≡ q
+pairs_are_one one spec imp p q flat_spec flat_imp a b =
     let numbers : b.numbers ≡ a.numbers = same_places (cut_inputs spec) b.numbers a.numbers (cut_inputs imp) (inputs_apart spec flat_spec) b.inputs a.inputs in
     let picks : b.picks ≡ a.picks = same_places (cut_outputs imp) b.picks a.picks (cut_outputs spec) (outputs_apart imp flat_imp) b.outputs a.outputs in
     let same : IsRearranged a.numbers a.picks imp.net q.imp = subst (λ l. IsRearranged a.numbers l imp.net q.imp) picks (subst (λ l. IsRearranged l b.picks imp.net q.imp) numbers b.rearranged) in
     let inputs : spec.net.inputs ≡ imp.net.inputs = same_inputs spec imp flat_spec flat_imp a.fit in
     let net : p.imp ≡ q.imp = one_net a.numbers a.picks imp.net p.imp q.imp (λ m lt. place_found a.numbers imp.net.inputs (length imp.net.cells) m a.rearranged.numbered (inputs_below imp.net flat_imp.net)
     (λ i below. number_found spec imp a.numbers i flat_spec a.fit a.inputs (omega (arith, below, inputs))) lt) a.rearranged same in
-    ap (λ x. mk_pair x p.imp p.ins p.outs p.boxes) (a.spec_stays ∙ sym b.spec_stays) ∙ ap (λ x. mk_pair q.spec x p.ins p.outs p.boxes) net ∙ ap (λ x. mk_pair q.spec q.imp x p.outs p.boxes) (a.ins ∙ sym b.ins)
-    ∙ ap (λ x. mk_pair q.spec q.imp q.ins x p.boxes) (a.outs ∙ sym b.outs) ∙ ap (λ x. mk_pair q.spec q.imp q.ins q.outs x) (a.boxes ∙ sym b.boxes)
+    let kinds : p.kinds ≡ q.kinds = one (map (λ (t : BoxTexts). t.path) imp.boxes) p.kinds q.kinds a.kinds b.kinds in
+    ap (λ x. mk_pair x p.imp p.ins p.outs p.boxes p.kinds) (a.spec_stays ∙ sym b.spec_stays) ∙ ap (λ x. mk_pair q.spec x p.ins p.outs p.boxes p.kinds) net ∙ ap (λ x. mk_pair q.spec q.imp x p.outs p.boxes p.kinds) (a.ins ∙ sym b.ins)
+    ∙ ap (λ x. mk_pair q.spec q.imp q.ins x p.boxes p.kinds) (a.outs ∙ sym b.outs) ∙ ap (λ x. mk_pair q.spec q.imp q.ins q.outs x p.kinds) (a.boxes ∙ sym b.boxes) ∙ ap (mk_pair q.spec q.imp q.ins q.outs q.boxes) kinds

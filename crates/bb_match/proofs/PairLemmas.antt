@@ -5,10 +5,13 @@ use Rattle.std.specs.List.{AllZip, range_with_len}
 use Rattle.std.proofs.lemmas.List.{length-map, map-append, length-take}
 use Rattle.std.proofs.lemmas.List.FromFn.{length-range_with_len}
 use Rattle.std.proofs.lemmas.List.Sums.{sum_by-cons}
+use Rattle.std.proofs.lemmas.Slice.Zip.{AllZip-long}
 use Rattle.bb_net.specs.declared.cell.Cell.TheVariants.{Input}
 use Rattle.bb_net.specs.declared.pair.OutName.{OutName}
 use Rattle.bb_net.specs.Netlists.{Netlist, Pins, first_cells, IsNetlist}
 use Rattle.bb_net.specs.Orders.{moved_pins}
+use Rattle.bb_net.specs.Kinds.{AreKinds, FitKinds}
+use Rattle.bb_net.specs.Laws.KindLaws.{PlacesAreKinds, PlacesFit}
 use Rattle.bb_net.specs.Pairs.{NetPair, BoxTexts, NamesPins, pin_count, AreBeside, AreSmall}
 use Rattle.bb_net.specs.Rearrangements.{IsRearranged, new_place}
 use Rattle.bb_net.specs.declared.flat.Reg.{Reg}
@@ -70,6 +73,9 @@ ins_fit f texts bound e flat h = omega (arith, ins_below f bound flat h, ap leng
 
 pub outs_fit : (f : FlatNet) (texts : List (List ℕ)) (bound : ℕ) → texts ≡ f.outs → IsFlat f → 2000000 < bound → length texts < bound
 outs_fit f texts bound e flat h = omega (arith, outs_below f bound flat h, ap length e)
+
+pub boxes_fit : (f : FlatNet) (texts : List BoxTexts) (bound : ℕ) → texts ≡ f.boxes → IsFlat f → 2000000 < bound → length texts < bound
+boxes_fit f texts bound e flat h = omega (arith, h, ap length e, AllZip-long NamesPins f.boxes f.net.boxes flat.named.boxes, flat.small.boxes)
 
 pub ins_places_fit : (f : FlatNet) (entries : List (List ℕ × ℕ)) (bound : ℕ) → ArePlaces f.ins entries → IsFlat f → 2000000 < bound → (n : List ℕ) → 0 + text_place entries n < bound
 ins_places_fit f entries bound places flat h = place_fits f.ins entries 0 bound places (omega (arith, ins_below f bound flat h))
@@ -164,23 +170,24 @@ outs_texts spec = sym (map-append output_name (map TopOutput spec.outs) (map Nex
 
 -- what is asked of a pair
 
-abbrev pub mk_pair : Netlist → Netlist → List (List ℕ) → List OutName → List BoxTexts → NetPair
-mk_pair s net ins outs boxes = record { spec = s; imp = net; ins = ins; outs = outs; boxes = boxes }
+abbrev pub mk_pair : Netlist → Netlist → List (List ℕ) → List OutName → List BoxTexts → List ℕ → NetPair
+mk_pair s net ins outs boxes kinds = record { spec = s; imp = net; ins = ins; outs = outs; boxes = boxes; kinds = kinds }
 
 -- the pair of these two with this netlist
 abbrev pub pair_with : FlatNet → FlatNet → Netlist → NetPair
-pair_with spec imp net = record { spec = spec.net; imp = net; ins = map input_text (cut_inputs spec); outs = map output_name (cut_outputs spec); boxes = imp.boxes }
+pair_with spec imp net = record { spec = spec.net; imp = net; ins = map input_text (cut_inputs spec); outs = map output_name (cut_outputs spec); boxes = imp.boxes; kinds = range_with_len 0 (length imp.boxes) }
 
 no_boxes : (texts : List BoxTexts) (boxes : List Pins) → texts ≡ [] → AllZip NamesPins texts boxes → boxes ≡ []
 no_boxes [] [] none all = refl
 no_boxes [] (p ∷ ps) none all = absurd all
 no_boxes (t ∷ ts) boxes none all = cc none
 
-pub made_pair : (spec imp : FlatNet) (s net : Netlist) (ins : List (List ℕ)) (outs : List OutName) (boxes : List BoxTexts) → s ≡ spec.net → ins ≡ map input_text (cut_inputs spec) → outs ≡ map output_name (cut_outputs spec) → boxes ≡ imp.boxes
-    → mk_pair s net ins outs boxes ≡ pair_with spec imp net
-made_pair spec imp s net ins outs boxes a b c d =
-    ap (λ x. mk_pair x net ins outs boxes) a ∙ ap (λ x. mk_pair spec.net net x outs boxes) b ∙ ap (λ x. mk_pair spec.net net (map input_text (cut_inputs spec)) x boxes) c
-    ∙ ap (λ x. mk_pair spec.net net (map input_text (cut_inputs spec)) (map output_name (cut_outputs spec)) x) d
+pub made_pair : (spec imp : FlatNet) (s net : Netlist) (ins : List (List ℕ)) (outs : List OutName) (boxes : List BoxTexts) (kinds : List ℕ) → s ≡ spec.net → ins ≡ map input_text (cut_inputs spec) → outs ≡ map output_name (cut_outputs spec)
+    → boxes ≡ imp.boxes → kinds ≡ range_with_len 0 (length boxes) → mk_pair s net ins outs boxes kinds ≡ pair_with spec imp net
+made_pair spec imp s net ins outs boxes kinds a b c d e =
+    ap (λ x. mk_pair x net ins outs boxes kinds) a ∙ ap (λ x. mk_pair spec.net net x outs boxes kinds) b ∙ ap (λ x. mk_pair spec.net net (map input_text (cut_inputs spec)) x boxes kinds) c
+    ∙ ap (λ x. mk_pair spec.net net (map input_text (cut_inputs spec)) (map output_name (cut_outputs spec)) boxes x) e
+    ∙ ap (λ x. mk_pair spec.net net (map input_text (cut_inputs spec)) (map output_name (cut_outputs spec)) x (range_with_len 0 (length x))) d
 
 named_moved : (to : ℕ → ℕ) (texts : List BoxTexts) (boxes : List Pins) → AllZip NamesPins texts boxes → AllZip NamesPins texts (map (moved_pins to) boxes)
 named_moved to [] [] all = all
@@ -198,14 +205,18 @@ count_moved to (p ∷ ps) =
 new_outs : (spec imp : FlatNet) (numbers picks : List ℕ) (net : Netlist) → IsFlat spec → IsRearranged numbers picks imp.net net → Picks (cut_outputs imp) picks (cut_outputs spec) → length net.outs ≡ length spec.net.outs
 new_outs spec imp numbers picks net flat rearranged picked = ap length rearranged.outs ∙ length-map picks (λ j. new_place numbers (slice_index imp.net.outs j)) ∙ picks_length (cut_outputs imp) picks (cut_outputs spec) picked ∙ output_count spec flat
 
-pub beside : (spec imp : FlatNet) (numbers picks : List ℕ) (net : Netlist) → IsFlat spec → IsFlat imp → Fit spec imp → IsRearranged numbers picks imp.net net → Picks (cut_outputs imp) picks (cut_outputs spec) → AreBeside (pair_with spec imp net)
-beside spec imp numbers picks net a b fit rearranged picked = record {
+moved_boxes : (imp : FlatNet) (numbers picks : List ℕ) (net : Netlist) → IsFlat imp → IsRearranged numbers picks imp.net net → length net.boxes ≡ length imp.boxes
+moved_boxes imp numbers picks net b rearranged = ap length rearranged.boxes ∙ length-map imp.net.boxes (moved_pins (new_place numbers)) ∙ AllZip-long NamesPins imp.boxes imp.net.boxes b.named.boxes
+
+pub beside : (spec imp : FlatNet) (numbers picks : List ℕ) (net : Netlist) → IsFlat spec → IsFlat imp → Fit spec imp → IsRearranged numbers picks imp.net net → Picks (cut_outputs imp) picks (cut_outputs spec) → PlacesFit → AreBeside (pair_with spec imp net)
+beside spec imp numbers picks net a b fit rearranged picked places = record {
   inputs = same_inputs spec imp a b fit ∙ sym rearranged.inputs;
   outputs = sym (new_outs spec imp numbers picks net a rearranged picked);
   no_box = no_boxes spec.boxes spec.net.boxes (fit Box) a.named.boxes;
   ins_named = length-map (cut_inputs spec) input_text ∙ input_count spec a ∙ same_inputs spec imp a b fit ∙ sym rearranged.inputs;
   outs_named = length-map (cut_outputs spec) output_name ∙ output_count spec a ∙ sym (new_outs spec imp numbers picks net a rearranged picked);
   boxes_named = subst (AllZip NamesPins imp.boxes) (sym rearranged.boxes) (named_moved (new_place numbers) imp.boxes imp.net.boxes b.named.boxes);
+  kinds = subst (λ n. FitKinds (range_with_len 0 n) net.boxes) (moved_boxes imp numbers picks net b rearranged) (places net.boxes);
 }
 
 pub small : (spec imp : FlatNet) (numbers picks : List ℕ) (net : Netlist) → IsFlat spec → IsFlat imp → Fit spec imp → IsRearranged numbers picks imp.net net → Picks (cut_outputs imp) picks (cut_outputs spec) → AreSmall (pair_with spec imp net)
@@ -213,8 +224,22 @@ small spec imp numbers picks net a b fit rearranged picked = record {
   spec_cells = omega (arith, a.small.cells);
   imp_cells = omega (arith, b.small.cells, rearranged.cell_count);
   outs = omega (arith, a.small.outs, new_outs spec imp numbers picks net a rearranged picked);
+  boxes = omega (arith, b.small.boxes, ap length rearranged.boxes, length-map imp.net.boxes (moved_pins (new_place numbers)));
   pins = omega (arith, fit TooManyPins, rearranged.inputs, ap pin_count rearranged.boxes, count_moved (new_place numbers) imp.net.boxes);
 }
 
-pub pair_of : (spec imp : FlatNet) (numbers picks : List ℕ) (net : Netlist) → Fit spec imp → IsRearranged numbers picks imp.net net → Picks (cut_inputs spec) numbers (cut_inputs imp) → Picks (cut_outputs imp) picks (cut_outputs spec) → IsPairOf spec imp (pair_with spec imp net)
-pair_of spec imp numbers picks net fit rearranged inputs outputs = record { fit = fit; spec_stays = refl; numbers = numbers; picks = picks; rearranged = rearranged; inputs = inputs; outputs = outputs; ins = refl; outs = refl; boxes = refl }
+pub pair_of : (spec imp : FlatNet) (numbers picks : List ℕ) (net : Netlist) → Fit spec imp → IsRearranged numbers picks imp.net net → Picks (cut_inputs spec) numbers (cut_inputs imp) → Picks (cut_outputs imp) picks (cut_outputs spec)
+    → IsFlat imp → PlacesAreKinds → IsPairOf spec imp (pair_with spec imp net)
+pair_of spec imp numbers picks net fit rearranged inputs outputs flat places = record {
+  fit = fit;
+  spec_stays = refl;
+  numbers = numbers;
+  picks = picks;
+  rearranged = rearranged;
+  inputs = inputs;
+  outputs = outputs;
+  ins = refl;
+  outs = refl;
+  boxes = refl;
+  kinds = subst (λ n. AreKinds (map (λ (b : BoxTexts). b.path) imp.boxes) (range_with_len 0 n)) (length-map imp.boxes (λ (b : BoxTexts). b.path)) (places (map (λ (b : BoxTexts). b.path) imp.boxes) flat.apart.boxes);
+}

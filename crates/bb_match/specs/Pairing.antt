@@ -1,8 +1,9 @@
 -- When a pair stands for two flat netlists that fit. Inputs, outputs and registers go by their texts, in the order of the specification,
 -- whose netlist stays as it is; the cells of the implementation stay in their order, but for its inputs, which stand in the
--- order of the specification; its boxes stay as they are.
+-- order of the specification; its boxes stay as they are, each of a kind of its own, since no two have one path.
 use Rattle.std.specs.Prelude.{◌≡◌, ℕ, List, map, true, false, Some, slice_get}
 use Rattle.bb_net.specs.declared.pair.OutName.{OutName}
+use Rattle.bb_net.specs.Kinds.{AreKinds}
 use Rattle.bb_net.specs.Pairs.{NetPair}
 use Rattle.bb_net.specs.Rearrangements.{IsRearranged}
 use Rattle.bb_net.specs.Flats.{FlatNet}
@@ -34,3 +35,4 @@ pub record IsPairOf (spec imp : FlatNet) (p : NetPair) : Type 0 where
   pub ins : p.ins ≡ map input_text (cut_inputs spec)
   pub outs : p.outs ≡ map output_name (cut_outputs spec)
   pub boxes : p.boxes ≡ imp.boxes
+  pub kinds : AreKinds (map (λ b. b.path) imp.boxes) p.kinds

@@ -9,7 +9,7 @@ ghost use Rattle.bb_match.specs.Refusals.{Fit};
 use crate::index::Index;
 use crate::places::places_behind;
 use bb_bits::{Name, NoMemory};
-use bb_net::{Flat, FlatParts, OutName, Pair, Reg};
+use bb_net::{Flat, FlatParts, OutName, Pair, Reg, kinds_may_differ, own_kinds};
 use std::alloc::Global;
 
 /// The numbers that the inputs of the implementation have in the specification.
@@ -110,6 +110,7 @@ pub(crate) fn joined(
     ensures kept { IfOk result (λ p. IsFlat spec × IsFlat imp) }
     ensures small { IfOk result (λ p. (length p.spec.cells ≤ 2000000) × (length p.imp.cells ≤ 2000000)) }
 {
+    kinds_may_differ();
     let FlatParts {
         net: spec_net,
         mut ins,
@@ -121,5 +122,6 @@ pub(crate) fn joined(
     let imp_net = of_imp.net.rearranged(alloc, numbers, picks)?;
     ins.append(&mut reg_texts)?;
     let outs = out_names(alloc, outs, regs)?;
-    Ok(Pair::of(spec_net, imp_net, ins, outs, of_imp.boxes))
+    let kinds = own_kinds(alloc, of_imp.boxes.len() as u32)?;
+    Ok(Pair::of(spec_net, imp_net, ins, outs, of_imp.boxes, kinds))
 }

@@ -2,7 +2,7 @@
 
 ghost use Rattle.bb_match.specs.Laws.{CausesAreRanked, NotFitAndRefused, FirstRefusalsAreOne, FitOrRefused, PairsAreOne, FittingHavePair, FittingHaveKeptPair, FlatNetsHaveCutsApart, FittingNetsHaveTheirOutputs};
 
-use bb_net::rearranged_nets_exist;
+use bb_net::{keys_have_kinds, kinds_may_differ, rearranged_nets_exist};
 
 /// Causes are told by their ranks.
 pub fn causes_are_ranked()
@@ -27,13 +27,16 @@ pub fn fit_or_refused()
 /// Two netlists have one pair at most.
 pub fn pairs_are_one()
     ensures { PairsAreOne }
-{}
+{
+    keys_have_kinds();
+}
 
 /// Two netlists that fit have a pair, with all that pairs keep.
 pub fn fitting_have_kept_pair()
     ensures { FittingHaveKeptPair }
 {
     rearranged_nets_exist();
+    kinds_may_differ();
 }
 
 /// Two netlists that fit have a pair.

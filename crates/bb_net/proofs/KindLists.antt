@@ -6,7 +6,7 @@ use Rattle.std.proofs.lemmas.List.{append_assoc, get_or_at}
 use Rattle.std.proofs.lemmas.List.Elements.{Contains-append_cases, Contains-append_left, Contains-append_right}
 use Rattle.std.proofs.lemmas.List.Folds.{list_any-append}
 use Rattle.bb_bits.specs.Earlier.{each_from}
-use Rattle.bb_net.specs.Laws.Kinds.{AreInOrder, has_kind, shown}
+use Rattle.bb_net.specs.Kinds.{AreInOrder, has_kind, shown}
 
 -- each number is below n, or it is the next one
 abbrev pub Rises : ℕ → List ℕ → Type 0

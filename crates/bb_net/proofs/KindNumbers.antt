@@ -7,7 +7,7 @@ use Rattle.std.proofs.lemmas.Grind.{get_or_default_zero}
 use Rattle.std.proofs.lemmas.List.{append_assoc, append-nil, ext_get_or, get_or_append_left, get_or_at, get_or-take, length-take, length_push}
 use Rattle.std.proofs.lemmas.List.FromFn.{get_or-range_with_len, length-range_with_len}
 use Rattle.std.proofs.lemmas.List.Quantifiers.{all_pairs_push}
-use Rattle.bb_net.specs.Laws.Kinds.{AreInOrder, AreKinds, IsFirstOfKind, shown}
+use Rattle.bb_net.specs.Kinds.{AreInOrder, AreKinds, IsFirstOfKind, shown}
 use Rattle.bb_net.proofs.KindLists.{Rises, IsFirstAt, fresh_first, fresh_at, fresh_counts, fresh_apart, shown_fresh, rises_in_order, rises_apart, order_rising}
 
 pub nothing_added : (n : ℕ) → 0 + n ≡ n
@@ -234,3 +234,10 @@ kind_is_count kinds b ordered h first =
         | inr high ↦ let p = (count (length (shown front front))).1 (ordered b (length (shown front front)) h high) in absurd (omega (arith, p))
       ]
     ]
+
+-- the kinds of keys that all differ are their places
+pub places_are_kinds : (keys : List (List ℕ)) → AllPairs ◌≢◌ keys → AreKinds keys (range_with_len 0 (length keys))
+places_are_kinds keys apart =
+    let some = kinds_exist keys in
+    let places = kinds_apart some.0 some.1.ordered (kinds_of_apart keys some.0 some.1 apart) in
+    subst (AreKinds keys) (places ∙ ap (range_with_len 0) some.1.count) some.1

@@ -2,8 +2,8 @@
 use Rattle.std.proofs.Common.{◌≡◌, ◌≢◌, ℕ, ◌<◌, ◌⊎◌, List, [], length, get_or, refl, sym, ap, subst, ◌∙◌, inl, inr, arith}
 use Rattle.std.specs.Prelude.{AllPairs, slice_index}
 use Rattle.std.specs.List.{range_with_len}
-use Rattle.std.proofs.lemmas.Bool.{cases_order}
-use Rattle.std.proofs.lemmas.List.{ext_get_or, get_or-map, length-map}
+use Rattle.std.proofs.lemmas.Bool.{cases_lt, cases_order}
+use Rattle.std.proofs.lemmas.List.{ext_get_or, get_or-map, get_or_past, length-map}
 use Rattle.std.proofs.lemmas.List.Elements.{Contains-get_or}
 use Rattle.std.proofs.lemmas.List.FromFn.{get_or-range_with_len, length-range_with_len}
 use Rattle.bb_bits.specs.Tables.{TableBits, HasAllBits}
@@ -11,12 +11,13 @@ use Rattle.bb_net.specs.Netlists.{Netlist, Pins, box_at}
 use Rattle.bb_net.specs.Values.{table_at, FitBoxes}
 use Rattle.bb_net.specs.Agreement.{TablesAgree}
 use Rattle.bb_net.specs.Conditions.{SomeTablesAgree, NoTablesAgree}
-use Rattle.bb_net.specs.Laws.Kinds.{FitKinds, IsFirstOfKind, shown, spread, SomeSharedTablesAgree, NoSharedTablesAgree}
+use Rattle.bb_net.specs.Kinds.{FitKinds, IsFirstOfKind, shown, spread, SomeSharedTablesAgree, NoSharedTablesAgree}
 use Rattle.bb_net.proofs.KindNumbers.{nothing_added, kinds_apart, places_in_order, shown_counts, shown_stands, shown_places, kind_has_first}
 use Rattle.bb_net.proofs.Finite.{tables_or_none}
+use Rattle.bb_net.proofs.TableLemmas.{box_of_pin}
 use Rattle.bb_net.proofs.ConditionLaws.{agree_or_not}
 
-no_table : TableBits
+abbrev no_table : TableBits
 no_table = record { inputs = 0; outputs = 0; rows = [] }
 
 no_pins : Pins
@@ -61,6 +62,28 @@ pins_shown kinds boxes fit b h =
 
 spread_at : (kinds : List ℕ) (tables : List TableBits) (b : ℕ) → b < length kinds → table_at (spread kinds tables) b ≡ table_at tables (get_or kinds b 0)
 spread_at kinds tables b h = get_or-map (table_at tables) kinds b 0 (record { inputs = 0; outputs = 0; rows = [] }) h
+
+-- the kind of a box with an output pin names a table, and the box holds it
+pub record HasTable (kinds : List ℕ) (tables : List TableBits) (b : ℕ) : Type 0 where
+  pub kind : b < length kinds
+  pub there : get_or kinds b 0 < length tables
+  pub table : table_at (spread kinds tables) b ≡ table_at tables (get_or kinds b 0)
+
+pub box_has_table : (kinds : List ℕ) (tables : List TableBits) (boxes : List Pins) (b p : ℕ) → p < length (box_at boxes b).outs → FitBoxes (spread kinds tables) boxes → HasTable kinds tables b
+box_has_table kinds tables boxes b p pin fits =
+    let below : b < length boxes = box_of_pin boxes b p pin in
+    let kind : b < length kinds = omega (arith, below, fits.count, length-map kinds (table_at tables)) in
+    let table = spread_at kinds tables b kind in
+    record {
+      kind = kind;
+      there = elim (cases_lt (get_or kinds b 0) (length tables)) [
+        | inl there ↦ there
+        | inr past ↦
+            let none : (table_at tables (get_or kinds b 0)).outputs ≡ 0 = ap (λ (t : TableBits). t.outputs) (get_or_past tables (get_or kinds b 0) no_table past) in
+            absurd (omega (arith, pin, none, ap (λ (t : TableBits). t.outputs) table, fits.outputs b below))
+      ];
+      table = table;
+    }
 
 -- tables of kinds that fit are tables of boxes that fit
 pub spread_fits : (kinds : List ℕ) (boxes : List Pins) (tables : List TableBits) → FitKinds kinds boxes → FitBoxes tables (shown kinds boxes) → FitBoxes (spread kinds tables) boxes

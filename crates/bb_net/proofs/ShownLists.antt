@@ -5,7 +5,7 @@ use Rattle.std.proofs.lemmas.Bool.{eq-eqb, ne_eqb}
 use Rattle.std.proofs.lemmas.List.{append-nil, append_assoc}
 use Rattle.std.proofs.lemmas.List.Sums.{sum_by-cons}
 use Rattle.bb_bits.specs.Earlier.{each_from}
-use Rattle.bb_net.specs.Laws.Kinds.{has_kind, shown}
+use Rattle.bb_net.specs.Kinds.{has_kind, shown}
 use Rattle.bb_net.proofs.KindLists.{gives, or_true, or_false}
 
 each_more : {A B : Type 0} (f : List A → A → List B) (before xs : List A) (y : A) → each_from f before (xs ++ y ∷ []) ≡ each_from f before xs ++ f (before ++ xs) y

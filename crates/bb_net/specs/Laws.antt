@@ -1,2 +1,2 @@
 -- Words that laws alone need.
-pub mod Kinds
+pub mod KindLaws

@@ -5,6 +5,7 @@ pub mod Completions
 pub mod Conditions
 pub mod CutPoints
 pub mod Flats
+pub mod Kinds
 pub mod Loose
 pub mod Netlists
 pub mod Orders

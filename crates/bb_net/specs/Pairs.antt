@@ -1,9 +1,10 @@
--- A pair: a specification and an implementation with boxes, over the same inputs and with as many outputs, and the texts
--- by which inputs, outputs, boxes and pins are called. A text is a list of bytes.
+-- A pair: a specification and an implementation with boxes, over the same inputs and with as many outputs, the texts by
+-- which inputs, outputs, boxes and pins are called, and which boxes share their contents. A text is a list of bytes.
 use Rattle.std.specs.Prelude.{◌≡◌, ℕ, ◌+◌, ◌≤◌, List, [], length, sum_by}
 use Rattle.std.specs.List.{AllZip}
 use Rattle.bb_net.specs.declared.pair.OutName.{OutName}
 use Rattle.bb_net.specs.Netlists.{Netlist, Pins, IsNetlist}
+use Rattle.bb_net.specs.Kinds.{FitKinds}
 
 -- the path of a box, the name of its module, and the texts of its pins in order
 pub record BoxTexts : Type 0 where
@@ -18,6 +19,8 @@ pub record NetPair : Type 0 where
   pub ins : List (List ℕ)
   pub outs : List OutName
   pub boxes : List BoxTexts
+  -- the kind of each box: boxes of one kind hold one table
+  pub kinds : List ℕ
 
 -- one text for each pin of a box
 pub record NamesPins (texts : BoxTexts) (pins : Pins) : Type 0 where
@@ -28,7 +31,7 @@ pub record NamesPins (texts : BoxTexts) (pins : Pins) : Type 0 where
 abbrev pub pin_count : List Pins → ℕ
 pin_count boxes = sum_by (λ pins. length pins.ins + length pins.outs) boxes
 
--- the nets stand beside each other, and everything in them has its text
+-- the nets stand beside each other, everything in them has its text, and each box is of a kind
 pub record AreBeside (p : NetPair) : Type 0 where
   pub inputs : p.spec.inputs ≡ p.imp.inputs
   pub outputs : length p.spec.outs ≡ length p.imp.outs
@@ -36,12 +39,14 @@ pub record AreBeside (p : NetPair) : Type 0 where
   pub ins_named : length p.ins ≡ p.imp.inputs
   pub outs_named : length p.outs ≡ length p.imp.outs
   pub boxes_named : AllZip NamesPins p.boxes p.imp.boxes
+  pub kinds : FitKinds p.kinds p.imp.boxes
 
 -- they are not too large
 pub record AreSmall (p : NetPair) : Type 0 where
   pub spec_cells : length p.spec.cells ≤ 8000000
   pub imp_cells : length p.imp.cells ≤ 8000000
   pub outs : length p.imp.outs ≤ 2000000
+  pub boxes : length p.imp.boxes ≤ 1000000
   pub pins : p.imp.inputs + pin_count p.imp.boxes ≤ 2048
 
 -- what every pair keeps

@@ -1,19 +1,34 @@
-//! Laws of boxes that share their contents: kinds, what belongs to the first box of each kind, and tables of kinds. The definitions
-//! stand in the specifications; each function here has laws as its contract and does nothing.
+//! Boxes that share their contents: kinds, what belongs to the first box of each kind, and tables of kinds. The definitions stand in the
+//! specifications; but for the first, each function here has laws as its contract and does nothing.
 
-ghost use Rattle.std.specs.Prelude.{◌≡◌, ◌≢◌, ◌<◌, ◌≤◌, ◌⊎◌, ◌↔◌, ℕ, List, [], ◌∷◌, ◌++◌, length, take, AllPairs, Contains, slice_index};
+ghost use Rattle.std.specs.Prelude.{◌≡◌, ◌≢◌, ◌<◌, ◌≤◌, ◌⊎◌, ◌↔◌, ℕ, List, [], ◌∷◌, ◌++◌, length, take, AllPairs, Contains, slice_index, IfOk};
 ghost use Rattle.std.specs.List.{range_with_len, slice_index_or};
 ghost use Rattle.bb_bits.specs.Tables.{TableBits};
 ghost use Rattle.bb_net.specs.Netlists.{Netlist, Pins, box_at};
 ghost use Rattle.bb_net.specs.Values.{table_at, FitBoxes};
 ghost use Rattle.bb_net.specs.Completions.{table_bits};
 ghost use Rattle.bb_net.specs.Conditions.{SomeTablesAgree, NoTablesAgree};
-ghost use Rattle.bb_net.specs.Laws.Kinds.{AreInOrder, AreKinds, FitKinds, IsFirstOfKind, shown, spread, SomeSharedTablesAgree, NoSharedTablesAgree};
+ghost use Rattle.bb_net.specs.Laws.KindLaws.{KindsAreOne, PlacesAreKinds, PlacesFit};
+ghost use Rattle.bb_net.specs.Kinds.{AreInOrder, AreKinds, FitKinds, IsFirstOfKind, shown, spread, SomeSharedTablesAgree, NoSharedTablesAgree};
+
+use bb_bits::NoMemory;
+use std::alloc::Global;
+
+/// The kinds of so many boxes that share nothing: each is of a kind of its own.
+pub fn own_kinds(alloc: Global, count: u32) -> Result<Vec<u32>, NoMemory>
+    ensures kinds { IfOk result (λ kinds. kinds.items ≡ range_with_len 0 count) }
+{
+    let mut kinds = Vec::with_capacity(alloc, count as usize)?;
+    for kind in 0..count {
+        kinds.push(kind)?;
+    }
+    Ok(kinds)
+}
 
 /// A list of keys has one list of kinds.
 pub fn keys_have_kinds()
     ensures some { (keys : List (List ℕ)) → (kinds : List ℕ) × AreKinds keys kinds }
-    ensures one { (keys : List (List ℕ)) (kinds others : List ℕ) → AreKinds keys kinds → AreKinds keys others → kinds ≡ others }
+    ensures one { KindsAreOne }
 {}
 
 /// Kinds are numbered from 0, and a new one has the number of the kinds before it. A box has as many pins as the first box of its kind.
@@ -47,7 +62,8 @@ pub fn kinds_may_differ()
     ensures keys { (keys : List (List ℕ)) (kinds : List ℕ) → AreKinds keys kinds → AllPairs ◌≢◌ keys → AllPairs ◌≢◌ kinds }
     ensures one { (kinds : List ℕ) (boxes : List Pins) → FitKinds kinds boxes → length boxes ≤ 1 → AllPairs ◌≢◌ kinds }
     ensures places { (kinds : List ℕ) (boxes : List Pins) → FitKinds kinds boxes → AllPairs ◌≢◌ kinds → kinds ≡ range_with_len 0 (length boxes) }
-    ensures fit { (boxes : List Pins) → FitKinds (range_with_len 0 (length boxes)) boxes }
+    ensures own { PlacesAreKinds }
+    ensures fit { PlacesFit }
     ensures spread { (tables : List TableBits) → spread (range_with_len 0 (length tables)) tables ≡ tables }
 {}
 

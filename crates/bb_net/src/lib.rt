@@ -29,8 +29,8 @@ pub use conditions::{
 };
 pub use flat::{Flat, FlatParts, Reg};
 pub use kinds::{
-    keys_have_kinds, kinds_are_counted, kinds_are_shown, kinds_may_differ, shared_tables_agree,
-    tables_are_spread,
+    keys_have_kinds, kinds_are_counted, kinds_are_shown, kinds_may_differ, own_kinds,
+    shared_tables_agree, tables_are_spread,
 };
 pub use loose::{Loose, LooseCell};
 pub use net::{BoxPins, Net};

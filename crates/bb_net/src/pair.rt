@@ -75,8 +75,9 @@ impl BoxName {
 
 /// A specification without boxes and an implementation, over the same inputs and with as many outputs.
 ///
-/// It has a text for each input and each output, and a name for each box, in their orders. Each net has at most 8,000,000
-/// cells and 2,000,000 outputs, and inputs and box pins are at most 2,048 together.
+/// It has a text for each input and each output, and a name and a kind for each box, in their orders. Boxes of one kind hold one table;
+/// kinds are numbered from 0 in the order in which they first appear. Each net has at most 8,000,000 cells, 2,000,000 outputs and
+/// 1,000,000 boxes, and inputs and box pins are at most 2,048 together.
 #[derive(Debug, Drop)]
 pub struct Pair {
     spec: Net,
@@ -84,6 +85,7 @@ pub struct Pair {
     ins: Vec<Name>,
     outs: Vec<OutName>,
     boxes: Vec<BoxName>,
+    kinds: Vec<u32>,
 }
 
 impl Model for Pair {
@@ -91,17 +93,24 @@ impl Model for Pair {
 
     ghost Value = { NetPair };
 
-    ghost view = { λ p. record { spec = p.spec; imp = p.imp; ins = p.ins.items; outs = p.outs.items; boxes = p.boxes.items } };
+    ghost view = { λ p. record { spec = p.spec; imp = p.imp; ins = p.ins.items; outs = p.outs.items; boxes = p.boxes.items; kinds = p.kinds.items } };
 
-    ghost invariant = { λ p. IsPair (record { spec = p.spec; imp = p.imp; ins = p.ins.items; outs = p.outs.items; boxes = p.boxes.items }) };
+    ghost invariant = { λ p. IsPair (record { spec = p.spec; imp = p.imp; ins = p.ins.items; outs = p.outs.items; boxes = p.boxes.items; kinds = p.kinds.items }) };
 }
 
 impl Pair {
     /// The pair of these nets, which are moved into it, with these texts.
-    pub fn of(spec: Net, imp: Net, ins: Vec<Name>, outs: Vec<OutName>, boxes: Vec<BoxName>) -> Pair
-        requires beside { AreBeside (record { spec = spec; imp = imp; ins = ins.items; outs = outs.items; boxes = boxes.items }) }
-        requires small { AreSmall (record { spec = spec; imp = imp; ins = ins.items; outs = outs.items; boxes = boxes.items }) }
-        ensures pair { result ≡ record { spec = spec; imp = imp; ins = ins.items; outs = outs.items; boxes = boxes.items } }
+    pub fn of(
+        spec: Net,
+        imp: Net,
+        ins: Vec<Name>,
+        outs: Vec<OutName>,
+        boxes: Vec<BoxName>,
+        kinds: Vec<u32>,
+    ) -> Pair
+        requires beside { AreBeside (record { spec = spec; imp = imp; ins = ins.items; outs = outs.items; boxes = boxes.items; kinds = kinds.items }) }
+        requires small { AreSmall (record { spec = spec; imp = imp; ins = ins.items; outs = outs.items; boxes = boxes.items; kinds = kinds.items }) }
+        ensures pair { result ≡ record { spec = spec; imp = imp; ins = ins.items; outs = outs.items; boxes = boxes.items; kinds = kinds.items } }
     {
         spec.keeps_its_order();
         imp.keeps_its_order();
@@ -111,6 +120,7 @@ impl Pair {
             ins,
             outs,
             boxes,
+            kinds,
         }
     }
 
@@ -152,5 +162,13 @@ impl Pair {
         ensures kept { IsPair self.now }
     {
         &self.boxes
+    }
+
+    /// The kind of each box, in their order.
+    pub fn kinds(&self) -> &[u32]
+        ensures kinds { result.now ≡ self.now.kinds }
+        ensures kept { IsPair self.now }
+    {
+        &self.kinds
     }
 }

@@ -6,6 +6,7 @@ ghost use Rattle.bb_bits.specs.Tables.{table_bit};
 ghost use Rattle.bb_net.specs.Completions.{table_bits};
 ghost use Rattle.bb_net.specs.Netlists.{ReadsBefore, IsPinAt, box_at, cell_at};
 ghost use Rattle.bb_net.specs.Values.{bit_of, gate, tabled_bit, FitBoxes, flat_with};
+ghost use Rattle.bb_net.specs.Kinds.{spread};
 
 use crate::value::cell_bit;
 use crate::{BoxPins, Cell, Net};
@@ -24,40 +25,58 @@ impl Net {
         count_bits(&self.boxes)
     }
 
-    /// Writes the value of each cell, for the inputs `x` and boxes that hold the tables, one for each box in order.
-    pub fn value_with(&self, x: &[bool], tables: &[Table], out: &mut [bool])
+    /// Writes the value of each cell, for the inputs `x` and boxes that hold the tables, one for each kind. Each box has a kind, in order,
+    /// and the table of its kind has its numbers of pins.
+    pub fn value_with(&self, x: &[bool], tables: &[Table], kinds: &[u32], out: &mut [bool])
         requires inputs { length x.now ≡ self.now.inputs }
-        requires tables { FitBoxes tables.now self.now.boxes }
+        requires tables { FitBoxes (spread kinds.now tables.now) self.now.boxes }
         requires room { length out.old ≡ length self.now.cells }
-        ensures value { out.new ≡ flat_with self.now x.now tables.now }
+        ensures value { out.new ≡ flat_with self.now x.now (spread kinds.now tables.now) }
     {
-        write_tabled(&self.cells, &self.boxes, x, tables, out);
+        write_tabled(&self.cells, &self.boxes, x, tables, kinds, out);
     }
 }
 
 // Writes the bit of each cell in order.
-fn write_tabled(cells: &[Cell], boxes: &[BoxPins], x: &[bool], tables: &[Table], out: &mut [bool])
+fn write_tabled(
+    cells: &[Cell],
+    boxes: &[BoxPins],
+    x: &[bool],
+    tables: &[Table],
+    kinds: &[u32],
+    out: &mut [bool],
+)
     requires room { length out.old ≡ length cells.now }
-    requires tables { FitBoxes tables.now boxes.now }
+    requires tables { FitBoxes (spread kinds.now tables.now) boxes.now }
     requires ordered { (place : ℕ) → place < length cells.now → ReadsBefore (length x.now) boxes.now place (cell_at cells.now place) }
     requires listed { (place b p : ℕ) → place < length cells.now → cell_at cells.now place ≡ Cell.BoxOut b p → IsPinAt boxes.now b p place }
     ensures each { (place : ℕ) → place < length cells.now
-        → bit_of out.new place ≡ gate boxes.now x.now (tabled_bit tables.now) (bit_of out.new) (cell_at cells.now place) }
+        → bit_of out.new place ≡ gate boxes.now x.now (tabled_bit (spread kinds.now tables.now)) (bit_of out.new) (cell_at cells.now place) }
 {
     for (place, cell) in cells.iter().enumerate() {
-        out[place] = tabled_cell(*cell, boxes, x, tables, out);
+        out[place] = tabled_cell(*cell, boxes, x, tables, kinds, out);
     }
 }
 
 // The bit of a cell whose operands are written.
-fn tabled_cell(cell: Cell, boxes: &[BoxPins], x: &[bool], tables: &[Table], out: &[bool]) -> bool
-    requires tables { FitBoxes tables.now boxes.now }
+fn tabled_cell(
+    cell: Cell,
+    boxes: &[BoxPins],
+    x: &[bool],
+    tables: &[Table],
+    kinds: &[u32],
+    out: &[bool],
+) -> bool
+    requires tables { FitBoxes (spread kinds.now tables.now) boxes.now }
     requires reads { ReadsBefore (length x.now) boxes.now (length out.now) cell }
     requires listed { (b p : ℕ) → cell ≡ Cell.BoxOut b p → p < length (box_at boxes.now b).outs }
-    ensures { result ≡ gate boxes.now x.now (tabled_bit tables.now) (bit_of out.now) cell }
+    ensures { result ≡ gate boxes.now x.now (tabled_bit (spread kinds.now tables.now)) (bit_of out.now) cell }
 {
     match cell {
-        Cell::BoxOut(b, p) => tabled_pin(&boxes[b as usize], &tables[b as usize], p, out),
+        Cell::BoxOut(b, p) => {
+            let kind = kinds[b as usize];
+            tabled_pin(&boxes[b as usize], &tables[kind as usize], p, out)
+        }
         gate => cell_bit(gate, false, x, out),
     }
 }

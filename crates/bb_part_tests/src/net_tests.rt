@@ -6,9 +6,9 @@ ghost use Rattle.bb_net.specs.Values.{output_pins};
 use crate::net_texts::{net, pair};
 use crate::words::{bits, digits};
 use bb_bits::Name;
-use bb_building::{fit, table_of};
+use bb_building::{fit, fit_kinds, table_of};
 use bb_filled::fill;
-use bb_net::{Net, Pair};
+use bb_net::{Cell, Net, Pair};
 use std::alloc::{AllocError, Global};
 use std::test::Fail;
 
@@ -35,15 +35,21 @@ fn values(alloc: Global, net: &Net, x: &str, z: &str) -> Result<String, Fail> {
     Ok(digits(alloc, &out)?)
 }
 
-// The bits of all cells for bits of the inputs and the rows of a table of one input pin and one output pin.
-fn values_with(alloc: Global, net: &Net, x: &str, rows: &str) -> Result<String, Fail> {
+// The bits of all cells for bits of the inputs, the kinds of the boxes, and the rows of a table of one input pin and one output pin.
+fn values_with(
+    alloc: Global,
+    net: &Net,
+    x: &str,
+    kinds: &[u32],
+    rows: &str,
+) -> Result<String, Fail> {
     let x = bits(alloc, x)?;
     let tables = vec![in alloc; table_of(alloc, 1, 1, &bits(alloc, rows)?)?]?;
-    if x.len() != net.inputs() as usize || !fit(&tables, net.boxes()) {
+    if x.len() != net.inputs() as usize || !fit_kinds(&tables, kinds, net.boxes()) {
         return Err(Fail::new("a table that does not fit"));
     }
     let mut out = vec![in alloc; false; net.cells().len()]?;
-    net.value_with(&x, &tables, &mut out);
+    net.value_with(&x, &tables, kinds, &mut out);
     Ok(digits(alloc, &out)?)
 }
 
@@ -112,10 +118,21 @@ fn a_box_is_free_or_holds_a_table_or_is_unknown(rt: HostRuntime) -> Result<(), F
     let net = net(alloc, 1, Some("2"), "output 0 0, xor 2 3", "4")?;
     let free = values(alloc, &net, "1", "1")?;
     assert_eq!(rt; free.as_str(), "01110");
-    let with_table = values_with(alloc, &net, "1", "01")?;
+    let with_table = values_with(alloc, &net, "1", &[0], "01")?;
     assert_eq!(rt; with_table.as_str(), "01110");
     let unknown = known(alloc, &net, "1")?;
     assert_eq!(rt; unknown.as_str(), "011??");
+    Ok(())
+}
+
+// Each of the two boxes reads one of the inputs.
+#[test]
+fn boxes_of_one_kind_hold_one_table(rt: HostRuntime) -> Result<(), Fail> {
+    let alloc = rt.alloc();
+    let cells = [Cell::BoxOut(0, 0), Cell::BoxOut(1, 0)];
+    let net = bb_building::net(alloc, 2, &[&[2], &[3]], &cells, &[4, 5])?;
+    let shared = values_with(alloc, &net, "01", &[0, 0], "10")?;
+    assert_eq!(rt; shared.as_str(), "010110");
     Ok(())
 }
 

@@ -83,6 +83,7 @@ share_back laws p q one other alike = share laws q p other one (record {
   ins = sym alike.ins;
   outs = sym alike.outs;
   boxes = sym alike.boxes;
+  kinds = sym alike.kinds;
 })
 
 -- a pair is alike to itself
@@ -90,4 +91,4 @@ net_itself : (net : Netlist) → AreAlike net net
 net_itself net = record { inputs = refl; cells = IsPermutation-refl (cell_formulas net); boxes = refl; outs = refl }
 
 pub alike_itself : (p : NetPair) → ArePairsAlike p p
-alike_itself p = record { spec = net_itself p.spec; imp = net_itself p.imp; ins = refl; outs = refl; boxes = refl }
+alike_itself p = record { spec = net_itself p.spec; imp = net_itself p.imp; ins = refl; outs = refl; boxes = refl; kinds = refl }

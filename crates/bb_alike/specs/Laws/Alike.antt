@@ -13,10 +13,11 @@ pub record AreAlike (a b : Netlist) : Type 0 where
   pub boxes : map (pin_formulas a.cells) a.boxes ≡ map (pin_formulas b.cells) b.boxes
   pub outs : map (formula_at a.cells) a.outs ≡ map (formula_at b.cells) b.outs
 
--- the nets of two pairs are alike, and everything is called the same
+-- the nets of two pairs are alike, everything is called the same, and the same boxes are of one kind
 pub record ArePairsAlike (p q : NetPair) : Type 0 where
   pub spec : AreAlike p.spec q.spec
   pub imp : AreAlike p.imp q.imp
   pub ins : p.ins ≡ q.ins
   pub outs : p.outs ≡ q.outs
   pub boxes : p.boxes ≡ q.boxes
+  pub kinds : p.kinds ≡ q.kinds

@@ -32,4 +32,4 @@ FilledAreWrong = (spec old new : Netlist) (tables : List TableBits) (at : ℕ �
 -- the netlist stands beside the specification as the old one did, where there is room for its cells
 abbrev pub FilledArePairs : Type 0
 FilledArePairs = (p : NetPair) (new : Netlist) (tables : List TableBits) (at : ℕ → ℕ) → IsPair p → IsNetlist new → IsFilled p.imp tables new at
-    → length p.imp.cells ≤ 6000000 → table_bits p.imp.boxes ≤ 2 ^ 20 → IsPair (record p { imp = new; boxes = [] })
+    → length p.imp.cells ≤ 6000000 → table_bits p.imp.boxes ≤ 2 ^ 20 → IsPair (record p { imp = new; boxes = []; kinds = [] })
