@@ -6,6 +6,7 @@ pub mod Derived
 pub mod Extended
 pub mod HandedOut
 pub mod Happens
+pub mod Jumps
 pub mod Literals
 pub mod Measured
 pub mod Moved

@@ -13,7 +13,7 @@ use Rattle.bb_cdcl.proofs.Analyzed.{falsified_more}
 use Rattle.bb_cdcl.proofs.Resolved.{which, lit_of, both_true, own_resolvent, not_opposite, reason_has}
 
 -- more entries make no fewer literals false
-falsified_within : (entries : List Entry) (at place : ℕ) (m : Lit) → at ≤ place → falsified (take at entries) m ≡ true → falsified (take place entries) m ≡ true
+pub falsified_within : (entries : List Entry) (at place : ℕ) (m : Lit) → at ≤ place → falsified (take at entries) m ≡ true → falsified (take place entries) m ≡ true
 falsified_within entries at place m before is = elim (falsified (take place entries) m) as (λ b. falsified (take place entries) m ≡ b → b ≡ true) [
   | true ↦ λ yes. refl
   | false ↦ λ no.

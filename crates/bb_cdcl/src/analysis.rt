@@ -10,6 +10,7 @@ ghost use Rattle.bb_cdcl.specs.Inside.Analysis.{AreFalsified, IsCovered, IsJump,
 
 use crate::NoMemory;
 use crate::guide::Guide;
+use crate::jumping::jump_back;
 use crate::shortening::shorten;
 use crate::trail::{Entry, negation};
 use bb_cnf::{Lit, PartialResolvent, laws};
@@ -32,8 +33,8 @@ pub(crate) fn entry_at(entries: &[Entry], place: usize) -> Entry
     entries[place]
 }
 
-// Does the resolvent have the negation of the literal at this place?
-fn has_at(resolvent: &PartialResolvent, entries: &[Entry], place: usize) -> bool
+/// Does the resolvent have the negation of the literal at this place?
+pub(crate) fn has_at(resolvent: &PartialResolvent, entries: &[Entry], place: usize) -> bool
     requires { place < length entries.now }
     ensures covered { result ≡ true → AreFalsified (take (place + 1) entries.now) (held resolvent.now) → IsCovered entries.now (held resolvent.now) place place }
     ensures passed { result ≡ false → AreFalsified (take (place + 1) entries.now) (held resolvent.now) → AreFalsified (take place entries.now) (held resolvent.now) }
@@ -41,36 +42,6 @@ fn has_at(resolvent: &PartialResolvent, entries: &[Entry], place: usize) -> bool
 {
     let entry = entry_at(entries, place);
     resolvent.has(negation(entry.lit))
-}
-
-// This place, if a decision stands there, else the one before.
-fn nearest(entries: &[Entry], at: usize, back: Option<usize>) -> Option<usize>
-    requires { at < length entries.now }
-    ensures { (c : Literals) (place : ℕ) → IsCovered entries.now c place at → IfSome back (IsJump entries.now c place) → IfSome result (IsJump entries.now c place) }
-{
-    let entry = entry_at(entries, at);
-    match entry.reason {
-        Some(_) => back,
-        None => Some(at),
-    }
-}
-
-// The first decision, from `place` downwards, behind which no other literal of the resolvent stands.
-fn jump_back(resolvent: &PartialResolvent, entries: &[Entry], place: usize) -> Option<usize>
-    requires within { place < length entries.now }
-    requires covered { IsCovered entries.now (held resolvent.now) place place }
-    ensures { IfSome result (IsJump entries.now (held resolvent.now) place) }
-{
-    let mut back = None;
-    let mut at = place;
-    while at > 0 {
-        back = nearest(entries, at, back);
-        if has_at(resolvent, entries, at - 1) {
-            return back;
-        }
-        at -= 1;
-    }
-    nearest(entries, 0, back)
 }
 
 // Resolves with the reason of the literal at a place.
@@ -127,7 +98,7 @@ fn stop(
         return Ok(None);
     }
     shorten(alloc, resolvent, clauses, entries, place, pairs, guide)?;
-    Ok(jump_back(resolvent, entries, place))
+    Ok(jump_back(resolvent, entries, place, guide))
 }
 
 // Looks at the literal at a place: resolves with its reason, or stops there, where the resolvent has its negation.

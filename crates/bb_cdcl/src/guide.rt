@@ -1,27 +1,25 @@
-//! What guides the search: scores of variables, their last bits, and the levels of the trail. No answer depends on it.
+//! What guides the search: scores of variables, their last bits, and what an analysis has met. No answer depends on it.
 
 use crate::NoMemory;
 use crate::examination::value;
+use crate::levels::Levels;
 use crate::retention::Retention;
 use crate::scores::Scores;
 use crate::spare::Spare;
 use crate::trail::Entry;
 use bb_cnf::{Lit, PartialResolvent};
 use bb_watch::{read, write};
-use smallvec::SmallVec;
 use std::alloc::Global;
 
-/// Scores, the last bit of each variable, and the level of each that has a value with its place on the trail; and for
-/// the analysis of a conflict its level, how many literals of that level the resolvent has, and the variables of the
-/// other literals that it got: the first `count` ones of a list. Each variable of level 0 that a conflict met has the
-/// number of its unit clause, counted from 1. A resolvent is kept for the making of these clauses.
+/// Scores, the last bit of each variable, and the levels of the trail; and for the analysis of a conflict its level, how
+/// many literals of that level the resolvent has, and the variables of the other literals that it got: the first `count`
+/// ones of a list. Each variable of level 0 that a conflict met has the number of its unit clause, counted from 1. A
+/// resolvent is kept for the making of these clauses.
 #[derive(Drop)]
 pub(crate) struct Guide {
     scores: Scores,
     bits: Vec<bool>,
-    levels: Vec<u32>,
-    places: Vec<u32>,
-    level: u32,
+    pub(crate) levels: Levels,
     top: u32,
     open: usize,
     found: Vec<u32>,
@@ -41,9 +39,7 @@ impl Guide {
         Ok(Guide {
             scores: Scores::new(alloc, vars)?,
             bits: vec![in alloc; false; size]?,
-            levels: vec![in alloc; 0; size]?,
-            places: vec![in alloc; 0; size]?,
-            level: 0,
+            levels: Levels::new(alloc, vars)?,
             top: 0,
             open: 0,
             found: vec![in alloc; 0; size]?,
@@ -59,8 +55,7 @@ impl Guide {
         let size = vars as usize + 1;
         self.scores.widen(vars)?;
         self.bits.resize(size, false)?;
-        self.levels.resize(size, 0)?;
-        self.places.resize(size, 0)?;
+        self.levels.widen(vars)?;
         self.found.resize(size, 0)?;
         self.units.resize(size, 0)
     }
@@ -103,29 +98,6 @@ impl Guide {
         None
     }
 
-    /// A literal was decided, and comes to this place.
-    pub(crate) fn decided(&mut self, lit: Lit, place: usize) {
-        self.level = self.level.saturating_add(1);
-        self.implied(lit, place);
-    }
-
-    /// A literal was implied, and comes to this place.
-    pub(crate) fn implied(&mut self, lit: Lit, place: usize) {
-        write(&mut self.levels, lit.var, self.level);
-        let place = u32::try_from(place).unwrap_or(0);
-        write(&mut self.places, lit.var, place);
-    }
-
-    /// The place of a variable.
-    pub(crate) fn place(&self, var: u32) -> usize {
-        read(&self.places, var) as usize
-    }
-
-    /// Is the level 0?
-    pub(crate) fn is_low(&self, var: u32) -> bool {
-        read(&self.levels, var) == 0
-    }
-
     /// The number of the unit clause of a variable of level 0, if it is made or about to be made.
     pub(crate) fn unit(&self, var: u32) -> Option<usize> {
         match read(&self.units, var) {
@@ -148,7 +120,7 @@ impl Guide {
     /// A literal was taken back.
     pub(crate) fn taken_back(&mut self, lit: Lit, decided: bool) {
         if decided {
-            self.level = self.level.saturating_sub(1);
+            self.levels.undecided();
         }
         if (lit.var as usize) < self.bits.len() {
             self.bits[lit.var as usize] = !lit.neg;
@@ -156,79 +128,10 @@ impl Guide {
         self.scores.insert(lit.var);
     }
 
-    // The highest level of the literals.
-    fn highest(&self, clause: &[Lit]) -> u32 {
-        let mut highest = 0;
-        for lit in clause {
-            highest = read(&self.levels, lit.var).max(highest);
-        }
-        highest
-    }
-
-    // The level on which the literal became false; the highest number where it is not false.
-    fn falls(&self, lit: Lit, values: &[Option<bool>]) -> u32 {
-        if value(values, lit.var) == Some(lit.neg) {
-            read(&self.levels, lit.var)
-        } else {
-            u32::MAX
-        }
-    }
-
-    /// Two literals of a clause that are not false, or became so on the highest levels. They are one literal where the clause has
-    /// one.
-    pub(crate) fn last_two(&self, clause: &[Lit], values: &[Option<bool>]) -> (Lit, Lit) {
-        let none = Lit { var: 0, neg: false };
-        let mut first = clause.first().copied().unwrap_or(none);
-        let mut second = clause.last().copied().unwrap_or(none);
-        for lit in clause {
-            let level = self.falls(*lit, values);
-            if level > self.falls(first, values) {
-                second = first;
-                first = *lit;
-            } else if *lit != first && level > self.falls(second, values) || second == first {
-                second = *lit;
-            }
-        }
-        (first, second)
-    }
-
-    // Is the literal true since this level or a lower one?
-    fn holds_since(&self, lit: Lit, level: u32, values: &[Option<bool>]) -> bool {
-        value(values, lit.var) == Some(!lit.neg) && read(&self.levels, lit.var) <= level
-    }
-
-    // The level down to which the trail is to be taken back for a clause: there it has two literals that are not false, or one
-    // that it implies since no lower level.
-    fn asked_by(&self, clause: &[Lit], values: &[Option<bool>]) -> u32 {
-        let (first, second) = self.last_two(clause, values);
-        let high = self.falls(first, values);
-        let low = if second == first {
-            0
-        } else {
-            self.falls(second, values)
-        };
-        if self.holds_since(first, low, values) {
-            u32::MAX
-        } else if high > low {
-            low
-        } else {
-            low.saturating_sub(1)
-        }
-    }
-
-    /// The level down to which the trail is to be taken back for these clauses.
-    pub(crate) fn asked(&self, clauses: &[SmallVec<Lit, 4>], values: &[Option<bool>]) -> u32 {
-        let mut asked = u32::MAX;
-        for clause in clauses {
-            asked = asked.min(self.asked_by(clause.as_slice(), values));
-        }
-        asked
-    }
-
     // The resolvent gets a literal of this variable.
     fn finds(&mut self, var: u32) {
         self.scores.reward(var);
-        if read(&self.levels, var) == self.top {
+        if self.levels.of(var) == self.top {
             self.open = self.open.saturating_add(1);
         } else if self.count < self.found.len() {
             self.found[self.count] = var;
@@ -253,7 +156,7 @@ impl Guide {
 
     /// A conflict begins with this clause, which has this number.
     pub(crate) fn begin(&mut self, resolvent: &PartialResolvent, clause: &[Lit], number: usize) {
-        self.top = self.highest(clause);
+        self.top = self.levels.highest(clause);
         self.open = 0;
         self.count = 0;
         self.scores.age();

@@ -46,7 +46,7 @@ impl Helpers {
         values: &[Option<bool>],
     ) -> Result<(), NoMemory> {
         for clause in clauses {
-            let (first, second) = self.guide.last_two(clause.as_slice(), values);
+            let (first, second) = self.guide.levels.last_two(clause.as_slice(), values);
             self.given.add(first, second)?;
             self.guide.meets(clause.as_slice(), values);
         }

@@ -18,9 +18,8 @@ use std::alloc::Global;
 use std::marker::Model;
 
 /// Clauses to which more may come, and what searches learned from them.
-///
-/// Scores, last bits, watches, learned clauses and the trail are kept from one search to the next; the trail is taken back no further than
-/// new clauses ask. Learned clauses have numbers of their own until a refutation is handed out.
+// Scores, last bits, watches, learned clauses and the trail are kept from one search to the next; the trail is taken back no further than
+// new clauses ask. Learned clauses have numbers of their own until a refutation is handed out.
 #[derive(Drop)]
 pub struct Solver {
     alloc: Global,
@@ -54,8 +53,9 @@ impl Solver {
     pub fn new(alloc: Global, cnf: Cnf) -> Result<Solver, NoMemory>
         ensures { IfOk result (λ solver. solver ≡ cnf) }
     {
-        let state = start(alloc, cnf.vars)?;
-        let helpers = Helpers::new(alloc, cnf.vars, cnf.clauses.len())?;
+        // The first search takes the room for variables and clauses.
+        let state = start(alloc, 0)?;
+        let helpers = Helpers::new(alloc, 0, 0)?;
         Ok(Solver {
             alloc,
             cnf,

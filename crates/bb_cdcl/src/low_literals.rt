@@ -36,9 +36,9 @@ pub(crate) fn low(
 ) -> Result<Vec<Lit>, NoMemory> {
     let mut lits = Vec::new(alloc);
     for var in guide.found() {
-        if let Some(entry) = entries.get(guide.place(*var)) {
+        if let Some(entry) = entries.get(guide.levels.place(*var)) {
             let lit = negation(entry.lit);
-            if guide.is_low(*var) && resolvent.has(lit) {
+            if guide.levels.is_low(*var) && resolvent.has(lit) {
                 lits.push(lit)?;
             }
         }
@@ -56,7 +56,7 @@ fn want(
     places: &mut Vec<usize>,
 ) -> Result<(), NoMemory> {
     for lit in lits {
-        let place = guide.place(lit.var);
+        let place = guide.levels.place(lit.var);
         match implied_at(clauses, entries, place) {
             Some((var, reason)) if guide.unit(var).is_none() => {
                 if clauses.at(reason).len() == 1 {

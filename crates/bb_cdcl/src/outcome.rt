@@ -10,7 +10,7 @@ pub enum Outcome {
     Unsat(Refutation),
 }
 
-/// What a bounded search answers: an outcome; or it was given up, with the steps that derive the clauses learned until then.
+/// What a bounded search answers: an outcome; or it was given up, with steps that derive clauses.
 #[derive(Debug, Drop)]
 pub enum Attempt {
     Decided(Outcome),

@@ -55,7 +55,7 @@ pub(crate) fn resume(
 {
     widen_trail(s, vars)?;
     helpers.widen(vars)?;
-    let level = helpers.guide.asked(&given[known..], &s.trail.values);
+    let level = helpers.guide.levels.asked(&given[known..], &s.trail.values);
     take_back(s, helpers, level);
     helpers.take_in(given, known, &s.trail.entries, &s.trail.values)?;
     move_trail(given, known, s);

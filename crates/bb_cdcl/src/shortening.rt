@@ -18,7 +18,7 @@ use std::alloc::Global;
 // Does the resolvent have all literals of the clause but this one and those of level 0?
 fn has_others(resolvent: &PartialResolvent, clause: &[Lit], but: Lit, guide: &Guide) -> bool {
     for lit in clause {
-        if *lit != but && !guide.is_low(lit.var) && !resolvent.has(*lit) {
+        if *lit != but && !guide.levels.is_low(lit.var) && !resolvent.has(*lit) {
             return false;
         }
     }
@@ -55,7 +55,7 @@ fn redundant(
 ) -> Result<Vec<usize>, NoMemory> {
     let mut places = Vec::new(alloc);
     for var in guide.found() {
-        let place = guide.place(*var);
+        let place = guide.levels.place(*var);
         if is_redundant(resolvent, clauses, entries, place, guide) {
             places.push(place)?;
         }

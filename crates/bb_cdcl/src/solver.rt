@@ -92,10 +92,8 @@ pub fn solve(alloc: Global, cnf: &Cnf) -> Result<Outcome, NoMemory>
     Ok(outcome)
 }
 
-/// The same, or gives up after so many conflicts.
-///
-/// A conflict counts for each clause that is learned from it: one at least, and one more for each unit clause that is derived for it.
-/// `Spent` has the steps of all of them.
+/// The same, or gives up with at least so many steps that derive clauses.
+// A conflict counts for each clause that is learned from it: one at least, and one more for each unit clause that is derived for it.
 pub fn solve_within(alloc: Global, cnf: &Cnf, conflicts: u32) -> Result<Attempt, NoMemory>
     ensures sat { IfOk result (λ attempt. IfDecided attempt (λ outcome. IfSat outcome cnf.now)) }
     ensures unsat { IfOk result (λ attempt. IfDecided attempt (λ outcome. IfUnsat outcome cnf.now)) }

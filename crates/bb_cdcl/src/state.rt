@@ -101,7 +101,7 @@ pub(crate) fn go_back(
     let entry = entry_at(&s.trail.entries, jump.place);
     pop_to(&mut s.trail, guide, jump.back);
     let lit = negation(entry.lit);
-    guide.implied(lit, jump.back);
+    guide.levels.implied(lit, jump.back);
     extend(s, lit, Some(reason))?;
     Ok(())
 }

@@ -66,7 +66,7 @@ fn watch_from(
 ) -> Result<(), NoMemory> {
     for at in place..s.learned.len() {
         let clause = s.learned[at].as_slice();
-        let (first, second) = helpers.guide.last_two(clause, &s.trail.values);
+        let (first, second) = helpers.guide.levels.last_two(clause, &s.trail.values);
         helpers.learned.add(first, second)?;
         helpers.guide.retention.learned()?;
     }
@@ -117,8 +117,8 @@ fn advance(
 {
     let place = s.trail.entries.len();
     match reason {
-        Some(_) => guide.implied(lit, place),
-        None => guide.decided(lit, place),
+        Some(_) => guide.levels.implied(lit, place),
+        None => guide.levels.decided(lit, place),
     }
     extend(s, lit, reason)?;
     Ok(Turn::Going)

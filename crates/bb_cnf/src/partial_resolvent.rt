@@ -52,6 +52,14 @@ impl PartialResolvent {
         }
     }
 
+    /// The literals that were marked: each one that still is stands among them, maybe twice.
+    pub fn literals(&self) -> &[Lit]
+        requires { AreListed self.now }
+        ensures { (l : Lit) → held self.now l ≡ true → literals_of result.now l ≡ true }
+    {
+        &self.marked
+    }
+
     // Adds a literal.
     fn put(&mut self, lit: Lit) -> Result<(), NoMemory>
         requires { AreListed self.old }

@@ -1,7 +1,7 @@
 use Rattle.std.proofs.Common.{◌≤◌, IfSome}
 use Rattle.bb_cnf.specs.Inside.PartialResolvent.{held}
 use Rattle.bb_cdcl.specs.Inside.Analysis.{IsCovered, IsJump}
-use Rattle.bb_cdcl.proofs.analysis.jump_back.Given as goal
+use Rattle.bb_cdcl.proofs.jumping.walk_back.Given as goal
 
 abbrev pub invariant-loop-at : goal.invariant-loop-at
 invariant-loop-at l =
