@@ -42,13 +42,9 @@ fn admit(pair: &Pair, clauses: u32) -> Result<u32, ExpandFault>
 
 /// Decides by clauses whether some tables agree.
 ///
-/// It holds no vector at first, and begins with tables of zeros. In each turn vectors are sought at which the tables fail; one is held,
-/// and some of the others as long as there is room, their clauses are added, and a solver gives tables that agree at all held vectors.
-/// So it ends with tables that agree at all vectors, or with a refutation of the clauses over those that it holds.
-///
-/// `Wide` comes exactly where tables for all boxes have more than 2^24 bits; it is tried first. `Clauses` comes only where the
-/// clauses over all vectors are more than `clauses`, and either those over the vectors that had to be held are, or there are tables
-/// that agree at all of them and are too large to look for another vector.
+/// `Wide` comes exactly where tables for all boxes have more than 2^24 bits; it is tried first. `Clauses` comes only where the clauses
+/// over all vectors are more than `clauses`, and for some vectors, at each of which tables fail that agree at those before, either the
+/// clauses are, or some tables that agree at all of them are too large to be tried.
 pub fn expand(alloc: Global, pair: &Pair, clauses: u32) -> Result<Expanded, ExpandFault>
     requires budget { clauses ≤ 8000000 }
     ensures ok { IfOk result (IsExpanded pair.now.spec pair.now.imp clauses) }
@@ -58,6 +54,8 @@ pub fn expand(alloc: Global, pair: &Pair, clauses: u32) -> Result<Expanded, Expa
 {
     vectors_are_few();
     forced_are_distinct();
+    // No vector is held at first, and all bits of the tables are 0. In each turn vectors are sought at which the tables fail, one is held
+    // and some of the others where there is room, and a solver gives tables that agree at all held ones.
     let bits = admit(pair, clauses)?;
     let mut held = nothing_held(alloc, pair, bits)?;
     let mut tables = zero_tables(alloc, pair, bits)?;

@@ -5,8 +5,8 @@ use bb_cnf::{Cnf, Refutation};
 
 /// The tables agree; or no tables do, as the refutation of the expansion over some vectors shows.
 ///
-/// No two of the vectors are one. They stand in the order in which they were held, and so do their clauses. The tables stand in the
-/// order of the implementation's boxes.
+/// No two of the vectors are one. The clauses stand in the order of the vectors, and the tables in the order of the implementation's
+/// boxes.
 #[derive(Drop)]
 pub enum Expanded {
     Error {
@@ -20,8 +20,8 @@ pub enum Expanded {
 /// Why a pair is not decided.
 #[derive(Clone, Copy, Debug, PartialEq, Eq)]
 pub enum ExpandFault {
-    /// More clauses would be needed than the budget allows: those over all vectors are more, and either those over the vectors that
-    /// had to be held are, or there are tables that agree at all of them and are too large to look for another vector.
+    /// More clauses may be needed than the budget allows: those over all vectors are more, and for some vectors, at each of which tables
+    /// fail that agree at those before, either the clauses are, or some tables that agree at all of them are too large to be tried.
     Clauses,
     /// Tables for all boxes have more than 2^24 bits together.
     Wide,

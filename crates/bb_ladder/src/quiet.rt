@@ -1,4 +1,4 @@
-//! The top call over files and a sink that never fail.
+//! `run` over files and a sink that never fail.
 ghost use Rattle.std.specs.Prelude.{◌≡◌, ◌≢◌, ◌<◌, ◌≤◌, ◌⊎◌, ℕ, List, None, Some, codes, length, map, string_bytes};
 ghost use Rattle.bb_cnf.specs.Clauses.{Formula};
 ghost use Rattle.bb_cnf.specs.declared.clauses.Lit.{Lit};

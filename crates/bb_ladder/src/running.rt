@@ -108,7 +108,7 @@ fn answer<F: Files>(alloc: Global, words: &[String], files: &mut F) -> Result<An
 /// - 2: the report is the line of a refusal;
 /// - 3: the report is written and ends with `verdict open`;
 /// - 4: a file could not be read, and the report says which;
-/// - 5: memory ran out, and nothing is written;
+/// - 5: nothing is written, as where memory runs out;
 /// - 6: the sink failed, and a front of a report is written.
 ///
 /// The first word is the program's name. The specification is read first and the implementation after it, each by one read; of a
@@ -136,7 +136,7 @@ pub fn run<F: Files, K: Sink>(alloc: Global, words: &[String], files: &mut F, ou
         → (text : List ℕ) × Appends (K.written out.old) (K.written out.new) (head_of (map string_bytes words.now) ++ text) × AreShown asked spec imp text }
 
     // The question is left open only where, for each pair that stands for the texts, each check that is asked for finds neither a mistake
-    // nor tables, or would need more nodes or clauses than it may have, or wider tables.
+    // nor tables, would need more nodes or may need more clauses than it may have, or would need wider tables.
     ensures left_open { result ≡ 3 → (from : Source) (asked : TextsAsked) (spec imp : List ℕ) → AreTexts (map string_bytes words.now) from (F.holds files.old) (F.reads files.old) (F.reads files.new) asked spec imp → AreLeftOpen asked spec imp }
 
     // Where the texts are within the limit, no read of them may have failed, and a check that is asked for decides a pair that stands for

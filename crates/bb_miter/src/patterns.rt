@@ -15,8 +15,8 @@ const LANES: usize = 64;
 /// How many patterns are drawn, behind those with at most one bit that differs from the others.
 const DRAWN: u32 = 512;
 
-/// Vectors at which some output differs, at most 64 and no two of them one. They are among the patterns of a simulation, of which 512 are
-/// drawn from `seed`; it gives none only where all outputs are the same at all of these.
+/// Vectors at which some output differs, at most 64 and no two of them one. There are none only where all outputs are the same at all
+/// patterns of a simulation, of which 512 are drawn from `seed`.
 pub fn differing_patterns(
     alloc: Global,
     spec: &Net,

@@ -1,5 +1,5 @@
--- When checks leave the question open: each that is asked for finds no mistake and no tables, or would need more nodes or clauses
--- than it may have, or its tables would have too many bits to be written down; when the question stays open, whatever the solver does;
+-- When checks leave the question open: each that is asked for finds no mistake and no tables, would need more nodes or may need more
+-- clauses than it may have, or its tables would have too many bits to be written down; when the question stays open, whatever the solver does;
 -- and when a check decides.
 use Rattle.std.specs.Prelude.{◌⊎◌, ◌<◌, ◌≤◌, ◌^◌, All, Contains}
 use Rattle.bb_net.specs.Completions.{HaveSmallTables, table_bits}
