@@ -33,22 +33,6 @@ fn has_pins(table: &Table, pins: &BoxPins) -> bool
     table.inputs() as usize == pins.ins().len() && table.outputs() as usize == pins.outs().len()
 }
 
-/// Whether there is a table for each box, with as many pins.
-pub fn fit(tables: &[Table], boxes: &[BoxPins]) -> bool
-    ensures { result ≡ true → FitBoxes tables.now boxes.now }
-{
-    tables_have_all_bits(tables);
-    if tables.len() != boxes.len() {
-        return false;
-    }
-    for b in 0..boxes.len() {
-        if !has_pins(&tables[b], &boxes[b]) {
-            return false;
-        }
-    }
-    true
-}
-
 /// Whether each box has a kind, which names a table with as many pins.
 pub fn fit_kinds(tables: &[Table], kinds: &[u32], boxes: &[BoxPins]) -> bool
     ensures { result ≡ true → FitBoxes (spread kinds.now tables.now) boxes.now }

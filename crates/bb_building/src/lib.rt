@@ -6,6 +6,6 @@ mod fitting;
 mod nets;
 mod pairs;
 
-pub use fitting::{fit, fit_kinds, table_of};
+pub use fitting::{fit_kinds, table_of};
 pub use nets::net;
 pub use pairs::pair;

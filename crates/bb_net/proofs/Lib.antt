@@ -10,6 +10,8 @@ pub mod ValueLaws
 pub mod BuildLemmas
 pub mod TernLemmas
 pub mod TableLemmas
+pub mod FirstBoxes
+pub mod GrownKinds
 pub mod KindLists
 pub mod KindNumbers
 pub mod SharedTables

@@ -60,7 +60,7 @@ pins_shown kinds boxes fit b h =
       ap (λ (pins : Pins). length pins.outs) s.pins ∙ fit.outputs s.first b s.there h s.kind,
     )
 
-spread_at : (kinds : List ℕ) (tables : List TableBits) (b : ℕ) → b < length kinds → table_at (spread kinds tables) b ≡ table_at tables (get_or kinds b 0)
+pub spread_at : (kinds : List ℕ) (tables : List TableBits) (b : ℕ) → b < length kinds → table_at (spread kinds tables) b ≡ table_at tables (get_or kinds b 0)
 spread_at kinds tables b h = get_or-map (table_at tables) kinds b 0 (record { inputs = 0; outputs = 0; rows = [] }) h
 
 -- the kind of a box with an output pin names a table, and the box holds it
@@ -135,6 +135,15 @@ spread_back kinds boxes tables fit fits same =
     let hb : b < length boxes = omega (arith, hk, fit.count) in
     let s = box_shown kinds boxes fit b hb in
     spread_at kinds (shown kinds tables) b hk ∙ table_shown kinds boxes tables fit fits.count (get_or kinds b 0) s ∙ same s.first b s.there hb s.kind)
+
+-- and tables of kinds are those of the first boxes
+pub spread_kept : (kinds : List ℕ) (boxes : List Pins) (tables : List TableBits) → FitKinds kinds boxes → length tables ≡ length (shown kinds boxes) → shown kinds (spread kinds tables) ≡ tables
+spread_kept kinds boxes tables fit len =
+    let none : TableBits = record { inputs = 0; outputs = 0; rows = [] } in
+    let whole : length (spread kinds tables) ≡ length boxes = length-map kinds (table_at tables) ∙ fit.count in
+    ext_get_or none (shown kinds (spread kinds tables)) tables (same_length kinds boxes (spread kinds tables) fit whole ∙ sym len) (λ k h.
+    let s = kind_shown kinds boxes fit k (omega (arith, h, same_length kinds boxes (spread kinds tables) fit whole)) in
+    table_shown kinds boxes (spread kinds tables) fit whole k s ∙ spread_at kinds tables s.first (omega (arith, s.there, fit.count)) ∙ ap (table_at tables) s.kind)
 
 -- where all kinds differ nothing is shared
 pub apart_places : (kinds : List ℕ) (boxes : List Pins) → FitKinds kinds boxes → AllPairs ◌≢◌ kinds → kinds ≡ range_with_len 0 (length boxes)

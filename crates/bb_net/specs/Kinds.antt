@@ -2,7 +2,7 @@
 -- which they first appear: such a list is a restricted growth string, the standard form of a partition of the boxes into classes
 -- (Knuth, The Art of Computer Programming, volume 4A, 7.2.1.5).
 use Rattle.std.specs.Prelude.{◌≡◌, ◌↔◌, ℕ, ◌<◌, Bool, ◌==◌, List, [], ◌∷◌, length, take, map, zip, Contains, slice_index, if◌then◌else◌}
-use Rattle.std.specs.List.{list_any, slice_index_or}
+use Rattle.std.specs.List.{list_any, range_with_len, slice_index_or}
 use Rattle.bb_bits.specs.Earlier.{each_after}
 use Rattle.bb_bits.specs.Tables.{TableBits}
 use Rattle.bb_net.specs.Netlists.{Netlist, Pins, box_at}
@@ -38,6 +38,10 @@ has_kind kind boxes = list_any (λ box. box.0 == kind) boxes
 abbrev pub shown : {A : Type 0} → List ℕ → List A → List A
 shown kinds xs = each_after (λ before box. if has_kind box.0 before then [] else box.1 ∷ []) (zip kinds xs)
 
+-- the places of these boxes
+abbrev pub first_places : List ℕ → List ℕ
+first_places kinds = shown kinds (range_with_len 0 (length kinds))
+
 -- the tables of all boxes, where the tables are one for each kind
 abbrev pub spread : List ℕ → List TableBits → List TableBits
 spread kinds tables = map (table_at tables) kinds
@@ -49,3 +53,8 @@ NoSharedTablesAgree spec imp kinds = (tables : List TableBits) → FitBoxes tabl
 -- some tables agree, one for each kind
 abbrev pub SomeSharedTablesAgree : Netlist → Netlist → List ℕ → Type 0
 SomeSharedTablesAgree spec imp kinds = (tables : List TableBits) × FitBoxes tables (shown kinds imp.boxes) × TablesAgree spec imp (spread kinds tables)
+
+-- one table for each kind, with which every output is right at every vector
+pub record AreSharedCompletion (spec imp : Netlist) (kinds : List ℕ) (tables : List TableBits) : Type 0 where
+  pub fit : FitBoxes tables (shown kinds imp.boxes)
+  pub agree : TablesAgree spec imp (spread kinds tables)

@@ -1,6 +1,6 @@
 -- A pair: a specification and an implementation with boxes, over the same inputs and with as many outputs, the texts by
 -- which inputs, outputs, boxes and pins are called, and which boxes share their contents. A text is a list of bytes.
-use Rattle.std.specs.Prelude.{◌≡◌, ℕ, ◌+◌, ◌≤◌, List, [], length, sum_by}
+use Rattle.std.specs.Prelude.{◌≡◌, ℕ, ◌+◌, ◌≤◌, Bool, if◌then◌else◌, List, [], length, sum_by}
 use Rattle.std.specs.List.{AllZip}
 use Rattle.bb_net.specs.declared.pair.OutName.{OutName}
 use Rattle.bb_net.specs.Netlists.{Netlist, Pins, IsNetlist}
@@ -12,6 +12,10 @@ pub record BoxTexts : Type 0 where
   pub «module» : List ℕ
   pub ins : List (List ℕ)
   pub outs : List (List ℕ)
+
+-- the key of a box, by which its contents are told: the name of its module where boxes of one module share theirs, and else its path
+abbrev pub box_key : Bool → BoxTexts → List ℕ
+box_key shared box = if shared then box.module else box.path
 
 pub record NetPair : Type 0 where
   pub spec : Netlist

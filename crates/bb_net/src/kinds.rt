@@ -1,15 +1,15 @@
 //! Boxes that share their contents: kinds, what belongs to the first box of each kind, and tables of kinds. The definitions stand in the
 //! specifications; but for the first, each function here has laws as its contract and does nothing.
 
-ghost use Rattle.std.specs.Prelude.{◌≡◌, ◌≢◌, ◌<◌, ◌≤◌, ◌⊎◌, ◌↔◌, ℕ, List, [], ◌∷◌, ◌++◌, length, take, AllPairs, Contains, slice_index, IfOk};
+ghost use Rattle.std.specs.Prelude.{◌≡◌, ◌≢◌, ◌<◌, ◌≤◌, ◌⊎◌, ◌↔◌, ℕ, List, [], ◌∷◌, ◌++◌, length, map, take, All, AllPairs, Contains, slice_index, IfOk};
 ghost use Rattle.std.specs.List.{range_with_len, slice_index_or};
 ghost use Rattle.bb_bits.specs.Tables.{TableBits};
 ghost use Rattle.bb_net.specs.Netlists.{Netlist, Pins, box_at};
 ghost use Rattle.bb_net.specs.Values.{table_at, FitBoxes};
 ghost use Rattle.bb_net.specs.Completions.{table_bits};
 ghost use Rattle.bb_net.specs.Conditions.{SomeTablesAgree, NoTablesAgree};
-ghost use Rattle.bb_net.specs.Laws.KindLaws.{KindsAreOne, PlacesAreKinds, PlacesFit};
-ghost use Rattle.bb_net.specs.Kinds.{AreInOrder, AreKinds, FitKinds, IsFirstOfKind, shown, spread, SomeSharedTablesAgree, NoSharedTablesAgree};
+ghost use Rattle.bb_net.specs.Laws.KindLaws.{KindsAreOne, KindsGrowAgain, KindsGrowNew, KindsShowKeys, ModulesFit, PlacesAreKinds, PlacesFit, ShownKeysDiffer};
+ghost use Rattle.bb_net.specs.Kinds.{AreInOrder, AreKinds, FitKinds, IsFirstOfKind, first_places, shown, spread, SomeSharedTablesAgree, NoSharedTablesAgree};
 
 use bb_bits::NoMemory;
 use std::alloc::Global;
@@ -29,6 +29,16 @@ pub fn own_kinds(alloc: Global, count: u32) -> Result<Vec<u32>, NoMemory>
 pub fn keys_have_kinds()
     ensures some { (keys : List (List ℕ)) → (kinds : List ℕ) × AreKinds keys kinds }
     ensures one { KindsAreOne }
+{}
+
+/// A key behind others has their kind or the next one; at the number of each kind stands its key, and each stands once. Boxes of one module
+/// may be of one kind.
+pub fn keys_are_shown()
+    ensures again { KindsGrowAgain }
+    ensures new { KindsGrowNew }
+    ensures keys { KindsShowKeys }
+    ensures differ { ShownKeysDiffer }
+    ensures modules { ModulesFit }
 {}
 
 /// Kinds are numbered from 0, and a new one has the number of the kinds before it. A box has as many pins as the first box of its kind.
@@ -55,6 +65,9 @@ pub fn kinds_are_shown<A>()
     ensures new { (kinds : List ℕ) (xs : List A) (k : ℕ) (x : A) → length xs ≡ length kinds → (Contains kinds k → ⊥)
         → shown (kinds ++ k ∷ []) (xs ++ x ∷ []) ≡ shown kinds xs ++ x ∷ [] }
     ensures places { (xs : List A) → shown (range_with_len 0 (length xs)) xs ≡ xs }
+    ensures firsts { (kinds : List ℕ) (xs : List A) (none : A) → AreInOrder kinds → length xs ≡ length kinds
+        → shown kinds xs ≡ map (λ b. slice_index_or xs b none) (first_places kinds) }
+    ensures there { (kinds : List ℕ) → AreInOrder kinds → All (λ b. b < length kinds) (first_places kinds) }
 {}
 
 /// Kinds that all differ, as those of at most one box do and those of keys that all differ, are the places of the boxes.
@@ -76,6 +89,11 @@ pub fn tables_are_spread()
     ensures back { (kinds : List ℕ) (boxes : List Pins) (tables : List TableBits) → FitKinds kinds boxes → FitBoxes tables boxes
         → ((a b : ℕ) → a < length boxes → b < length boxes → slice_index kinds a ≡ slice_index kinds b → table_at tables a ≡ table_at tables b)
         → spread kinds (shown kinds tables) ≡ tables }
+    ensures kept { (kinds : List ℕ) (boxes : List Pins) (tables : List TableBits) → FitKinds kinds boxes → length tables ≡ length (shown kinds boxes)
+        → shown kinds (spread kinds tables) ≡ tables }
+    ensures at { (kinds : List ℕ) (tables : List TableBits) (b : ℕ) → b < length kinds → table_at (spread kinds tables) b ≡ table_at tables (slice_index kinds b) }
+    ensures held { (kinds : List ℕ) (tables : List TableBits) (boxes : List Pins) (b p : ℕ) → FitBoxes (spread kinds tables) boxes → p < length (box_at boxes b).outs
+        → (b < length kinds) × (slice_index kinds b < length tables) }
     ensures bits { (kinds : List ℕ) (boxes : List Pins) → table_bits (shown kinds boxes) ≤ table_bits boxes }
 {}
 

@@ -18,6 +18,7 @@ mod parts;
 mod placing;
 mod ranks;
 mod rearranging;
+mod sharing;
 mod tables;
 mod tern;
 mod value;
@@ -29,8 +30,8 @@ pub use conditions::{
 };
 pub use flat::{Flat, FlatParts, Reg};
 pub use kinds::{
-    keys_have_kinds, kinds_are_counted, kinds_are_shown, kinds_may_differ, own_kinds,
-    shared_tables_agree, tables_are_spread,
+    keys_are_shown, keys_have_kinds, kinds_are_counted, kinds_are_shown, kinds_may_differ,
+    own_kinds, shared_tables_agree, tables_are_spread,
 };
 pub use loose::{Loose, LooseCell};
 pub use net::{BoxPins, Net};

@@ -1,7 +1,7 @@
 //! A specification and an implementation beside each other, with the texts of their inputs, outputs and boxes.
 
 ghost use Rattle.std.specs.Prelude.{◌≡◌, List};
-ghost use Rattle.bb_net.specs.Pairs.{NetPair, BoxTexts, AreBeside, AreSmall, IsPair};
+ghost use Rattle.bb_net.specs.Pairs.{NetPair, BoxTexts, AreBeside, AreSmall, IsPair, box_key};
 
 use crate::Net;
 use bb_bits::Name;
@@ -56,6 +56,13 @@ impl BoxName {
         ensures module { result.now ≡ self.now.module }
     {
         &self.module
+    }
+
+    /// The key by which its contents are told: the name of its module where boxes of one module share theirs, and else its path.
+    pub fn key(&self, shared: bool) -> &Name
+        ensures key { result.now ≡ box_key shared self.now }
+    {
+        if shared { &self.module } else { &self.path }
     }
 
     /// The texts of the input pins.

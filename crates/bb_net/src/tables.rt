@@ -13,7 +13,7 @@ use crate::{BoxPins, Cell, Net};
 use bb_bits::{Table, number_doubles, number_is_below, tables_have_few_inputs};
 
 // The most bits that tables may have together.
-const MOST_BITS: u64 = 1 << 24;
+pub(crate) const MOST_BITS: u64 = 1 << 24;
 
 impl Net {
     /// How many bits tables for all boxes have together; None exactly where they have more than 2^24.
@@ -114,7 +114,7 @@ fn row_number(inputs: u32, places: &[u32], out: &[bool]) -> u32
 }
 
 // The bits of the table of a box, if they are not too many.
-fn box_bits(pins: &BoxPins) -> Option<u64>
+pub(crate) fn box_bits(pins: &BoxPins) -> Option<u64>
     ensures some { IfSome result (λ bits. bits ≡ length pins.now.outs * 2 ^ length pins.now.ins) }
     ensures small { IfSome result (λ bits. bits ≤ 2 ^ 24) }
     ensures none { IfNone result (2 ^ 24 < length pins.now.outs * 2 ^ length pins.now.ins) }

@@ -6,7 +6,7 @@ ghost use Rattle.bb_net.specs.Values.{output_pins};
 use crate::net_texts::{net, pair};
 use crate::words::{bits, digits};
 use bb_bits::Name;
-use bb_building::{fit, fit_kinds, table_of};
+use bb_building::{fit_kinds, table_of};
 use bb_filled::fill;
 use bb_net::{Cell, Net, Pair};
 use std::alloc::{AllocError, Global};
@@ -59,10 +59,10 @@ fn filled(alloc: Global, net: &Net, rows: &str) -> Result<Net, Fail> {
     let Some(count) = net.table_bits() else {
         return Err(Fail::new("too many bits"));
     };
-    if net.cells().len() + count as usize > 1000 || !fit(&tables, net.boxes()) {
+    if net.cells().len() + count as usize > 1000 || !fit_kinds(&tables, &[0], net.boxes()) {
         return Err(Fail::new("a table that does not fit"));
     }
-    Ok(fill(alloc, net, &tables)?)
+    Ok(fill(alloc, net, &tables, &[0])?)
 }
 
 // The bit of the first output for bits of the inputs, where there is no box.

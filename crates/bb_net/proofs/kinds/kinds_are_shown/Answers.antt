@@ -1,4 +1,5 @@
 use Rattle.std.proofs.Common.{refl, length}
+use Rattle.bb_net.proofs.FirstBoxes.{firsts_there, shown_firsts}
 use Rattle.bb_net.proofs.KindNumbers.{shown_counts, shown_stands, shown_places}
 use Rattle.bb_net.proofs.ShownLists.{shown_again, shown_new}
 use Rattle.bb_net.proofs.kinds.kinds_are_shown.Goals as goal
@@ -17,3 +18,9 @@ returns-clause-new c start = shown_new
 
 pub returns-clause-places : goal.returns-clause-places
 returns-clause-places c start = λ xs. shown_places (length xs) xs refl
+
+pub returns-clause-firsts : goal.returns-clause-firsts
+returns-clause-firsts c start = λ kinds xs none ordered len. shown_firsts kinds xs none ordered len
+
+pub returns-clause-there : goal.returns-clause-there
+returns-clause-there c start = firsts_there
