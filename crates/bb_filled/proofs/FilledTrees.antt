@@ -1,5 +1,5 @@
 -- A tree stays one when cells are put behind, and two trees and a choice are one.
-use Rattle.std.proofs.Common.{◌≡◌, ℕ, zero, suc, ◌+◌, ◌^◌, ◌/◌, ◌<◌, ◌≤◌, Bool, true, false, if◌then◌else◌, List, [], ◌∷◌, ◌++◌, length, map, All, get_or, refl, sym, ap, ◌∙◌, ◌⊎◌, inl, inr, subst, arith, length-append, append_assoc}
+use Rattle.std.proofs.Common.{slice_index, ◌≡◌, ℕ, zero, suc, ◌+◌, ◌^◌, ◌/◌, ◌<◌, ◌≤◌, Bool, true, false, if◌then◌else◌, List, [], ◌∷◌, ◌++◌, length, map, All, get_or, refl, sym, ap, ◌∙◌, ◌⊎◌, inl, inr, subst, arith, length-append, append_assoc}
 use Rattle.std.specs.List.{range_with_len, slice_index_or}
 use Rattle.std.specs.Prelude.{Result, Ok, Err, OnOk, IfOk}
 use Rattle.std.proofs.lemmas.List.Elements.{All-nil, All-cons, All-head, All-tail}
@@ -9,6 +9,7 @@ use Rattle.bb_net.specs.declared.cell.Cell.{Cell}
 use Rattle.bb_net.specs.declared.cell.Cell.TheVariants.{Const, Mux, BoxOut}
 use Rattle.bb_bits.specs.Tables.{TableBits}
 use Rattle.bb_net.specs.Netlists.{Netlist, cell_at, Pins, box_at, with_cell}
+use Rattle.bb_net.specs.Kinds.{spread}
 use Rattle.bb_net.specs.Values.{FitBoxes, table_at}
 use Rattle.bb_filled.specs.Filled.{column}
 use Rattle.bb_filled.specs.Inside.Filling.{GrowsBy, HasConstants, cost}
@@ -179,12 +180,14 @@ pushed_only (Ok root) a b pin rest pins lower upper low high n m is at named dow
     (choice_only a.cells pin rest lower upper low high n m down up first second place past (subst (λ (l : List Cell). place < length l) cells lt))))
 pushed_only (Err e) a b pin rest pins lower upper low high n m is at named down up first second = tt
 
+-- the table that is read at the kind of a box is that of the box
+pub table_is : (kinds : List ℕ) (tables : List TableBits) (b : ℕ) → slice_index kinds b < length tables → table_at (spread kinds tables) b ≡ table_at tables (slice_index kinds b)
+    → (t : TableBits) → t ≡ slice_index_or tables (slice_index kinds b) t → t ≡ table_at (spread kinds tables) b
+table_is kinds tables b there at t read = get_or_read_under tables (slice_index kinds b) (length tables) t (record { inputs = 0; outputs = 0; rows = [] }) read there refl ∙ sym at
+
 -- an output pin of a box with its table
 module _ (boxes : List Pins) (tables : List TableBits) (fit : FitBoxes tables boxes) (cell : Cell) (b p : ℕ) (is : cell ≡ BoxOut b p) (there : (b < length boxes) × (p < length (box_at boxes b).outs))
-    (t : TableBits) (t_read : t ≡ slice_index_or tables b t) (q : Pins) (q_read : q ≡ slice_index_or boxes b q) (ins : List ℕ) (ins_are : ins ≡ q.ins) where
-  pub t_is : t ≡ table_at tables b
-  t_is = get_or_read_under tables b (length tables) t (record { inputs = 0; outputs = 0; rows = [] }) t_read (omega (arith, there.0, fit.count)) refl
-
+    (t : TableBits) (t_is : t ≡ table_at tables b) (q : Pins) (q_read : q ≡ slice_index_or boxes b q) (ins : List ℕ) (ins_are : ins ≡ q.ins) where
   pub ins_is : ins ≡ (box_at boxes b).ins
   ins_is = ins_are ∙ ap (λ (q : Pins). q.ins) (get_or_read_under boxes b (length boxes) q (record { ins = []; outs = [] }) q_read there.0 refl)
 

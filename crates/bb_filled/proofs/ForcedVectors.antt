@@ -10,19 +10,21 @@ use Rattle.std.proofs.lemmas.List.FromFn.{length-map-range_with_len, get_or-map-
 use Rattle.std.proofs.lemmas.Option.{slice_get-get_or}
 use Rattle.bb_bits.specs.Numbers.{number_of, bits_of}
 use Rattle.bb_lists.proofs.Places.{drop_at}
+use Rattle.bb_net.specs.Kinds.{spread}
 use Rattle.bb_filled.specs.Forced.{AgreeAt}
 use Rattle.bb_filled.specs.Laws.ForcedLaws.{ForcedAreDistinct, VectorsAreFew}
 use Rattle.bb_filled.proofs.ChoiceTrees.{NumbersAreBelow}
 
 pub forced_are_distinct : ForcedAreDistinct
-forced_are_distinct spec imp vectors forced i j d less within same =
+forced_are_distinct spec imp kinds vectors forced i j d less within same =
     let x = get_or vectors j d in
     let split : vectors ≡ take j vectors ++ x ∷ drop (j + 1) vectors =
     sym (take-append-drop j vectors) ∙ ap (λ l. take j vectors ++ l) (drop_at vectors j x (slice_get-get_or vectors j d within)) in
     let found = forced.each (take j vectors) (drop (j + 1) vectors) x split in
-    let earlier : AgreeAt spec imp found.0 (get_or (take j vectors) i d) =
-    All-get_or (AgreeAt spec imp found.0) (take j vectors) i d (omega (arith, less, within, length-take-le j vectors (omega (arith, within)))) found.2 in
-    let there : AgreeAt spec imp found.0 x = subst (AgreeAt spec imp found.0) (get_or-take j vectors i d less ∙ same) earlier in
+    let tables = spread kinds found.0 in
+    let earlier : AgreeAt spec imp tables (get_or (take j vectors) i d) =
+    All-get_or (AgreeAt spec imp tables) (take j vectors) i d (omega (arith, less, within, length-take-le j vectors (omega (arith, within)))) found.2 in
+    let there : AgreeAt spec imp tables x = subst (AgreeAt spec imp tables) (get_or-take j vectors i d less ∙ same) earlier in
     found.3.2 (there found.3.0 found.3.1)
 
 -- entries that differ and all stand in a second list are at most as many as that has

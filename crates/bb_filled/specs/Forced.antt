@@ -1,7 +1,8 @@
 -- Vectors by which tables are refuted one after another: at each of them some tables are wrong that agree at all before it.
-use Rattle.std.specs.Prelude.{◌≡◌, Bool, List, ◌∷◌, ◌++◌, All}
+use Rattle.std.specs.Prelude.{◌≡◌, ℕ, Bool, List, ◌∷◌, ◌++◌, All}
 use Rattle.bb_bits.specs.Tables.{TableBits}
 use Rattle.bb_net.specs.Agreement.{AllRight, IsVector, SomeWrong}
+use Rattle.bb_net.specs.Kinds.{shown, spread}
 use Rattle.bb_net.specs.Netlists.{Netlist}
 use Rattle.bb_net.specs.Values.{FitBoxes, flat_with}
 
@@ -13,7 +14,8 @@ AgreeAt spec imp tables x = AllRight spec imp x (flat_with imp x tables)
 abbrev pub FailAt : Netlist → Netlist → List TableBits → List Bool → Type 0
 FailAt spec imp tables x = SomeWrong spec imp x (flat_with imp x tables)
 
-pub record AreForced (spec imp : Netlist) (vectors : List (List Bool)) : Type 0 where
+-- the tables are one for each kind
+pub record AreForced (spec imp : Netlist) (kinds : List ℕ) (vectors : List (List Bool)) : Type 0 where
   pub whole : All (IsVector imp) vectors
   pub each : (before after : List (List Bool)) (x : List Bool) → vectors ≡ before ++ x ∷ after
-      → (tables : List TableBits) × FitBoxes tables imp.boxes × All (AgreeAt spec imp tables) before × FailAt spec imp tables x
+      → (tables : List TableBits) × FitBoxes tables (shown kinds imp.boxes) × All (AgreeAt spec imp (spread kinds tables)) before × FailAt spec imp (spread kinds tables) x

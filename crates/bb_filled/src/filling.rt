@@ -3,6 +3,7 @@
 ghost use Rattle.std.specs.Prelude.{◌≡◌, ◌+◌, ◌^◌, ◌<◌, ◌≤◌, ◌⊎◌, ℕ, [], ◌++◌, ◌∷◌, All, length, map, slice_index, sum_by, take, IfOk, OnOk};
 ghost use Rattle.std.specs.List.{range_with_len};
 ghost use Rattle.bb_net.specs.Completions.{table_bits};
+ghost use Rattle.bb_net.specs.Kinds.{spread};
 ghost use Rattle.bb_net.specs.Netlists.{Netlist, ReadsBefore, IsPinAt, box_at, cell_at};
 ghost use Rattle.bb_net.specs.Values.{FitBoxes, table_at};
 ghost use Rattle.bb_filled.specs.Embeddings.{moved, StandsAt};
@@ -12,7 +13,7 @@ ghost use Rattle.bb_filled.specs.Trees.{IsTree, IsInTree};
 
 use crate::trees::{add_tree, column};
 use bb_bits::{NoMemory, Table};
-use bb_net::{BoxPins, Cell, Net};
+use bb_net::{BoxPins, Cell, Net, tables_are_spread};
 use std::alloc::Global;
 
 // The place of a cell in the new netlist.
@@ -83,10 +84,11 @@ fn add_cell(
     net: &mut Net,
     boxes: &[BoxPins],
     tables: &[Table],
+    kinds: &[u32],
     places: &[u32],
     cell: Cell,
 ) -> Result<u32, NoMemory>
-    requires tables { FitBoxes tables.now boxes.now }
+    requires tables { FitBoxes (spread kinds.now tables.now) boxes.now }
     requires reads { ReadsBefore net.old.inputs boxes.now (length places.now) cell }
     requires pin { (b p : ℕ) → cell ≡ Cell.BoxOut b p → (b < length boxes.now) × (p < length (box_at boxes.now b).outs) }
     requires there { All (λ k. k < length net.old.cells) places.now }
@@ -97,14 +99,16 @@ fn add_cell(
     ensures there { IfOk result (λ place. place < length net.new.cells) }
     ensures stands { IfOk result (StandsAt net.new.cells (slice_index places.now) cell) }
     ensures tree { IfOk result (λ place. (b p : ℕ) → cell ≡ Cell.BoxOut b p
-        → IsTree net.new.cells (map (slice_index places.now) (box_at boxes.now b).ins) (column (table_at tables.now b) p) place) }
+        → IsTree net.new.cells (map (slice_index places.now) (box_at boxes.now b).ins) (column (table_at (spread kinds.now tables.now) b) p) place) }
     ensures only { IfOk result (λ root. (place : ℕ) → length net.old.cells ≤ place → place < length net.new.cells
         → (place ≡ root) ⊎ ((b p : ℕ) × (cell ≡ Cell.BoxOut b p) × IsInTree net.new.cells (map (slice_index places.now) (box_at boxes.now b).ins) root place)) }
 {
     match cell {
         Cell::BoxOut(b, p) => {
+            tables_are_spread();
             let ins = boxes[b as usize].ins();
-            add_pin(alloc, net, &tables[b as usize], ins, places, p)
+            let kind = kinds[b as usize];
+            add_pin(alloc, net, &tables[kind as usize], ins, places, p)
         }
         gate => net.push(moved(places, gate)),
     }
@@ -127,15 +131,17 @@ fn add_cells(
     new: &mut Net,
     old: &Net,
     tables: &[Table],
+    kinds: &[u32],
     places: &mut Vec<u32>,
 ) -> Result<(), NoMemory>
-    requires tables { FitBoxes tables.now old.now.boxes }
+    requires tables { FitBoxes (spread kinds.now tables.now) old.now.boxes }
     requires room { sum_by (cost old.now.boxes) old.now.cells < 2 ^ 32 }
-    requires begun { IsFilledUpTo old.now tables.now (old.now.inputs + 2) new.old places.old.items }
-    ensures filled { OnOk result (IsFilledUpTo old.now tables.now (length old.now.cells) new.new places.new.items) }
+    requires begun { IsFilledUpTo old.now (spread kinds.now tables.now) (old.now.inputs + 2) new.old places.old.items }
+    ensures filled { OnOk result (IsFilledUpTo old.now (spread kinds.now tables.now) (length old.now.cells) new.new places.new.items) }
 {
     for k in old.inputs() as usize + 2..old.cells().len() {
-        let place = add_cell(alloc, new, old.boxes(), tables, places, old.cells()[k])?;
+        let cell = old.cells()[k];
+        let place = add_cell(alloc, new, old.boxes(), tables, kinds, places, cell)?;
         places.push(place)?;
     }
     Ok(())
@@ -157,17 +163,17 @@ fn costs_are_few()
     ensures { CostsAreFew }
 {}
 
-/// The netlist without boxes in which the tables stand in the boxes, one for each of them: at each output pin a tree of choices over
-/// its column of the table.
-pub fn fill(alloc: Global, net: &Net, tables: &[Table]) -> Result<Net, NoMemory>
-    requires tables { FitBoxes tables.now net.now.boxes }
+/// The netlist without boxes in which the tables, one for each kind, stand in the boxes: at each output pin a tree of choices over
+/// its column of the table of the box's kind.
+pub fn fill(alloc: Global, net: &Net, tables: &[Table], kinds: &[u32]) -> Result<Net, NoMemory>
+    requires tables { FitBoxes (spread kinds.now tables.now) net.now.boxes }
     requires room { length net.now.cells + table_bits net.now.boxes < 2 ^ 32 }
-    ensures filled { IfOk result (λ filled. (at : ℕ → ℕ) × IsFilled net.now tables.now filled at) }
+    ensures filled { IfOk result (λ filled. (at : ℕ → ℕ) × IsFilled net.now (spread kinds.now tables.now) filled at) }
 {
     costs_are_few();
     let mut filled = Net::start(alloc, net.inputs())?;
     let mut places = first_places(alloc, net.inputs() + 2)?;
-    add_cells(alloc, &mut filled, net, tables, &mut places)?;
+    add_cells(alloc, &mut filled, net, tables, kinds, &mut places)?;
     add_outs(&mut filled, net.outs(), &places)?;
     Ok(filled)
 }

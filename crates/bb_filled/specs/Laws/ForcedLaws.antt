@@ -4,7 +4,7 @@ use Rattle.bb_net.specs.Netlists.{Netlist}
 use Rattle.bb_filled.specs.Forced.{AreForced}
 
 abbrev pub ForcedAreDistinct : Type 0
-ForcedAreDistinct = (spec imp : Netlist) (vectors : List (List Bool)) → AreForced spec imp vectors → AllPairs ◌≢◌ vectors
+ForcedAreDistinct = (spec imp : Netlist) (kinds : List ℕ) (vectors : List (List Bool)) → AreForced spec imp kinds vectors → AllPairs ◌≢◌ vectors
 
 -- lists of n bits that differ are at most 2^n
 abbrev pub VectorsAreFew : Type 0
