@@ -1,12 +1,13 @@
--- vectors that are taken one by one, each once
-use Rattle.std.proofs.Common.{◌≡◌, ◌≢◌, ◌+◌, ◌<◌, ℕ, Bool, true, false, List, [], ◌∷◌, ◌++◌, ◌≤◌, ◌-◌, length, map, take, drop, All, AllPairs, get_or, refl, sym, ap, ◌∙◌, subst, true≢false, inl, inr, arith, get_or-take, get_or-drop, length-drop}
-use Rattle.std.specs.List.{list_any}
+-- vectors that are put into a set one by one
+use Rattle.std.proofs.Common.{if◌then◌else◌, length-append, ◌≡◌, ◌≢◌, ◌+◌, ◌<◌, ℕ, Bool, true, false, List, [], ◌∷◌, ◌++◌, ◌≤◌, ◌-◌, length, map, take, drop, All, AllPairs, get_or, refl, sym, ap, ◌∙◌, subst, true≢false, inl, inr, arith, get_or-take, get_or-drop, length-drop}
+use Rattle.std.specs.List.{AllByRecursion, IsDistinct, list_any}
 use Rattle.std.specs.Cmp.Lexicographic.{pointwise}
 use Rattle.std.proofs.lemmas.Bool.{cases_eq}
 use Rattle.std.proofs.lemmas.List.{get_or-map, length-map, length-take-le, map-append}
 use Rattle.std.proofs.lemmas.List.Elements.{All-nil, All-cons, All-append}
-use Rattle.std.proofs.lemmas.List.Folds.{list_any_at}
-use Rattle.std.proofs.lemmas.List.Quantifiers.{all_pairs_push}
+use Rattle.std.proofs.lemmas.List.Kept.{AllPairs-cons}
+use Rattle.std.proofs.lemmas.Map.Keys.{IsDistinct-head, IsDistinct-tail}
+use Rattle.indexmap.specs.IndexSet.{insert_key}
 use mathlib.Core.Bool.{beq}
 
 same_bits : (xs : List Bool) → pointwise beq xs xs ≡ true
@@ -50,13 +51,43 @@ module _ {X : Type 0} (view : X → List Bool) where
     pub all_taken : (P : List Bool → Type 0) → All P (map view old) → P (view x) → All P (map view new)
     all_taken P all here = subst (All P) (sym views) (All-append P (map view old) (view x ∷ []) all (All-cons P (view x) [] here (All-nil P)))
 
-    -- which was not among them
-    module _ (bits : List Bool) (same : view x ≡ bits) (none : list_any (λ y. pointwise beq (view y) bits) old ≡ false) where
-      other : (k : ℕ) (d : List Bool) → k < length (map view old) → get_or (map view old) k d ≢ view x
-      other k d l e =
-          let inside : k < length old = omega (arith, l, length-map old view) in
-          let is : view (get_or old k x) ≡ bits = sym (get_or-map view old k x d inside) ∙ (e ∙ same) in
-          true≢false (sym (list_any_at (λ y. pointwise beq (view y) bits) old k x inside (subst (λ ys. pointwise beq (view (get_or old k x)) ys ≡ true) is (same_bits (view (get_or old k x))))) ∙ none)
+  same : (x y : X) → view x ≡ view y → pointwise beq (view x) (view y) ≡ true
+  same x y e = subst (λ ys. pointwise beq (view x) ys ≡ true) e (same_bits (view x))
 
-      pub each_once : AllPairs ◌≢◌ (map view old) → AllPairs ◌≢◌ (map view new)
-      each_once apart = subst (AllPairs ◌≢◌) (sym views) (all_pairs_push ◌≢◌ (map view old) (view x) apart other)
+  others : (x : X) (xs : List X) → AllByRecursion (λ y. pointwise beq (view x) (view y) ≡ false) xs → All (λ v. view x ≢ v) (map view xs)
+  others x [] h = All-nil (λ v. view x ≢ v)
+  others x (y ∷ ys) h = All-cons (λ v. view x ≢ v) (view y) (map view ys) (λ e. true≢false (sym (same x y e) ∙ h.0)) (others x ys h.1)
+
+  -- no two keys of a set are one vector
+  pub apart : (xs : List X) → IsDistinct (λ x y. pointwise beq (view x) (view y)) xs → AllPairs ◌≢◌ (map view xs)
+  apart [] h = λ i j d lt within. absurd (omega (arith, within))
+  apart (x ∷ xs) h = AllPairs-cons ◌≢◌ (view x) (map view xs) (others x xs (IsDistinct-head (λ x y. pointwise beq (view x) (view y)) x xs h)) (apart xs (IsDistinct-tail (λ x y. pointwise beq (view x) (view y)) x xs h))
+
+-- one more is put into a set
+module _ {X : Type 0} (view : X → List Bool) (eq : X → X → Bool) (old new : List X) (x : X) (inserted : new ≡ insert_key eq old x) where
+  kept : list_any (eq x) old ≡ true → new ≡ old
+  kept e = inserted ∙ ap (λ c. if c then old else old ++ x ∷ []) e
+
+  taken : list_any (eq x) old ≡ false → new ≡ old ++ x ∷ []
+  taken e = inserted ∙ ap (λ c. if c then old else old ++ x ∷ []) e
+
+  pub all_inserted : (P : List Bool → Type 0) → All P (map view old) → P (view x) → All P (map view new)
+  all_inserted P all here = by (list_any (eq x) old) refl
+    where
+      by : (b : Bool) → list_any (eq x) old ≡ b → All P (map view new)
+      by true e = subst (λ xs. All P (map view xs)) (sym (kept e)) all
+      by false e = all_taken view old new x (taken e) P all here
+
+  pub few_inserted : length new ≤ length old + 1
+  few_inserted = by (list_any (eq x) old) refl
+    where
+      by : (b : Bool) → list_any (eq x) old ≡ b → length new ≤ length old + 1
+      by true e = omega (arith, ap length (kept e))
+      by false e = omega (arith, ap length (taken e), length-append old (x ∷ []))
+
+  pub some_inserted : new ≢ []
+  some_inserted none = by (list_any (eq x) old) refl
+    where
+      by : (b : Bool) → list_any (eq x) old ≡ b → ⊥
+      by true e = true≢false (sym e ∙ ap (list_any (eq x)) (sym (kept e) ∙ none))
+      by false e = absurd (omega (arith, ap length none, ap length (taken e), length-append old (x ∷ [])))

@@ -3,6 +3,7 @@
 
 mod diagrams;
 mod patterns;
+mod vectors;
 
 pub use diagrams::difference;
 pub use patterns::differing_patterns;
