@@ -1,6 +1,6 @@
 -- A cell's clauses are true exactly where its variable has the gate's bit.
 use Rattle.std.proofs.Common.{◌≡◌, ◌↔◌, ◌⊎◌, ℕ, ◌<◌, ◌^◌, Bool, true, false, not, ◌&&◌, ◌||◌, List, [], ◌∷◌, ◌++◌, length, map, refl, sym, ap, subst, ◌∙◌, inl, inr, arith, true≢false}
-use Rattle.std.specs.Prelude.{if◌then◌else◌}
+use Rattle.std.specs.Prelude.{if◌then◌else◌, slice_index}
 use Rattle.std.specs.List.{flat_map, range_with_len}
 use Rattle.std.proofs.lemmas.Bool.{cases_Bool}
 use Rattle.std.proofs.lemmas.List.{length-map}
@@ -8,6 +8,7 @@ use Rattle.std.proofs.lemmas.List.Elements.{All-nil, All-cons, All-head}
 use Rattle.std.proofs.lemmas.List.Folds.{list_any-append}
 use Rattle.bb_bits.specs.Numbers.{number_of, bits_of}
 use Rattle.bb_net.specs.declared.cell.Cell.TheVariants.{Const, Input, Not, And, Or, Xor, Mux, BoxOut}
+use Rattle.bb_net.specs.Kinds.{shown}
 use Rattle.bb_net.specs.Netlists.{box_at}
 use Rattle.bb_net.specs.Values.{bit_of}
 use Rattle.bb_cnf.specs.declared.clauses.Lit.{Lit}
@@ -101,11 +102,11 @@ rows_say numbering v var pins y t =
     )
 
 pub cell_law : Numbering → CellClausesSayGate
-cell_law numbering boxes x var y (Const b) v = unit_law v y b
-cell_law numbering boxes x var y (Input i) v = unit_law v y (bit_of x i)
-cell_law numbering boxes x var y (Not a) v = by_bits v (cell_clauses boxes x var y (Not a)) (v y) (not (v (var a))) (not_bits (v y) (v (var a)))
-cell_law numbering boxes x var y (And a b) v = by_bits v (cell_clauses boxes x var y (And a b)) (v y) (v (var a) && v (var b)) (and_bits (v y) (v (var a)) (v (var b)))
-cell_law numbering boxes x var y (Or a b) v = by_bits v (cell_clauses boxes x var y (Or a b)) (v y) (v (var a) || v (var b)) (or_bits (v y) (v (var a)) (v (var b)))
-cell_law numbering boxes x var y (Xor a b) v = by_bits v (cell_clauses boxes x var y (Xor a b)) (v y) _ (xor_bits (v y) (v (var a)) (v (var b)))
-cell_law numbering boxes x var y (Mux c t e) v = by_bits v (cell_clauses boxes x var y (Mux c t e)) (v y) _ (mux_bits (v y) (v (var c)) (v (var t)) (v (var e)))
-cell_law numbering boxes x var y (BoxOut b p) v = rows_say numbering v var (box_at boxes b).ins y (λ row. table_variable boxes b row p)
+cell_law numbering kinds boxes x var y (Const b) v = unit_law v y b
+cell_law numbering kinds boxes x var y (Input i) v = unit_law v y (bit_of x i)
+cell_law numbering kinds boxes x var y (Not a) v = by_bits v (cell_clauses kinds boxes x var y (Not a)) (v y) (not (v (var a))) (not_bits (v y) (v (var a)))
+cell_law numbering kinds boxes x var y (And a b) v = by_bits v (cell_clauses kinds boxes x var y (And a b)) (v y) (v (var a) && v (var b)) (and_bits (v y) (v (var a)) (v (var b)))
+cell_law numbering kinds boxes x var y (Or a b) v = by_bits v (cell_clauses kinds boxes x var y (Or a b)) (v y) (v (var a) || v (var b)) (or_bits (v y) (v (var a)) (v (var b)))
+cell_law numbering kinds boxes x var y (Xor a b) v = by_bits v (cell_clauses kinds boxes x var y (Xor a b)) (v y) _ (xor_bits (v y) (v (var a)) (v (var b)))
+cell_law numbering kinds boxes x var y (Mux c t e) v = by_bits v (cell_clauses kinds boxes x var y (Mux c t e)) (v y) _ (mux_bits (v y) (v (var c)) (v (var t)) (v (var e)))
+cell_law numbering kinds boxes x var y (BoxOut b p) v = rows_say numbering v var (box_at boxes b).ins y (λ row. table_variable (shown kinds boxes) (slice_index kinds b) row p)

@@ -8,40 +8,41 @@ use Rattle.bb_cnf.specs.Clauses.{Formula}
 use Rattle.bb_cnf.specs.Truth.{IsModel, HaveNoModel, assignment_of}
 use Rattle.bb_filled.specs.Forced.{AgreeAt}
 use Rattle.bb_net.specs.Agreement.{TablesAgree, IsVector}
+use Rattle.bb_net.specs.Kinds.{FitKinds, shown, spread}
 use Rattle.bb_net.specs.Netlists.{Netlist, IsNetlist}
 use Rattle.bb_net.specs.Values.{FitBoxes}
 use Rattle.bb_expand.specs.declared.held.Held.{Held}
 use Rattle.bb_expand.specs.Expanded.{IsError}
 use Rattle.bb_expand.specs.Expansions.{expansion}
 use Rattle.bb_expand.specs.Inside.Holding.{IsHeld, held_vectors}
-use Rattle.bb_expand.specs.Inside.LawsBelow.{Numbering, ValueExists, ValueIsUnique}
+use Rattle.bb_expand.specs.Inside.LawsBelow.{Numbering, Sharing, ValueExists, ValueIsUnique}
 use Rattle.bb_expand.specs.Inside.ReadTables.{tables_in}
 use Rattle.bb_expand.proofs.FromModel.{model_fits, model_right}
 use Rattle.bb_expand.proofs.ToModel.{bits, bits_model}
 
-module _ (numbering : Numbering) (unique : ValueIsUnique) (spec imp : Netlist) (kept : IsNetlist imp) (vectors : List (List Bool)) (cnf : Formula) (model : List Bool)
-    (is : cnf ≡ expansion spec imp vectors) (holds : IsModel model cnf) where
-  pub tables_fit : FitBoxes (tables_in imp.boxes model) imp.boxes
-  tables_fit = model_fits numbering unique spec imp kept vectors model (subst (IsModel model) is holds)
+module _ (numbering : Numbering) (unique : ValueIsUnique) (sharing : Sharing) (spec imp : Netlist) (kinds : List ℕ) (kept : IsNetlist imp) (fits : FitKinds kinds imp.boxes) (vectors : List (List Bool)) (cnf : Formula) (model : List Bool)
+    (is : cnf ≡ expansion spec imp kinds vectors) (holds : IsModel model cnf) where
+  pub tables_fit : FitBoxes (tables_in (shown kinds imp.boxes) model) (shown kinds imp.boxes)
+  tables_fit = model_fits numbering unique sharing spec imp kinds kept fits vectors model (subst (IsModel model) is holds)
 
-  pub tables_agree : All (AgreeAt spec imp (tables_in imp.boxes model)) vectors
-  tables_agree = model_right numbering unique spec imp kept vectors model (subst (IsModel model) is holds)
+  pub tables_agree : All (AgreeAt spec imp (spread kinds (tables_in (shown kinds imp.boxes) model))) vectors
+  tables_agree = model_right numbering unique sharing spec imp kinds kept fits vectors model (subst (IsModel model) is holds)
 
 -- tables that agree at all vectors do so at each
 pub agree_at_all : (spec imp : Netlist) (tables : List TableBits) (vectors : List (List Bool)) → All (IsVector imp) vectors → TablesAgree spec imp tables → All (AgreeAt spec imp tables) vectors
 agree_at_all spec imp tables vectors whole agree k d h = agree _ (whole k d h)
 
-pub refuted_is_error : Numbering → ValueExists → ((clauses : List (List Lit)) (steps : List Step) → IsRefutation clauses steps → HaveNoModel clauses)
-    → (spec imp : Netlist) → IsNetlist imp → (budget : ℕ) (held : Held) (steps : List Step) → IsHeld spec imp budget held → IsRefutation held.solver.clauses steps → IsError spec imp budget (held_vectors held) held.solver steps
-refuted_is_error numbering exists sound spec imp kept budget held steps is refuted = record {
+pub refuted_is_error : Numbering → ValueExists → Sharing → ((clauses : List (List Lit)) (steps : List Step) → IsRefutation clauses steps → HaveNoModel clauses)
+    → (spec imp : Netlist) (kinds : List ℕ) → IsNetlist imp → FitKinds kinds imp.boxes → (budget : ℕ) (held : Held) (steps : List Step) → IsHeld spec imp kinds budget held → IsRefutation held.solver.clauses steps → IsError spec imp kinds budget (held_vectors held) held.solver steps
+refuted_is_error numbering exists sharing sound spec imp kinds kept fits budget held steps is refuted = record {
   whole = is.each.each;
   distinct = is.each.distinct;
   expands = is.expands;
   within = is.within;
   refuted = refuted;
   none = λ tables fit agree.
-      let right = agree_at_all spec imp tables (held_vectors held) is.each.each agree in
-      let model = bits_model numbering exists spec imp kept (held_vectors held) tables fit right in
-      sound (expansion spec imp (held_vectors held)).clauses steps (subst (λ (f : Formula). IsRefutation f.clauses steps) is.expands refuted)
-      (assignment_of (bits numbering exists spec imp kept (held_vectors held) tables fit right)) model.1;
+      let right = agree_at_all spec imp (spread kinds tables) (held_vectors held) is.each.each agree in
+      let model = bits_model numbering exists sharing spec imp kinds kept fits (held_vectors held) tables fit right in
+      sound (expansion spec imp kinds (held_vectors held)).clauses steps (subst (λ (f : Formula). IsRefutation f.clauses steps) is.expands refuted)
+      (assignment_of (bits numbering exists sharing spec imp kinds kept fits (held_vectors held) tables fit right)) model.1;
 }

@@ -49,27 +49,27 @@ among_both xs ys x among =
     (All-cons (Contains (ys ++ x ∷ [])) x [] (Contains-append_right ys (x ∷ []) x (0, omega arith, refl)) (All-nil (Contains (ys ++ x ∷ []))))
 
 -- of the same held vectors others may be known to be forced
-pub with_forced : (spec imp : Netlist) (budget : ℕ) (old new : Held) → IsHeld spec imp budget old → held_vectors new ≡ held_vectors old → new.solver ≡ old.solver → AreForced spec imp (forced_vectors new)
-    → All (Contains (held_vectors old)) (forced_vectors new) → IsHeld spec imp budget new
-with_forced spec imp budget old new is vectors cnf forced among = record {
+pub with_forced : (spec imp : Netlist) (kinds : List ℕ) (budget : ℕ) (old new : Held) → IsHeld spec imp kinds budget old → held_vectors new ≡ held_vectors old → new.solver ≡ old.solver → AreForced spec imp kinds (forced_vectors new)
+    → All (Contains (held_vectors old)) (forced_vectors new) → IsHeld spec imp kinds budget new
+with_forced spec imp kinds budget old new is vectors cnf forced among = record {
   each = subst (AreDistinctWith (IsVector imp)) (sym vectors) is.each;
   forced = forced;
   among = subst (λ xs. All (Contains xs) (forced_vectors new)) (sym vectors) among;
-  expands = cnf ∙ (is.expands ∙ ap (expansion spec imp) (sym vectors));
+  expands = cnf ∙ (is.expands ∙ ap (expansion spec imp kinds) (sym vectors));
   within = subst (λ (f : Formula). length f.clauses ≤ budget) (sym cnf) is.within;
 }
 
 -- the clauses over fewer vectors are fewer
-clauses_of_fewer : ClausesAreCounted → (spec imp : Netlist) (xs ys : List (List Bool)) → length xs ≤ length ys → length (expansion spec imp xs).clauses ≤ length (expansion spec imp ys).clauses
-clauses_of_fewer counted spec imp xs ys few =
+clauses_of_fewer : ClausesAreCounted → (spec imp : Netlist) (kinds : List ℕ) (xs ys : List (List Bool)) → length xs ≤ length ys → length (expansion spec imp kinds xs).clauses ≤ length (expansion spec imp kinds ys).clauses
+clauses_of_fewer counted spec imp kinds xs ys few =
     let product : length xs * clauses_per_vector imp ≤ length ys * clauses_per_vector imp = mul-le (length xs) (clauses_per_vector imp) (length ys) (clauses_per_vector imp) few (omega arith) in
-    omega (arith, product, counted spec imp xs, counted spec imp ys)
+    omega (arith, product, counted spec imp kinds xs, counted spec imp kinds ys)
 
-pub clauses_of_front : ClausesAreCounted → (spec imp : Netlist) (all xs ys : List (List Bool)) → all ≡ xs ++ ys → length (expansion spec imp xs).clauses ≤ length (expansion spec imp all).clauses
-clauses_of_front counted spec imp all xs ys is = clauses_of_fewer counted spec imp xs all (let long = length-append xs ys in omega (arith, long, ap length is))
+pub clauses_of_front : ClausesAreCounted → (spec imp : Netlist) (kinds : List ℕ) (all xs ys : List (List Bool)) → all ≡ xs ++ ys → length (expansion spec imp kinds xs).clauses ≤ length (expansion spec imp kinds all).clauses
+clauses_of_front counted spec imp kinds all xs ys is = clauses_of_fewer counted spec imp kinds xs all (let long = length-append xs ys in omega (arith, long, ap length is))
 
 -- so those over the forced ones fit where those over all held ones do
-pub forced_fit : ClausesAreCounted → ForcedAreDistinct → (spec imp : Netlist) (budget : ℕ) (held : Held) → IsHeld spec imp budget held → length (expansion spec imp (forced_vectors held)).clauses ≤ budget
-forced_fit counted apart spec imp budget held is =
-    let few = fewer_among (forced_vectors held) (held_vectors held) (apart spec imp (forced_vectors held) is.forced) is.among in
-    omega (arith, clauses_of_fewer counted spec imp (forced_vectors held) (held_vectors held) few, is.within, ap (λ (f : Formula). length f.clauses) is.expands)
+pub forced_fit : ClausesAreCounted → ForcedAreDistinct → (spec imp : Netlist) (kinds : List ℕ) (budget : ℕ) (held : Held) → IsHeld spec imp kinds budget held → length (expansion spec imp kinds (forced_vectors held)).clauses ≤ budget
+forced_fit counted apart spec imp kinds budget held is =
+    let few = fewer_among (forced_vectors held) (held_vectors held) (apart spec imp kinds (forced_vectors held) is.forced) is.among in
+    omega (arith, clauses_of_fewer counted spec imp kinds (forced_vectors held) (held_vectors held) few, is.within, ap (λ (f : Formula). length f.clauses) is.expands)

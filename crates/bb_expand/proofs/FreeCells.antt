@@ -34,12 +34,12 @@ cell_says law x boxes box var y v (Input i) none input =
     let says = equal_says v y (i + 1) in
     (λ all. says.0 all ∙ sym (input i refl), λ is. says.1 (is ∙ input i refl))
 cell_says law x boxes box var y v (BoxOut b p) none input = absurd (none b p refl)
-cell_says law x boxes box var y v (Const b) none input = law [] [] var y (Const b) v
-cell_says law x boxes box var y v (Not a) none input = law [] [] var y (Not a) v
-cell_says law x boxes box var y v (And a b) none input = law [] [] var y (And a b) v
-cell_says law x boxes box var y v (Or a b) none input = law [] [] var y (Or a b) v
-cell_says law x boxes box var y v (Xor a b) none input = law [] [] var y (Xor a b) v
-cell_says law x boxes box var y v (Mux c t e) none input = law [] [] var y (Mux c t e) v
+cell_says law x boxes box var y v (Const b) none input = law [] [] [] var y (Const b) v
+cell_says law x boxes box var y v (Not a) none input = law [] [] [] var y (Not a) v
+cell_says law x boxes box var y v (And a b) none input = law [] [] [] var y (And a b) v
+cell_says law x boxes box var y v (Or a b) none input = law [] [] [] var y (Or a b) v
+cell_says law x boxes box var y v (Xor a b) none input = law [] [] [] var y (Xor a b) v
+cell_says law x boxes box var y v (Mux c t e) none input = law [] [] [] var y (Mux c t e) v
 
 pub no_box : (net : Netlist) → IsNetlist net → net.boxes ≡ [] → (place b p : ℕ) → place < length net.cells → cell_at net.cells place ≡ BoxOut b p → ⊥
 no_box net kept none place b p h is =

@@ -45,7 +45,7 @@ cells_some base net kept none = pieces_some (λ q. free_cell_clauses (λ k. base
 -- the parts together
 pub length-free : (spec imp : Netlist) → length (free_clauses spec imp).clauses ≡ length (cells_after imp.inputs imp.cells) + length (cells_after (imp.inputs + length imp.cells) spec.cells) + length imp.outs * 4 + 1
 length-free spec imp =
-    let four = length-pieces (λ j. cell_clauses [] [] (λ k. k) (difference_variable spec imp j) (Xor (output_variable imp j) (wanted_variable spec imp j))) 4 (λ j. refl) (range_with_len 0 (length imp.outs)) in
+    let four = length-pieces (λ j. cell_clauses [] [] [] (λ k. k) (difference_variable spec imp j) (Xor (output_variable imp j) (wanted_variable spec imp j))) 4 (λ j. refl) (range_with_len 0 (length imp.outs)) in
     let outs = ap (λ n. n * 4) (length-range_with_len 0 (length imp.outs)) in
     let first = length-append (cells_after imp.inputs imp.cells) (cells_after (imp.inputs + length imp.cells) spec.cells) in
     let then = length-append (cells_after imp.inputs imp.cells ++ cells_after (imp.inputs + length imp.cells) spec.cells) (difference_clauses spec imp) in
@@ -60,7 +60,7 @@ few_variables spec imp most spec_kept imp_kept both few =
     omega (arith, length-free spec imp, own, other, few)
 
 -- the same exclusive or, by other names of its variables
-pub same_xor : (old : List (List Lit)) (y a b z c d : ℕ) → y ≡ z → a ≡ c → b ≡ d → old ++ cell_clauses [] [] (λ k. k) y (Xor a b) ≡ old ++ cell_clauses [] [] (λ k. k) z (Xor c d)
+pub same_xor : (old : List (List Lit)) (y a b z c d : ℕ) → y ≡ z → a ≡ c → b ≡ d → old ++ cell_clauses [] [] [] (λ k. k) y (Xor a b) ≡ old ++ cell_clauses [] [] [] (λ k. k) z (Xor c d)
 same_xor old y a b z c d one two three = rw (one, two, three) refl
 
 pub all_variables_fit : (spec imp : Netlist) → IsNetlist spec → IsNetlist imp → AreComparable spec imp → length (free_clauses spec imp).clauses ≤ 8000000 → imp.inputs + length imp.cells + length spec.cells + length imp.outs < 2 ^ 32

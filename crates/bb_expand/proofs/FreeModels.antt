@@ -25,8 +25,8 @@ xor_differs false true e same = true≢false (sym same)
 xor_differs false false e same = true≢false (sym e)
 
 -- the variable of a difference is the exclusive or
-pub difference_says : CellClausesSayGate → (v : ℕ → Bool) (d a b : ℕ) → (Satisfies v (cell_clauses [] [] (λ k. k) d (Xor a b)) → v d ≡ xor (v a) (v b)) × (v d ≡ xor (v a) (v b) → Satisfies v (cell_clauses [] [] (λ k. k) d (Xor a b)))
-difference_says law v d a b = let says = law [] [] (λ k. k) d (Xor a b) v in (says.0, says.1)
+pub difference_says : CellClausesSayGate → (v : ℕ → Bool) (d a b : ℕ) → (Satisfies v (cell_clauses [] [] [] (λ k. k) d (Xor a b)) → v d ≡ xor (v a) (v b)) × (v d ≡ xor (v a) (v b) → Satisfies v (cell_clauses [] [] [] (λ k. k) d (Xor a b)))
+difference_says law v d a b = let says = law [] [] [] (λ k. k) d (Xor a b) v in (says.0, says.1)
 
 module _ (law : CellClausesSayGate) (exists : ValueExists) (unique : ValueIsUnique) (spec imp : Netlist) (spec_kept : IsNetlist spec) (imp_kept : IsNetlist imp) (both : AreComparable spec imp)
     (bits : List Bool) (model : IsModel bits (free_clauses spec imp)) where
@@ -72,7 +72,7 @@ module _ (law : CellClausesSayGate) (exists : ValueExists) (unique : ValueIsUniq
       let j : ℕ = some.0 in
       let out = All-get_or (λ k. k < length imp.cells) imp.outs j 0 some.1 imp_kept.outs_there in
       let want = All-get_or (λ k. k < length spec.cells) spec.outs j 0 (omega (arith, some.1, both.outputs)) spec_kept.outs_there in
-      let piece = piece_holds (IsTrueClause v) (λ k. cell_clauses [] [] (λ i. i) (difference_variable spec imp k) (Xor (output_variable imp k) (wanted_variable spec imp k))) (length imp.outs)
+      let piece = piece_holds (IsTrueClause v) (λ k. cell_clauses [] [] [] (λ i. i) (difference_variable spec imp k) (Xor (output_variable imp k) (wanted_variable spec imp k))) (length imp.outs)
       (all_right (IsTrueClause v) cells (difference_clauses spec imp) front) j some.1 in
       let differ = sym ((difference_says law v (difference_variable spec imp j) (output_variable imp j) (wanted_variable spec imp j)).0 piece) ∙ some.2 in (
         length-take-le imp.inputs bits (omega (arith, model.0)),

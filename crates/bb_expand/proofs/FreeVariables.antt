@@ -21,7 +21,7 @@ free_cell_in : (vars : ℕ) (var : ℕ → ℕ) (inputs place y : ℕ) (cell : C
 free_cell_in vars var inputs place y (Input i) reads none h hy some =
     let hi : (1 ≤ i + 1) × (i + 1 ≤ vars) = (omega arith, omega (arith, reads, some)) in
     clauses_in vars (equal_clauses y (i + 1)) ((hy, (hi, tt)), ((hy, (hi, tt)), tt))
-free_cell_in vars var inputs place y cell reads none h hy some = cell_in vars var inputs place y [] [] cell reads h hy (λ b p row is below. absurd (none b p is))
+free_cell_in vars var inputs place y cell reads none h hy some = cell_in vars var inputs place y [] [] [] cell reads h hy (λ b p row is below. absurd (none b p is))
 
 cells_in : (vars base : ℕ) (net : Netlist) → IsNetlist net → net.boxes ≡ [] → net.inputs ≤ base → base + length net.cells ≤ vars → IsWithin vars (cells_after base net.cells)
 cells_in vars base net kept none inputs fits =
@@ -33,14 +33,14 @@ module _ (spec imp : Netlist) (spec_kept : IsNetlist spec) (imp_kept : IsNetlist
   abbrev vars : ℕ
   vars = (free_clauses spec imp).vars
 
-  difference_in : (j : ℕ) → j < length imp.outs → IsWithin vars (cell_clauses [] [] (λ k. k) (difference_variable spec imp j) (Xor (output_variable imp j) (wanted_variable spec imp j)))
+  difference_in : (j : ℕ) → j < length imp.outs → IsWithin vars (cell_clauses [] [] [] (λ k. k) (difference_variable spec imp j) (Xor (output_variable imp j) (wanted_variable spec imp j)))
   difference_in j h =
       let out = All-get_or (λ k. k < length imp.cells) imp.outs j 0 h imp_kept.outs_there in
       let want = All-get_or (λ k. k < length spec.cells) spec.outs j 0 (omega (arith, h, both.outputs)) spec_kept.outs_there in
       let hy : (1 ≤ difference_variable spec imp j) × (difference_variable spec imp j ≤ vars) = (omega arith, omega (arith, h)) in
       let ha : (1 ≤ output_variable imp j) × (output_variable imp j ≤ vars) = (omega arith, omega (arith, out)) in
       let hb : (1 ≤ wanted_variable spec imp j) × (wanted_variable spec imp j ≤ vars) = (omega arith, omega (arith, want)) in
-      clauses_in vars (cell_clauses [] [] (λ k. k) (difference_variable spec imp j) (Xor (output_variable imp j) (wanted_variable spec imp j)))
+      clauses_in vars (cell_clauses [] [] [] (λ k. k) (difference_variable spec imp j) (Xor (output_variable imp j) (wanted_variable spec imp j)))
       ((hy, (ha, (hb, tt))), ((hy, (ha, (hb, tt))), ((hy, (ha, (hb, tt))), ((hy, (ha, (hb, tt))), tt))))
 
   pub all_in : IsWithin vars (free_clauses spec imp).clauses
@@ -49,7 +49,7 @@ module _ (spec imp : Netlist) (spec_kept : IsNetlist spec) (imp_kept : IsNetlist
       (cells_in vars imp.inputs imp imp_kept both.imp_boxes (omega arith) (omega arith))
       (cells_in vars (imp.inputs + length imp.cells) spec spec_kept both.spec_boxes (omega (arith, both.inputs)) (omega arith)) in
       let front = All-append (IsIn vars) (cells_after imp.inputs imp.cells ++ cells_after (imp.inputs + length imp.cells) spec.cells) (difference_clauses spec imp) cells
-      (pieces_hold (IsIn vars) (λ j. cell_clauses [] [] (λ k. k) (difference_variable spec imp j) (Xor (output_variable imp j) (wanted_variable spec imp j))) (length imp.outs) difference_in) in
+      (pieces_hold (IsIn vars) (λ j. cell_clauses [] [] [] (λ k. k) (difference_variable spec imp j) (Xor (output_variable imp j) (wanted_variable spec imp j))) (length imp.outs) difference_in) in
       All-append (IsIn vars) (cells_after imp.inputs imp.cells ++ cells_after (imp.inputs + length imp.cells) spec.cells ++ difference_clauses spec imp) (some_difference spec imp ∷ []) front
       (All-cons (IsIn vars) (some_difference spec imp) []
       (all_hold (λ l. (1 ≤ l.var) × (l.var ≤ vars)) (λ j. positive (difference_variable spec imp j)) (length imp.outs) (λ j h. (omega arith, omega (arith, h))))

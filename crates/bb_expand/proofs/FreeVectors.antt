@@ -83,7 +83,7 @@ module _ (law : CellClausesSayGate) (exists : ValueExists) (unique : ValueIsUniq
       ∙ get_or-append-add other differences j false
       ∙ get_or-map-range_with_len difference 0 (length imp.outs) j j false h (omega arith)
 
-  difference_true : (j : ℕ) → j < length imp.outs → Satisfies v (cell_clauses [] [] (λ k. k) (difference_variable spec imp j) (Xor (output_variable imp j) (wanted_variable spec imp j)))
+  difference_true : (j : ℕ) → j < length imp.outs → Satisfies v (cell_clauses [] [] [] (λ k. k) (difference_variable spec imp j) (Xor (output_variable imp j) (wanted_variable spec imp j)))
   difference_true j h =
       let out = imp_bits (get_or imp.outs j 0) (All-get_or (λ k. k < length imp.cells) imp.outs j 0 h imp_kept.outs_there) in
       let want = spec_bits (get_or spec.outs j 0) (All-get_or (λ k. k < length spec.cells) spec.outs j 0 (omega (arith, h, both.outputs)) spec_kept.outs_there) in
@@ -107,7 +107,7 @@ module _ (law : CellClausesSayGate) (exists : ValueExists) (unique : ValueIsUniq
       (cells_true law exists unique imp imp_kept both.imp_boxes imp.inputs v x input_bits imp_bits)
       (cells_true law exists unique spec spec_kept both.spec_boxes wanted v x (λ i h. input_bits i (omega (arith, h, both.inputs))) spec_bits) in
       let front = All-append (IsTrueClause v) (cells_after imp.inputs imp.cells ++ cells_after wanted spec.cells) (difference_clauses spec imp) cells
-      (pieces_hold (IsTrueClause v) (λ k. cell_clauses [] [] (λ i. i) (difference_variable spec imp k) (Xor (output_variable imp k) (wanted_variable spec imp k))) (length imp.outs) difference_true) in (
+      (pieces_hold (IsTrueClause v) (λ k. cell_clauses [] [] [] (λ i. i) (difference_variable spec imp k) (Xor (output_variable imp k) (wanted_variable spec imp k))) (length imp.outs) difference_true) in (
         length-bits,
         All-append (IsTrueClause v) (cells_after imp.inputs imp.cells ++ cells_after wanted spec.cells ++ difference_clauses spec imp) (some_difference spec imp ∷ []) front
             (All-cons (IsTrueClause v) (some_difference spec imp) [] some_true (All-nil (IsTrueClause v))),

@@ -9,6 +9,7 @@ use Rattle.bb_bits.specs.Tables.{TableBits}
 use Rattle.bb_filled.specs.Forced.{AgreeAt, FailAt, AreForced}
 use Rattle.bb_filled.specs.Laws.ForcedLaws.{ForcedAreDistinct, VectorsAreFew}
 use Rattle.bb_net.specs.Agreement.{IsVector}
+use Rattle.bb_net.specs.Kinds.{shown, spread}
 use Rattle.bb_net.specs.Netlists.{Netlist}
 use Rattle.bb_net.specs.Values.{FitBoxes}
 use Rattle.bb_expand.specs.ClauseCounts.{clauses_per_vector, clause_total}
@@ -42,8 +43,8 @@ pairs_append xs ys first second apart i j d less within same = elim (cases_lt j 
       ]
 ]
 
-pub forced_left : (spec imp : Netlist) (xs ys : List (List Bool)) → AreForced spec imp (xs ++ ys) → AreForced spec imp xs
-forced_left spec imp xs ys forced = record {
+pub forced_left : (spec imp : Netlist) (kinds : List ℕ) (xs ys : List (List Bool)) → AreForced spec imp kinds (xs ++ ys) → AreForced spec imp kinds xs
+forced_left spec imp kinds xs ys forced = record {
   whole = all_left (IsVector imp) xs ys forced.whole;
   each = λ before after x is. forced.each before (after ++ ys) x (ap (λ l. l ++ ys) is ∙ append_assoc before (x ∷ after) ys);
 }
@@ -64,50 +65,50 @@ snoc_split {A} (z ∷ xs) x (b ∷ before) after y e =
       | inr within ↦ inr (within.0, ap₂ (λ w ws. w ∷ ws) h within.1)
     ]
 
-module _ (spec imp : Netlist) (tables : List TableBits) (fit : FitBoxes tables imp.boxes) (vectors : List (List Bool)) (agree : All (AgreeAt spec imp tables) vectors) where
+module _ (spec imp : Netlist) (kinds : List ℕ) (tables : List TableBits) (fit : FitBoxes tables (shown kinds imp.boxes)) (vectors : List (List Bool)) (agree : All (AgreeAt spec imp (spread kinds tables)) vectors) where
   -- a vector at which they fail is forced behind those at which they agree
-  pub forced_push : AreForced spec imp vectors → (x : List Bool) → FailsAt spec imp tables x → AreForced spec imp (vectors ++ x ∷ [])
+  pub forced_push : AreForced spec imp kinds vectors → (x : List Bool) → FailsAt spec imp (spread kinds tables) x → AreForced spec imp kinds (vectors ++ x ∷ [])
   forced_push forced x fails = record {
     whole = All-append (IsVector imp) vectors (x ∷ []) forced.whole (All-cons (IsVector imp) x [] fails.0 (All-nil (IsVector imp)));
     each = λ before after y is. elim (snoc_split vectors x before after y is) [
-      | inl last ↦ (tables, fit, subst (All (AgreeAt spec imp tables)) (sym last.0) agree, subst (FailAt spec imp tables) (sym last.1) fails.1)
+      | inl last ↦ (tables, fit, subst (All (AgreeAt spec imp (spread kinds tables))) (sym last.0) agree, subst (FailAt spec imp (spread kinds tables)) (sym last.1) fails.1)
       | inr within ↦ forced.each before within.0 y within.1
     ];
   }
 
   -- no vector at which they fail is among them
-  differ : (found : List (List Bool)) → All (FailsAt spec imp tables) found → (i j : ℕ) (d : List Bool) → i < length vectors → j < length found → get_or vectors i d ≢ get_or found j d
+  differ : (found : List (List Bool)) → All (FailsAt spec imp (spread kinds tables)) found → (i j : ℕ) (d : List Bool) → i < length vectors → j < length found → get_or vectors i d ≢ get_or found j d
   differ found fail i j d here there same =
-      let wrong = All-get_or (FailsAt spec imp tables) found j d there fail in
-      let right = subst (AgreeAt spec imp tables) same (All-get_or (AgreeAt spec imp tables) vectors i d here agree) in
+      let wrong = All-get_or (FailsAt spec imp (spread kinds tables)) found j d there fail in
+      let right = subst (AgreeAt spec imp (spread kinds tables)) same (All-get_or (AgreeAt spec imp (spread kinds tables)) vectors i d here agree) in
       wrong.1.2 (right wrong.1.0 wrong.1.1)
 
   -- so vectors at which they fail may be held beside these
-  pub failures_behind : (found : List (List Bool)) → AreDistinctWith (IsVector imp) vectors → AreDistinctWith (FailsAt spec imp tables) found → AreDistinctWith (IsVector imp) (vectors ++ found)
+  pub failures_behind : (found : List (List Bool)) → AreDistinctWith (IsVector imp) vectors → AreDistinctWith (FailsAt spec imp (spread kinds tables)) found → AreDistinctWith (IsVector imp) (vectors ++ found)
   failures_behind found held are = record {
     each = All-append (IsVector imp) vectors found held.each (λ k d h. (are.each k d h).0);
     distinct = pairs_append vectors found held.distinct are.distinct (differ found are.each);
   }
 
 -- distinct vectors are at most all vectors, so their clauses are within the total
-pub clauses_of_distinct : VectorsAreFew → ClausesAreCounted → (spec imp : Netlist) (vectors : List (List Bool)) → AreDistinctWith (IsVector imp) vectors → length (expansion spec imp vectors).clauses ≤ clause_total imp
-clauses_of_distinct few counted spec imp vectors are =
+pub clauses_of_distinct : VectorsAreFew → ClausesAreCounted → (spec imp : Netlist) (kinds : List ℕ) (vectors : List (List Bool)) → AreDistinctWith (IsVector imp) vectors → length (expansion spec imp kinds vectors).clauses ≤ clause_total imp
+clauses_of_distinct few counted spec imp kinds vectors are =
     let at_most : length vectors ≤ 2 ^ imp.inputs = few imp.inputs vectors are.each are.distinct in
     let product : length vectors * clauses_per_vector imp ≤ 2 ^ imp.inputs * clauses_per_vector imp = mul-le (length vectors) (clauses_per_vector imp) (2 ^ imp.inputs) (clauses_per_vector imp) at_most (omega arith) in
-    omega (arith, product, counted spec imp vectors)
+    omega (arith, product, counted spec imp kinds vectors)
 
-pub clauses_of_one_more : ClausesAreCounted → (spec imp : Netlist) (vectors : List (List Bool)) (x : List Bool) → length (expansion spec imp (vectors ++ x ∷ [])).clauses ≡ length (expansion spec imp vectors).clauses + clauses_per_vector imp
-clauses_of_one_more counted spec imp vectors x =
+pub clauses_of_one_more : ClausesAreCounted → (spec imp : Netlist) (kinds : List ℕ) (vectors : List (List Bool)) (x : List Bool) → length (expansion spec imp kinds (vectors ++ x ∷ [])).clauses ≡ length (expansion spec imp kinds vectors).clauses + clauses_per_vector imp
+clauses_of_one_more counted spec imp kinds vectors x =
     let more : length (vectors ++ x ∷ []) * clauses_per_vector imp ≡ (length vectors + 1) * clauses_per_vector imp = ap (λ n. n * clauses_per_vector imp) (one_longer vectors x) in
-    omega (arith, more, counted spec imp vectors, counted spec imp (vectors ++ x ∷ []))
+    omega (arith, more, counted spec imp kinds vectors, counted spec imp kinds (vectors ++ x ∷ []))
 
 -- where the forced vectors have no room for a further one, more clauses are needed
-pub no_room : VectorsAreFew → ForcedAreDistinct → ClausesAreCounted → (spec imp : Netlist) (budget : ℕ) (vectors : List (List Bool)) (x : List Bool) → AreForced spec imp (vectors ++ x ∷ [])
-    → budget < length (expansion spec imp vectors).clauses + clauses_per_vector imp → NeedsMoreClauses spec imp budget
-no_room few apart counted spec imp budget vectors x forced none =
+pub no_room : VectorsAreFew → ForcedAreDistinct → ClausesAreCounted → (spec imp : Netlist) (kinds : List ℕ) (budget : ℕ) (vectors : List (List Bool)) (x : List Bool) → AreForced spec imp kinds (vectors ++ x ∷ [])
+    → budget < length (expansion spec imp kinds vectors).clauses + clauses_per_vector imp → NeedsMoreClauses spec imp kinds budget
+no_room few apart counted spec imp kinds budget vectors x forced none =
     let all = vectors ++ x ∷ [] in
-    let over : budget < length (expansion spec imp all).clauses = omega (arith, none, clauses_of_one_more counted spec imp vectors x) in
-    let most = clauses_of_distinct few counted spec imp all (record { each = forced.whole; distinct = apart spec imp all forced }) in
+    let over : budget < length (expansion spec imp kinds all).clauses = omega (arith, none, clauses_of_one_more counted spec imp kinds vectors x) in
+    let most = clauses_of_distinct few counted spec imp kinds all (record { each = forced.whole; distinct = apart spec imp kinds all forced }) in
     record { many = omega (arith, over, most); held = all; forced = forced; cause = inl over }
 
 -- the front of some vectors, up to the next one
@@ -145,13 +146,13 @@ take-first : {A B : Type 0} (f : A → B) (xs : List A) (d : A) (n : ℕ) → 0 
 take-first f [] d n some = absurd (omega (arith, some))
 take-first f (x ∷ xs) d n some = refl
 
-module _ (spec imp : Netlist) (tables : List TableBits) (fit : FitBoxes tables imp.boxes) (held : List (List Bool)) (agree : All (AgreeAt spec imp tables) held) (each : AreDistinctWith (IsVector imp) held)
-    (failures : List (Vec Bool Global)) (some : 0 < length failures) (are : AreDistinctWith (FailsAt spec imp tables) (map vec_items failures)) (d : Vec Bool Global) where
+module _ (spec imp : Netlist) (kinds : List ℕ) (tables : List TableBits) (fit : FitBoxes tables (shown kinds imp.boxes)) (held : List (List Bool)) (agree : All (AgreeAt spec imp (spread kinds tables)) held) (each : AreDistinctWith (IsVector imp) held)
+    (failures : List (Vec Bool Global)) (some : 0 < length failures) (are : AreDistinctWith (FailsAt spec imp (spread kinds tables)) (map vec_items failures)) (d : Vec Bool Global) where
   abbrev first : List Bool
   first = vec_items (get_or failures 0 d)
 
   all : AreDistinctWith (IsVector imp) (held ++ map vec_items failures)
-  all = failures_behind spec imp tables fit held agree (map vec_items failures) each are
+  all = failures_behind spec imp kinds tables fit held agree (map vec_items failures) each are
 
   pub first_beside : AreDistinctWith (IsVector imp) (held ++ first ∷ [])
   first_beside = subst (λ l. AreDistinctWith (IsVector imp) (held ++ l)) (take-first vec_items failures d 0 some) (some_taken (IsVector imp) vec_items held failures 1 all)
@@ -161,15 +162,15 @@ module _ (spec imp : Netlist) (tables : List TableBits) (fit : FitBoxes tables i
       let rest = map vec_items (take n (drop 1 failures)) in
       subst (AreDistinctWith (IsVector imp)) (ap (λ l. held ++ l) (take-first vec_items failures d n some) ∙ sym (append_assoc held (first ∷ []) rest)) (some_taken (IsVector imp) vec_items held failures (suc n) all)
 
-  pub first_fails : FailsAt spec imp tables first
-  first_fails = subst (FailsAt spec imp tables) (get_or-map vec_items failures 0 d (vec_items d) some) (are.each 0 (vec_items d) (omega (arith, some, length-map failures vec_items)))
+  pub first_fails : FailsAt spec imp (spread kinds tables) first
+  first_fails = subst (FailsAt spec imp (spread kinds tables)) (get_or-map vec_items failures 0 d (vec_items d) some) (are.each 0 (vec_items d) (omega (arith, some, length-map failures vec_items)))
 
 -- where there is no room beside the forced vectors for the first of those at which they fail, more clauses are needed
-pub first_has_no_room : VectorsAreFew → ForcedAreDistinct → ClausesAreCounted → (spec imp : Netlist) (budget : ℕ) (tables : List TableBits) → FitBoxes tables imp.boxes → (held : Held) → IsHeld spec imp budget held
-    → All (AgreeAt spec imp tables) (held_vectors held) → (failures : List (Vec Bool Global)) → 0 < length failures → AreDistinctWith (FailsAt spec imp tables) (map vec_items failures)
-    → budget < length (expansion spec imp (forced_vectors held)).clauses + clauses_per_vector imp → NeedsMoreClauses spec imp budget
-first_has_no_room few apart counted spec imp budget tables fit held is agree [] some are none = absurd (omega (arith, some))
-first_has_no_room few apart counted spec imp budget tables fit held is agree (v ∷ failures) some are none =
-    let forced_agree = all_among (AgreeAt spec imp tables) (forced_vectors held) (held_vectors held) agree is.among in
-    let forced = forced_push spec imp tables fit (forced_vectors held) forced_agree is.forced (vec_items v) (are.each 0 [] (omega arith)) in
-    no_room few apart counted spec imp budget (forced_vectors held) (vec_items v) forced none
+pub first_has_no_room : VectorsAreFew → ForcedAreDistinct → ClausesAreCounted → (spec imp : Netlist) (kinds : List ℕ) (budget : ℕ) (tables : List TableBits) → FitBoxes tables (shown kinds imp.boxes) → (held : Held) → IsHeld spec imp kinds budget held
+    → All (AgreeAt spec imp (spread kinds tables)) (held_vectors held) → (failures : List (Vec Bool Global)) → 0 < length failures → AreDistinctWith (FailsAt spec imp (spread kinds tables)) (map vec_items failures)
+    → budget < length (expansion spec imp kinds (forced_vectors held)).clauses + clauses_per_vector imp → NeedsMoreClauses spec imp kinds budget
+first_has_no_room few apart counted spec imp kinds budget tables fit held is agree [] some are none = absurd (omega (arith, some))
+first_has_no_room few apart counted spec imp kinds budget tables fit held is agree (v ∷ failures) some are none =
+    let forced_agree = all_among (AgreeAt spec imp (spread kinds tables)) (forced_vectors held) (held_vectors held) agree is.among in
+    let forced = forced_push spec imp kinds tables fit (forced_vectors held) forced_agree is.forced (vec_items v) (are.each 0 [] (omega arith)) in
+    no_room few apart counted spec imp kinds budget (forced_vectors held) (vec_items v) forced none

@@ -20,6 +20,7 @@ pub mod HeldVectors
 pub mod Pieces
 pub mod Pushed
 pub mod RowLemmas
+pub mod SharedBoxes
 pub mod Sizes
 pub mod SomeExpanded
 pub mod SomeModels

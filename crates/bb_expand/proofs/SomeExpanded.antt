@@ -19,6 +19,7 @@ use Rattle.bb_lists.proofs.Vectors.{vec_of}
 use Rattle.bb_net.specs.declared.cell.Cell.{Cell}
 use Rattle.bb_net.specs.declared.cell.Cell.TheVariants.{Const, Input}
 use Rattle.bb_net.specs.Agreement.{IsVector, TablesAgree}
+use Rattle.bb_net.specs.Kinds.{FitKinds, shown, spread}
 use Rattle.bb_net.specs.Netlists.{Netlist, IsNetlist, first_cells}
 use Rattle.bb_net.specs.Values.{FitBoxes}
 use Rattle.bb_expand.specs.declared.expanded.Expanded.{Expanded}
@@ -28,16 +29,17 @@ use Rattle.bb_expand.specs.Expanded.{IsExpanded}
 use Rattle.bb_expand.specs.GivenUp.{NeedsMoreClauses}
 use Rattle.bb_expand.specs.Expansions.{expansion, all_vectors}
 use Rattle.bb_expand.specs.Laws.{AllVectorsDecide, AnswersExist, ClausesAreCounted, ExpansionsAreRefuted, HaveShortRefutations, ModelsAreTables, SomeTablesSuit, VariablesAreWithin, VectorsAreAll}
-use Rattle.bb_expand.specs.Inside.LawsBelow.{Numbering}
+use Rattle.bb_expand.specs.Inside.LawsBelow.{Numbering, Sharing}
 use Rattle.bb_expand.proofs.AllVectors.{agree_from_all}
 use Rattle.bb_expand.proofs.HeldVectors.{forced_push}
+use Rattle.bb_expand.proofs.SharedBoxes.{few_shown}
 use Rattle.bb_expand.proofs.SomeModels.{agree_or_fail, all_or_one, model_or_none}
 
 pub expansions_are_refuted : RefutationsExist → ModelLaws → AllVectorsDecide → VariablesAreWithin → ExpansionsAreRefuted
-expansions_are_refuted exist models decide within spec imp kept none =
-    let formula = expansion spec imp (all_vectors imp.inputs) in
-    let inside = within spec imp kept (all_vectors imp.inputs) in
-    exist formula inside (λ v satisfied. (let some = (decide spec imp kept).0 (models.has_list v formula inside satisfied) in none some.0 some.1 some.2))
+expansions_are_refuted exist models decide within spec imp kinds kept fits none =
+    let formula = expansion spec imp kinds (all_vectors imp.inputs) in
+    let inside = within spec imp kinds kept fits (all_vectors imp.inputs) in
+    exist formula inside (λ v satisfied. (let some = (decide spec imp kinds kept fits).0 (models.has_list v formula inside satisfied) in none some.0 some.1 some.2))
 
 -- a netlist has a cell, and so a vector a clause
 some_clause : (imp : Netlist) → IsNetlist imp → 1 ≤ clauses_per_vector imp
@@ -62,8 +64,8 @@ in_memory imp few (x ∷ xs) whole =
     let rest = in_memory imp few xs (All-tail (IsVector imp) x xs whole) in
     (vec_of x (omega (arith, few, long)) ∷ rest.0, ap (λ l. x ∷ l) rest.1, ap suc rest.2)
 
-none_forced : (spec imp : Netlist) → AreForced spec imp []
-none_forced spec imp = record {
+none_forced : (spec imp : Netlist) (kinds : List ℕ) → AreForced spec imp kinds []
+none_forced spec imp kinds = record {
   whole = All-nil (IsVector imp);
   each = λ before after x e. absurd (let long = ap length e in omega (arith, long, length-append before (x ∷ after)));
 }
@@ -71,6 +73,7 @@ none_forced spec imp = record {
 -- the laws on which this rests
 pub record LawsOfAnswers : Type 0 where
   pub numbering : Numbering
+  pub sharing : Sharing
   pub models : ModelLaws
   pub tables : ModelsAreTables
   pub counted : ClausesAreCounted
@@ -79,12 +82,12 @@ pub record LawsOfAnswers : Type 0 where
   pub distinct : ForcedAreDistinct
   pub few : VectorsAreFew
 
-module _ (laws : LawsOfAnswers) (spec imp : Netlist) (budget : ℕ) (kept : IsNetlist imp) (small : budget < 2 ^ 63) (short : HaveShortRefutations spec imp budget) where
+module _ (laws : LawsOfAnswers) (spec imp : Netlist) (kinds : List ℕ) (budget : ℕ) (kept : IsNetlist imp) (fits : FitKinds kinds imp.boxes) (small : budget < 2 ^ 63) (short : HaveShortRefutations spec imp kinds budget) where
   abbrev clauses_over : List (List Bool) → ℕ
-  clauses_over held = length (expansion spec imp held).clauses
+  clauses_over held = length (expansion spec imp kinds held).clauses
 
   abbrev Answer : Type 0
-  Answer = ((answer : Expanded) × IsExpanded spec imp budget answer) ⊎ NeedsMoreClauses spec imp budget
+  Answer = ((answer : Expanded) × IsExpanded spec imp kinds budget answer) ⊎ NeedsMoreClauses spec imp kinds budget
 
   few_inputs : imp.inputs < 2 ^ 63
   few_inputs =
@@ -99,31 +102,31 @@ module _ (laws : LawsOfAnswers) (spec imp : Netlist) (budget : ℕ) (kept : IsNe
   product_is_as_large n zero some = absurd (omega (arith, some))
   product_is_as_large n (suc k) some = grind arith
 
-  forced_are_few : (held : List (List Bool)) → AreForced spec imp held → length held ≤ 2 ^ imp.inputs
-  forced_are_few held forced = laws.few imp.inputs held forced.whole (laws.distinct spec imp held forced)
+  forced_are_few : (held : List (List Bool)) → AreForced spec imp kinds held → length held ≤ 2 ^ imp.inputs
+  forced_are_few held forced = laws.few imp.inputs held forced.whole (laws.distinct spec imp kinds held forced)
 
   -- more clauses over forced vectors than the budget are more over all vectors
-  many : (held : List (List Bool)) → AreForced spec imp held → budget < clauses_over held → budget < clause_total imp
+  many : (held : List (List Bool)) → AreForced spec imp kinds held → budget < clauses_over held → budget < clause_total imp
   many held forced over =
-      let count = laws.counted spec imp held in
+      let count = laws.counted spec imp kinds held in
       omega (arith, over, count, product_grows (length held) (2 ^ imp.inputs) (clauses_per_vector imp) (forced_are_few held forced))
 
-  refuted : (held : List (List Bool)) → AreForced spec imp held → clauses_over held ≤ budget → HaveNoModel (expansion spec imp held).clauses → Answer
+  refuted : (held : List (List Bool)) → AreForced spec imp kinds held → clauses_over held ≤ budget → HaveNoModel (expansion spec imp kinds held).clauses → Answer
   refuted held forced within none =
       let s = short held forced within none in
       let vectors = in_memory imp few_inputs held forced.whole in
-      let count = laws.counted spec imp held in
+      let count = laws.counted spec imp kinds held in
       let few : length vectors.0 < 2 ^ 63 = omega (arith, vectors.2, count, within, small, product_is_as_large (length held) (clauses_per_vector imp) (some_clause imp kept)) in
       inl (
-        answers.Error (vec_of vectors.0 few) (expansion spec imp held) (record { steps = vec_of s.0 s.1 }),
+        answers.Error (vec_of vectors.0 few) (expansion spec imp kinds held) (record { steps = vec_of s.0 s.1 }),
         record {
           whole = subst (All (IsVector imp)) (sym vectors.1) forced.whole;
-          distinct = subst (AllPairs ◌≢◌) (sym vectors.1) (laws.distinct spec imp held forced);
-          expands = ap (expansion spec imp) (sym vectors.1);
+          distinct = subst (AllPairs ◌≢◌) (sym vectors.1) (laws.distinct spec imp kinds held forced);
+          expands = ap (expansion spec imp kinds) (sym vectors.1);
           within = within;
           refuted = s.2;
           none = λ tables fit agree.
-              let model = (laws.tables spec imp kept held).1 (tables, fit, All-map_of held forced.whole agree) in
+              let model = (laws.tables spec imp kinds kept fits held).1 (tables, fit, All-map_of held forced.whole agree) in
               none (assignment_of model.0) model.1.1;
         },
       )
@@ -131,48 +134,48 @@ module _ (laws : LawsOfAnswers) (spec imp : Netlist) (budget : ℕ) (kept : IsNe
       All-map_of : {P Q : List Bool → Type 0} (xs : List (List Bool)) → All P xs → ((x : List Bool) → P x → Q x) → All Q xs
       All-map_of xs all f k d h = f _ (all k d h)
 
-  found : (tables : List TableBits) → FitBoxes tables imp.boxes → TablesAgree spec imp tables → Answer
+  found : (tables : List TableBits) → FitBoxes tables (shown kinds imp.boxes) → TablesAgree spec imp (spread kinds tables) → Answer
   found tables fit agree =
-      let few : length tables < 2 ^ 63 = (let count = fit.count in omega (arith, count, kept.boxes_fit)) in
+      let few : length tables < 2 ^ 63 = (let count = fit.count in omega (arith, count, few_shown laws.sharing kinds imp.boxes fits, kept.boxes_fit)) in
       inl (answers.Repair (vec_of tables few), record { fit = fit; agree = agree })
 
   -- what may come after forced vectors, when n more may come
   abbrev Next : ℕ → Type 0
-  Next n = (held : List (List Bool)) → AreForced spec imp held → 2 ^ imp.inputs < length held + n → clauses_over held ≤ budget → Answer
+  Next n = (held : List (List Bool)) → AreForced spec imp kinds held → 2 ^ imp.inputs < length held + n → clauses_over held ≤ budget → Answer
 
   -- one vector more is held, or the clauses are too many
-  hold : (n : ℕ) → Next n → (held : List (List Bool)) → AreForced spec imp held → 2 ^ imp.inputs < length held + suc n
-      → (x : List Bool) (tables : List TableBits) → IsVector imp x → FitBoxes tables imp.boxes → All (AgreeAt spec imp tables) held → FailAt spec imp tables x → Answer
+  hold : (n : ℕ) → Next n → (held : List (List Bool)) → AreForced spec imp kinds held → 2 ^ imp.inputs < length held + suc n
+      → (x : List Bool) (tables : List TableBits) → IsVector imp x → FitBoxes tables (shown kinds imp.boxes) → All (AgreeAt spec imp (spread kinds tables)) held → FailAt spec imp (spread kinds tables) x → Answer
   hold n next held forced left x tables is fit agree fail = by_budget (cases_lt budget (clauses_over (held ++ x ∷ [])))
     where
-      behind : AreForced spec imp (held ++ x ∷ [])
-      behind = forced_push spec imp tables fit held agree forced x (is, fail)
+      behind : AreForced spec imp kinds (held ++ x ∷ [])
+      behind = forced_push spec imp kinds tables fit held agree forced x (is, fail)
 
       by_budget : (budget < clauses_over (held ++ x ∷ [])) ⊎ (clauses_over (held ++ x ∷ []) ≤ budget) → Answer
       by_budget (inl over) = inr (record { many = many (held ++ x ∷ []) behind over; held = held ++ x ∷ []; forced = behind; cause = inl over })
       by_budget (inr fits) = next (held ++ x ∷ []) behind (let long = length-append held (x ∷ []) in omega (arith, left, long)) fits
 
   -- tables that are right at all held vectors agree everywhere, or are wrong at a further one
-  try : (n : ℕ) → Next n → (held : List (List Bool)) → AreForced spec imp held → 2 ^ imp.inputs < length held + suc n → SomeTablesSuit spec imp held → Answer
-  try n next held forced left some = from (all_or_one (AgreeAt spec imp some.0) (FailAt spec imp some.0) (agree_or_fail spec imp some.0) (all_vectors imp.inputs))
+  try : (n : ℕ) → Next n → (held : List (List Bool)) → AreForced spec imp kinds held → 2 ^ imp.inputs < length held + suc n → SomeTablesSuit spec imp kinds held → Answer
+  try n next held forced left some = from (all_or_one (AgreeAt spec imp (spread kinds some.0)) (FailAt spec imp (spread kinds some.0)) (agree_or_fail spec imp (spread kinds some.0)) (all_vectors imp.inputs))
     where
-      from : All (AgreeAt spec imp some.0) (all_vectors imp.inputs) ⊎ ((x : List Bool) × Contains (all_vectors imp.inputs) x × FailAt spec imp some.0 x) → Answer
-      from (inl all) = found some.0 some.1 (agree_from_all laws.numbering spec imp some.0 all)
+      from : All (AgreeAt spec imp (spread kinds some.0)) (all_vectors imp.inputs) ⊎ ((x : List Bool) × Contains (all_vectors imp.inputs) x × FailAt spec imp (spread kinds some.0) x) → Answer
+      from (inl right) = found some.0 some.1 (agree_from_all laws.numbering spec imp (spread kinds some.0) right)
       from (inr one) =
           let number = from_map (bits_of imp.inputs) (range_with_len 0 (2 ^ imp.inputs)) one.0 one.1 in
           hold n next held forced left one.0 some.0 (sym (ap length number.2) ∙ laws.numbering.width imp.inputs number.0) some.1 some.2 one.2
 
-  turn : (n : ℕ) → Next n → (held : List (List Bool)) → AreForced spec imp held → 2 ^ imp.inputs < length held + suc n → clauses_over held ≤ budget
-      → HasModel (expansion spec imp held) ⊎ HaveNoModel (expansion spec imp held).clauses → Answer
-  turn n next held forced left within (inl model) = try n next held forced left ((laws.tables spec imp kept held).0 model)
+  turn : (n : ℕ) → Next n → (held : List (List Bool)) → AreForced spec imp kinds held → 2 ^ imp.inputs < length held + suc n → clauses_over held ≤ budget
+      → HasModel (expansion spec imp kinds held) ⊎ HaveNoModel (expansion spec imp kinds held).clauses → Answer
+  turn n next held forced left within (inl model) = try n next held forced left ((laws.tables spec imp kinds kept fits held).0 model)
   turn n next held forced left within (inr none) = refuted held forced within none
 
   -- by the number of vectors that may still come
   answer : (n : ℕ) → Next n
   answer zero held forced left within = absurd (omega (arith, left, forced_are_few held forced))
-  answer (suc n) held forced left within = turn n (answer n) held forced left within (model_or_none laws.models laws.each (expansion spec imp held) (laws.within spec imp kept held))
+  answer (suc n) held forced left within = turn n (answer n) held forced left within (model_or_none laws.models laws.each (expansion spec imp kinds held) (laws.within spec imp kinds kept fits held))
 
 pub answers_exist : LawsOfAnswers → AnswersExist
-answers_exist laws spec imp budget kept small short =
-    let none = laws.counted spec imp [] in
-    answer laws spec imp budget kept small short (2 ^ imp.inputs + 1) [] (none_forced spec imp) (omega arith) (omega (arith, none))
+answers_exist laws spec imp kinds budget kept fits small short =
+    let none = laws.counted spec imp kinds [] in
+    answer laws spec imp kinds budget kept fits small short (2 ^ imp.inputs + 1) [] (none_forced spec imp kinds) (omega arith) (omega (arith, none))

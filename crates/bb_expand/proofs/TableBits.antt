@@ -1,5 +1,5 @@
 -- Tables and their bits one after another.
-use Rattle.std.proofs.Common.{◌≡◌, ℕ, ◌+◌, ◌*◌, ◌^◌, ◌<◌, ◌≤◌, zero, suc, Bool, false, List, [], ◌∷◌, ◌++◌, length, take, drop, get_or, refl, sym, ap, ap₂, ◌∙◌, arith, add-one}
+use Rattle.std.proofs.Common.{◌≡◌, ℕ, ◌+◌, ◌*◌, ◌^◌, ◌<◌, ◌≤◌, zero, suc, Bool, false, List, [], ◌∷◌, ◌++◌, length, take, drop, get_or, append_assoc, drop-cons, refl, sym, ap, ap₂, ◌∙◌, arith, add-one}
 use Rattle.std.specs.List.{flat_map}
 use Rattle.std.proofs.lemmas.List.Concat.{flat_map-append}
 use Rattle.std.proofs.lemmas.List.{take_more, append-nil, length-append, get_or-take, get_or-drop, length-drop, length-take-le, drop-drop}
@@ -27,6 +27,16 @@ table_read (pins ∷ boxes) bits zero h = refl
 table_read (pins ∷ boxes) bits (suc b) h =
     table_read boxes (drop (bits_of_table pins) bits) b (omega (arith, h))
     ∙ ap (table_in (box_at boxes b)) (drop-drop (table_bits (take b boxes)) (bits_of_table pins) bits ∙ ap (λ n. drop n bits) (sym (table_bits-cons pins (take b boxes))))
+
+-- where those of the first boxes are read, one more is read behind them
+pub read_more : (boxes : List Pins) (bits : List Bool) (k start : ℕ) (tables : List TableBits) (t : TableBits) → k < length boxes → t ≡ table_in (box_at boxes k) (drop start bits)
+    → tables ++ tables_in (drop k boxes) (drop start bits) ≡ tables_in boxes bits
+    → (tables ++ t ∷ []) ++ tables_in (drop (k + 1) boxes) (drop (start + bits_of_table (box_at boxes k)) bits) ≡ tables_in boxes bits
+read_more boxes bits k start tables t there is so_far =
+    let none : Pins = record { ins = []; outs = [] } in
+    let front = ap (λ bs. tables_in bs (drop start bits)) (drop-cons boxes k none there) in
+    let rest = ap₂ tables_in (ap (λ n. drop n boxes) (add-one k)) (sym (drop-drop (bits_of_table (box_at boxes k)) start bits)) in
+    append_assoc tables (t ∷ []) _ ∙ (ap (λ ts. tables ++ ts) (ap₂ (λ u ts. u ∷ ts) is rest ∙ sym front) ∙ so_far)
 
 -- tables that were read fit their boxes
 pub read_fit : (boxes : List Pins) (bits : List Bool) → table_bits boxes ≤ length bits → FitBoxes (tables_in boxes bits) boxes

@@ -1,20 +1,24 @@
 -- The variables of an expansion are in its range.
 use Rattle.std.proofs.Common.{◌≡◌, ℕ, ◌+◌, ◌*◌, ◌^◌, ◌<◌, ◌≤◌, Bool, not, List, [], ◌∷◌, ◌++◌, length, get_or, take, All, refl, arith}
+use Rattle.std.specs.Prelude.{slice_index}
 use Rattle.std.proofs.lemmas.List.Elements.{All-nil, All-cons, All-head, All-tail, All-append, All-get_or}
 use Rattle.std.proofs.lemmas.Nat.{mul-le}
 use Rattle.bb_bits.specs.Numbers.{bits_of}
 use Rattle.bb_net.specs.declared.cell.Cell.{Cell}
 use Rattle.bb_net.specs.declared.cell.Cell.TheVariants.{Const, Input, Not, And, Or, Xor, Mux, BoxOut}
 use Rattle.bb_net.specs.Completions.{table_bits}
+use Rattle.bb_net.specs.Kinds.{FitKinds, shown}
 use Rattle.bb_net.specs.Netlists.{Netlist, Pins, IsNetlist, ReadsBefore, cell_at, box_at}
 use Rattle.bb_net.specs.Agreement.{wanted_bit}
 use Rattle.bb_cnf.specs.declared.clauses.Lit.{Lit}
 use Rattle.bb_cnf.specs.Clauses.{IsWithin, positive, negated}
 use Rattle.bb_expand.specs.Expansions.{having, differing, row_clauses, cell_clauses, cell_variable, cells_clauses, output_clauses, vector_clauses, table_variable}
+use Rattle.bb_expand.specs.Inside.LawsBelow.{Sharing}
 use Rattle.bb_expand.specs.Laws.{VariablesAreWithin}
 use Rattle.bb_expand.proofs.BoxesThere.{box_there}
 use Rattle.bb_expand.proofs.Pieces.{pieces_hold, all_hold}
 use Rattle.bb_expand.proofs.RowLemmas.{bits_fit, row_fits}
+use Rattle.bb_expand.proofs.SharedBoxes.{pin_shown, row_shown}
 
 -- a variable in range, and a clause of such
 abbrev Ranges : ℕ → ℕ → Type 0
@@ -57,25 +61,25 @@ module _ (vars : ℕ) (var : ℕ → ℕ) where
       (row_clause_in (differing var pins row) (negated y) (positive t) front hy ht)
       (All-cons (IsIn vars) (differing var pins row ++ positive y ∷ negated t ∷ []) [] (row_clause_in (differing var pins row) (positive y) (negated t) front hy ht) (All-nil (IsIn vars)))
 
-  pub cell_in : (inputs place y : ℕ) (boxes : List Pins) (x : List Bool) (cell : Cell) → ReadsBefore inputs boxes place cell → ((k : ℕ) → k < place → Ranges vars (var k)) → Ranges vars y
-      → ((b p row : ℕ) → cell ≡ BoxOut b p → row < 2 ^ length (box_at boxes b).ins → Ranges vars (table_variable boxes b row p)) → IsWithin vars (cell_clauses boxes x var y cell)
-  cell_in inputs place y boxes x (Const b) reads h hy ht = clauses_in vars (cell_clauses boxes x var y (Const b)) ((hy, tt), tt)
-  cell_in inputs place y boxes x (Input i) reads h hy ht = clauses_in vars (cell_clauses boxes x var y (Input i)) ((hy, tt), tt)
-  cell_in inputs place y boxes x (Not a) reads h hy ht = let ha = h a reads in clauses_in vars (cell_clauses boxes x var y (Not a)) ((hy, (ha, tt)), ((hy, (ha, tt)), tt))
-  cell_in inputs place y boxes x (And a b) reads h hy ht = let ha = h a reads.0 in let hb = h b reads.1 in clauses_in vars (cell_clauses boxes x var y (And a b)) ((hy, (ha, tt)), ((hy, (hb, tt)), ((hy, (ha, (hb, tt))), tt)))
-  cell_in inputs place y boxes x (Or a b) reads h hy ht = let ha = h a reads.0 in let hb = h b reads.1 in clauses_in vars (cell_clauses boxes x var y (Or a b)) ((hy, (ha, tt)), ((hy, (hb, tt)), ((hy, (ha, (hb, tt))), tt)))
-  cell_in inputs place y boxes x (Xor a b) reads h hy ht =
+  pub cell_in : (inputs place y : ℕ) (kinds : List ℕ) (boxes : List Pins) (x : List Bool) (cell : Cell) → ReadsBefore inputs boxes place cell → ((k : ℕ) → k < place → Ranges vars (var k)) → Ranges vars y
+      → ((b p row : ℕ) → cell ≡ BoxOut b p → row < 2 ^ length (box_at boxes b).ins → Ranges vars (table_variable (shown kinds boxes) (slice_index kinds b) row p)) → IsWithin vars (cell_clauses kinds boxes x var y cell)
+  cell_in inputs place y kinds boxes x (Const b) reads h hy ht = clauses_in vars (cell_clauses kinds boxes x var y (Const b)) ((hy, tt), tt)
+  cell_in inputs place y kinds boxes x (Input i) reads h hy ht = clauses_in vars (cell_clauses kinds boxes x var y (Input i)) ((hy, tt), tt)
+  cell_in inputs place y kinds boxes x (Not a) reads h hy ht = let ha = h a reads in clauses_in vars (cell_clauses kinds boxes x var y (Not a)) ((hy, (ha, tt)), ((hy, (ha, tt)), tt))
+  cell_in inputs place y kinds boxes x (And a b) reads h hy ht = let ha = h a reads.0 in let hb = h b reads.1 in clauses_in vars (cell_clauses kinds boxes x var y (And a b)) ((hy, (ha, tt)), ((hy, (hb, tt)), ((hy, (ha, (hb, tt))), tt)))
+  cell_in inputs place y kinds boxes x (Or a b) reads h hy ht = let ha = h a reads.0 in let hb = h b reads.1 in clauses_in vars (cell_clauses kinds boxes x var y (Or a b)) ((hy, (ha, tt)), ((hy, (hb, tt)), ((hy, (ha, (hb, tt))), tt)))
+  cell_in inputs place y kinds boxes x (Xor a b) reads h hy ht =
       let ha = h a reads.0 in
       let hb = h b reads.1 in
-      clauses_in vars (cell_clauses boxes x var y (Xor a b)) ((hy, (ha, (hb, tt))), ((hy, (ha, (hb, tt))), ((hy, (ha, (hb, tt))), ((hy, (ha, (hb, tt))), tt))))
-  cell_in inputs place y boxes x (Mux c t e) reads h hy ht =
+      clauses_in vars (cell_clauses kinds boxes x var y (Xor a b)) ((hy, (ha, (hb, tt))), ((hy, (ha, (hb, tt))), ((hy, (ha, (hb, tt))), ((hy, (ha, (hb, tt))), tt))))
+  cell_in inputs place y kinds boxes x (Mux c t e) reads h hy ht =
       let hc = h c reads.0 in
       let i = h t reads.1 in
       let j = h e reads.2 in
-      clauses_in vars (cell_clauses boxes x var y (Mux c t e)) ((hc, (i, (hy, tt))), ((hc, (i, (hy, tt))), ((hc, (j, (hy, tt))), ((hc, (j, (hy, tt))), tt))))
-  cell_in inputs place y boxes x (BoxOut b p) reads h hy ht =
-      pieces_hold (IsIn vars) (λ row. row_clauses var (box_at boxes b).ins y (bits_of (length (box_at boxes b).ins) row) (table_variable boxes b row p)) (2 ^ length (box_at boxes b).ins)
-      (λ row below. row_in (box_at boxes b).ins y (table_variable boxes b row p) (bits_of (length (box_at boxes b).ins) row) (λ k d there. h _ (reads k d there)) hy (ht b p row refl below))
+      clauses_in vars (cell_clauses kinds boxes x var y (Mux c t e)) ((hc, (i, (hy, tt))), ((hc, (i, (hy, tt))), ((hc, (j, (hy, tt))), ((hc, (j, (hy, tt))), tt))))
+  cell_in inputs place y kinds boxes x (BoxOut b p) reads h hy ht =
+      pieces_hold (IsIn vars) (λ row. row_clauses var (box_at boxes b).ins y (bits_of (length (box_at boxes b).ins) row) (table_variable (shown kinds boxes) (slice_index kinds b) row p)) (2 ^ length (box_at boxes b).ins)
+      (λ row below. row_in (box_at boxes b).ins y (table_variable (shown kinds boxes) (slice_index kinds b) row p) (bits_of (length (box_at boxes b).ins) row) (λ k d there. h _ (reads k d there)) hy (ht b p row refl below))
 
 -- a table's variable is one of the first
 table_in_range : (boxes : List Pins) (b p row vars : ℕ) → p < length (box_at boxes b).outs → row < 2 ^ length (box_at boxes b).ins → table_bits boxes ≤ vars → Ranges vars (table_variable boxes b row p)
@@ -84,24 +88,26 @@ table_in_range boxes b p row vars there below enough =
     let inside = row_fits (table_bits (take b boxes)) row (2 ^ length (box_at boxes b).ins) (length (box_at boxes b).outs) p (table_bits boxes) fits below there in
     (omega arith, omega (arith, inside, enough))
 
-module _ (spec imp : Netlist) (kept : IsNetlist imp) (vectors : List (List Bool)) where
+module _ (sharing : Sharing) (spec imp : Netlist) (kinds : List ℕ) (kept : IsNetlist imp) (fits : FitKinds kinds imp.boxes) (vectors : List (List Bool)) where
   abbrev vars : ℕ
-  vars = table_bits imp.boxes + length vectors * length imp.cells
+  vars = table_bits (shown kinds imp.boxes) + length vectors * length imp.cells
 
-  var_in : (v k : ℕ) → v < length vectors → k < length imp.cells → Ranges vars (cell_variable imp v k)
+  var_in : (v k : ℕ) → v < length vectors → k < length imp.cells → Ranges vars (cell_variable imp kinds v k)
   var_in v k there h =
       let p : (v + 1) * length imp.cells ≤ length vectors * length imp.cells = mul-le (v + 1) (length imp.cells) (length vectors) (length imp.cells) (omega (arith, there)) (omega arith) in
       (omega arith, omega (arith, p, h))
 
-  vector_in : (v : ℕ) → v < length vectors → (x : List Bool) → IsWithin vars (vector_clauses spec imp v x)
-  vector_in v there x = All-append (IsIn vars) (cells_clauses imp v x) (output_clauses spec imp v x)
-      (pieces_hold (IsIn vars) (λ q. cell_clauses imp.boxes x (cell_variable imp v) (cell_variable imp v q) (cell_at imp.cells q)) (length imp.cells)
-      (λ q h. cell_in vars (cell_variable imp v) imp.inputs q (cell_variable imp v q) imp.boxes x (cell_at imp.cells q) (kept.ordered q h)
+  vector_in : (v : ℕ) → v < length vectors → (x : List Bool) → IsWithin vars (vector_clauses spec imp kinds v x)
+  vector_in v there x = All-append (IsIn vars) (cells_clauses imp kinds v x) (output_clauses spec imp kinds v x)
+      (pieces_hold (IsIn vars) (λ q. cell_clauses kinds imp.boxes x (cell_variable imp kinds v) (cell_variable imp kinds v q) (cell_at imp.cells q)) (length imp.cells)
+      (λ q h. cell_in vars (cell_variable imp kinds v) imp.inputs q (cell_variable imp kinds v q) kinds imp.boxes x (cell_at imp.cells q) (kept.ordered q h)
       (λ k below. var_in v k there (omega (arith, below, h))) (var_in v q there h)
-      (λ b p row is below. table_in_range imp.boxes b p row vars (kept.listed q b p h is).0 below (omega arith))))
-      (all_hold (IsIn vars) (λ j. having (cell_variable imp v (get_or imp.outs j 0)) (wanted_bit spec x j) ∷ []) (length imp.outs)
-      (λ j h. lits_in vars (having (cell_variable imp v (get_or imp.outs j 0)) (wanted_bit spec x j) ∷ []) (var_in v (get_or imp.outs j 0) there (All-get_or (λ k. k < length imp.cells) imp.outs j 0 h kept.outs_there), tt)))
+      (λ b p row is below.
+      let has = (kept.listed q b p h is).0 in
+      table_in_range (shown kinds imp.boxes) (slice_index kinds b) p row vars (pin_shown sharing kinds imp.boxes fits b p has) (row_shown sharing kinds imp.boxes fits b row (box_there imp.boxes b p has) below) (omega arith))))
+      (all_hold (IsIn vars) (λ j. having (cell_variable imp kinds v (get_or imp.outs j 0)) (wanted_bit spec x j) ∷ []) (length imp.outs)
+      (λ j h. lits_in vars (having (cell_variable imp kinds v (get_or imp.outs j 0)) (wanted_bit spec x j) ∷ []) (var_in v (get_or imp.outs j 0) there (All-get_or (λ k. k < length imp.cells) imp.outs j 0 h kept.outs_there), tt)))
 
-pub variables_are_within : VariablesAreWithin
-variables_are_within spec imp kept vectors =
-    pieces_hold (IsIn (vars spec imp kept vectors)) (λ v. vector_clauses spec imp v (get_or vectors v [])) (length vectors) (λ v there. vector_in spec imp kept vectors v there (get_or vectors v []))
+pub variables_are_within : Sharing → VariablesAreWithin
+variables_are_within sharing spec imp kinds kept fits vectors =
+    pieces_hold (IsIn (vars sharing spec imp kinds kept fits vectors)) (λ v. vector_clauses spec imp kinds v (get_or vectors v [])) (length vectors) (λ v there. vector_in sharing spec imp kinds kept fits vectors v there (get_or vectors v []))

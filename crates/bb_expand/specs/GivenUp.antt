@@ -8,6 +8,7 @@ use Rattle.bb_bits.specs.TruthSets.{HasMoreThan}
 use Rattle.bb_filled.specs.Filled.{IsFilled}
 use Rattle.bb_filled.specs.Forced.{AgreeAt, AreForced}
 use Rattle.bb_net.specs.Completions.{table_bits}
+use Rattle.bb_net.specs.Kinds.{shown, spread}
 use Rattle.bb_net.specs.Netlists.{Netlist, IsNetlist}
 use Rattle.bb_net.specs.Values.{FitBoxes}
 use Rattle.bb_sym.specs.Functions.{output_functions}
@@ -18,13 +19,14 @@ use Rattle.bb_expand.specs.Expansions.{expansion}
 abbrev pub FillTooLarge : Netlist → Netlist → List TableBits → Type 0
 FillTooLarge spec imp tables = (filled : Netlist) × (at : ℕ → ℕ) × IsNetlist filled × IsFilled imp tables filled at × HasMoreThan (IsBeadOfAny (output_functions spec filled)) 1000000
 
--- some tables agree at all of these vectors, and have more than 2^20 bits or fill the boxes so
-abbrev pub SuitsLargeTables : Netlist → Netlist → List (List Bool) → Type 0
-SuitsLargeTables spec imp vectors = (tables : List TableBits) × FitBoxes tables imp.boxes × All (AgreeAt spec imp tables) vectors
-    × ((2 ^ 20 < table_bits imp.boxes) ⊎ FillTooLarge spec imp tables)
+-- some tables, one for each kind, agree at all of these vectors, and fill the boxes so, or have more than 2^20 bits where each box
+-- counts: a table is filled in once for each box of its kind
+abbrev pub SuitsLargeTables : Netlist → Netlist → List ℕ → List (List Bool) → Type 0
+SuitsLargeTables spec imp kinds vectors = (tables : List TableBits) × FitBoxes tables (shown kinds imp.boxes) × All (AgreeAt spec imp (spread kinds tables)) vectors
+    × ((2 ^ 20 < table_bits imp.boxes) ⊎ FillTooLarge spec imp (spread kinds tables))
 
-pub record NeedsMoreClauses (spec imp : Netlist) (budget : ℕ) : Type 0 where
+pub record NeedsMoreClauses (spec imp : Netlist) (kinds : List ℕ) (budget : ℕ) : Type 0 where
   pub many : budget < clause_total imp
   pub held : List (List Bool)
-  pub forced : AreForced spec imp held
-  pub cause : (budget < length (expansion spec imp held).clauses) ⊎ SuitsLargeTables spec imp held
+  pub forced : AreForced spec imp kinds held
+  pub cause : (budget < length (expansion spec imp kinds held).clauses) ⊎ SuitsLargeTables spec imp kinds held

@@ -2,6 +2,7 @@
 
 ghost use Rattle.std.specs.Prelude.{◌≡◌, ◌^◌, ◌<◌, ◌≤◌, IfOk, OnOk, IsErrOf};
 ghost use Rattle.bb_net.specs.Completions.{table_bits, HaveSmallTables};
+ghost use Rattle.bb_net.specs.Kinds.{shown};
 ghost use Rattle.bb_expand.specs.ClauseCounts.{clause_total};
 ghost use Rattle.bb_expand.specs.declared.expanded.ExpandFault.TheVariants as fault;
 ghost use Rattle.bb_expand.specs.Expanded.{IsExpanded};
@@ -11,7 +12,7 @@ use crate::counting::is_within_budget;
 use crate::expanded::{ExpandFault, Expanded};
 use crate::held::{Held, nothing_held};
 use crate::holding::hold_failures;
-use crate::seeking::{FILLED_BITS, failing_vectors};
+use crate::seeking::{failing_vectors, may_be_filled};
 use crate::turns::{refuted, tables_of, zero_tables};
 use bb_cdcl::Solved;
 use bb_filled::laws::{forced_are_distinct, vectors_are_few};
@@ -21,36 +22,36 @@ use std::alloc::Global;
 // What the numbers of turns are mixed with to draw patterns.
 const SEED: u64 = 0x9e37_79b9_7f4a_7c15;
 
-// The number of table bits, where they are not too many.
+// The number of bits of tables for all kinds, where they are not too many.
 fn admit(pair: &Pair, clauses: u32) -> Result<u32, ExpandFault>
     requires budget { clauses ≤ 8000000 }
-    ensures bits { IfOk result (λ bits. bits ≡ table_bits pair.now.imp.boxes) }
-    ensures small { OnOk result (HaveSmallTables pair.now.imp.boxes) }
+    ensures bits { IfOk result (λ bits. bits ≡ table_bits (shown pair.now.kinds pair.now.imp.boxes)) }
+    ensures small { OnOk result (HaveSmallTables (shown pair.now.kinds pair.now.imp.boxes)) }
     ensures large { OnOk result (2 ^ 20 < table_bits pair.now.imp.boxes → clause_total pair.now.imp ≤ clauses) }
-    ensures wide { IsErrOf result fault.Wide → 2 ^ 24 < table_bits pair.now.imp.boxes }
-    ensures wide_back { 2 ^ 24 < table_bits pair.now.imp.boxes → IsErrOf result fault.Wide }
-    ensures clauses { IsErrOf result fault.Clauses → HaveSmallTables pair.now.imp.boxes × NeedsMoreClauses pair.now.spec pair.now.imp clauses }
+    ensures wide { IsErrOf result fault.Wide → 2 ^ 24 < table_bits (shown pair.now.kinds pair.now.imp.boxes) }
+    ensures wide_back { 2 ^ 24 < table_bits (shown pair.now.kinds pair.now.imp.boxes) → IsErrOf result fault.Wide }
+    ensures clauses { IsErrOf result fault.Clauses → HaveSmallTables (shown pair.now.kinds pair.now.imp.boxes) × NeedsMoreClauses pair.now.spec pair.now.imp pair.now.kinds clauses }
 {
-    let Some(bits) = pair.imp().table_bits() else {
+    let Some(bits) = pair.table_bits() else {
         return Err(ExpandFault::Wide);
     };
-    if bits > FILLED_BITS && !is_within_budget(pair, clauses) {
+    if !may_be_filled(pair.imp()) && !is_within_budget(pair, clauses) {
         return Err(ExpandFault::Clauses);
     }
     Ok(bits)
 }
 
-/// Decides by clauses whether some tables agree.
+/// Decides by clauses whether some tables agree, one for each kind of boxes.
 ///
-/// `Wide` comes exactly where tables for all boxes have more than 2^24 bits; it is tried first. `Clauses` comes only where the clauses
+/// `Wide` comes exactly where tables for all kinds have more than 2^24 bits; it is tried first. `Clauses` comes only where the clauses
 /// over all vectors are more than `clauses`, and for some vectors, at each of which tables fail that agree at those before, either the
 /// clauses are, or some tables that agree at all of them are too large to be tried.
 pub fn expand(alloc: Global, pair: &Pair, clauses: u32) -> Result<Expanded, ExpandFault>
     requires budget { clauses ≤ 8000000 }
-    ensures ok { IfOk result (IsExpanded pair.now.spec pair.now.imp clauses) }
-    ensures wide { IsErrOf result fault.Wide → 2 ^ 24 < table_bits pair.now.imp.boxes }
-    ensures wide_back { 2 ^ 24 < table_bits pair.now.imp.boxes → IsErrOf result fault.Wide }
-    ensures clauses { IsErrOf result fault.Clauses → HaveSmallTables pair.now.imp.boxes × NeedsMoreClauses pair.now.spec pair.now.imp clauses }
+    ensures ok { IfOk result (IsExpanded pair.now.spec pair.now.imp pair.now.kinds clauses) }
+    ensures wide { IsErrOf result fault.Wide → 2 ^ 24 < table_bits (shown pair.now.kinds pair.now.imp.boxes) }
+    ensures wide_back { 2 ^ 24 < table_bits (shown pair.now.kinds pair.now.imp.boxes) → IsErrOf result fault.Wide }
+    ensures clauses { IsErrOf result fault.Clauses → HaveSmallTables (shown pair.now.kinds pair.now.imp.boxes) × NeedsMoreClauses pair.now.spec pair.now.imp pair.now.kinds clauses }
 {
     vectors_are_few();
     forced_are_distinct();
@@ -61,7 +62,8 @@ pub fn expand(alloc: Global, pair: &Pair, clauses: u32) -> Result<Expanded, Expa
     let mut tables = zero_tables(alloc, pair, bits)?;
     loop {
         let seed = held.forced.len() as u64 ^ SEED;
-        let failing = failing_vectors(alloc, pair, &tables, bits, clauses, seed)?;
+        let wanted = held.vectors.len().max(1);
+        let failing = failing_vectors(alloc, pair, &tables, clauses, seed, wanted)?;
         if failing.is_empty() {
             return Ok(Expanded::Repair(tables));
         }

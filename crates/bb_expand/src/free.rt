@@ -13,16 +13,14 @@ use bb_cdcl::{Attempt, Outcome, solve_within};
 use bb_net::Net;
 use std::alloc::Global;
 
-// After so many learned clauses the solver gives up.
-const LEARNED: u32 = 20_000;
-
-/// A vector at which some output differs, or that there is none. Gives up where that takes more than `clauses` clauses, or the
-/// solver too long.
+/// A vector at which some output differs, or that there is none. Gives up where that takes more than `clauses` clauses, or where the
+/// solver has learned so many.
 pub(crate) fn by_solver(
     alloc: Global,
     spec: &Net,
     imp: &Net,
     clauses: u32,
+    learned: u32,
 ) -> Result<Sought, NoMemory>
     requires comparable { AreComparable spec.now imp.now }
     requires budget { clauses ≤ 8000000 }
@@ -34,7 +32,7 @@ pub(crate) fn by_solver(
         return Ok(Sought::GivenUp);
     }
     let cnf = free_clauses(alloc, spec, imp)?;
-    match solve_within(alloc, &cnf, LEARNED)? {
+    match solve_within(alloc, &cnf, learned)? {
         Attempt::Decided(Outcome::Sat(mut bits)) => {
             bits.truncate(imp.inputs() as usize);
             Ok(Sought::At(bits))

@@ -39,7 +39,7 @@ fn either(alloc: Global) -> Result<Net, Fail>
 #[test]
 fn a_gate_and_a_multiplexer_are_equivalent(rt: HostRuntime) -> Result<(), Fail> {
     let alloc = rt.alloc();
-    let found = by_solver(alloc, &both(alloc, false)?, &both(alloc, true)?, 24)?;
+    let found = by_solver(alloc, &both(alloc, false)?, &both(alloc, true)?, 24, 1_000)?;
     assert!(rt; matches!(&found, Sought::Nowhere));
     Ok(())
 }
@@ -47,7 +47,7 @@ fn a_gate_and_a_multiplexer_are_equivalent(rt: HostRuntime) -> Result<(), Fail> 
 #[test]
 fn an_and_and_an_or_differ(rt: HostRuntime) -> Result<(), Fail> {
     let alloc = rt.alloc();
-    match by_solver(alloc, &both(alloc, false)?, &either(alloc)?, 23)? {
+    match by_solver(alloc, &both(alloc, false)?, &either(alloc)?, 23, 1_000)? {
         Sought::At(x) => assert!(rt; x.len() == 2 && x[0] != x[1]),
         _ => assert!(rt; false),
     }
@@ -57,7 +57,7 @@ fn an_and_and_an_or_differ(rt: HostRuntime) -> Result<(), Fail> {
 #[test]
 fn one_clause_too_many_is_given_up(rt: HostRuntime) -> Result<(), Fail> {
     let alloc = rt.alloc();
-    let found = by_solver(alloc, &both(alloc, false)?, &either(alloc)?, 22)?;
+    let found = by_solver(alloc, &both(alloc, false)?, &either(alloc)?, 22, 1_000)?;
     assert!(rt; matches!(&found, Sought::GivenUp));
     Ok(())
 }

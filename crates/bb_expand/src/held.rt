@@ -3,6 +3,7 @@
 ghost use Rattle.std.specs.Prelude.{◌≡◌, ◌+◌, ◌<◌, ◌≤◌, ◌^◌, ◌++◌, ◌∷◌, [], ℕ, length, map, vec_items, IfOk, OnOk};
 ghost use Rattle.bb_cnf.specs.Clauses.{IsWithin, lists_of};
 ghost use Rattle.bb_net.specs.Completions.{table_bits, HaveSmallTables};
+ghost use Rattle.bb_net.specs.Kinds.{shown};
 ghost use Rattle.bb_expand.specs.Expansions.{expansion};
 
 use crate::laws::expansions_and_tables;
@@ -23,12 +24,12 @@ pub(crate) struct Held {
     pub(crate) solver: Solver,
 }
 
-// No vector is held, and tables have so many bits.
+// No vector is held, and tables of all kinds have so many bits.
 pub(crate) fn nothing_held(alloc: Global, pair: &Pair, bits: u32) -> Result<Held, NoMemory>
-    requires bits { bits ≡ table_bits pair.now.imp.boxes }
+    requires bits { bits ≡ table_bits (shown pair.now.kinds pair.now.imp.boxes) }
     ensures none { IfOk result (λ new. new.vectors.items ≡ []) }
     ensures forced { IfOk result (λ new. new.forced.items ≡ []) }
-    ensures cnf { IfOk result (λ new. new.solver ≡ expansion pair.now.spec pair.now.imp []) }
+    ensures cnf { IfOk result (λ new. new.solver ≡ expansion pair.now.spec pair.now.imp pair.now.kinds []) }
 {
     let _ = pair;
     let cnf = Cnf {
@@ -61,13 +62,13 @@ pub(crate) fn with_vector(
     held: Held,
     x: &[bool],
 ) -> Result<Held, NoMemory>
-    requires small { HaveSmallTables pair.now.imp.boxes }
+    requires small { HaveSmallTables (shown pair.now.kinds pair.now.imp.boxes) }
     requires inputs { length x.now ≡ pair.now.imp.inputs }
-    requires expands { held.solver ≡ expansion pair.now.spec pair.now.imp (map vec_items held.vectors.items) }
+    requires expands { held.solver ≡ expansion pair.now.spec pair.now.imp pair.now.kinds (map vec_items held.vectors.items) }
     requires fits { held.solver.vars + length pair.now.imp.cells < 2 ^ 32 }
     ensures vectors { IfOk result (λ new. map vec_items new.vectors.items ≡ map vec_items held.vectors.items ++ x.now ∷ []) }
     ensures forced { IfOk result (λ new. new.forced.items ≡ held.forced.items) }
-    ensures cnf { IfOk result (λ new. new.solver ≡ expansion pair.now.spec pair.now.imp (map vec_items held.vectors.items ++ x.now ∷ [])) }
+    ensures cnf { IfOk result (λ new. new.solver ≡ expansion pair.now.spec pair.now.imp pair.now.kinds (map vec_items held.vectors.items ++ x.now ∷ [])) }
 {
     expansions_and_tables();
     let Held {
@@ -76,7 +77,7 @@ pub(crate) fn with_vector(
         mut solver,
     } = held;
     let vars = solver.cnf().vars;
-    let starts = table_starts(alloc, pair.imp().boxes())?;
+    let starts = table_starts(alloc, pair)?;
     let mut values = vec![in alloc; false; pair.spec().cells().len()]?;
     let mut clauses = Vec::new(alloc);
     push_vector(&mut clauses, vars, pair, &starts, x, &mut values)?;

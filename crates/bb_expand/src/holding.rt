@@ -4,6 +4,7 @@ ghost use Rattle.std.specs.Prelude.{◌≡◌, ◌+◌, ◌<◌, ◌≤◌, ◌+
 ghost use Rattle.bb_filled.specs.Forced.{AgreeAt, AreForced};
 ghost use Rattle.bb_net.specs.Agreement.{IsVector};
 ghost use Rattle.bb_net.specs.Completions.{table_bits, HaveSmallTables};
+ghost use Rattle.bb_net.specs.Kinds.{shown, spread};
 ghost use Rattle.bb_net.specs.Values.{FitBoxes};
 ghost use Rattle.bb_expand.specs.ClauseCounts.{clauses_per_vector};
 ghost use Rattle.bb_expand.specs.declared.expanded.ExpandFault.TheVariants as fault;
@@ -34,13 +35,13 @@ fn has_room(imp: &Net, cnf: &Cnf, clauses: u32) -> bool
 // Holds one more vector, whose clauses fit the budget.
 fn hold(alloc: Global, pair: &Pair, clauses: u32, held: Held, x: &[bool]) -> Result<Held, NoMemory>
     requires budget { clauses ≤ 8000000 }
-    requires small { HaveSmallTables pair.now.imp.boxes }
-    requires held { IsHeld pair.now.spec pair.now.imp clauses held }
+    requires small { HaveSmallTables (shown pair.now.kinds pair.now.imp.boxes) }
+    requires held { IsHeld pair.now.spec pair.now.imp pair.now.kinds clauses held }
     requires each { AreDistinctWith (IsVector pair.now.imp) (held_vectors held ++ x.now ∷ []) }
     requires room { length held.solver.clauses + clauses_per_vector pair.now.imp ≤ clauses }
     ensures vectors { IfOk result (λ new. held_vectors new ≡ held_vectors held ++ x.now ∷ []) }
     ensures forced { IfOk result (λ new. new.forced.items ≡ held.forced.items) }
-    ensures held { IfOk result (IsHeld pair.now.spec pair.now.imp clauses) }
+    ensures held { IfOk result (IsHeld pair.now.spec pair.now.imp pair.now.kinds clauses) }
 {
     expansions_and_tables();
     let _ = clauses;
@@ -57,14 +58,14 @@ fn hold_forced(
     x: &[bool],
 ) -> Result<Held, NoMemory>
     requires budget { clauses ≤ 8000000 }
-    requires small { HaveSmallTables pair.now.imp.boxes }
-    requires held { IsHeld pair.now.spec pair.now.imp clauses held }
+    requires small { HaveSmallTables (shown pair.now.kinds pair.now.imp.boxes) }
+    requires held { IsHeld pair.now.spec pair.now.imp pair.now.kinds clauses held }
     requires each { AreDistinctWith (IsVector pair.now.imp) (held_vectors held ++ x.now ∷ []) }
     requires room { length held.solver.clauses + clauses_per_vector pair.now.imp ≤ clauses }
-    requires forced { AreForced pair.now.spec pair.now.imp (forced_vectors held ++ x.now ∷ []) }
+    requires forced { AreForced pair.now.spec pair.now.imp pair.now.kinds (forced_vectors held ++ x.now ∷ []) }
     ensures vectors { IfOk result (λ new. held_vectors new ≡ held_vectors held ++ x.now ∷ []) }
     ensures forced { IfOk result (λ new. forced_vectors new ≡ forced_vectors held ++ x.now ∷ []) }
-    ensures held { IfOk result (IsHeld pair.now.spec pair.now.imp clauses) }
+    ensures held { IfOk result (IsHeld pair.now.spec pair.now.imp pair.now.kinds clauses) }
 {
     let mut new = hold(alloc, pair, clauses, held, x)?;
     new.forced.push(Vec::from_slice(alloc, x)?)?;
@@ -80,11 +81,11 @@ fn hold_others(
     vectors: &[Vec<bool>],
 ) -> Result<Held, NoMemory>
     requires budget { clauses ≤ 8000000 }
-    requires small { HaveSmallTables pair.now.imp.boxes }
-    requires held { IsHeld pair.now.spec pair.now.imp clauses held }
+    requires small { HaveSmallTables (shown pair.now.kinds pair.now.imp.boxes) }
+    requires held { IsHeld pair.now.spec pair.now.imp pair.now.kinds clauses held }
     requires each { AreDistinctWith (IsVector pair.now.imp) (held_vectors held ++ map vec_items vectors.now) }
     ensures forced { IfOk result (λ new. new.forced.items ≡ held.forced.items) }
-    ensures held { IfOk result (IsHeld pair.now.spec pair.now.imp clauses) }
+    ensures held { IfOk result (IsHeld pair.now.spec pair.now.imp pair.now.kinds clauses) }
 {
     for x in vectors {
         if !has_room(pair.imp(), held.solver.cnf(), clauses) {
@@ -104,13 +105,13 @@ fn forced_alone(
     forced: Vec<Vec<bool>>,
 ) -> Result<Held, NoMemory>
     requires budget { clauses ≤ 8000000 }
-    requires bits { bits ≡ table_bits pair.now.imp.boxes }
-    requires small { HaveSmallTables pair.now.imp.boxes }
-    requires forced { AreForced pair.now.spec pair.now.imp (map vec_items forced.items) }
-    requires within { length (expansion pair.now.spec pair.now.imp (map vec_items forced.items)).clauses ≤ clauses }
+    requires bits { bits ≡ table_bits (shown pair.now.kinds pair.now.imp.boxes) }
+    requires small { HaveSmallTables (shown pair.now.kinds pair.now.imp.boxes) }
+    requires forced { AreForced pair.now.spec pair.now.imp pair.now.kinds (map vec_items forced.items) }
+    requires within { length (expansion pair.now.spec pair.now.imp pair.now.kinds (map vec_items forced.items)).clauses ≤ clauses }
     ensures vectors { IfOk result (λ new. held_vectors new ≡ map vec_items forced.items) }
     ensures forced { IfOk result (λ new. new.forced.items ≡ forced.items) }
-    ensures held { IfOk result (IsHeld pair.now.spec pair.now.imp clauses) }
+    ensures held { IfOk result (IsHeld pair.now.spec pair.now.imp pair.now.kinds clauses) }
 {
     expansions_and_tables();
     forced_are_distinct();
@@ -131,15 +132,15 @@ fn make_room(
     held: Held,
 ) -> Result<Held, ExpandFault>
     requires budget { clauses ≤ 8000000 }
-    requires bits { bits ≡ table_bits pair.now.imp.boxes }
-    requires small { HaveSmallTables pair.now.imp.boxes }
-    requires held { IsHeld pair.now.spec pair.now.imp clauses held }
+    requires bits { bits ≡ table_bits (shown pair.now.kinds pair.now.imp.boxes) }
+    requires small { HaveSmallTables (shown pair.now.kinds pair.now.imp.boxes) }
+    requires held { IsHeld pair.now.spec pair.now.imp pair.now.kinds clauses held }
     ensures room { IfOk result (λ new. length new.solver.clauses + clauses_per_vector pair.now.imp ≤ clauses) }
     ensures among { IfOk result (λ new. All (Contains (held_vectors held)) (held_vectors new)) }
     ensures forced { IfOk result (λ new. new.forced.items ≡ held.forced.items) }
-    ensures held { IfOk result (IsHeld pair.now.spec pair.now.imp clauses) }
+    ensures held { IfOk result (IsHeld pair.now.spec pair.now.imp pair.now.kinds clauses) }
     ensures wide { IsErrOf result fault.Wide → ⊥ }
-    ensures clauses { IsErrOf result fault.Clauses → clauses < length (expansion pair.now.spec pair.now.imp (forced_vectors held)).clauses + clauses_per_vector pair.now.imp }
+    ensures clauses { IsErrOf result fault.Clauses → clauses < length (expansion pair.now.spec pair.now.imp pair.now.kinds (forced_vectors held)).clauses + clauses_per_vector pair.now.imp }
 {
     expansions_and_tables();
     forced_are_distinct();
@@ -165,17 +166,17 @@ pub(crate) fn hold_failures(
     failures: &[Vec<bool>],
 ) -> Result<Held, ExpandFault>
     requires budget { clauses ≤ 8000000 }
-    requires bits { bits ≡ table_bits pair.now.imp.boxes }
-    requires small { HaveSmallTables pair.now.imp.boxes }
-    requires held { IsHeld pair.now.spec pair.now.imp clauses held }
-    requires fit { FitBoxes tables.now pair.now.imp.boxes }
-    requires agree { All (AgreeAt pair.now.spec pair.now.imp tables.now) (held_vectors held) }
+    requires bits { bits ≡ table_bits (shown pair.now.kinds pair.now.imp.boxes) }
+    requires small { HaveSmallTables (shown pair.now.kinds pair.now.imp.boxes) }
+    requires held { IsHeld pair.now.spec pair.now.imp pair.now.kinds clauses held }
+    requires fit { FitBoxes tables.now (shown pair.now.kinds pair.now.imp.boxes) }
+    requires agree { All (AgreeAt pair.now.spec pair.now.imp (spread pair.now.kinds tables.now)) (held_vectors held) }
     requires some { 0 < length failures.now }
-    requires failures { AreDistinctWith (FailsAt pair.now.spec pair.now.imp tables.now) (map vec_items failures.now) }
+    requires failures { AreDistinctWith (FailsAt pair.now.spec pair.now.imp (spread pair.now.kinds tables.now)) (map vec_items failures.now) }
     ensures more { IfOk result (λ new. length (forced_vectors held) < length (forced_vectors new)) }
-    ensures held { IfOk result (IsHeld pair.now.spec pair.now.imp clauses) }
+    ensures held { IfOk result (IsHeld pair.now.spec pair.now.imp pair.now.kinds clauses) }
     ensures wide { IsErrOf result fault.Wide → ⊥ }
-    ensures clauses { IsErrOf result fault.Clauses → NeedsMoreClauses pair.now.spec pair.now.imp clauses }
+    ensures clauses { IsErrOf result fault.Clauses → NeedsMoreClauses pair.now.spec pair.now.imp pair.now.kinds clauses }
 {
     expansions_and_tables();
     vectors_are_few();

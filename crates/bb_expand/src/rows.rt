@@ -1,18 +1,21 @@
 //! The clauses of a box's output pin: one row of its table after another.
 
-ghost use Rattle.std.specs.Prelude.{◌≡◌, ◌+◌, ◌*◌, ◌^◌, ◌<◌, ◌≤◌, ◌∷◌, ◌++◌, [], ℕ, All, length, slice_index, take, IfOk, OnOk};
+ghost use Rattle.std.specs.Prelude.{◌≡◌, ◌+◌, ◌*◌, ◌^◌, ◌<◌, ◌≤◌, ◌∷◌, ◌++◌, [], ℕ, All, length, map, slice_index, take, IfOk, OnOk};
 ghost use Rattle.std.specs.List.{flat_map, range_with_len};
 ghost use Rattle.bb_bits.specs.Numbers.{bits_of};
 ghost use Rattle.bb_cnf.specs.Clauses.{lists_of};
 ghost use Rattle.bb_net.specs.Completions.{table_bits, HaveSmallTables};
+ghost use Rattle.bb_net.specs.Kinds.{shown};
+ghost use Rattle.bb_net.specs.Netlists.{box_at};
 ghost use Rattle.bb_expand.specs.Inside.TableStarts.{AreStarts};
 ghost use Rattle.bb_expand.specs.Expansions.{differing, row_clauses};
 
 use crate::clauses::{having, no, yes};
 use crate::numbers::spell;
+use crate::tables::shown_boxes;
 use bb_bits::NoMemory;
 use bb_cnf::Lit;
-use bb_net::BoxPins;
+use bb_net::{BoxPins, Pair};
 use smallvec::SmallVec;
 use std::alloc::Global;
 
@@ -29,17 +32,28 @@ pub(crate) fn box_bits(pins: &BoxPins) -> u32
     }
 }
 
-// For each box how many table bits stand before its own.
-pub(crate) fn table_starts(alloc: Global, boxes: &[BoxPins]) -> Result<Vec<u32>, NoMemory>
-    requires small { HaveSmallTables boxes.now }
-    ensures starts { IfOk result (λ starts. AreStarts starts.items boxes.now) }
+// For each of these boxes how many table bits stand before its own.
+fn starts_of_boxes(alloc: Global, firsts: &[u32], boxes: &[BoxPins]) -> Result<Vec<u32>, NoMemory>
+    requires there { All (λ b. b < length boxes.now) firsts.now }
+    requires small { HaveSmallTables (map (box_at boxes.now) firsts.now) }
+    ensures starts { IfOk result (λ starts. AreStarts starts.items (map (box_at boxes.now) firsts.now)) }
 {
-    let mut starts = Vec::with_capacity(alloc, boxes.len())?;
+    let mut starts = Vec::with_capacity(alloc, firsts.len())?;
     let mut start = 0;
-    for pins in boxes {
+    for b in firsts {
         starts.push(start)?;
-        start += box_bits(pins);
+        start += box_bits(&boxes[*b as usize]);
     }
+    Ok(starts)
+}
+
+// For each kind how many table bits stand before its own.
+pub(crate) fn table_starts(alloc: Global, pair: &Pair) -> Result<Vec<u32>, NoMemory>
+    requires small { HaveSmallTables (shown pair.now.kinds pair.now.imp.boxes) }
+    ensures starts { IfOk result (λ starts. AreStarts starts.items (shown pair.now.kinds pair.now.imp.boxes)) }
+{
+    let firsts = shown_boxes(alloc, pair)?;
+    let starts = starts_of_boxes(alloc, &firsts, pair.imp().boxes())?;
     Ok(starts)
 }
 
@@ -84,7 +98,7 @@ fn push_row(
     Ok(())
 }
 
-// In each row the variable y is the table's bit at an output pin, where so many table bits stand before the box's own.
+// In each row the variable y is the table's bit at an output pin, where so many table bits stand before those of the box's table.
 pub(crate) fn push_pin(
     clauses: &mut Vec<SmallVec<Lit, 4>>,
     base: u32,

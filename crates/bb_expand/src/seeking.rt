@@ -1,11 +1,12 @@
 //! Vectors at which tables fail: by the netlist that they fill, or one vector after another.
 
-ghost use Rattle.std.specs.Prelude.{◌≡◌, ◌<◌, ◌≤◌, ◌^◌, ◌∷◌, [], map, vec_items, IfOk, IfSome, IfNone, IsErrOf};
+ghost use Rattle.std.specs.Prelude.{◌≡◌, ◌<◌, ◌≤◌, ◌^◌, ◌∷◌, [], true, false, map, vec_items, IfOk, IfSome, IfNone, IsErrOf};
 ghost use Rattle.bb_bits.specs.Truth.{IsBeadOfAny};
 ghost use Rattle.bb_bits.specs.TruthSets.{HasMoreThan};
 ghost use Rattle.bb_miter.specs.Inside.Equivalence.{AreComparable, AreEquivalent, DiffersAt};
 ghost use Rattle.bb_net.specs.Agreement.{TablesAgree};
-ghost use Rattle.bb_net.specs.Completions.{table_bits, HaveSmallTables};
+ghost use Rattle.bb_net.specs.Completions.{table_bits};
+ghost use Rattle.bb_net.specs.Kinds.{spread};
 ghost use Rattle.bb_net.specs.Values.{FitBoxes};
 ghost use Rattle.bb_sym.specs.Functions.{output_functions};
 ghost use Rattle.bb_expand.specs.ClauseCounts.{clause_total};
@@ -31,8 +32,63 @@ const NODES: u32 = 1_000_000;
 
 const CACHE: u32 = 65_536;
 
-/// The most bits of tables with which boxes are filled.
-pub(crate) const FILLED_BITS: u32 = 1 << 20;
+// After so many learned clauses the solver gives up: before diagrams are tried, and once more where they are too large. Of 280 drawn pairs
+// with 20 to 40 inputs six are open with the first number alone, and three with both. With more at first those take longer whose diagrams
+// are small, and with more at last the clauses take some hundred MB.
+const LEARNED: u32 = 20_000;
+
+const LEARNED_AT_LAST: u32 = 100_000;
+
+// The most bits of tables with which boxes are filled.
+const FILLED_BITS: u32 = 1 << 20;
+
+/// May the boxes be filled with tables? A table is filled in once for each box of its kind, so each box counts.
+pub(crate) fn may_be_filled(imp: &Net) -> bool
+    ensures yes { result ≡ true → table_bits imp.now.boxes ≤ 2 ^ 20 }
+    ensures no { result ≡ false → 2 ^ 20 < table_bits imp.now.boxes }
+{
+    imp.table_bits().is_some_and(|bits| bits <= FILLED_BITS)
+}
+
+// A vector at which some output differs, if there is one, by the solver. Where it gives up, diagrams were too large.
+fn seek_at_last(
+    alloc: Global,
+    spec: &Net,
+    filled: &Net,
+    clauses: u32,
+) -> Result<Option<Vec<bool>>, RungFault>
+    requires comparable { AreComparable spec.now filled.now }
+    requires budget { clauses ≤ 8000000 }
+    requires nodes { HasMoreThan (IsBeadOfAny (output_functions spec.now filled.now)) 1000000 }
+    ensures found { IfOk result (λ found. IfSome found (λ x. DiffersAt spec.now filled.now x.items)) }
+    ensures none { IfOk result (λ found. IfNone found (AreEquivalent spec.now filled.now)) }
+    ensures nodes { IsErrOf result RungFault.Nodes → HasMoreThan (IsBeadOfAny (output_functions spec.now filled.now)) 1000000 }
+{
+    match by_solver(alloc, spec, filled, clauses, LEARNED_AT_LAST)? {
+        Sought::At(x) => Ok(Some(x)),
+        Sought::Nowhere => Ok(None),
+        Sought::GivenUp => Err(RungFault::Nodes),
+    }
+}
+
+// The same by diagrams, and where they are too large by the solver.
+fn seek_by_diagrams(
+    alloc: Global,
+    spec: &Net,
+    filled: &Net,
+    clauses: u32,
+) -> Result<Option<Vec<bool>>, RungFault>
+    requires comparable { AreComparable spec.now filled.now }
+    requires budget { clauses ≤ 8000000 }
+    ensures found { IfOk result (λ found. IfSome found (λ x. DiffersAt spec.now filled.now x.items)) }
+    ensures none { IfOk result (λ found. IfNone found (AreEquivalent spec.now filled.now)) }
+    ensures nodes { IsErrOf result RungFault.Nodes → HasMoreThan (IsBeadOfAny (output_functions spec.now filled.now)) 1000000 }
+{
+    match difference(alloc, spec, filled, NODES, CACHE) {
+        Err(RungFault::Nodes) => seek_at_last(alloc, spec, filled, clauses),
+        answer => answer,
+    }
+}
 
 // A vector at which some output differs, if there is one: by the solver, and where it gives up by diagrams.
 fn seek_one(
@@ -47,10 +103,10 @@ fn seek_one(
     ensures none { IfOk result (λ found. IfNone found (AreEquivalent spec.now filled.now)) }
     ensures nodes { IsErrOf result RungFault.Nodes → HasMoreThan (IsBeadOfAny (output_functions spec.now filled.now)) 1000000 }
 {
-    match by_solver(alloc, spec, filled, clauses)? {
+    match by_solver(alloc, spec, filled, clauses, LEARNED)? {
         Sought::At(x) => Ok(Some(x)),
         Sought::Nowhere => Ok(None),
-        Sought::GivenUp => difference(alloc, spec, filled, NODES, CACHE),
+        Sought::GivenUp => seek_by_diagrams(alloc, spec, filled, clauses),
     }
 }
 
@@ -66,21 +122,23 @@ fn list_of(alloc: Global, found: Option<Vec<bool>>) -> Result<Vec<Vec<bool>>, No
     Ok(vectors)
 }
 
-// Vectors at which some output differs: those that patterns give, or else one. None only where there is none.
+// Vectors at which some output differs: at most `wanted` that patterns give, or else one. None only where there is none.
 fn seek(
     alloc: Global,
     spec: &Net,
     filled: &Net,
     clauses: u32,
     seed: u64,
+    wanted: usize,
 ) -> Result<Vec<Vec<bool>>, RungFault>
     requires comparable { AreComparable spec.now filled.now }
     requires budget { clauses ≤ 8000000 }
+    requires wanted { 1 ≤ wanted }
     ensures found { IfOk result (λ found. AreDistinctWith (DiffersAt spec.now filled.now) (map vec_items found.items)) }
     ensures none { IfOk result (λ found. found.items ≡ [] → AreEquivalent spec.now filled.now) }
     ensures nodes { IsErrOf result RungFault.Nodes → HasMoreThan (IsBeadOfAny (output_functions spec.now filled.now)) 1000000 }
 {
-    let drawn = differing_patterns(alloc, spec, filled, seed)?;
+    let drawn = differing_patterns(alloc, spec, filled, seed, wanted)?;
     if !drawn.is_empty() {
         return Ok(drawn);
     }
@@ -96,18 +154,20 @@ fn by_filling(
     tables: &[Table],
     clauses: u32,
     seed: u64,
+    wanted: usize,
 ) -> Result<Vec<Vec<bool>>, RungFault>
     requires budget { clauses ≤ 8000000 }
-    requires fit { FitBoxes tables.now pair.now.imp.boxes }
-    requires small { HaveSmallTables pair.now.imp.boxes }
-    ensures found { IfOk result (λ found. AreDistinctWith (FailsAt pair.now.spec pair.now.imp tables.now) (map vec_items found.items)) }
-    ensures none { IfOk result (λ found. found.items ≡ [] → TablesAgree pair.now.spec pair.now.imp tables.now) }
-    ensures nodes { IsErrOf result RungFault.Nodes → FillTooLarge pair.now.spec pair.now.imp tables.now }
+    requires wanted { 1 ≤ wanted }
+    requires fit { FitBoxes (spread pair.now.kinds tables.now) pair.now.imp.boxes }
+    requires few { table_bits pair.now.imp.boxes ≤ 2 ^ 20 }
+    ensures found { IfOk result (λ found. AreDistinctWith (FailsAt pair.now.spec pair.now.imp (spread pair.now.kinds tables.now)) (map vec_items found.items)) }
+    ensures none { IfOk result (λ found. found.items ≡ [] → TablesAgree pair.now.spec pair.now.imp (spread pair.now.kinds tables.now)) }
+    ensures nodes { IsErrOf result RungFault.Nodes → FillTooLarge pair.now.spec pair.now.imp (spread pair.now.kinds tables.now) }
 {
     filled_are_right();
-    let filled = fill(alloc, pair.imp(), tables)?;
+    let filled = fill(alloc, pair.imp(), tables, pair.kinds())?;
     let _ = filled.inputs();
-    seek(alloc, pair.spec(), &filled, clauses, seed)
+    seek(alloc, pair.spec(), &filled, clauses, seed, wanted)
 }
 
 // Vectors at which the tables fail; none only where they agree. Where the boxes cannot be filled, or diagrams of the filled netlist
@@ -116,22 +176,21 @@ pub(crate) fn failing_vectors(
     alloc: Global,
     pair: &Pair,
     tables: &[Table],
-    bits: u32,
     clauses: u32,
     seed: u64,
+    wanted: usize,
 ) -> Result<Vec<Vec<bool>>, ExpandFault>
     requires budget { clauses ≤ 8000000 }
-    requires fit { FitBoxes tables.now pair.now.imp.boxes }
-    requires small { HaveSmallTables pair.now.imp.boxes }
-    requires bits { bits ≡ table_bits pair.now.imp.boxes }
+    requires wanted { 1 ≤ wanted }
+    requires fit { FitBoxes (spread pair.now.kinds tables.now) pair.now.imp.boxes }
     requires large { 2 ^ 20 < table_bits pair.now.imp.boxes → clause_total pair.now.imp ≤ clauses }
-    ensures found { IfOk result (λ found. AreDistinctWith (FailsAt pair.now.spec pair.now.imp tables.now) (map vec_items found.items)) }
-    ensures none { IfOk result (λ found. found.items ≡ [] → TablesAgree pair.now.spec pair.now.imp tables.now) }
+    ensures found { IfOk result (λ found. AreDistinctWith (FailsAt pair.now.spec pair.now.imp (spread pair.now.kinds tables.now)) (map vec_items found.items)) }
+    ensures none { IfOk result (λ found. found.items ≡ [] → TablesAgree pair.now.spec pair.now.imp (spread pair.now.kinds tables.now)) }
     ensures wide { IsErrOf result fault.Wide → ⊥ }
-    ensures clauses { IsErrOf result fault.Clauses → (clauses < clause_total pair.now.imp) × FillTooLarge pair.now.spec pair.now.imp tables.now }
+    ensures clauses { IsErrOf result fault.Clauses → (clauses < clause_total pair.now.imp) × FillTooLarge pair.now.spec pair.now.imp (spread pair.now.kinds tables.now) }
 {
-    if bits <= FILLED_BITS {
-        match by_filling(alloc, pair, tables, clauses, seed) {
+    if may_be_filled(pair.imp()) {
+        match by_filling(alloc, pair, tables, clauses, seed, wanted) {
             Ok(found) => return Ok(found),
             Err(RungFault::NoMemory) => return Err(ExpandFault::NoMemory),
             Err(RungFault::Nodes) if !is_within_budget(pair, clauses) => {

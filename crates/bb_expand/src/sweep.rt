@@ -11,7 +11,7 @@ ghost use Rattle.bb_expand.specs.Inside.Failures.{FailsAt, HasSameBits, HasOther
 use crate::laws::laws_below;
 use crate::numbers::spell;
 use bb_bits::{NoMemory, Table};
-use bb_net::{BoxPins, Pair, kinds_may_differ, own_kinds};
+use bb_net::Pair;
 use std::alloc::Global;
 
 // Do bits at some places of one list differ from those at places of another, pair by pair?
@@ -35,34 +35,22 @@ fn fails_at(
     pair: &Pair,
     tables: &[Table],
     x: &[bool],
-    kinds: &[u32],
     bits: &mut [bool],
     wanted: &mut [bool],
 ) -> bool
-    requires fit { FitBoxes (spread kinds.now tables.now) pair.now.imp.boxes }
+    requires fit { FitBoxes (spread pair.now.kinds tables.now) pair.now.imp.boxes }
     requires inputs { length x.now ≡ pair.now.imp.inputs }
     requires room { length bits.old ≡ length pair.now.imp.cells }
     requires wanted_room { length wanted.old ≡ length pair.now.spec.cells }
-    ensures yes { result ≡ true → FailAt pair.now.spec pair.now.imp (spread kinds.now tables.now) x.now }
-    ensures no { result ≡ false → AgreeAt pair.now.spec pair.now.imp (spread kinds.now tables.now) x.now }
+    ensures yes { result ≡ true → FailAt pair.now.spec pair.now.imp (spread pair.now.kinds tables.now) x.now }
+    ensures no { result ≡ false → AgreeAt pair.now.spec pair.now.imp (spread pair.now.kinds tables.now) x.now }
     ensures room { length bits.new ≡ length pair.now.imp.cells }
     ensures wanted_room { length wanted.new ≡ length pair.now.spec.cells }
 {
     let (spec, imp) = (pair.spec(), pair.imp());
-    imp.value_with(x, tables, kinds, bits);
+    imp.value_with(x, tables, pair.kinds(), bits);
     spec.value(x, &[], wanted);
     differ(imp.outs(), bits, spec.outs(), wanted)
-}
-
-// The kinds of boxes that share nothing: the tables of the kinds are those of the boxes.
-fn kinds_apart(alloc: Global, tables: &[Table], boxes: &[BoxPins]) -> Result<Vec<u32>, NoMemory>
-    requires fit { FitBoxes tables.now boxes.now }
-    requires few { length boxes.now < 2 ^ 32 }
-    ensures own { IfOk result (λ kinds. spread kinds.items tables.now ≡ tables.now) }
-{
-    kinds_may_differ();
-    let kinds = own_kinds(alloc, boxes.len() as u32)?;
-    Ok(kinds)
 }
 
 // The first vector at which the tables fail, in rising order.
@@ -71,20 +59,19 @@ pub(crate) fn first_failure(
     pair: &Pair,
     tables: &[Table],
 ) -> Result<Option<Vec<bool>>, NoMemory>
-    requires fit { FitBoxes tables.now pair.now.imp.boxes }
+    requires fit { FitBoxes (spread pair.now.kinds tables.now) pair.now.imp.boxes }
     requires few { clause_total pair.now.imp ≤ 8000000 }
-    ensures found { IfOk result (λ found. IfSome found (λ x. FailsAt pair.now.spec pair.now.imp tables.now x.items)) }
-    ensures none { IfOk result (λ found. IfNone found (TablesAgree pair.now.spec pair.now.imp tables.now)) }
+    ensures found { IfOk result (λ found. IfSome found (λ x. FailsAt pair.now.spec pair.now.imp (spread pair.now.kinds tables.now) x.items)) }
+    ensures none { IfOk result (λ found. IfNone found (TablesAgree pair.now.spec pair.now.imp (spread pair.now.kinds tables.now))) }
 {
     laws_below();
     let (spec, imp) = (pair.spec(), pair.imp());
-    let kinds = kinds_apart(alloc, tables, imp.boxes())?;
     let mut x = vec![in alloc; false; imp.inputs() as usize]?;
     let mut bits = vec![in alloc; false; imp.cells().len()]?;
     let mut wanted = vec![in alloc; false; spec.cells().len()]?;
     for number in 0..1u32 << imp.inputs() {
         spell(number, &mut x);
-        if fails_at(pair, tables, &x, &kinds, &mut bits, &mut wanted) {
+        if fails_at(pair, tables, &x, &mut bits, &mut wanted) {
             return Ok(Some(x));
         }
     }

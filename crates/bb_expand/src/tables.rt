@@ -1,13 +1,16 @@
 //! Tables as a model of an expansion has them.
 
-ghost use Rattle.std.specs.Prelude.{◌≡◌, ◌+◌, ◌*◌, ◌^◌, ◌<◌, ◌≤◌, ℕ, length, take, drop, IfOk};
+ghost use Rattle.std.specs.Prelude.{◌≡◌, ◌+◌, ◌*◌, ◌^◌, ◌<◌, ◌≤◌, ℕ, All, length, map, take, drop, IfOk};
 ghost use Rattle.bb_net.specs.Completions.{table_bits, HaveSmallTables};
+ghost use Rattle.bb_net.specs.Kinds.{shown};
+ghost use Rattle.bb_net.specs.Netlists.{box_at};
 ghost use Rattle.bb_net.specs.Pairs.{pin_count};
 ghost use Rattle.bb_expand.specs.Inside.ReadTables.{tables_in};
 
+use crate::laws::laws_below;
 use crate::rows::box_bits;
 use bb_bits::{NoMemory, Table};
-use bb_net::BoxPins;
+use bb_net::{BoxPins, Pair};
 use std::alloc::Global;
 
 // The table of a box with these bits, row after row.
@@ -25,23 +28,52 @@ fn read_table(alloc: Global, pins: &BoxPins, bits: &[bool]) -> Result<Table, NoM
     Ok(table)
 }
 
-// The tables of boxes, whose bits stand one after another.
-pub(crate) fn read_tables(
+// The tables of these boxes, whose bits stand one after another.
+fn tables_of_boxes(
     alloc: Global,
+    firsts: &[u32],
     boxes: &[BoxPins],
     model: &[bool],
 ) -> Result<Vec<Table>, NoMemory>
-    requires small { HaveSmallTables boxes.now }
+    requires there { All (λ b. b < length boxes.now) firsts.now }
+    requires small { HaveSmallTables (map (box_at boxes.now) firsts.now) }
     requires few { pin_count boxes.now ≤ 2048 }
-    requires bits { table_bits boxes.now ≤ length model.now }
-    ensures tables { IfOk result (λ tables. tables.items ≡ tables_in boxes.now model.now) }
+    requires bits { table_bits (map (box_at boxes.now) firsts.now) ≤ length model.now }
+    ensures tables { IfOk result (λ tables. tables.items ≡ tables_in (map (box_at boxes.now) firsts.now) model.now) }
 {
-    let mut tables = Vec::with_capacity(alloc, boxes.len())?;
+    let mut tables = Vec::with_capacity(alloc, firsts.len())?;
     let mut start = 0;
-    for pins in boxes {
+    for b in firsts {
+        let pins = &boxes[*b as usize];
         let end = start + box_bits(pins) as usize;
         tables.push(read_table(alloc, pins, &model[start..end])?)?;
         start = end;
     }
+    Ok(tables)
+}
+
+// The boxes to which tables of all kinds belong: the first of each kind.
+pub(crate) fn shown_boxes(alloc: Global, pair: &Pair) -> Result<Vec<u32>, NoMemory>
+    ensures shown { IfOk result (λ firsts. map (box_at pair.now.imp.boxes) firsts.items ≡ shown pair.now.kinds pair.now.imp.boxes) }
+    ensures there { IfOk result (λ firsts. All (λ b. b < length pair.now.imp.boxes) firsts.items) }
+{
+    laws_below();
+    let _ = pair.imp();
+    let firsts = pair.first_boxes(alloc)?;
+    Ok(firsts)
+}
+
+// The tables of all kinds, whose bits stand one after another.
+pub(crate) fn read_tables(
+    alloc: Global,
+    pair: &Pair,
+    model: &[bool],
+) -> Result<Vec<Table>, NoMemory>
+    requires small { HaveSmallTables (shown pair.now.kinds pair.now.imp.boxes) }
+    requires bits { table_bits (shown pair.now.kinds pair.now.imp.boxes) ≤ length model.now }
+    ensures tables { IfOk result (λ tables. tables.items ≡ tables_in (shown pair.now.kinds pair.now.imp.boxes) model.now) }
+{
+    let firsts = shown_boxes(alloc, pair)?;
+    let tables = tables_of_boxes(alloc, &firsts, pair.imp().boxes(), model)?;
     Ok(tables)
 }

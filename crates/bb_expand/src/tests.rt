@@ -2,6 +2,7 @@
 
 ghost use Rattle.std.specs.Prelude.{◌≡◌, ◌+◌, ◌<◌, ◌∷◌, [], length, IfOk, OnOk};
 ghost use Rattle.std.specs.List.{AllZip};
+ghost use Rattle.bb_net.specs.Kinds.{FitKinds};
 ghost use Rattle.bb_net.specs.Pairs.{NamesPins};
 
 use crate::{ExpandFault, Expanded, clause_count, expand};
@@ -98,16 +99,30 @@ fn box_names(alloc: Global) -> Result<Vec<BoxName>, Fail>
     Ok(names)
 }
 
-// Two outputs, each of a box of its own that reads one of the two inputs. The first is to be the first input, and the second
-// is to be the second input or the first.
-fn two_boxes(alloc: Global, second: bool) -> Result<Pair, Fail> {
+// Two boxes of one kind, or each of its own.
+fn kinds_of_two(alloc: Global, shared: bool) -> Result<Vec<u32>, Fail>
+    ensures { IfOk result (λ kinds. FitKinds kinds.items
+        (record { ins = 2 ∷ []; outs = 4 ∷ [] } ∷ record { ins = 3 ∷ []; outs = 5 ∷ [] } ∷ [])) }
+{
     kinds_may_differ();
+    if shared {
+        return Ok(vec![in alloc; 0, 0]?);
+    }
+    let kinds = own_kinds(alloc, 2)?;
+    Ok(kinds)
+}
+
+// Two outputs, each of a box that reads one of the two inputs. The first is to be the first input, and the second is to be the
+// cell of the specification at a place: 0 for the constant 0, 2 and 3 for the inputs. The boxes may be of one kind.
+fn two_boxes(alloc: Global, second: u32, shared: bool) -> Result<Pair, Fail>
+    requires there { second < 4 }
+{
     let ins = input_names(alloc)?;
     let outs = output_names(alloc)?;
     let boxes = box_names(alloc)?;
-    let spec = specification(alloc, if second { 3 } else { 2 })?;
+    let spec = specification(alloc, second)?;
     let imp = implementation(alloc)?;
-    let kinds = own_kinds(alloc, 2)?;
+    let kinds = kinds_of_two(alloc, shared)?;
     Ok(Pair::of(spec, imp, ins, outs, boxes, kinds))
 }
 
@@ -132,10 +147,18 @@ fn gives_its_input(table: &Table) -> bool {
     table.inputs() == 1 && table.outputs() == 1 && !table.bit(0, 0) && table.bit(1, 0)
 }
 
-// Whether the answer is two tables, each of which gives its input.
-fn repairs(expanded: &Expanded) -> bool {
+// Whether the answer is so many tables.
+fn repairs(expanded: &Expanded, count: usize) -> bool {
     match expanded {
-        Expanded::Repair(tables) => tables.len() == 2 && tables.iter().all(gives_its_input),
+        Expanded::Repair(tables) => tables.len() == count,
+        Expanded::Error { .. } => false,
+    }
+}
+
+// Whether the answer is so many tables, each of which gives its input.
+fn repairs_by_wires(expanded: &Expanded, count: usize) -> bool {
+    match expanded {
+        Expanded::Repair(tables) => tables.len() == count && tables.iter().all(gives_its_input),
         Expanded::Error { .. } => false,
     }
 }
@@ -143,7 +166,7 @@ fn repairs(expanded: &Expanded) -> bool {
 #[test]
 fn a_box_cannot_give_an_input_that_it_does_not_read(rt: HostRuntime) -> Result<(), Fail> {
     let alloc = rt.alloc();
-    let pair = two_boxes(alloc, false)?;
+    let pair = two_boxes(alloc, 2, false)?;
     assert_eq!(rt; clause_count(&pair), 56);
     match expand(alloc, &pair, 56) {
         Ok(expanded) => assert!(rt; refutes(alloc, &expanded)?),
@@ -155,11 +178,30 @@ fn a_box_cannot_give_an_input_that_it_does_not_read(rt: HostRuntime) -> Result<(
 #[test]
 fn tables_that_agree_are_found_within_the_budget(rt: HostRuntime) -> Result<(), Fail> {
     let alloc = rt.alloc();
-    let pair = two_boxes(alloc, true)?;
+    let pair = two_boxes(alloc, 3, false)?;
     match expand(alloc, &pair, 56) {
-        Ok(expanded) => assert!(rt; repairs(&expanded)),
+        Ok(expanded) => assert!(rt; repairs_by_wires(&expanded, 2)),
         Err(_) => assert!(rt; false),
     }
     assert_eq!(rt; expand(alloc, &pair, 13).err(), Some(ExpandFault::Clauses));
+    Ok(())
+}
+
+#[test]
+fn boxes_of_one_kind_hold_one_table(rt: HostRuntime) -> Result<(), Fail> {
+    let alloc = rt.alloc();
+    // The second box is to give 0, which the first must not.
+    match expand(alloc, &two_boxes(alloc, 0, true)?, 56) {
+        Ok(expanded) => assert!(rt; refutes(alloc, &expanded)?),
+        Err(_) => assert!(rt; false),
+    }
+    match expand(alloc, &two_boxes(alloc, 0, false)?, 56) {
+        Ok(expanded) => assert!(rt; repairs(&expanded, 2)),
+        Err(_) => assert!(rt; false),
+    }
+    match expand(alloc, &two_boxes(alloc, 3, true)?, 56) {
+        Ok(expanded) => assert!(rt; repairs_by_wires(&expanded, 1)),
+        Err(_) => assert!(rt; false),
+    }
     Ok(())
 }

@@ -5,6 +5,7 @@ ghost use Rattle.bb_cnf.specs.Chains.{IsRefutation};
 ghost use Rattle.bb_cnf.specs.Truth.{IsModel};
 ghost use Rattle.bb_filled.specs.Forced.{AgreeAt};
 ghost use Rattle.bb_net.specs.Completions.{table_bits, HaveSmallTables};
+ghost use Rattle.bb_net.specs.Kinds.{shown, spread};
 ghost use Rattle.bb_net.specs.Values.{FitBoxes};
 ghost use Rattle.bb_expand.specs.declared.held.Held.{Held as HeldVectors};
 ghost use Rattle.bb_expand.specs.Expanded.{IsExpanded};
@@ -21,14 +22,17 @@ use bb_cnf::{Cnf, Refutation};
 use bb_net::Pair;
 use std::alloc::Global;
 
-// The tables whose bits are all 0, where they have so many bits.
+// The tables of all kinds whose bits are all 0, where they have so many bits.
 pub(crate) fn zero_tables(alloc: Global, pair: &Pair, bits: u32) -> Result<Vec<Table>, NoMemory>
-    requires small { HaveSmallTables pair.now.imp.boxes }
-    requires bits { bits ≡ table_bits pair.now.imp.boxes }
-    ensures fit { IfOk result (λ tables. FitBoxes tables.items pair.now.imp.boxes) }
+    requires small { HaveSmallTables (shown pair.now.kinds pair.now.imp.boxes) }
+    requires bits { bits ≡ table_bits (shown pair.now.kinds pair.now.imp.boxes) }
+    ensures fit { IfOk result (λ tables. FitBoxes tables.items (shown pair.now.kinds pair.now.imp.boxes)) }
+    ensures spread { IfOk result (λ tables. FitBoxes (spread pair.now.kinds tables.items) pair.now.imp.boxes) }
 {
+    laws_below();
+    let _ = pair.imp();
     let zeros = vec![in alloc; false; bits as usize]?;
-    let tables = read_tables(alloc, pair.imp().boxes(), &zeros)?;
+    let tables = read_tables(alloc, pair, &zeros)?;
     Ok(tables)
 }
 
@@ -39,15 +43,17 @@ pub(crate) fn tables_of(
     held: &Held,
     model: &[bool],
 ) -> Result<Vec<Table>, NoMemory>
-    requires small { HaveSmallTables pair.now.imp.boxes }
-    requires expands { held.now.solver ≡ expansion pair.now.spec pair.now.imp (held_vectors held.now) }
+    requires small { HaveSmallTables (shown pair.now.kinds pair.now.imp.boxes) }
+    requires expands { held.now.solver ≡ expansion pair.now.spec pair.now.imp pair.now.kinds (held_vectors held.now) }
     requires holds { IsModel model.now held.now.solver }
-    ensures fit { IfOk result (λ tables. FitBoxes tables.items pair.now.imp.boxes) }
-    ensures agree { IfOk result (λ tables. All (AgreeAt pair.now.spec pair.now.imp tables.items) (held_vectors held.now)) }
+    ensures fit { IfOk result (λ tables. FitBoxes tables.items (shown pair.now.kinds pair.now.imp.boxes)) }
+    ensures spread { IfOk result (λ tables. FitBoxes (spread pair.now.kinds tables.items) pair.now.imp.boxes) }
+    ensures agree { IfOk result (λ tables. All (AgreeAt pair.now.spec pair.now.imp (spread pair.now.kinds tables.items)) (held_vectors held.now)) }
 {
     laws_below();
     let _ = held;
-    let tables = read_tables(alloc, pair.imp().boxes(), model)?;
+    let _ = pair.imp();
+    let tables = read_tables(alloc, pair, model)?;
     Ok(tables)
 }
 
@@ -59,7 +65,7 @@ pub(crate) fn refuted(
     refutation: Refutation,
 ) -> Expanded
     requires refuted { IsRefutation cnf.clauses refutation.steps.items }
-    ensures error { (budget : ℕ) (held : HeldVectors) → IsHeld pair.now.spec pair.now.imp budget held → held_vectors held ≡ map vec_items vectors.items → held.solver ≡ cnf → IsExpanded pair.now.spec pair.now.imp budget result }
+    ensures error { (budget : ℕ) (held : HeldVectors) → IsHeld pair.now.spec pair.now.imp pair.now.kinds budget held → held_vectors held ≡ map vec_items vectors.items → held.solver ≡ cnf → IsExpanded pair.now.spec pair.now.imp pair.now.kinds budget result }
 {
     laws_below();
     expansions_and_tables();

@@ -5,6 +5,7 @@ ghost use Rattle.std.specs.List.{flat_map, range_with_len};
 ghost use Rattle.bb_bits.specs.Numbers.{bits_of};
 ghost use Rattle.bb_cnf.specs.Clauses.{lists_of};
 ghost use Rattle.bb_net.specs.Completions.{table_bits, HaveSmallTables};
+ghost use Rattle.bb_net.specs.Kinds.{shown};
 ghost use Rattle.bb_net.specs.Values.{bit_of};
 ghost use Rattle.bb_expand.specs.ClauseCounts.{clause_total};
 ghost use Rattle.bb_expand.specs.Inside.TableStarts.{AreStarts};
@@ -50,16 +51,16 @@ pub(crate) fn push_vector(
     bits: &mut [bool],
 ) -> Result<(), NoMemory>
     requires fits { base + length pair.now.imp.cells < 2 ^ 32 }
-    requires small { HaveSmallTables pair.now.imp.boxes }
-    requires starts { AreStarts starts.now pair.now.imp.boxes }
+    requires small { HaveSmallTables (shown pair.now.kinds pair.now.imp.boxes) }
+    requires starts { AreStarts starts.now (shown pair.now.kinds pair.now.imp.boxes) }
     requires inputs { length x.now ≡ pair.now.imp.inputs }
     requires room { length bits.old ≡ length pair.now.spec.cells }
-    ensures pushed { (v : ℕ) → base ≡ table_bits pair.now.imp.boxes + v * length pair.now.imp.cells
-        → OnOk result (lists_of clauses.new.items ≡ lists_of clauses.old.items ++ vector_clauses pair.now.spec pair.now.imp v x.now) }
+    ensures pushed { (v : ℕ) → base ≡ table_bits (shown pair.now.kinds pair.now.imp.boxes) + v * length pair.now.imp.cells
+        → OnOk result (lists_of clauses.new.items ≡ lists_of clauses.old.items ++ vector_clauses pair.now.spec pair.now.imp pair.now.kinds v x.now) }
     ensures room { OnOk result (length bits.new ≡ length pair.now.spec.cells) }
 {
     let (spec, imp) = (pair.spec(), pair.imp());
     spec.value(x, &[], bits);
-    push_cells(clauses, base, imp, starts, x)?;
+    push_cells(clauses, base, imp, pair.kinds(), starts, x)?;
     push_outputs(clauses, base, imp.outs(), spec.outs(), bits)
 }

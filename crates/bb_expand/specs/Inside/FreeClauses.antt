@@ -20,7 +20,7 @@ equal_clauses y z = (negated y ∷ positive z ∷ []) ∷ (positive y ∷ negate
 -- the variable y of a cell is the cell's bit, where var gives the variables of the places that it reads
 abbrev pub free_cell_clauses : (ℕ → ℕ) → ℕ → Cell → List (List Lit)
 free_cell_clauses var y (Input i) = equal_clauses y (i + 1)
-free_cell_clauses var y cell = cell_clauses [] [] var y cell
+free_cell_clauses var y cell = cell_clauses [] [] [] var y cell
 
 -- the clauses of cells, where so many variables stand before theirs
 abbrev pub cells_after : ℕ → List Cell → List (List Lit)
@@ -38,7 +38,7 @@ difference_variable spec imp j = imp.inputs + length imp.cells + length spec.cel
 
 -- the variable of each output is the exclusive or of the two
 abbrev pub difference_clauses : Netlist → Netlist → List (List Lit)
-difference_clauses spec imp = flat_map (λ j. cell_clauses [] [] (λ k. k) (difference_variable spec imp j) (Xor (output_variable imp j) (wanted_variable spec imp j))) (range_with_len 0 (length imp.outs))
+difference_clauses spec imp = flat_map (λ j. cell_clauses [] [] [] (λ k. k) (difference_variable spec imp j) (Xor (output_variable imp j) (wanted_variable spec imp j))) (range_with_len 0 (length imp.outs))
 
 -- some output differs
 abbrev pub some_difference : Netlist → Netlist → List Lit

@@ -15,9 +15,9 @@ abbrev pub forced_vectors : Held → List (List Bool)
 forced_vectors held = map vec_items held.forced.items
 
 -- no two of the held vectors are one, those that are known to be forced are among them, and the expansion is within the budget
-pub record IsHeld (spec imp : Netlist) (budget : ℕ) (held : Held) : Type 0 where
+pub record IsHeld (spec imp : Netlist) (kinds : List ℕ) (budget : ℕ) (held : Held) : Type 0 where
   pub each : AreDistinctWith (IsVector imp) (held_vectors held)
-  pub forced : AreForced spec imp (forced_vectors held)
+  pub forced : AreForced spec imp kinds (forced_vectors held)
   pub among : All (Contains (held_vectors held)) (forced_vectors held)
-  pub expands : held.solver ≡ expansion spec imp (held_vectors held)
+  pub expands : held.solver ≡ expansion spec imp kinds (held_vectors held)
   pub within : length held.solver.clauses ≤ budget

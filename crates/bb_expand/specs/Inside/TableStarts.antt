@@ -1,4 +1,4 @@
--- Where the bits of each table begin.
+-- Where the bits of each table begin, where these boxes are shown, one for each kind.
 use Rattle.std.specs.Prelude.{◌≡◌, ℕ, ◌<◌, List, length, slice_index, take}
 use Rattle.bb_net.specs.Completions.{table_bits}
 use Rattle.bb_net.specs.Netlists.{Pins}

@@ -11,8 +11,8 @@ push_cell-requires-clause-listed c b p is =
 
 pub loop-place-preserved : goal.loop-place-preserved
 loop-place-preserved c =
-    grown (λ place. cell_clauses c.args.imp.now.boxes c.args.x.now (λ k. c.args.base + k + 1) (c.args.base + place + 1) (cell_at c.args.imp.now.cells place))
+    grown (λ place. cell_clauses c.args.kinds.now c.args.imp.now.boxes c.args.x.now (λ k. c.args.base + k + 1) (c.args.base + place + 1) (cell_at c.args.imp.now.cells place))
     c.loop-place.place (lists_of c.args.clauses.now.items) (lists_of c.loop-place.clauses.items) (lists_of c.push_cell.new.clauses.items) c.loop-place.invariant
     (c.in_ok-push_cell.ensures
-    ∙ ap (λ boxes. lists_of c.loop-place.clauses.items ++ cell_clauses boxes c.args.x.now (λ k. c.args.base + k + 1) (c.args.base + c.loop-place.place + 1) (cell_at c.cells-cell-items.result.now c.loop-place.place)) c.boxes-boxes.ensures.boxes
-    ∙ ap (λ cells. lists_of c.loop-place.clauses.items ++ cell_clauses c.args.imp.now.boxes c.args.x.now (λ k. c.args.base + k + 1) (c.args.base + c.loop-place.place + 1) (cell_at cells c.loop-place.place)) c.cells-cell-items.ensures.cells)
+    ∙ ap (λ boxes. lists_of c.loop-place.clauses.items ++ cell_clauses c.args.kinds.now boxes c.args.x.now (λ k. c.args.base + k + 1) (c.args.base + c.loop-place.place + 1) (cell_at c.cells-cell-items.result.now c.loop-place.place)) c.boxes-boxes.ensures.boxes
+    ∙ ap (λ cells. lists_of c.loop-place.clauses.items ++ cell_clauses c.args.kinds.now c.args.imp.now.boxes c.args.x.now (λ k. c.args.base + k + 1) (c.args.base + c.loop-place.place + 1) (cell_at cells c.loop-place.place)) c.cells-cell-items.ensures.cells)

@@ -14,7 +14,7 @@ loop-j-preserved c =
     let j = c.loop-j.j in
     let own = ap (λ outs. get_or outs j 0) c.outs-out-items.ensures.outs in
     let other = ap (λ outs. get_or outs j 0) c.outs-spec_outs.ensures.outs in
-    grown (λ k. cell_clauses [] [] (λ i. i) (difference_variable spec imp k) (Xor (output_variable imp k) (wanted_variable spec imp k))) j
+    grown (λ k. cell_clauses [] [] [] (λ i. i) (difference_variable spec imp k) (Xor (output_variable imp k) (wanted_variable spec imp k))) j
     (lists_of c.args.clauses.now.items) (lists_of c.loop-j.clauses.items) (lists_of c.push_xor.new.clauses.items) c.loop-j.invariant
     (c.in_ok-push_xor.ensures
     ∙ same_xor (lists_of c.loop-j.clauses.items) _ _ _ (difference_variable spec imp j) (output_variable imp j) (wanted_variable spec imp j)

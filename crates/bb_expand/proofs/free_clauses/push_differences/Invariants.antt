@@ -8,4 +8,4 @@ use Rattle.bb_expand.proofs.free_clauses.push_differences.Given as goal
 
 abbrev pub invariant-loop-j : goal.invariant-loop-j
 invariant-loop-j l = lists_of l.clauses.items ≡ lists_of l.initial.clauses.items
-    ++ flat_map (λ j. cell_clauses [] [] (λ k. k) (difference_variable l.spec l.imp j) (Xor (output_variable l.imp j) (wanted_variable l.spec l.imp j))) (range_with_len 0 l.j)
+    ++ flat_map (λ j. cell_clauses [] [] [] (λ k. k) (difference_variable l.spec l.imp j) (Xor (output_variable l.imp j) (wanted_variable l.spec l.imp j))) (range_with_len 0 l.j)

@@ -11,28 +11,30 @@ pub push_all-requires : goal.push_all-requires
 push_all-requires c =
     let spec = c.args.pair.now.spec in
     let imp = c.args.pair.now.imp in
+    let kinds = c.args.pair.now.kinds in
     let vectors = map vec_items c.args.held.vectors.items in
     let vars = c.behind-solver.inside.vars + length c.cells-2.result.now in
-    let was : formula c.behind-solver.inside.vars (lists_of c.behind-solver.inside.clauses.items) ≡ expansion spec imp vectors = c.behind-solver.view_is ∙ (c.cnf.ensures ∙ c.requires.expands) in
+    let was : formula c.behind-solver.inside.vars (lists_of c.behind-solver.inside.clauses.items) ≡ expansion spec imp kinds vectors = c.behind-solver.view_is ∙ (c.cnf.ensures ∙ c.requires.expands) in
     let base = ap (λ (f : Formula). f.vars) was in
-    let cells = ap length (c.cells-2.ensures.cells ∙ ap (λ (n : Netlist). n.cells) c.imp-2.ensures.imp) in
-    let pushed = c.in_ok-push_vector.ensures.pushed (length vectors) base ∙ ap (λ l. lists_of l ++ vector_clauses spec imp (length vectors) c.args.x.now) c.new-clauses.ensures.items in
+    let cells = ap length (c.cells-2.ensures.cells ∙ ap (λ (n : Netlist). n.cells) c.imp.ensures.imp) in
+    let pushed = c.in_ok-push_vector.ensures.pushed (length vectors) base ∙ ap (λ l. lists_of l ++ vector_clauses spec imp kinds (length vectors) c.args.x.now) c.new-clauses.ensures.items in
     record {
       within = subst (λ n. IsWithin n (lists_of c.push_vector.new.clauses.items)) (sym (ap (λ (f : Formula). f.vars) c.raise_vars.ensures))
-          (subst (IsWithin vars) (sym pushed) (pushed_within spec imp vectors c.args.x.now c.expansions_and_tables.ensures.within c.imp-2.ensures.kept.imp vars (omega (arith, base, cells))));
+          (subst (IsWithin vars) (sym pushed) (pushed_within spec imp kinds vectors c.args.x.now c.expansions_and_tables.ensures.within c.imp.ensures.kept.imp c.imp.ensures.kept.beside.kinds vars (omega (arith, base, cells))));
     }
 
 pub returns-clause-cnf : goal.returns-clause-cnf
 returns-clause-cnf c =
     let spec = c.args.pair.now.spec in
     let imp = c.args.pair.now.imp in
+    let kinds = c.args.pair.now.kinds in
     let vectors = map vec_items c.args.held.vectors.items in
     let vars = c.behind-solver.inside.vars + length c.cells-2.result.now in
-    let was : formula c.behind-solver.inside.vars (lists_of c.behind-solver.inside.clauses.items) ≡ expansion spec imp vectors = c.behind-solver.view_is ∙ (c.cnf.ensures ∙ c.requires.expands) in
+    let was : formula c.behind-solver.inside.vars (lists_of c.behind-solver.inside.clauses.items) ≡ expansion spec imp kinds vectors = c.behind-solver.view_is ∙ (c.cnf.ensures ∙ c.requires.expands) in
     let base = ap (λ (f : Formula). f.vars) was in
-    let cells = ap length (c.cells-2.ensures.cells ∙ ap (λ (n : Netlist). n.cells) c.imp-2.ensures.imp) in
-    let pushed = c.in_ok-push_vector.ensures.pushed (length vectors) base ∙ ap (λ l. lists_of l ++ vector_clauses spec imp (length vectors) c.args.x.now) c.new-clauses.ensures.items in
+    let cells = ap length (c.cells-2.ensures.cells ∙ ap (λ (n : Netlist). n.cells) c.imp.ensures.imp) in
+    let pushed = c.in_ok-push_vector.ensures.pushed (length vectors) base ∙ ap (λ l. lists_of l ++ vector_clauses spec imp kinds (length vectors) c.args.x.now) c.new-clauses.ensures.items in
     let front = ap (λ (f : Formula). f.clauses) c.raise_vars.ensures ∙ ap (λ (f : Formula). f.clauses) c.requires.expands in
     c.in_ok-push_all.ensures.pushed
     ∙ (ap₂ formula (ap (λ (f : Formula). f.vars) c.raise_vars.ensures) (ap₂ (λ xs ys. xs ++ ys) front pushed)
-    ∙ expansion_push spec imp vectors c.args.x.now vars ((expansion spec imp vectors).clauses ++ vector_clauses spec imp (length vectors) c.args.x.now) (omega (arith, base, cells)) refl)
+    ∙ expansion_push spec imp kinds vectors c.args.x.now vars ((expansion spec imp kinds vectors).clauses ++ vector_clauses spec imp kinds (length vectors) c.args.x.now) (omega (arith, base, cells)) refl)

@@ -14,22 +14,23 @@ pub loop-x-init : goal.loop-x-init
 loop-x-init c = record {
   vectors = ap (map vec_items) c.in_ok-alone.ensures.none;
   forced = c.in_ok-alone.ensures.forced;
-  held = nothing_held c.args.pair.now.spec c.args.pair.now.imp c.args.clauses c.in_ok-alone.alone c.in_ok-alone.ensures.none c.in_ok-alone.ensures.forced c.in_ok-alone.ensures.cnf;
+  held = nothing_held c.args.pair.now.spec c.args.pair.now.imp c.args.pair.now.kinds c.args.clauses c.in_ok-alone.alone c.in_ok-alone.ensures.none c.in_ok-alone.ensures.forced c.in_ok-alone.ensures.cnf;
 }
 
 pub hold-requires-clause-room : goal.hold-requires-clause-room
 hold-requires-clause-room c =
     let spec = c.args.pair.now.spec in
     let imp = c.args.pair.now.imp in
+    let kinds = c.args.pair.now.kinds in
     let counted = c.expansions_and_tables.ensures.counted in
     let held = held_vectors c.loop-x.alone in
     let front = up_to_next vec_items [] held c.deref-x-items.result.now c.loop-x.x-index c.x-item.result c.deref.result.now c.loop-x-test.true c.x-item.is c.deref.ensures.value c.loop-x.invariant.vectors in
     omega (
       arith,
       c.requires.within,
-      clauses_of_front counted spec imp (map vec_items c.args.forced.items) (held ++ c.deref.result.now ∷ []) (map vec_items (drop (suc c.loop-x.x-index) c.deref-x-items.result.now))
+      clauses_of_front counted spec imp kinds (map vec_items c.args.forced.items) (held ++ c.deref.result.now ∷ []) (map vec_items (drop (suc c.loop-x.x-index) c.deref-x-items.result.now))
           (ap (map vec_items) (sym c.deref-x-items.ensures.value) ∙ front),
-      clauses_of_one_more counted spec imp held c.deref.result.now,
+      clauses_of_one_more counted spec imp kinds held c.deref.result.now,
       ap (λ (f : Formula). length f.clauses) c.loop-x.invariant.held.expands,
     )
 
@@ -48,10 +49,10 @@ hold-requires-clause-each c =
     let front = up_to_next vec_items [] (held_vectors c.loop-x.alone) c.deref-x-items.result.now c.loop-x.x-index c.x-item.result c.deref.result.now c.loop-x-test.true c.x-item.is c.deref.ensures.value c.loop-x.invariant.vectors in
     distinct_left (IsVector c.args.pair.now.imp) now (map vec_items (drop (suc c.loop-x.x-index) c.deref-x-items.result.now))
     (subst (AreDistinctWith (IsVector c.args.pair.now.imp)) (ap (map vec_items) (sym c.deref-x-items.ensures.value) ∙ front)
-    (record { each = c.requires.forced.whole; distinct = c.forced_are_distinct.ensures c.args.pair.now.spec c.args.pair.now.imp forced c.requires.forced }))
+    (record { each = c.requires.forced.whole; distinct = c.forced_are_distinct.ensures c.args.pair.now.spec c.args.pair.now.imp c.args.pair.now.kinds forced c.requires.forced }))
 
 pub returns-clause-held : goal.returns-clause-held
 returns-clause-held c =
     let whole : held_vectors c.loop-x.alone ≡ map vec_items c.args.forced.items = c.loop-x.invariant.vectors ∙ ap (map vec_items) (take_all c.loop-x.x-index c.deref-x-items.result.now c.loop-x-test.false ∙ c.deref-x-items.ensures.value) in
-    with_forced c.args.pair.now.spec c.args.pair.now.imp c.args.clauses c.loop-x.alone _ c.loop-x.invariant.held refl refl c.requires.forced
+    with_forced c.args.pair.now.spec c.args.pair.now.imp c.args.pair.now.kinds c.args.clauses c.loop-x.alone _ c.loop-x.invariant.held refl refl c.requires.forced
     (subst (λ xs. All (Contains xs) (map vec_items c.args.forced.items)) (sym whole) (all_in_itself (map vec_items c.args.forced.items)))

@@ -7,5 +7,5 @@ abbrev pub invariant-loop-x : goal.invariant-loop-x
 invariant-loop-x l = record {
   vectors : held_vectors l.alone ≡ map vec_items (take l.x-index l.x-items);
   forced : l.alone.forced.items ≡ [];
-  held : IsHeld l.pair.spec l.pair.imp l.clauses l.alone;
+  held : IsHeld l.pair.spec l.pair.imp l.pair.kinds l.clauses l.alone;
 }

@@ -18,7 +18,7 @@ with_vector-requires-clause-inputs c = All-head (IsVector c.args.pair.now.imp) c
 
 pub with_vector-requires-clause-fits : goal.with_vector-requires-clause-fits
 with_vector-requires-clause-fits c =
-    let room = room_for_cells c.expansions_and_tables.ensures.counted c.args.pair.now.spec c.args.pair.now.imp (held_vectors c.args.held) c.args.held.solver c.args.clauses c.requires.held.expands c.requires.room in
+    let room = room_for_cells c.expansions_and_tables.ensures.counted c.args.pair.now.spec c.args.pair.now.imp c.args.pair.now.kinds (held_vectors c.args.held) c.args.held.solver c.args.clauses c.requires.held.expands c.requires.room in
     omega (arith, room, c.requires.small, c.requires.budget)
 
 pub returns-clause-held : goal.returns-clause-held
@@ -28,15 +28,15 @@ returns-clause-held c =
     let cnf = c.in_ok-new.ensures.cnf in
     record {
       each = subst (AreDistinctWith (IsVector c.args.pair.now.imp)) (sym vectors) c.requires.each;
-      forced = subst (AreForced c.args.pair.now.spec c.args.pair.now.imp) (sym forced) c.requires.held.forced;
+      forced = subst (AreForced c.args.pair.now.spec c.args.pair.now.imp c.args.pair.now.kinds) (sym forced) c.requires.held.forced;
       among = subst (λ xs. All (Contains xs) (forced_vectors c.in_ok-new.new)) (sym vectors)
           (subst (All (Contains (held_vectors c.args.held ++ c.args.x.now ∷ []))) (sym forced) (among_behind (forced_vectors c.args.held) (held_vectors c.args.held) c.args.x.now c.requires.held.among));
-      expands = cnf ∙ ap (expansion c.args.pair.now.spec c.args.pair.now.imp) (sym vectors);
+      expands = cnf ∙ ap (expansion c.args.pair.now.spec c.args.pair.now.imp c.args.pair.now.kinds) (sym vectors);
       within = omega (
         arith,
         c.requires.room,
         ap (λ (f : Formula). length f.clauses) cnf,
         ap (λ (f : Formula). length f.clauses) c.requires.held.expands,
-        clauses_of_one_more c.expansions_and_tables.ensures.counted c.args.pair.now.spec c.args.pair.now.imp (held_vectors c.args.held) c.args.x.now,
+        clauses_of_one_more c.expansions_and_tables.ensures.counted c.args.pair.now.spec c.args.pair.now.imp c.args.pair.now.kinds (held_vectors c.args.held) c.args.x.now,
       );
     }

@@ -15,6 +15,6 @@ returns-clause-held c =
     ap (map vec_items) c.in_ok-push.ensures.items
     ∙ map-append vec_items new.forced.items (c.in_ok-from_slice.field-0 ∷ [])
     ∙ ap₂ (λ l y. l ++ y ∷ []) (ap (map vec_items) c.in_ok-new.ensures.forced) c.in_ok-from_slice.ensures.items in
-    with_forced c.args.pair.now.spec c.args.pair.now.imp c.args.clauses new _ c.in_ok-new.ensures.held refl refl (subst (AreForced c.args.pair.now.spec c.args.pair.now.imp) (sym is) c.requires.forced)
+    with_forced c.args.pair.now.spec c.args.pair.now.imp c.args.pair.now.kinds c.args.clauses new _ c.in_ok-new.ensures.held refl refl (subst (AreForced c.args.pair.now.spec c.args.pair.now.imp c.args.pair.now.kinds) (sym is) c.requires.forced)
     (subst (All (Contains (held_vectors new))) (sym is)
     (subst (λ xs. All (Contains xs) (old ++ x ∷ [])) (sym c.in_ok-new.ensures.vectors) (among_both old (held_vectors c.args.held) x c.requires.held.among)))

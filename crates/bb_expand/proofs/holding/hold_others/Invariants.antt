@@ -7,5 +7,5 @@ abbrev pub invariant-loop-x : goal.invariant-loop-x
 invariant-loop-x l = record {
   vectors : held_vectors l.held ≡ held_vectors l.initial.held ++ map vec_items (take l.x-index l.vectors);
   forced : l.held.forced.items ≡ l.initial.held.forced.items;
-  held : IsHeld l.pair.spec l.pair.imp l.clauses l.held;
+  held : IsHeld l.pair.spec l.pair.imp l.pair.kinds l.clauses l.held;
 }

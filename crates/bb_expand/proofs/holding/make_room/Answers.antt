@@ -8,7 +8,7 @@ use Rattle.bb_expand.proofs.ForcedAmong.{forced_fit}
 use Rattle.bb_expand.proofs.holding.make_room.Goals as goal
 
 pub forced_alone-requires-clause-within : goal.forced_alone-requires-clause-within
-forced_alone-requires-clause-within c = forced_fit c.expansions_and_tables.ensures.counted c.forced_are_distinct.ensures c.args.pair.now.spec c.args.pair.now.imp c.args.clauses c.args.held c.requires.held
+forced_alone-requires-clause-within c = forced_fit c.expansions_and_tables.ensures.counted c.forced_are_distinct.ensures c.args.pair.now.spec c.args.pair.now.imp c.args.pair.now.kinds c.args.clauses c.args.held c.requires.held
 
 pub returns-clause-among : goal.returns-clause-among
 returns-clause-among c = subst (All (Contains (held_vectors c.args.held))) (sym c.in_ok-alone.ensures.vectors) c.requires.held.among
@@ -19,5 +19,5 @@ returns-then-has_room-clause-room c =
 
 pub returns-then-not-has_room-clause-clauses : goal.returns-then-not-has_room-clause-clauses
 returns-then-not-has_room-clause-clauses c e =
-    let is = c.cnf-2.ensures ∙ (c.in_ok-alone.ensures.held.expands ∙ ap (expansion c.args.pair.now.spec c.args.pair.now.imp) c.in_ok-alone.ensures.vectors) in
+    let is = c.cnf-2.ensures ∙ (c.in_ok-alone.ensures.held.expands ∙ ap (expansion c.args.pair.now.spec c.args.pair.now.imp c.args.pair.now.kinds) c.in_ok-alone.ensures.vectors) in
     omega (arith, c.has_room-2.ensures.no c.if-not-has_room.true, ap (λ (f : Formula). length f.clauses) is, ap clauses_per_vector c.imp-2.ensures.imp)

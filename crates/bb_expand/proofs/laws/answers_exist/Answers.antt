@@ -7,6 +7,7 @@ returns-clause-refuted c = expansions_are_refuted c.refutations_exist.ensures c.
 pub returns-clause-answer : goal.returns-clause-answer
 returns-clause-answer c = answers_exist (record {
   numbering = c.laws_below.ensures.numbering;
+  sharing = c.laws_below.ensures.sharing;
   models = c.models.ensures;
   tables = c.expansions_and_tables.ensures.models;
   counted = c.expansions_and_tables.ensures.counted;

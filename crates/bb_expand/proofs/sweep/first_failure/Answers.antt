@@ -3,8 +3,6 @@ use Rattle.std.proofs.lemmas.Bool.{cases_eq}
 use Rattle.bb_bits.specs.Numbers.{bits_of}
 use Rattle.bb_filled.specs.Forced.{AgreeAt, FailAt}
 use Rattle.bb_net.specs.Kinds.{spread}
-use Rattle.bb_net.specs.Netlists.{Netlist}
-use Rattle.bb_net.specs.Values.{FitBoxes}
 use Rattle.bb_expand.proofs.AllVectors.{agree_from_all}
 use Rattle.bb_expand.proofs.ExpandedVectors.{count_is, few_inputs_left}
 use Rattle.bb_expand.proofs.Pieces.{all_hold}
@@ -16,17 +14,6 @@ one_more P n before here k h = elim (cases_eq k n) [
   | inl e ↦ subst P (sym e) here
   | inr ne ↦ before k (omega (arith, h, ne))
 ]
-
-pub kinds_apart-requires-clause-fit : goal.kinds_apart-requires-clause-fit
-kinds_apart-requires-clause-fit c = subst (FitBoxes c.args.tables.now) (sym (c.boxes.ensures.boxes ∙ ap (λ (n : Netlist). n.boxes) c.imp-imp.ensures.imp)) c.requires.fit
-
-pub kinds_apart-requires-clause-few : goal.kinds_apart-requires-clause-few
-kinds_apart-requires-clause-few c = omega (arith, c.imp-imp.ensures.kept.small.boxes, ap length (c.boxes.ensures.boxes ∙ ap (λ (n : Netlist). n.boxes) c.imp-imp.ensures.imp))
-
-pub fails_at-requires-clause-fit : goal.fails_at-requires-clause-fit
-fails_at-requires-clause-fit c =
-    let own = ap (λ ks. spread ks c.args.tables.now) c.deref-in-loop-number.ensures.value ∙ c.in_ok-kinds.ensures.own in
-    subst (λ tables. FitBoxes tables c.args.pair.now.imp.boxes) (sym own) c.requires.fit
 
 pub overflow_shl-number-end : goal.overflow_shl-number-end
 overflow_shl-number-end c =
@@ -40,28 +27,26 @@ spell-requires c =
 
 pub returns-then-fails_at-clause-found : goal.returns-then-fails_at-clause-found
 returns-then-fails_at-clause-found c =
-    let bits = spelled_bits c.loop-number.x c.deref_mut.result.now c.spell.new.bits c.args.pair.now.imp.inputs c.loop-number.number c.loop-number.invariant.x c.deref_mut.ensures.len c.spell.auto.bits c.spell.ensures in
-    let own = ap (λ ks. spread ks c.args.tables.now) c.deref-in-loop-number.ensures.value ∙ c.in_ok-kinds.ensures.own in (
+    let bits = spelled_bits c.loop-number.x c.deref_mut.result.now c.spell.new.bits c.args.pair.now.imp.inputs c.loop-number.number c.loop-number.invariant.x c.deref_mut.ensures.len c.spell.auto.bits c.spell.ensures in (
       ap length bits ∙ c.laws_below.ensures.numbering.width c.args.pair.now.imp.inputs c.loop-number.number,
-      subst (FailAt c.args.pair.now.spec c.args.pair.now.imp c.args.tables.now) c.deref.ensures.value
-          (subst (λ tables. FailAt c.args.pair.now.spec c.args.pair.now.imp tables c.deref.result.now) own (c.fails_at.ensures.yes c.if-fails_at.true)),
+      subst (FailAt c.args.pair.now.spec c.args.pair.now.imp (spread c.args.pair.now.kinds c.args.tables.now)) c.deref.ensures.value
+          (c.fails_at.ensures.yes c.if-fails_at.true),
     )
 
 pub loop-number-preserved : goal.loop-number-preserved
 loop-number-preserved c =
     let bits = spelled_bits c.loop-number.x c.deref_mut.result.now c.spell.new.bits c.args.pair.now.imp.inputs c.loop-number.number c.loop-number.invariant.x c.deref_mut.ensures.len c.spell.auto.bits c.spell.ensures in
-    let own = ap (λ ks. spread ks c.args.tables.now) c.deref-in-loop-number.ensures.value ∙ c.in_ok-kinds.ensures.own in
     record {
       x = c.loop-number.invariant.x;
       bits = c.loop-number.invariant.bits;
       wanted = c.loop-number.invariant.wanted;
-      before = one_more (λ k. AgreeAt c.args.pair.now.spec c.args.pair.now.imp c.args.tables.now (bits_of c.args.pair.now.imp.inputs k)) c.loop-number.number c.loop-number.invariant.before
-          (subst (AgreeAt c.args.pair.now.spec c.args.pair.now.imp c.args.tables.now) (c.deref.ensures.value ∙ bits)
-          (subst (λ tables. AgreeAt c.args.pair.now.spec c.args.pair.now.imp tables c.deref.result.now) own (c.fails_at.ensures.no c.if-fails_at.false)));
+      before = one_more (λ k. AgreeAt c.args.pair.now.spec c.args.pair.now.imp (spread c.args.pair.now.kinds c.args.tables.now) (bits_of c.args.pair.now.imp.inputs k)) c.loop-number.number c.loop-number.invariant.before
+          (subst (AgreeAt c.args.pair.now.spec c.args.pair.now.imp (spread c.args.pair.now.kinds c.args.tables.now)) (c.deref.ensures.value ∙ bits)
+          (c.fails_at.ensures.no c.if-fails_at.false));
     }
 
 pub returns-clause-none : goal.returns-clause-none
 returns-clause-none c =
     let count = count_is c.args.pair.now c.imp-imp.result.now c.inputs-number-end.result c.imp-imp.ensures.kept c.imp-imp.ensures.imp c.requires.few c.inputs-number-end.ensures.inputs in
-    agree_from_all c.laws_below.ensures.numbering c.args.pair.now.spec c.args.pair.now.imp c.args.tables.now
-    (all_hold (AgreeAt c.args.pair.now.spec c.args.pair.now.imp c.args.tables.now) (bits_of c.args.pair.now.imp.inputs) (2 ^ c.args.pair.now.imp.inputs) (λ k h. c.loop-number.invariant.before k (omega (arith, h, count, c.loop-number-test.false))))
+    agree_from_all c.laws_below.ensures.numbering c.args.pair.now.spec c.args.pair.now.imp (spread c.args.pair.now.kinds c.args.tables.now)
+    (all_hold (AgreeAt c.args.pair.now.spec c.args.pair.now.imp (spread c.args.pair.now.kinds c.args.tables.now)) (bits_of c.args.pair.now.imp.inputs) (2 ^ c.args.pair.now.imp.inputs) (λ k h. c.loop-number.invariant.before k (omega (arith, h, count, c.loop-number-test.false))))

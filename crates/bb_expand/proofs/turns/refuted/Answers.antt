@@ -10,11 +10,12 @@ pub returns : goal.returns
 returns c =
     let spec = c.args.pair.now.spec in
     let imp = c.args.pair.now.imp in
+    let kinds = c.args.pair.now.kinds in
     let steps = c.args.refutation.steps.items in
     record {
       error = λ budget held is vectors cnf.
-          subst (λ (f : Formula). IsError spec imp budget (map vec_items c.args.vectors.items) f steps) cnf
-          (subst (λ xs. IsError spec imp budget xs held.solver steps) vectors
-          (refuted_is_error c.laws_below.ensures.numbering c.laws_below.ensures.exists c.refutations.ensures.refutation spec imp c.imp.ensures.kept.imp budget held steps is
+          subst (λ (f : Formula). IsError spec imp kinds budget (map vec_items c.args.vectors.items) f steps) cnf
+          (subst (λ xs. IsError spec imp kinds budget xs held.solver steps) vectors
+          (refuted_is_error c.laws_below.ensures.numbering c.laws_below.ensures.exists c.laws_below.ensures.sharing c.refutations.ensures.refutation spec imp kinds c.imp.ensures.kept.imp c.imp.ensures.kept.beside.kinds budget held steps is
           (subst (λ (f : Formula). IsRefutation f.clauses steps) (sym cnf) c.requires.refuted)));
     }
