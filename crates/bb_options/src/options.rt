@@ -23,4 +23,6 @@ pub struct Options {
     pub clauses: u32,
     /// Whether the report shows the proof of a mistake that an expansion finds.
     pub proof: bool,
+    /// Whether all instances of one empty module have one content, told by the module's name, in place of one each.
+    pub shared: bool,
 }

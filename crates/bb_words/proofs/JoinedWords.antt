@@ -51,7 +51,7 @@ value_joined name spec imp value = record {
 }
 
 -- how clap walks over an option of this name behind two files, apart from its value and joined to it
-record IsWalked (spec imp value name : Text) : Type 0 where
+pub record IsWalked (spec imp value name : Text) : Type 0 where
   pub option_turn : turn_fault shape names (both_held spec imp) (codes "--" ++ name) ≡ []
   pub option_walked : walked shape.rules names (both_held spec imp) (codes "--" ++ name) ≡ value_waits name spec imp
   pub value_turn : turn_fault shape names (value_waits name spec imp) value ≡ []
@@ -119,6 +119,10 @@ module _ (spec imp : Text) (x : ℕ) (xs : List ℕ) (plain : (x == 45) ≡ fals
   unfolding clap_on_literals
   walked_cache = is_walked spec imp (x ∷ xs) (codes "cache") refl refl (rw (plain, plain) refl) (rw (plain, plain) refl) refl refl refl refl refl
 
+  pub walked_care : IsWalked spec imp (x ∷ xs) (codes "care")
+  unfolding clap_on_literals
+  walked_care = is_walked spec imp (x ∷ xs) (codes "care") refl refl (rw (plain, plain) refl) (rw (plain, plain) refl) refl refl refl refl refl
+
   walked_make : IsWalked spec imp (x ∷ xs) (codes "make")
   unfolding clap_on_literals
   walked_make = is_walked spec imp (x ∷ xs) (codes "make") refl refl (rw (plain, plain) refl) (rw (plain, plain) refl) refl refl refl refl refl
@@ -126,7 +130,7 @@ module _ (spec imp : Text) (x : ℕ) (xs : List ℕ) (plain : (x == 45) ≡ fals
   walked_options : All (IsWalked spec imp (x ∷ xs)) options
   walked_options =
       All-from_recursion (IsWalked spec imp (x ∷ xs)) options
-      (walked_top_spec, (walked_top_impl, (walked_from, (walked_to, (walked_patterns, (walked_seed, (walked_nodes, (walked_clauses, (walked_cache, (walked_make, tt))))))))))
+      (walked_top_spec, (walked_top_impl, (walked_from, (walked_to, (walked_patterns, (walked_seed, (walked_nodes, (walked_clauses, (walked_cache, (walked_care, (walked_make, tt)))))))))))
 
 -- words that are taken, and in which the same is found, ask for the same
 same_asked : (words others : List Text) → is_taken words ≡ true → is_taken others ≡ true → found_in words ≡ found_in others → AskTheSame words others

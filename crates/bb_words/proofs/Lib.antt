@@ -1,3 +1,4 @@
+pub mod CareWords
 pub mod FilesBehind
 pub mod FoundLemmas
 pub mod JoinedWords

@@ -13,7 +13,7 @@ use Rattle.bb_words.specs.Asked.{MadePair, asked_made, made_asked}
 use Rattle.bb_words.specs.Commands.{valued}
 use Rattle.bb_words.specs.Laws.{WidthsAskForPairs, pair_alone}
 use Rattle.bb_words.specs.Numbers.{is_number, number_within}
-use Rattle.bb_words.proofs.OnceLemmas.{both}
+use Rattle.bb_words.proofs.WithinLemmas.{both}
 use Rattle.bb_words.proofs.PlainLemmas.{faults_by, names, shape}
 use Rattle.bb_words.proofs.WalkedWords.{Walks, found_by_walk, taken_by_walk}
 use Rattle.bb_words.proofs.WithinLemmas.{if-some}

@@ -7,11 +7,7 @@ use Rattle.bb_words.specs.Asked.{MadePair, Refutation, Request, asked, asked_com
 use Rattle.bb_words.specs.Commands.{found_in, is_taken, options}
 use Rattle.bb_words.specs.Laws.{WordsAskOnce}
 use Rattle.bb_words.specs.Numbers.{number_within}
-use Rattle.bb_words.proofs.WithinLemmas.{given-some, if-some, file-some}
-
-pub both : (a b : Bool) → (a && b) ≡ true → (a ≡ true) × (b ≡ true)
-both true b e = (refl, e)
-both false b e = cc
+use Rattle.bb_words.proofs.WithinLemmas.{both, given-some, if-some, file-some}
 
 not_true : true ≡ false → ⊥
 not_true e = cc e
@@ -27,7 +23,7 @@ last_of p [] x all = (both (p x) true all).0
 last_of p (y ∷ before) x all = last_of p before x (both (p y) (list_all p (before ++ x ∷ [])) all).1
 
 abbrev other_options : List (List ℕ)
-other_options = codes "top-spec" ∷ codes "top-impl" ∷ codes "from" ∷ codes "to" ∷ codes "patterns" ∷ codes "seed" ∷ codes "nodes" ∷ codes "clauses" ∷ codes "cache" ∷ []
+other_options = codes "top-spec" ∷ codes "top-impl" ∷ codes "from" ∷ codes "to" ∷ codes "patterns" ∷ codes "seed" ∷ codes "nodes" ∷ codes "clauses" ∷ codes "cache" ∷ codes "care" ∷ []
 
 -- what is found where a refutation is asked for
 pub record FoundRefutation (found : List Row) (f : Refutation) : Type 0 where
@@ -49,7 +45,7 @@ found_refutation found f e =
     no_option : is_alone found ≡ true → is_absent found (codes "make") ≡ true
     no_option alone =
         last_of (is_absent found) other_options (codes "make")
-        (both (not (is_true (first_of (codes "all") found)) && not (is_true (first_of (codes "proof") found))) (list_all (is_absent found) options) alone).1
+        (both (not (is_true (first_of (codes "all") found)) && not (is_true (first_of (codes "proof") found)) && not (is_true (first_of (codes "shared") found))) (list_all (is_absent found) options) alone).1
 
 -- what is found where a made pair is asked for
 pub record FoundPair (found : List Row) : Type 0 where
@@ -61,9 +57,9 @@ found_pair found m e =
     let width = given-some (option_and_then (number_within 1 256) (first_of (codes "make") found)) _ m e in
     let text = given-some (first_of (codes "make") found) (number_within 1 256) width.0 width.1 in
     let options = given-some (asked_options found) _ m width.2 in
-    let end = if-some (not (is_refuting found) && has_no_files found) _ m options.2 in
+    let end = if-some (not (is_refuting found) && (not options.0.shared && has_no_files found)) _ m options.2 in
     record {
-      flag = was_false (is_refuting found) (both (not (is_refuting found)) (has_no_files found) end.0).0;
+      flag = was_false (is_refuting found) (both (not (is_refuting found)) (not options.0.shared && has_no_files found) end.0).0;
       width = ap (λ o. not (not (is_some o))) text.1;
     }
   where

@@ -1,6 +1,6 @@
 -- Words behind two files that ask for nothing: a third file, an option or a flag given twice, a value on a flag.
-use Rattle.std.proofs.Common.{◌≡◌, ◌≢◌, ◌<◌, ◌==◌, ◌∙◌, ℕ, Bool, true, false, List, [], ◌∷◌, ◌++◌, All, None, Option, Some, ap, ap₂, codes, drop, get_or, if◌then◌else◌, refl, sym, arith, length}
-use Rattle.std.specs.Prelude.{fold, Contains}
+use Rattle.std.proofs.Common.{◌≡◌, ◌≢◌, ◌<◌, ◌==◌, ◌∙◌, ℕ, Bool, true, false, List, [], ◌∷◌, ◌++◌, All, None, Some, ap, ap₂, codes, drop, get_or, if◌then◌else◌, refl, arith, length}
+use Rattle.std.specs.Prelude.{Contains}
 use Rattle.std.specs.Str.{bytes_eq}
 use Rattle.std.proofs.lemmas.List.Elements.{All-from_recursion}
 use Rattle.std.proofs.lemmas.List.{get_or_default}
@@ -12,8 +12,8 @@ use Rattle.clap.specs.Lexer.{long_of}
 use Rattle.clap.specs.Faults.{turn_fault, walk_fault}
 use Rattle.clap.specs.Kinds.{Kinds, or_else}
 use Rattle.clap.specs.Words.{Text, fault_of}
-use Rattle.clap.specs.Walk.{Walk, arg_by_long, is_empty, idle, nothing_held, option, walk, walk_from, walked}
-use Rattle.bb_words.specs.Asked.{AskNothing, asked, asked_comparison, asked_made, asked_refutation, made_asked, rup_asked}
+use Rattle.clap.specs.Walk.{Walk, arg_by_long, is_empty, nothing_held, walk, walk_from, walked}
+use Rattle.bb_words.specs.Asked.{AskNothing, asked_comparison, asked_made, asked_refutation}
 use Rattle.bb_words.specs.Commands.{command, flags, found_in, is_taken, options}
 use Rattle.bb_words.specs.Laws.{SomeWordsAreRefused, is_plain}
 use Rattle.bb_words.proofs.JoinedWords.{behind_files, value_held, value_waits}
@@ -120,12 +120,16 @@ module _ (spec imp : Text) (x y : ℕ) (xs ys : List ℕ) (plain : (x == 45) ≡
   unfolding clap_on_literals
   twice_cache = is_twice spec imp (x ∷ xs) (y ∷ ys) (codes "cache") refl refl (rw (plain, plain) refl) (rw (plain, plain) refl) refl (rw (also, also) refl) (rw (also, also) refl)
 
+  twice_care : IsTwice spec imp (x ∷ xs) (y ∷ ys) (codes "care")
+  unfolding clap_on_literals
+  twice_care = is_twice spec imp (x ∷ xs) (y ∷ ys) (codes "care") refl refl (rw (plain, plain) refl) (rw (plain, plain) refl) refl (rw (also, also) refl) (rw (also, also) refl)
+
   twice_make : IsTwice spec imp (x ∷ xs) (y ∷ ys) (codes "make")
   unfolding clap_on_literals
   twice_make = is_twice spec imp (x ∷ xs) (y ∷ ys) (codes "make") refl refl (rw (plain, plain) refl) (rw (plain, plain) refl) refl (rw (also, also) refl) (rw (also, also) refl)
 
   twice_options : All (IsTwice spec imp (x ∷ xs) (y ∷ ys)) options
-  twice_options = All-from_recursion (IsTwice spec imp (x ∷ xs) (y ∷ ys)) options (twice_top_spec, (twice_top_impl, (twice_from, (twice_to, (twice_patterns, (twice_seed, (twice_nodes, (twice_clauses, (twice_cache, (twice_make, tt))))))))))
+  twice_options = All-from_recursion (IsTwice spec imp (x ∷ xs) (y ∷ ys)) options (twice_top_spec, (twice_top_impl, (twice_from, (twice_to, (twice_patterns, (twice_seed, (twice_nodes, (twice_clauses, (twice_cache, (twice_care, (twice_make, tt)))))))))))
 
 -- how clap comes to a flag again
 abbrev flag_held : Text → Text → Text → Walk
@@ -168,17 +172,25 @@ value_rup : (spec imp value : Text) → IsFlagValue spec imp value (codes "rup")
 unfolding clap_on_literals
 value_rup spec imp value = is_flag_value spec imp value (codes "rup") refl
 
+flag_shared : (spec imp : Text) → IsFlagTwice spec imp (codes "shared")
+unfolding clap_on_literals
+flag_shared spec imp = is_flag_twice spec imp (codes "shared") refl refl
+
+value_shared : (spec imp value : Text) → IsFlagValue spec imp value (codes "shared")
+unfolding clap_on_literals
+value_shared spec imp value = is_flag_value spec imp value (codes "shared") refl
+
 twice_flags : (spec imp : Text) → All (IsFlagTwice spec imp) flags
-twice_flags spec imp = All-from_recursion (IsFlagTwice spec imp) flags (flag_all spec imp, (flag_proof spec imp, (flag_rup spec imp, tt)))
+twice_flags spec imp = All-from_recursion (IsFlagTwice spec imp) flags (flag_all spec imp, (flag_proof spec imp, (flag_rup spec imp, (flag_shared spec imp, tt))))
 
 value_flags : (spec imp value : Text) → All (IsFlagValue spec imp value) flags
-value_flags spec imp value = All-from_recursion (IsFlagValue spec imp value) flags (value_all spec imp value, (value_proof spec imp value, (value_rup spec imp value, tt)))
+value_flags spec imp value = All-from_recursion (IsFlagValue spec imp value) flags (value_all spec imp value, (value_proof spec imp value, (value_rup spec imp value, (value_shared spec imp value, tt))))
 
 -- a name that is neither an option's nor a flag's
-no_rule : (name : Text) → bytes_eq (codes "all") name ≡ false → bytes_eq (codes "proof") name ≡ false → bytes_eq (codes "rup") name ≡ false → bytes_eq (codes "top-spec") name ≡ false → bytes_eq (codes "top-impl") name ≡ false → bytes_eq (codes "from") name ≡ false → bytes_eq (codes "to") name ≡ false → bytes_eq (codes "patterns") name ≡ false → bytes_eq (codes "seed") name ≡ false → bytes_eq (codes "nodes") name ≡ false → bytes_eq (codes "clauses") name ≡ false → bytes_eq (codes "cache") name ≡ false → bytes_eq (codes "make") name ≡ false
+no_rule : (name : Text) → bytes_eq (codes "all") name ≡ false → bytes_eq (codes "proof") name ≡ false → bytes_eq (codes "rup") name ≡ false → bytes_eq (codes "shared") name ≡ false → bytes_eq (codes "top-spec") name ≡ false → bytes_eq (codes "top-impl") name ≡ false → bytes_eq (codes "from") name ≡ false → bytes_eq (codes "to") name ≡ false → bytes_eq (codes "patterns") name ≡ false → bytes_eq (codes "seed") name ≡ false → bytes_eq (codes "nodes") name ≡ false → bytes_eq (codes "clauses") name ≡ false → bytes_eq (codes "cache") name ≡ false → bytes_eq (codes "care") name ≡ false → bytes_eq (codes "make") name ≡ false
     → arg_by_long shape.rules name ≡ None
 unfolding clap_on_literals
-no_rule name not_all not_proof not_rup not_top_spec not_top_impl not_from not_to not_patterns not_seed not_nodes not_clauses not_cache not_make = rw (not_all, not_proof, not_rup, not_top_spec, not_top_impl, not_from, not_to, not_patterns, not_seed, not_nodes, not_clauses, not_cache, not_make) refl
+no_rule name not_all not_proof not_rup not_shared not_top_spec not_top_impl not_from not_to not_patterns not_seed not_nodes not_clauses not_cache not_care not_make = rw (not_all, not_proof, not_rup, not_shared, not_top_spec, not_top_impl, not_from, not_to, not_patterns, not_seed, not_nodes, not_clauses, not_cache, not_care, not_make) refl
 
 unknown_turn : (spec imp word name : Text) → bytes_eq word (45 ∷ 45 ∷ []) ≡ false → long_of word ≡ Some (name, None) → arg_by_long shape.rules name ≡ None → IsFault (turn_fault shape names (both_held spec imp) word)
 unfolding clap_on_literals
@@ -195,7 +207,7 @@ differs texts name none k within = from (bytes_eq (get_or texts k []) name) refl
 no_rule_of : (name : Text) → (Contains (flags ++ options) name → ⊥) → arg_by_long shape.rules name ≡ None
 no_rule_of name none =
     let other = differs (flags ++ options) name none in
-    no_rule name (other 0 (omega arith)) (other 1 (omega arith)) (other 2 (omega arith)) (other 3 (omega arith)) (other 4 (omega arith)) (other 5 (omega arith)) (other 6 (omega arith)) (other 7 (omega arith)) (other 8 (omega arith)) (other 9 (omega arith)) (other 10 (omega arith)) (other 11 (omega arith)) (other 12 (omega arith))
+    no_rule name (other 0 (omega arith)) (other 1 (omega arith)) (other 2 (omega arith)) (other 3 (omega arith)) (other 4 (omega arith)) (other 5 (omega arith)) (other 6 (omega arith)) (other 7 (omega arith)) (other 8 (omega arith)) (other 9 (omega arith)) (other 10 (omega arith)) (other 11 (omega arith)) (other 12 (omega arith)) (other 13 (omega arith)) (other 14 (omega arith))
 
 lacks : (xs : List ℕ) → All (λ b. b ≢ 61) xs → Lacks 61 xs
 lacks xs all = λ i within. all i 0 within

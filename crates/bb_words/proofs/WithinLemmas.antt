@@ -1,11 +1,14 @@
 -- Whatever words ask for is within the table of the options.
 use Rattle.std.proofs.Common.{◌≡◌, ◌≢◌, ℕ, ◌≤◌, Bool, true, false, List, [], ◌∷◌, Option, None, Some, if◌then◌else◌, arith, codes, refl, subst}
-use Rattle.std.specs.Prelude.{IfOk, Result, Ok, Err, nat_le, not, option_and_then, ◌&&◌, ◌||◌}
+use Rattle.std.specs.Prelude.{All, IfOk, IfSome, Result, Ok, Err, nat_le, not, option_and_then, option_map, ◌&&◌, ◌||◌}
+use Rattle.std.specs.Char.{is_ascii_graphic}
+use Rattle.std.specs.List.{list_all}
+use Rattle.std.proofs.lemmas.List.Elements.{All-cons, All-nil}
 use Rattle.clap.specs.Words.{Row, first_of}
 use Rattle.bb_options.specs.declared.options.Options.{Options}
 use Rattle.bb_options.specs.declared.rung.Rung.TheVariants.{Ternary, Expand}
 use Rattle.bb_options.specs.Rungs.{AreBounds, rank}
-use Rattle.bb_words.specs.Asked.{Ask, AskNothing, HasBounds, IsWantedBy, MadePair, Request, asked_comparison, asked_made, asked_options, asked_refutation, asked_request, file, given, has_no_files, is_making, is_refuting, name, request_of, rung_named, top, value_or}
+use Rattle.bb_words.specs.Asked.{Ask, AskNothing, HasBounds, IsWantedBy, MadePair, Request, asked_comparison, asked_made, asked_options, asked_refutation, asked_request, care, file, given, has_no_files, is_making, is_refuting, name, request_of, rung_named, top, value_or}
 use Rattle.bb_words.specs.Commands.{found_in, is_taken}
 use Rattle.bb_words.specs.declared.asked.Wanted.{Wanted}
 use Rattle.bb_words.specs.declared.asked.Wanted.TheVariants as wanted
@@ -24,6 +27,10 @@ if-some false x y e = cc
 
 pub some-same : {X : Type 0} (x y : X) → Some x ≡ Some y → x ≡ y
 some-same x y e = cc
+
+pub both : (a b : Bool) → (a && b) ≡ true → (a ≡ true) × (b ≡ true)
+both true b e = (refl, e)
+both false b e = cc
 
 le-true : (a b : ℕ) → nat_le a b ≡ true → a ≤ b
 le-true a b e = grind (arith, e)
@@ -44,6 +51,24 @@ name-some (b ∷ bs) given e = λ empty. cc
 pub file-some : (value : Option (List ℕ)) (given : List ℕ) → file value ≡ Some given → given ≢ []
 file-some None given e = cc
 file-some (Some text) given e = name-some text given e
+
+graphic : (text : List ℕ) → list_all is_ascii_graphic text ≡ true → All (λ b. (33 ≤ b) × (b ≤ 126)) text
+graphic [] e = All-nil (λ b. (33 ≤ b) × (b ≤ 126))
+graphic (b ∷ bs) e =
+    let parts = both (is_ascii_graphic b) (list_all is_ascii_graphic bs) e in
+    All-cons (λ b. (33 ≤ b) × (b ≤ 126)) b bs (grind (arith, parts.0), grind (arith, parts.0)) (graphic bs parts.1)
+
+care-within : (value given : Option (List ℕ)) → care value ≡ Some given → IfSome given (λ text. (text ≢ []) × All (λ b. (33 ≤ b) × (b ≤ 126)) text)
+care-within None given e = subst (λ o. IfSome o (λ text. (text ≢ []) × All (λ b. (33 ≤ b) × (b ≤ 126)) text)) (some-same None given e) tt
+care-within (Some text) given e = from (list_all is_ascii_graphic text) refl e
+  where
+    from : (g : Bool) → list_all is_ascii_graphic text ≡ g → option_map (λ found. Some found) (if g then name text else None) ≡ Some given → IfSome given (λ text. (text ≢ []) × All (λ b. (33 ≤ b) × (b ≤ 126)) text)
+    from false is e = cc
+    from true is e = named text is e
+      where
+        named : (text : List ℕ) → list_all is_ascii_graphic text ≡ true → option_map (λ found. Some found) (name text) ≡ Some given → IfSome given (λ text. (text ≢ []) × All (λ b. (33 ≤ b) × (b ≤ 126)) text)
+        named [] is e = cc
+        named (b ∷ bs) is e = subst (λ o. IfSome o (λ text. (text ≢ []) × All (λ b. (33 ≤ b) × (b ≤ 126)) text)) (some-same (Some (b ∷ bs)) given e) ((λ empty. cc), graphic (b ∷ bs) is)
 
 options-within : (found : List Row) (o : Options) → asked_options found ≡ Some o → AreBounds o
 options-within found o e =
@@ -68,10 +93,12 @@ request-within found r e =
     let imp = given-some (file (first_of (codes "IMPL") found)) _ r spec.2 in
     let top_spec = given-some (top (first_of (codes "top-spec") found)) _ r imp.2 in
     let top_imp = given-some (top (first_of (codes "top-impl") found)) _ r top_spec.2 in
-    let options = given-some (asked_options found) _ r top_imp.2 in
+    let care = given-some (care (first_of (codes "care") found)) _ r top_imp.2 in
+    let options = given-some (asked_options found) _ r care.2 in
     subst IsWithin (some-same _ r options.2) (record {
       spec = file-some (first_of (codes "SPEC") found) spec.0 spec.1;
       imp = file-some (first_of (codes "IMPL") found) imp.0 imp.1;
+      care = care-within (first_of (codes "care") found) care.0 care.1;
       bounds = options-within found options.0 options.1;
     })
 
@@ -89,16 +116,24 @@ requests_within words r e = go (is_taken words) e
     go true e = request-within (found_in words) r (comparison-some (found_in words) r e)
     go false e = cc
 
+-- of three that hold together the second is a denial
+denied : (a b c : Bool) → (a && (not b && c)) ≡ true → b ≡ false
+denied true false c e = refl
+denied true true c e = cc
+denied false b c e = cc
+
 made-within : (found : List Row) (m : MadePair) → asked_made found ≡ Some m → IsMadeWithin m
 made-within found m e =
     let width = given-some (option_and_then (number_within 1 256) (first_of (codes "make") found)) _ m e in
     let text = given-some (first_of (codes "make") found) (number_within 1 256) width.0 width.1 in
     let options = given-some (asked_options found) _ m width.2 in
     let bounds = number_within-some 1 256 text.0 width.0 text.2 in
-    subst IsMadeWithin (if-some (not (is_refuting found) && has_no_files found) _ m options.2).1 (record {
+    let end = if-some (not (is_refuting found) && (not options.0.shared && has_no_files found)) _ m options.2 in
+    subst IsMadeWithin end.1 (record {
       least = bounds.0;
       most = bounds.1;
       bounds = options-within found options.0 options.1;
+      apart = denied (not (is_refuting found)) options.0.shared (has_no_files found) end.0;
     })
 
 pub made_within : MadePairsAreWithin

@@ -1,7 +1,8 @@
--- What the words of a command line ask for: which files are compared and which module is the top of each, which checks are run, and within
--- which bounds; or, with `--make`, how wide a pair is made and compared by these checks, without a file; or, with `--rup`, in which files a formula
+-- What the words of a command line ask for: which files are compared and which module is the top of each, by which output the specification
+-- says where agreement is asked, which checks are run, and within which bounds; or, with `--make`, how wide a pair is made and compared by these checks, without a file; or, with `--rup`, in which files a formula
 -- and its refutation stand. Words that clap does not take, or whose values are not in the table below, ask for nothing.
 use Rattle.std.specs.Prelude.{◌≡◌, ◌&&◌, ◌||◌, ◌≤◌, ℕ, Bool, false, not, is_some, nat_le, List, [], ◌∷◌, Option, Some, None, if◌then◌else◌, option_and_then, option_map, option_copied, find, codes}
+use Rattle.std.specs.Char.{is_ascii_graphic}
 use Rattle.std.specs.List.{list_all}
 use Rattle.std.specs.Str.{bytes_eq}
 use Rattle.clap.specs.Words.{Row, first_of}
@@ -22,6 +23,8 @@ pub record Request : Type 0 where
   -- the name of the top module, where it is given
   pub top_spec : Option (List ℕ)
   pub top_imp : Option (List ℕ)
+  -- the text of the care output, where one is asked for
+  pub care : Option (List ℕ)
   pub options : Options
 
 -- a made pair, and the checks that compare it
@@ -58,6 +61,14 @@ file = option_and_then name
 abbrev pub top : Option (List ℕ) → Option (Option (List ℕ))
 top = value_or None (λ text. option_map (λ given. Some given) (name text))
 
+-- a name that can be printed: one or more bytes, all from 33 to 126
+abbrev pub printable : List ℕ → Option (List ℕ)
+printable text = if list_all is_ascii_graphic text then name text else None
+
+-- the text of a care output may be given; no bit of a port has a name that cannot be printed
+abbrev pub care : Option (List ℕ) → Option (Option (List ℕ))
+care = value_or None (λ text. option_map (λ given. Some given) (printable text))
+
 -- whether a flag is given
 abbrev pub is_true : Option (List ℕ) → Bool
 is_true None = false
@@ -87,6 +98,7 @@ asked_options found =
       cache = cache;
       clauses = clauses;
       proof = is_true (first_of (codes "proof") found);
+      shared = is_true (first_of (codes "shared") found);
     }) else None)))))))
 
 -- all that is asked, by what was found
@@ -96,14 +108,16 @@ asked_request found =
     given (file (first_of (codes "IMPL") found)) (λ imp.
     given (top (first_of (codes "top-spec") found)) (λ top_spec.
     given (top (first_of (codes "top-impl") found)) (λ top_imp.
+    given (care (first_of (codes "care") found)) (λ care.
     given (asked_options found) (λ options.
     Some (record {
       spec = spec;
       imp = imp;
       top_spec = top_spec;
       top_imp = top_imp;
+      care = care;
       options = options;
-    }))))))
+    })))))))
 
 -- whether the flag for a refutation is given
 abbrev pub is_refuting : List Row → Bool
@@ -116,27 +130,28 @@ is_absent found option = not (is_some (first_of option found))
 -- no other flag is given, and no option
 abbrev pub is_alone : List Row → Bool
 is_alone found =
-    not (is_true (first_of (codes "all") found)) && not (is_true (first_of (codes "proof") found))
+    not (is_true (first_of (codes "all") found)) && not (is_true (first_of (codes "proof") found)) && not (is_true (first_of (codes "shared") found))
     && list_all (is_absent found) options
 
 -- whether the width of a made pair is given
 abbrev pub is_making : List Row → Bool
 is_making found = not (is_absent found (codes "make"))
 
--- no file and no top is given
+-- no file, no top and no care output is given
 abbrev pub has_no_files : List Row → Bool
-has_no_files found = list_all (is_absent found) (codes "SPEC" ∷ codes "IMPL" ∷ codes "top-spec" ∷ codes "top-impl" ∷ [])
+has_no_files found = list_all (is_absent found) (codes "SPEC" ∷ codes "IMPL" ∷ codes "top-spec" ∷ codes "top-impl" ∷ codes "care" ∷ [])
 
 -- files are compared without that flag and without a width
 abbrev pub asked_comparison : List Row → Option Request
 asked_comparison found = if is_refuting found || is_making found then None else asked_request found
 
--- a made pair is asked for by its width, from 1 to 256, without that flag, a file or a top
+-- a made pair, which has one box, is asked for by its width, from 1 to 256, without that flag, the one for shared contents, a
+-- file, a top or a care output
 abbrev pub asked_made : List Row → Option MadePair
 asked_made found =
     given (option_and_then (number_within 1 256) (first_of (codes "make") found)) (λ n.
     given (asked_options found) (λ options.
-    if not (is_refuting found) && has_no_files found then Some (record { n = n; options = options }) else None))
+    if not (is_refuting found) && (not options.shared && has_no_files found) then Some (record { n = n; options = options }) else None))
 
 -- a refutation is asked for with it alone, and with both files
 abbrev pub asked_refutation : List Row → Option Refutation
@@ -164,6 +179,7 @@ request_of a = record {
   imp = a.imp.now;
   top_spec = option_copied a.top_spec;
   top_imp = option_copied a.top_imp;
+  care = option_copied a.care;
   options = a.options;
 }
 

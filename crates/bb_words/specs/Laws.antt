@@ -1,5 +1,7 @@
 -- Laws of what words ask for.
-use Rattle.std.specs.Prelude.{◌≡◌, ◌≢◌, ◌≤◌, ◌==◌, ℕ, Bool, true, false, not, List, [], ◌∷◌, ◌++◌, All, Contains, None, Some, codes}
+use Rattle.std.specs.Prelude.{◌≡◌, ◌≢◌, ◌≤◌, ◌==◌, ℕ, Bool, true, false, not, List, [], ◌∷◌, ◌++◌, All, Contains, IfSome, None, Some, if◌then◌else◌, codes}
+use Rattle.std.specs.Char.{is_ascii_graphic}
+use Rattle.std.specs.List.{list_all}
 use Rattle.bb_options.specs.declared.rung.Rung.TheVariants.{Ternary, Expand}
 use Rattle.bb_options.specs.Rungs.{AreBounds}
 use Rattle.bb_options.specs.declared.options.Options.{Options}
@@ -7,17 +9,20 @@ use Rattle.bb_words.specs.Asked.{AskNothing, MadePair, Refutation, Request, aske
 use Rattle.bb_words.specs.Commands.{flags, found_in, options}
 use Rattle.bb_words.specs.Numbers.{number_within}
 
--- each name that has to be given is not empty, each number is within its bounds, and so is the order of the checks
+-- each name that has to be given is not empty, a care output has a name that can be printed, each number is within its bounds, and so is
+-- the order of the checks
 pub record IsWithin (r : Request) : Type 0 where
   pub spec : r.spec ≢ []
   pub imp : r.imp ≢ []
+  pub care : IfSome r.care (λ text. (text ≢ []) × All (λ b. (33 ≤ b) × (b ≤ 126)) text)
   pub bounds : AreBounds r.options
 
--- the width is within its bounds, and so are the checks
+-- the width is within its bounds, and so are the checks; boxes share nothing, since there is one
 pub record IsMadeWithin (m : MadePair) : Type 0 where
   pub least : 1 ≤ m.n
   pub most : m.n ≤ 256
   pub bounds : AreBounds m.options
+  pub apart : m.options.shared ≡ false
 
 -- whatever words ask for is within the table of the options
 abbrev pub RequestsAreWithin : Type 0
@@ -33,11 +38,11 @@ is_plain (b ∷ bs) = not (b == 45)
 
 -- what stands for options that are not given
 abbrev pub options_alone : Options
-options_alone = record { from = Ternary; to = Expand; all = false; patterns = 32; seed = 1; nodes = 1000000; cache = 65536; clauses = 2000000; proof = false }
+options_alone = record { from = Ternary; to = Expand; all = false; patterns = 32; seed = 1; nodes = 1000000; cache = 65536; clauses = 2000000; proof = false; shared = false }
 
 -- two files, and of all else what stands for what is not given
 abbrev pub files_alone : List ℕ → List ℕ → Request
-files_alone spec imp = record { spec = spec; imp = imp; top_spec = None; top_imp = None; options = options_alone }
+files_alone spec imp = record { spec = spec; imp = imp; top_spec = None; top_imp = None; care = None; options = options_alone }
 
 -- a made pair, and of all else what stands for what is not given
 abbrev pub pair_alone : ℕ → MadePair
@@ -62,6 +67,11 @@ pub record AskTheSame (words others : List (List ℕ)) : Type 0 where
 abbrev pub ValuesMayBeJoined : Type 0
 ValuesMayBeJoined = (program spec imp value : List ℕ) → is_plain spec ≡ true → is_plain imp ≡ true → is_plain value ≡ true
     → All (λ option. AskTheSame (program ∷ spec ∷ imp ∷ (codes "--" ++ option) ∷ value ∷ []) (program ∷ spec ∷ imp ∷ (codes "--" ++ option ++ codes "=" ++ value) ∷ [])) options
+
+-- behind two files `--care` and a name ask where these have to agree, if the name can be printed, and else for nothing
+abbrev pub CareNamesAreAsked : Type 0
+CareNamesAreAsked = (program spec imp text : List ℕ) → is_plain spec ≡ true → is_plain imp ≡ true → is_plain text ≡ true
+    → asked (program ∷ spec ∷ imp ∷ codes "--care" ∷ text ∷ []) ≡ (if list_all is_ascii_graphic text then Some (record (files_alone spec imp) { care = Some text }) else None)
 
 -- less than two words are no two files
 abbrev pub FewWordsAskForNothing : Type 0

@@ -14,6 +14,9 @@ pub struct Asked<'a> {
     pub top_spec: Option<&'a str>,
     /// The implementation's top module, or none for the one that no module instantiates.
     pub top_imp: Option<&'a str>,
+    /// The text of the care output, the bit of an output port of the specification that says where agreement is asked, if one is
+    /// given: one or more bytes from 33 to 126.
+    pub care: Option<&'a str>,
     /// Which checks are run, and their bounds.
     pub options: Options,
 }

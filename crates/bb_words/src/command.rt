@@ -49,6 +49,7 @@ fn command<'a>(alloc: Global) -> Result<Command<'a>, AllocError>
         .arg(flag(alloc, "all"))?
         .arg(flag(alloc, "proof"))?
         .arg(flag(alloc, "rup"))?
+        .arg(flag(alloc, "shared"))?
         .arg(valued(alloc, "top-spec"))?
         .arg(valued(alloc, "top-impl"))?
         .arg(valued(alloc, "from"))?
@@ -58,6 +59,7 @@ fn command<'a>(alloc: Global) -> Result<Command<'a>, AllocError>
         .arg(valued(alloc, "nodes"))?
         .arg(valued(alloc, "clauses"))?
         .arg(valued(alloc, "cache"))?
+        .arg(valued(alloc, "care"))?
         .arg(valued(alloc, "make"))?;
     Ok(command)
 }

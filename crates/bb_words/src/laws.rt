@@ -1,6 +1,6 @@
 //! Laws of what words ask for. Each function has a law as its contract and does nothing.
 
-ghost use Rattle.bb_words.specs.Laws.{AllAreFilesBehind, FewWordsAskForNothing, MadePairsAreWithin, PlainWordsAreFiles, RequestsAreWithin, SomeWordsAreRefused, ValuesMayBeJoined, WidthsAskForPairs, WordsAskOnce};
+ghost use Rattle.bb_words.specs.Laws.{AllAreFilesBehind, CareNamesAreAsked, FewWordsAskForNothing, MadePairsAreWithin, PlainWordsAreFiles, RequestsAreWithin, SomeWordsAreRefused, ValuesMayBeJoined, WidthsAskForPairs, WordsAskOnce};
 
 /// Whatever words ask for is within the table of the options.
 pub fn requests_are_within()
@@ -25,6 +25,11 @@ pub fn widths_ask_for_pairs()
 /// Behind two files a value is the next word behind its option, or is joined to it by an equals sign: both ask for the same.
 pub fn values_may_be_joined()
     ensures { ValuesMayBeJoined }
+{}
+
+/// Behind two files `--care` and a name that can be printed ask where these have to agree; with another name they ask for nothing.
+pub fn care_names_are_asked()
+    ensures { CareNamesAreAsked }
 {}
 
 /// No word, and one plain word alone, ask for nothing.

@@ -8,7 +8,7 @@ ghost use Rattle.bb_words.specs.Asked.{Ask, AskNothing, HasBounds, IsWantedBy, a
 
 use crate::asked::{Asked, Wanted, WordsFault};
 use crate::command::{parse, value};
-use crate::value::{file, is_true, number_or, rung_or, small, small_or, top};
+use crate::value::{care, file, is_true, number_or, rung_or, small, small_or, top};
 use bb_options::{Options, Rung};
 use clap::ArgMatches;
 use clap::error::ErrorKind;
@@ -38,6 +38,7 @@ fn options(matches: &ArgMatches<'_>) -> Option<Options>
         cache,
         clauses,
         proof: is_true(value(matches, "proof")),
+        shared: is_true(value(matches, "shared")),
     })
 }
 
@@ -49,26 +50,29 @@ fn request<'a>(matches: &ArgMatches<'a>) -> Option<Asked<'a>>
     let imp = file(value(matches, "IMPL"))?;
     let top_spec = top(value(matches, "top-spec"))?;
     let top_imp = top(value(matches, "top-impl"))?;
+    let care = care(value(matches, "care"))?;
     let options = options(matches)?;
     Some(Asked {
         spec,
         imp,
         top_spec,
         top_imp,
+        care,
         options,
     })
 }
 
-// No option with a number is given.
-fn no_number(matches: &ArgMatches<'_>) -> bool
+// No bound, no care output and no width is given.
+fn no_bound(matches: &ArgMatches<'_>) -> bool
     ensures { result ≡ list_all (is_absent (rows_of (found_of matches.now)))
-        (codes "patterns" ∷ codes "seed" ∷ codes "nodes" ∷ codes "clauses" ∷ codes "cache" ∷ codes "make" ∷ []) }
+        (codes "patterns" ∷ codes "seed" ∷ codes "nodes" ∷ codes "clauses" ∷ codes "cache" ∷ codes "care" ∷ codes "make" ∷ []) }
 {
     value(matches, "patterns").is_none()
         && value(matches, "seed").is_none()
         && value(matches, "nodes").is_none()
         && value(matches, "clauses").is_none()
         && value(matches, "cache").is_none()
+        && value(matches, "care").is_none()
         && value(matches, "make").is_none()
 }
 
@@ -80,14 +84,17 @@ fn no_option(matches: &ArgMatches<'_>) -> bool
         && value(matches, "top-impl").is_none()
         && value(matches, "from").is_none()
         && value(matches, "to").is_none()
-        && no_number(matches)
+        && no_bound(matches)
 }
 
 // No other flag and no option is given.
 fn is_alone(matches: &ArgMatches<'_>) -> bool
     ensures alone { result ≡ is_alone (rows_of (found_of matches.now)) }
 {
-    !is_true(value(matches, "all")) && !is_true(value(matches, "proof")) && no_option(matches)
+    !is_true(value(matches, "all"))
+        && !is_true(value(matches, "proof"))
+        && !is_true(value(matches, "shared"))
+        && no_option(matches)
 }
 
 // The refutation that is asked for.
@@ -104,7 +111,7 @@ fn refutation<'a>(matches: &ArgMatches<'a>) -> Option<Wanted<'a>>
     Some(Wanted::Refutation { cnf, adds })
 }
 
-// No file and no top is given.
+// No file, no top and no care output is given.
 fn no_files(matches: &ArgMatches<'_>) -> bool
     ensures none { result ≡ has_no_files (rows_of (found_of matches.now)) }
 {
@@ -112,6 +119,7 @@ fn no_files(matches: &ArgMatches<'_>) -> bool
         && value(matches, "IMPL").is_none()
         && value(matches, "top-spec").is_none()
         && value(matches, "top-impl").is_none()
+        && value(matches, "care").is_none()
 }
 
 // The made pair that is asked for.
@@ -122,7 +130,7 @@ fn made_pair<'a>(matches: &ArgMatches<'a>) -> Option<Wanted<'a>>
 {
     let n = small(value(matches, "make"), 1, 256)?;
     let options = options(matches)?;
-    if !no_files(matches) {
+    if options.shared || !no_files(matches) {
         return None;
     }
     Some(Wanted::MadePair { n, options })
@@ -169,12 +177,14 @@ fn wanted<'a>(matches: &ArgMatches<'a>) -> Option<Wanted<'a>>
 /// | `--nodes` | 0 to 50,000,000 | 1,000,000 |
 /// | `--cache` | 1 to 1,048,576 | 65,536 |
 /// | `--clauses` | 0 to 8,000,000 | 2,000,000 |
-/// | `--all`, `--proof` | none | not set |
+/// | `--care` | the text of a bit of an output port: one or more bytes from 33 to 126 | none |
+/// | `--all`, `--proof`, `--shared` | none | not set |
 ///
 /// A value stands behind its option as the next word or behind `=`; one that begins with a minus sign, and is more than that,
 /// has to stand behind `=`. No name is empty. A number has at most 20 digits. Behind `--` every word is a file.
 ///
-/// With `--make` and a number from 1 to 256 a pair is made and compared, and no file and no top may be given. With `--rup` the two
+/// With `--make` and a number from 1 to 256 a pair is made and compared, and no file, no top, no `--shared`
+/// and no `--care` may be given. With `--rup` the two
 /// files are a formula and clause additions, and no other flag and no option may be given.
 ///
 /// # Errors

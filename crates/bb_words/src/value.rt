@@ -1,7 +1,9 @@
 //! The values of options, each read by its kind, with what stands for an option that is not given.
 
 ghost use Rattle.std.specs.Prelude.{◌≡◌, option_and_then, option_map, option_copied};
-ghost use Rattle.bb_words.specs.Asked.{file, is_true, name, rung_named, top, value_or};
+ghost use Rattle.std.specs.Char.{is_ascii_graphic};
+ghost use Rattle.std.specs.List.{list_all};
+ghost use Rattle.bb_words.specs.Asked.{care, file, is_true, name, printable, rung_named, top, value_or};
 ghost use Rattle.bb_words.specs.Numbers.{number_within};
 
 use crate::number::{number_within, small_within};
@@ -28,6 +30,33 @@ pub fn top(value: Option<&str>) -> Option<Option<&str>>
     match value {
         None => Some(None),
         Some(text) => Some(Some(name(text)?)),
+    }
+}
+
+fn are_graphic(bytes: &[u8]) -> bool
+    ensures graphic { result ≡ list_all is_ascii_graphic bytes.now }
+{
+    bytes.iter().all(|b| b.is_ascii_graphic())
+}
+
+// A name that can be printed.
+fn printable(text: &str) -> Option<&str>
+    ensures name { option_copied result ≡ printable text.now }
+{
+    if are_graphic(text.as_bytes()) {
+        name(text)
+    } else {
+        None
+    }
+}
+
+/// The text of a care output, which may be given.
+pub fn care(value: Option<&str>) -> Option<Option<&str>>
+    ensures care { option_map option_copied result ≡ care (option_copied value.entry) }
+{
+    match value {
+        None => Some(None),
+        Some(text) => Some(Some(printable(text)?)),
     }
 }
 
