@@ -5,6 +5,7 @@ use Rattle.std.specs.Prelude.{codes}
 use Rattle.std.specs.List.{AllZip, list_any}
 use Rattle.std.proofs.lemmas.List.Elements.{All-head}
 use Rattle.bb_lists.proofs.Members.{contains_here, contains_there}
+use Rattle.bb_net.specs.Kinds.{shown}
 use Rattle.bb_net.specs.Pairs.{NetPair, IsPair}
 use Rattle.bb_alike.specs.Laws.Alike.{ArePairsAlike}
 use Rattle.bb_expand.specs.declared.expanded.Expanded.TheVariants as expanded
@@ -24,9 +25,8 @@ use Rattle.bb_options.specs.Rungs.{asked_rungs, rank, rung_name}
 use Rattle.bb_rungs.specs.Rungs.{MaySay, TooWide, ClausesTooMany, Decided, Climbs, IsClimb, Top, End, Step, ends, is_error, is_repair}
 use Rattle.bb_rungs.specs.TableLines.{table_lines}
 use Rattle.bb_rungs.specs.Inside.AlikeLaws.{PairLaws}
-use Rattle.bb_rungs.proofs.AlikeShared.{Share, alike_itself, bits_alike, share, share_back}
+use Rattle.bb_rungs.proofs.AlikeShared.{Share, alike_itself, bits_alike, share, share_back, shared_completion_alike}
 use Rattle.bb_rungs.proofs.AlikeTold.{IsRefuted, told_or_refuted}
-use Rattle.bb_rungs.proofs.AlikeWitnesses.{completion_alike}
 use Rattle.bb_rungs.proofs.StayLaw.{asked_rise, first_rises, rest_rises}
 use Rattle.bb_rungs.proofs.AlikeChecks.{depends_alike}
 use Rattle.bb_rungs.proofs.OneWord.{IsFixed, OneLaws, SayAlike, above, by_told, said_alike, say_alike}
@@ -61,7 +61,7 @@ module _ (laws : OneLaws) (p q : NetPair) (to : Share p q) (from : Share q p) (a
   refuted_alike r s t fixed h (ClausesTooMany small many same) = absurd (fixed h.at small many)
   refuted_alike r s t fixed h (Decided small (expanded.Error vectors cnf refutation) is same) = by_told q o r s t _ _ h.same same (say_alike q o r _ _ refl refl refl (λ plain. absurd (plain h.at)))
   refuted_alike r s t fixed h (Decided small (expanded.Repair tables) is same) =
-      let own = completion_alike q.spec q.imp p.spec p.imp from.nets tables.items is in absurd (h.none tables.items own.fit own.agree)
+      let own = shared_completion_alike q p from tables.items is in absurd (h.none tables.items own.fit own.agree)
 
   pairs_alike : (r : Rung) (s t : Said) → (r ≡ Expand → IsFixed q o) → MaySay p o r s → MaySay q o r t → SayAlike q o r s t
   pairs_alike r s t fixed one other = elim (told_or_refuted p q to from o r s one) [
@@ -75,7 +75,7 @@ module _ (laws : OneLaws) (p q : NetPair) (to : Share p q) (from : Share q p) (a
   same_details (Error NoChoices) = refl
   same_details (Error (Refutation proof)) = refl
   same_details Nothing = refl
-  same_details (Repair tables) = ap (λ boxes. table_lines boxes tables.items) alike.boxes
+  same_details (Repair tables) = ap₂ (λ ks boxes. table_lines o.shared (shown ks boxes) tables.items) alike.kinds alike.boxes
   same_details Nodes = refl
   same_details Clauses = refl
   same_details Wide = refl
@@ -175,5 +175,5 @@ says_error false false e = cc e
 pub alike_verdicts_never_clash : PairLaws → ErrorsExcludeTables → RepairsAgree → AlikeVerdictsNeverClash
 alike_verdicts_never_clash laws excludes repairs p q o lines others kept other alike climb climbs error repair =
     let (tables, complete, ends) = repairs q o others other climbs repair in
-    let own = completion_alike q.spec q.imp p.spec p.imp (share_back laws p q kept other alike).nets tables complete in
+    let own = shared_completion_alike q p (share_back laws p q kept other alike) tables complete in
     excludes p o lines kept climb (says_error (list_any is_error lines) (list_any is_repair lines) error) tables own.fit own.agree

@@ -1,6 +1,6 @@
 -- More clauses are needed for a pair where they are for one that is alike: forced vectors stay forced and have as many clauses, and
 -- tables that are too large stay so, since netlists that are alike have the same bits when they are filled with them.
-use Rattle.std.proofs.Common.{◌≡◌, ℕ, ◌*◌, ◌<◌, ◌≤◌, ◌^◌, ◌⊎◌, inl, inr, Bool, List, [], length, sym, ap, ◌∙◌, subst, arith}
+use Rattle.std.proofs.Common.{All, ◌≡◌, ℕ, ◌*◌, ◌<◌, ◌≤◌, ◌^◌, ◌⊎◌, inl, inr, Bool, List, [], length, sym, ap, ◌∙◌, subst, arith}
 use Rattle.std.proofs.lemmas.Bool.{cases_lt}
 use Rattle.std.proofs.lemmas.List.{length-map}
 use Rattle.std.proofs.lemmas.List.Elements.{All-weaker}
@@ -8,22 +8,25 @@ use Rattle.bb_bits.specs.Tables.{TableBits}
 use Rattle.bb_expand.specs.ClauseCounts.{clause_total, clauses_per_vector}
 use Rattle.bb_expand.specs.Expansions.{expansion}
 use Rattle.bb_expand.specs.GivenUp.{FillTooLarge, NeedsMoreClauses, SuitsLargeTables}
-use Rattle.bb_filled.specs.Forced.{AgreeAt, AreForced}
+use Rattle.bb_filled.specs.Forced.{AgreeAt, AreForced, FailAt}
 use Rattle.bb_filled.specs.Laws.AlikeLaws.{HaveSameBits}
 use Rattle.bb_alike.specs.Laws.Alike.{AreAlike}
 use Rattle.bb_net.specs.Agreement.{IsVector, out_bit}
 use Rattle.bb_net.specs.Completions.{table_bits}
 use Rattle.bb_net.specs.Conditions.{all_ins}
+use Rattle.bb_net.specs.Kinds.{shown, spread}
 use Rattle.bb_net.specs.Netlists.{Netlist, Pins, IsNetlist}
+use Rattle.bb_net.specs.Pairs.{NetPair, IsPair}
 use Rattle.bb_net.specs.Values.{FitBoxes, ValueGoesByBoxes, bit_of, flat, free_bit, tabled_bit, value_of}
 use Rattle.bb_input.specs.InputFunctions.{in_places}
 use Rattle.bb_sym.specs.Functions.{output_functions}
 use Rattle.bb_rungs.specs.Inside.AlikeLaws.{FunctionsFixTables, GivenLaws}
+use Rattle.bb_rungs.specs.Inside.KindLaws.{KindLaws}
 use Rattle.bb_rungs.proofs.AlikeBits.{ShareBits, at_same}
 use Rattle.bb_rungs.proofs.AlikeBoxes.{AreAsMany, table_bits_alike}
 use Rattle.bb_rungs.proofs.AlikeFunctions.{ShareAll, output_among}
 use Rattle.bb_rungs.proofs.AlikeTables.{more_among}
-use Rattle.bb_rungs.proofs.AlikeWitnesses.{agree_alike, fail_alike, fit_alike}
+use Rattle.bb_rungs.proofs.AlikeWitnesses.{agree_alike, fail_alike, fit_alike, many_fit}
 
 -- netlists without boxes
 module _ (by_boxes : ValueGoesByBoxes) (a b : Netlist) (one : IsNetlist a) (other : IsNetlist b) (same : HaveSameBits a b) (own : a.boxes ≡ []) (also : b.boxes ≡ []) where
@@ -55,50 +58,62 @@ module _ (by_boxes : ValueGoesByBoxes) (a b : Netlist) (one : IsNetlist a) (othe
         );
   }
 
-module _ (laws : GivenLaws) (fix : FunctionsFixTables) (spec imp other_spec other_imp : Netlist) (share : ShareAll spec imp other_spec other_imp) (one : IsNetlist imp) (other : IsNetlist other_imp)
-    (alike : AreAlike imp other_imp) (small : length other_imp.cells ≤ 8000000) where
-  bits_same : table_bits imp.boxes ≡ table_bits other_imp.boxes
-  bits_same = table_bits_alike imp.boxes other_imp.boxes share.imp.boxes
+-- pairs that are alike
+module _ (laws : GivenLaws) (shared_laws : KindLaws) (fix : FunctionsFixTables) (p q : NetPair) (share : ShareAll p.spec p.imp q.spec q.imp)
+    (firsts : AreAsMany (shown p.kinds p.imp.boxes) (shown q.kinds q.imp.boxes)) (kinds : p.kinds ≡ q.kinds) (one : IsPair p) (other : IsPair q) (alike : AreAlike p.imp q.imp) where
+  bits_same : table_bits p.imp.boxes ≡ table_bits q.imp.boxes
+  bits_same = table_bits_alike p.imp.boxes q.imp.boxes share.imp.boxes
 
-  too_large_alike : (tables : List TableBits) → FitBoxes tables imp.boxes → table_bits other_imp.boxes ≤ 2 ^ 20 → FillTooLarge spec imp tables → FillTooLarge other_spec other_imp tables
+  too_large_alike : (tables : List TableBits) → FitBoxes tables p.imp.boxes → table_bits q.imp.boxes ≤ 2 ^ 20 → FillTooLarge p.spec p.imp tables → FillTooLarge q.spec q.imp tables
   too_large_alike tables fit few (filled, at, kept, is, many) =
-      let (new, to, also, are) = laws.exist other_imp tables other (fit_alike spec imp other_spec other_imp share tables fit) (omega (arith, small, few)) in
-      let same = laws.same imp other_imp filled new tables at to one other kept also alike fit is are in
-      let all : ShareAll spec filled other_spec new = record {
+      let (new, to, also, are) = laws.exist q.imp tables other.imp (fit_alike p.spec p.imp q.spec q.imp share tables fit) (omega (arith, other.small.imp_cells, few)) in
+      let same = laws.same p.imp q.imp filled new tables at to one.imp other.imp kept also alike fit is are in
+      let all : ShareAll p.spec filled q.spec new = record {
         spec = share.spec;
         imp = shared laws.boxes filled new kept also same is.boxes are.boxes;
-        outputs = share.outputs ∙ sym (ap length is.outs ∙ length-map imp.outs at);
+        outputs = share.outputs ∙ sym (ap length is.outs ∙ length-map p.imp.outs at);
       } in
-      (new, to, also, are, more_among 1000000 (output_functions spec filled) (output_functions other_spec new) (output_among fix spec filled other_spec new all) many)
+      (new, to, also, are, more_among 1000000 (output_functions p.spec filled) (output_functions q.spec new) (output_among fix p.spec filled q.spec new all) many)
 
-  cause_alike : (tables : List TableBits) → FitBoxes tables imp.boxes → (2 ^ 20 < table_bits imp.boxes) ⊎ FillTooLarge spec imp tables → (2 ^ 20 < table_bits other_imp.boxes) ⊎ FillTooLarge other_spec other_imp tables
+  cause_alike : (tables : List TableBits) → FitBoxes tables p.imp.boxes → (2 ^ 20 < table_bits p.imp.boxes) ⊎ FillTooLarge p.spec p.imp tables → (2 ^ 20 < table_bits q.imp.boxes) ⊎ FillTooLarge q.spec q.imp tables
   cause_alike tables fit (inl many) = inl (subst (λ n. 2 ^ 20 < n) bits_same many)
-  cause_alike tables fit (inr large) = elim (cases_lt (2 ^ 20) (table_bits other_imp.boxes)) [
+  cause_alike tables fit (inr large) = elim (cases_lt (2 ^ 20) (table_bits q.imp.boxes)) [
     | inl many ↦ inl many
     | inr few ↦ inr (too_large_alike tables fit few large)
   ]
 
-  suits_alike : (vectors : List (List Bool)) → SuitsLargeTables spec imp vectors → SuitsLargeTables other_spec other_imp vectors
-  suits_alike vectors (tables, fit, agree, cause) = (
-    tables,
-    fit_alike spec imp other_spec other_imp share tables fit,
-    All-weaker (AgreeAt spec imp tables) (AgreeAt other_spec other_imp tables) (agree_alike spec imp other_spec other_imp share tables) vectors agree,
-    cause_alike tables fit cause,
-  )
+  -- tables of kinds, spread over all boxes of the one pair and of the other
+  fit_shown : (tables : List TableBits) → FitBoxes tables (shown p.kinds p.imp.boxes) → FitBoxes tables (shown q.kinds q.imp.boxes)
+  fit_shown = many_fit (shown p.kinds p.imp.boxes) (shown q.kinds q.imp.boxes) firsts
 
-  forced_alike : (vectors : List (List Bool)) → AreForced spec imp vectors → AreForced other_spec other_imp vectors
+  agree_spread : (tables : List TableBits) (x : List Bool) → AgreeAt p.spec p.imp (spread p.kinds tables) x → AgreeAt q.spec q.imp (spread q.kinds tables) x
+  agree_spread tables x agree = subst (λ ks. AgreeAt q.spec q.imp (spread ks tables) x) kinds (agree_alike p.spec p.imp q.spec q.imp share (spread p.kinds tables) x agree)
+
+  agree_all : (tables : List TableBits) (vectors : List (List Bool)) → All (AgreeAt p.spec p.imp (spread p.kinds tables)) vectors → All (AgreeAt q.spec q.imp (spread q.kinds tables)) vectors
+  agree_all tables = All-weaker (AgreeAt p.spec p.imp (spread p.kinds tables)) (AgreeAt q.spec q.imp (spread q.kinds tables)) (agree_spread tables)
+
+  suits_alike : (vectors : List (List Bool)) → SuitsLargeTables p.spec p.imp p.kinds vectors → SuitsLargeTables q.spec q.imp q.kinds vectors
+  suits_alike vectors (tables, fit, agree, cause) =
+      let spread_fit = shared_laws.fit p.kinds p.imp.boxes tables one.beside.kinds fit in (
+        tables,
+        fit_shown tables fit,
+        agree_all tables vectors agree,
+        subst (λ ks. (2 ^ 20 < table_bits q.imp.boxes) ⊎ FillTooLarge q.spec q.imp (spread ks tables)) kinds (cause_alike (spread p.kinds tables) spread_fit cause),
+      )
+
+  forced_alike : (vectors : List (List Bool)) → AreForced p.spec p.imp p.kinds vectors → AreForced q.spec q.imp q.kinds vectors
   forced_alike vectors forced = record {
-    whole = All-weaker (IsVector imp) (IsVector other_imp) (λ x long. long ∙ share.imp.inputs) vectors forced.whole;
+    whole = All-weaker (IsVector p.imp) (IsVector q.imp) (λ x long. long ∙ share.imp.inputs) vectors forced.whole;
     each = λ before after x e.
         let (tables, fit, agree, fail) = forced.each before after x e in (
           tables,
-          fit_alike spec imp other_spec other_imp share tables fit,
-          All-weaker (AgreeAt spec imp tables) (AgreeAt other_spec other_imp tables) (agree_alike spec imp other_spec other_imp share tables) before agree,
-          fail_alike spec imp other_spec other_imp share tables x fail,
+          fit_shown tables fit,
+          agree_all tables before agree,
+          subst (λ ks. FailAt q.spec q.imp (spread ks tables) x) kinds (fail_alike p.spec p.imp q.spec q.imp share (spread p.kinds tables) x fail),
         );
   }
 
-  pub needs_alike : clause_total imp ≡ clause_total other_imp → clauses_per_vector imp ≡ clauses_per_vector other_imp → (budget : ℕ) → NeedsMoreClauses spec imp budget → NeedsMoreClauses other_spec other_imp budget
+  pub needs_alike : clause_total p.imp ≡ clause_total q.imp → clauses_per_vector p.imp ≡ clauses_per_vector q.imp → (budget : ℕ) → NeedsMoreClauses p.spec p.imp p.kinds budget → NeedsMoreClauses q.spec q.imp q.kinds budget
   needs_alike total each budget h = record {
     many = subst (λ n. budget < n) total h.many;
     held = h.held;
@@ -106,9 +121,9 @@ module _ (laws : GivenLaws) (fix : FunctionsFixTables) (spec imp other_spec othe
     cause = by h.cause;
   }
     where
-      counts : length (expansion spec imp h.held).clauses ≡ length (expansion other_spec other_imp h.held).clauses
-      counts = laws.counted spec imp h.held ∙ ap (λ n. length h.held * n) each ∙ sym (laws.counted other_spec other_imp h.held)
+      counts : length (expansion p.spec p.imp p.kinds h.held).clauses ≡ length (expansion q.spec q.imp q.kinds h.held).clauses
+      counts = laws.counted p.spec p.imp p.kinds h.held ∙ ap (λ n. length h.held * n) each ∙ sym (laws.counted q.spec q.imp q.kinds h.held)
 
-      by : (budget < length (expansion spec imp h.held).clauses) ⊎ SuitsLargeTables spec imp h.held → (budget < length (expansion other_spec other_imp h.held).clauses) ⊎ SuitsLargeTables other_spec other_imp h.held
+      by : (budget < length (expansion p.spec p.imp p.kinds h.held).clauses) ⊎ SuitsLargeTables p.spec p.imp p.kinds h.held → (budget < length (expansion q.spec q.imp q.kinds h.held).clauses) ⊎ SuitsLargeTables q.spec q.imp q.kinds h.held
       by (inl over) = inl (subst (λ n. budget < n) counts over)
       by (inr suits) = inr (suits_alike h.held suits)

@@ -1,8 +1,11 @@
 -- What pairs that are alike share: their bits, values where boxes are unknown, clauses and the need of more of them, and the functions
 -- of each check.
-use Rattle.std.proofs.Common.{ℕ, ◌≡◌, ◌≤◌, ◌^◌, refl, sym, subst}
+use Rattle.std.proofs.Common.{ℕ, ◌≡◌, ◌≤◌, ◌^◌, List, refl, sym, subst}
+use Rattle.bb_bits.specs.Tables.{TableBits}
 use Rattle.std.proofs.lemmas.List.Sorted.{IsPermutation-refl}
 use Rattle.bb_net.specs.Completions.{HaveSmallTables, table_bits}
+use Rattle.bb_net.specs.Agreement.{TablesAgree}
+use Rattle.bb_net.specs.Kinds.{AreSharedCompletion, FitKinds, shown, spread}
 use Rattle.bb_net.specs.Netlists.{Netlist}
 use Rattle.bb_net.specs.Pairs.{NetPair, IsPair}
 use Rattle.bb_sym.specs.Functions.{symbolic_functions, local_functions, output_functions}
@@ -14,37 +17,49 @@ use Rattle.bb_alike.specs.Laws.Alike.{AreAlike, ArePairsAlike}
 use Rattle.bb_alike.specs.Laws.Formulas.{cell_formulas}
 use Rattle.bb_rungs.specs.Inside.AlikeLaws.{PairLaws}
 use Rattle.bb_rungs.proofs.AlikeBits.{known_outputs, share_bits}
-use Rattle.bb_rungs.proofs.AlikeBoxes.{box_count_alike, table_bits_alike}
-use Rattle.bb_rungs.proofs.AlikeConditions.{AreKnownAlike}
+use Rattle.bb_rungs.proofs.AlikeBoxes.{AreAsMany, box_count_alike, table_bits_alike}
+use Rattle.bb_rungs.proofs.AlikeConditions.{AreKnownAlike, vector}
 use Rattle.bb_rungs.proofs.AlikeCounts.{clause_totals_alike, per_vector_alike}
 use Rattle.bb_rungs.proofs.AlikeFunctions.{ShareAll, local_among, output_among}
 use Rattle.bb_rungs.proofs.AlikeGivenUp.{needs_alike}
 use Rattle.bb_rungs.proofs.AlikeInputs.{input_among}
 use Rattle.bb_rungs.proofs.AlikeKnown.{symbolic_among}
 use Rattle.bb_rungs.proofs.AlikeTables.{AreAmong}
+use Rattle.bb_rungs.proofs.AlikeWitnesses.{agree_alike, many_fit}
+use Rattle.bb_rungs.proofs.ShownBoxes.{many_shown}
 
 -- what goes from one pair to another
 pub record Share (p q : NetPair) : Type 0 where
   pub nets : ShareAll p.spec p.imp q.spec q.imp
   pub known : AreKnownAlike p.imp q.imp
   pub clauses : clause_total p.imp ≡ clause_total q.imp
-  pub needs : (budget : ℕ) → NeedsMoreClauses p.spec p.imp budget → NeedsMoreClauses q.spec q.imp budget
+  -- the first boxes of kinds have as many pins
+  pub firsts : AreAsMany (shown p.kinds p.imp.boxes) (shown q.kinds q.imp.boxes)
+  pub kinds : p.kinds ≡ q.kinds
+  pub needs : (budget : ℕ) → NeedsMoreClauses p.spec p.imp p.kinds budget → NeedsMoreClauses q.spec q.imp q.kinds budget
   pub symbolic : AreAmong (symbolic_functions p.spec p.imp) (symbolic_functions q.spec q.imp)
   pub local : AreAmong (local_functions p.spec p.imp) (local_functions q.spec q.imp)
   pub output : AreAmong (output_functions p.spec p.imp) (output_functions q.spec q.imp)
   pub input : AreAmong (input_functions p.spec p.imp) (input_functions q.spec q.imp)
 
 module _ (p q : NetPair) (share : Share p q) where
-  pub bits_alike : table_bits p.imp.boxes ≡ table_bits q.imp.boxes
-  bits_alike = table_bits_alike p.imp.boxes q.imp.boxes share.nets.imp.boxes
+  pub bits_alike : table_bits (shown p.kinds p.imp.boxes) ≡ table_bits (shown q.kinds q.imp.boxes)
+  bits_alike = table_bits_alike (shown p.kinds p.imp.boxes) (shown q.kinds q.imp.boxes) share.firsts
 
-  pub small_alike : HaveSmallTables p.imp.boxes → HaveSmallTables q.imp.boxes
+  pub small_alike : HaveSmallTables (shown p.kinds p.imp.boxes) → HaveSmallTables (shown q.kinds q.imp.boxes)
   small_alike small = subst (λ n. n ≤ 2 ^ 24) bits_alike small
+
+  pub shared_completion_alike : (tables : List TableBits) → AreSharedCompletion p.spec p.imp p.kinds tables → AreSharedCompletion q.spec q.imp q.kinds tables
+  shared_completion_alike tables h = record {
+    fit = many_fit (shown p.kinds p.imp.boxes) (shown q.kinds q.imp.boxes) share.firsts tables h.fit;
+    agree = subst (λ ks. TablesAgree q.spec q.imp (spread ks tables)) share.kinds
+        (λ x long. agree_alike p.spec p.imp q.spec q.imp share.nets (spread p.kinds tables) x (h.agree x (vector p.spec p.imp q.spec q.imp share.nets x long)));
+  }
 
   pub finishable_alike : IsFinishable p.imp → IsFinishable q.imp
   finishable_alike h = record {
     one_box = subst (λ n. n ≤ 1) (box_count_alike p.imp.boxes q.imp.boxes share.nets.imp.boxes) h.one_box;
-    small = small_alike h.small;
+    small = subst (λ n. n ≤ 2 ^ 24) (table_bits_alike p.imp.boxes q.imp.boxes share.nets.imp.boxes) h.small;
   }
 
 module _ (laws : PairLaws) (p q : NetPair) (one : IsPair p) (other : IsPair q) (alike : ArePairsAlike p q) where
@@ -64,12 +79,18 @@ module _ (laws : PairLaws) (p q : NetPair) (one : IsPair p) (other : IsPair q) (
   totals : clause_total p.imp ≡ clause_total q.imp
   totals = clause_totals_alike p.imp q.imp nets.imp.inputs per_vector
 
+  firsts : AreAsMany (shown p.kinds p.imp.boxes) (shown q.kinds q.imp.boxes)
+  firsts = subst (λ ks. AreAsMany (shown p.kinds p.imp.boxes) (shown ks q.imp.boxes)) alike.kinds
+      (many_shown laws.kinds p.kinds p.imp.boxes q.imp.boxes one.beside.kinds (subst (λ ks. FitKinds ks q.imp.boxes) (sym alike.kinds) other.beside.kinds) nets.imp.boxes)
+
   pub share : Share p q
   share = record {
     nets = nets;
     known = outputs_known;
     clauses = totals;
-    needs = needs_alike laws.given laws.fix p.spec p.imp q.spec q.imp nets one.imp other.imp alike.imp other.small.imp_cells totals per_vector;
+    firsts = firsts;
+    kinds = alike.kinds;
+    needs = needs_alike laws.given laws.kinds laws.fix p q nets firsts alike.kinds one other alike.imp totals per_vector;
     symbolic = symbolic_among (record { formulas = laws.bits.formulas; cells = laws.bits.cells; known = laws.known; fix = laws.fix }) p.spec p.imp q.spec q.imp nets one.imp other.imp alike.imp outputs_known;
     local = local_among laws.fix p.spec p.imp q.spec q.imp nets;
     output = output_among laws.fix p.spec p.imp q.spec q.imp nets;

@@ -3,7 +3,8 @@ use Rattle.std.proofs.Common.{◌≡◌, ◌<◌, ◌^◌, ◌⊎◌, inl, inr, 
 use Rattle.std.specs.Prelude.{List}
 use Rattle.bb_bits.specs.Truth.{Truth}
 use Rattle.bb_net.specs.Completions.{HaveSmallTables}
-use Rattle.bb_net.specs.Conditions.{NoTablesAgree, MayBeRightAmong, IsFirstHit, IsKnownWrong, MayBeRight, IsAlwaysWrong, HasAlwaysWrong}
+use Rattle.bb_net.specs.Conditions.{MayBeRightAmong, IsFirstHit, IsKnownWrong, MayBeRight, IsAlwaysWrong, HasAlwaysWrong}
+use Rattle.bb_net.specs.Kinds.{NoSharedTablesAgree, shown}
 use Rattle.bb_net.specs.Pairs.{NetPair}
 use Rattle.bb_tern.specs.Patterns.{patterns}
 use Rattle.bb_sym.specs.declared.found.Found.{Found}
@@ -23,17 +24,17 @@ use Rattle.bb_rungs.specs.Laws.AlikePairs.{AlikePairsAreTold, IsNoRefutation}
 use Rattle.bb_rungs.specs.Rungs.{IsFirstOf, IsLeastOf, MaySay, MayHit, Hit, NoHit, MayFind, TooMany, Finding, Without, MayChoose, ChoicesTooMany, Answered, TooWide, ClausesTooMany, Decided}
 use Rattle.bb_rungs.proofs.AlikeConditions.{right_among_alike, right_everywhere_alike, each_right_alike, all_right_alike, choices_alike, may_be_right}
 use Rattle.bb_rungs.specs.Inside.AlikeLaws.{PairLaws}
-use Rattle.bb_rungs.proofs.AlikeShared.{Share, bits_alike, small_alike, finishable_alike, share, share_back}
+use Rattle.bb_rungs.proofs.AlikeShared.{Share, bits_alike, small_alike, finishable_alike, shared_completion_alike, share, share_back}
 use Rattle.bb_rungs.proofs.AlikeTables.{AreAmong, too_many_among}
-use Rattle.bb_rungs.proofs.AlikeWitnesses.{known_wrong_alike, always_wrong_alike, sometimes_right_alike, has_wrong_alike, first_hit_alike, completion_alike, least_vector_alike, first_found_alike, least_tables_alike}
+use Rattle.bb_rungs.proofs.AlikeWitnesses.{known_wrong_alike, always_wrong_alike, sometimes_right_alike, has_wrong_alike, first_hit_alike, least_vector_alike, first_found_alike, least_tables_alike}
 
 -- the clauses of a pair are refuted
 pub record IsRefuted (p : NetPair) (o : Options) (r : Rung) (said : Said) : Type 0 where
   pub at : r ≡ Expand
-  pub small : HaveSmallTables p.imp.boxes
+  pub small : HaveSmallTables (shown p.kinds p.imp.boxes)
   pub proof : Proof
   pub same : said ≡ Error (Refutation proof)
-  pub none : NoTablesAgree p.spec p.imp
+  pub none : NoSharedTablesAgree p.spec p.imp p.kinds
 
 module _ (p q : NetPair) (to : Share p q) (from : Share q p) (o : Options) where
   hits_told : (said : Said) → MayHit p o said → MayHit q o said
@@ -97,7 +98,7 @@ module _ (p q : NetPair) (to : Share p q) (from : Share q p) (o : Options) where
   told_or_refuted Expand said (Decided small (expanded.Error vectors cnf refutation) is same) =
       inr (record { at = refl; small = small; proof = record { vectors = vectors; cnf = cnf; refutation = refutation }; same = same; none = is.none })
   told_or_refuted Expand said (Decided small (expanded.Repair tables) is same) =
-      inl (Decided (small_alike p q to small) (expanded.Repair tables) (completion_alike p.spec p.imp q.spec q.imp to.nets tables.items is) same)
+      inl (Decided (small_alike p q to small) (expanded.Repair tables) (shared_completion_alike p q to tables.items is) same)
 
 pub alike_pairs_are_told : PairLaws → AlikePairsAreTold
 alike_pairs_are_told laws p q o r said one other alike plain says = elim (told_or_refuted p q (share laws p q one other alike) (share_back laws p q one other alike) o r said says) [

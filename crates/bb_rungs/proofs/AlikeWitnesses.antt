@@ -5,13 +5,25 @@ use Rattle.bb_bits.specs.Tables.{TableBits, row_of}
 use Rattle.bb_net.specs.Agreement.{AllRight, IsOutput, SomeWrong}
 use Rattle.bb_net.specs.Completions.{AreCompletion}
 use Rattle.bb_net.specs.Conditions.{IsKnownWrong, IsFirstHit, IsAlwaysWrong, HasAlwaysWrong}
-use Rattle.bb_net.specs.Netlists.{Netlist}
+use Rattle.bb_net.specs.Netlists.{Netlist, Pins}
 use Rattle.bb_net.specs.Values.{FitBoxes, flat_with, table_at}
 use Rattle.bb_sym.specs.Finds.{IsLeastVector, IsFirstFound, IsSometimesRight}
 use Rattle.bb_input.specs.Answers.{AreLeastOutputs, AreLeastTables}
-use Rattle.bb_rungs.proofs.AlikeBoxes.{box_count_alike, output_pins_alike, pins_at_alike}
+use Rattle.bb_rungs.proofs.AlikeBoxes.{AreAsMany, box_count_alike, output_pins_alike, pins_at_alike}
 use Rattle.bb_rungs.proofs.AlikeConditions.{AreKnownAlike, may_be_right, right_among_alike, suit_alike, there, vector, wanted_alike}
 use Rattle.bb_rungs.proofs.AlikeFunctions.{ShareAll}
+
+-- tables fit boxes with as many pins each
+pub many_fit : (ps qs : List Pins) → AreAsMany ps qs → (tables : List TableBits) → FitBoxes tables ps → FitBoxes tables qs
+many_fit ps qs many tables fit =
+    let count = box_count_alike ps qs many in
+    let pins = pins_at_alike ps qs many in
+    record {
+      count = fit.count ∙ count;
+      inputs = λ b l. fit.inputs b (omega (arith, l, count)) ∙ (pins b).0;
+      outputs = λ b l. fit.outputs b (omega (arith, l, count)) ∙ (pins b).1;
+      whole = λ b l. fit.whole b (omega (arith, l, count));
+    }
 
 module _ (spec imp other_spec other_imp : Netlist) (share : ShareAll spec imp other_spec other_imp) where
   pub here : (j : ℕ) → IsOutput imp j → IsOutput other_imp j
@@ -45,15 +57,7 @@ module _ (spec imp other_spec other_imp : Netlist) (share : ShareAll spec imp ot
   }
 
   pub fit_alike : (tables : List TableBits) → FitBoxes tables imp.boxes → FitBoxes tables other_imp.boxes
-  fit_alike tables fit =
-      let count = box_count_alike imp.boxes other_imp.boxes share.imp.boxes in
-      let pins = pins_at_alike imp.boxes other_imp.boxes share.imp.boxes in
-      record {
-        count = fit.count ∙ count;
-        inputs = λ b l. fit.inputs b (omega (arith, l, count)) ∙ (pins b).0;
-        outputs = λ b l. fit.outputs b (omega (arith, l, count)) ∙ (pins b).1;
-        whole = λ b l. fit.whole b (omega (arith, l, count));
-      }
+  fit_alike = many_fit imp.boxes other_imp.boxes share.imp.boxes
 
   -- with tables in the boxes an output is right or wrong where it was
   pub agree_alike : (tables : List TableBits) (x : List Bool) → AllRight spec imp x (flat_with imp x tables) → AllRight other_spec other_imp x (flat_with other_imp x tables)

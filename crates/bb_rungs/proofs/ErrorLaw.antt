@@ -5,6 +5,7 @@ use Rattle.std.specs.List.{list_any}
 use Rattle.std.proofs.lemmas.List.Elements.{Contains-append_right}
 use Rattle.bb_net.specs.Agreement.{IsVector}
 use Rattle.bb_net.specs.Conditions.{KnownWrongAmong, KnownWrongSomewhere, OneAlwaysWrong, SomeAlwaysWrong, NoChoicesSuit, NoTablesAgree}
+use Rattle.bb_net.specs.Kinds.{NoSharedTablesAgree}
 use Rattle.bb_net.specs.Netlists.{Netlist, IsNetlist}
 use Rattle.bb_net.specs.Pairs.{NetPair, IsPair}
 use Rattle.bb_tern.specs.Patterns.{PatternsAreVectors}
@@ -15,6 +16,7 @@ use Rattle.bb_rungs.specs.declared.line.Said.{Said}
 use Rattle.bb_options.specs.declared.options.Options.{Options}
 use Rattle.bb_options.specs.declared.rung.Rung.{Rung}
 use Rattle.bb_options.specs.declared.rung.Rung.TheVariants.{Ternary, Symbolic, Local, Output, Input, Expand}
+use Rattle.bb_rungs.specs.Inside.KindLaws.{KindLaws}
 use Rattle.bb_rungs.specs.Laws.{ErrorsExcludeTables}
 use Rattle.bb_options.specs.Rungs.{rank}
 use Rattle.bb_rungs.specs.Rungs.{MaySay, Hit, NoHit, TooMany, Finding, Without, ChoicesTooMany, Answered, TooWide, ClausesTooMany, Decided, Climbs, Top, End, Step, says_error, is_error, tried}
@@ -26,6 +28,7 @@ pub record Weakens : Type 0 where
   pub one : (spec imp : Netlist) → OneAlwaysWrong spec imp → SomeAlwaysWrong spec imp
   pub some : (spec imp : Netlist) → IsNetlist imp → SomeAlwaysWrong spec imp → NoChoicesSuit spec imp
   pub choices : (spec imp : Netlist) → IsNetlist imp → NoChoicesSuit spec imp → NoTablesAgree spec imp
+  pub kinds : KindLaws
 
 -- the condition of the check of a rank
 abbrev pub Condition : NetPair → Options → ℕ → Type 0
@@ -34,7 +37,7 @@ Condition p o (suc zero) = KnownWrongSomewhere p.spec p.imp
 Condition p o (suc (suc zero)) = OneAlwaysWrong p.spec p.imp
 Condition p o (suc (suc (suc zero))) = SomeAlwaysWrong p.spec p.imp
 Condition p o (suc (suc (suc (suc zero)))) = NoChoicesSuit p.spec p.imp
-Condition p o (suc (suc (suc (suc (suc n))))) = NoTablesAgree p.spec p.imp
+Condition p o (suc (suc (suc (suc (suc n))))) = NoSharedTablesAgree p.spec p.imp p.kinds
 
 abbrev pub Holds : NetPair → Options → Rung → Type 0
 Holds p o r = Condition p o (rank r)
@@ -49,7 +52,7 @@ module _ (weakens : Weakens) (vectors : PatternsAreVectors) (p : NetPair) (o : O
   one_up (suc zero) h = weakens.known p.spec p.imp h
   one_up (suc (suc zero)) h = weakens.one p.spec p.imp h
   one_up (suc (suc (suc zero))) h = weakens.some p.spec p.imp kept.imp h
-  one_up (suc (suc (suc (suc zero)))) h = weakens.choices p.spec p.imp kept.imp h
+  one_up (suc (suc (suc (suc zero)))) h = weakens.kinds.none p.spec p.imp p.kinds kept.beside.kinds (weakens.choices p.spec p.imp kept.imp h)
   one_up (suc (suc (suc (suc (suc n))))) h = h
 
   pub up : (k n m : ℕ) → m ≡ k + n → Condition p o n → Condition p o m
@@ -57,8 +60,8 @@ module _ (weakens : Weakens) (vectors : PatternsAreVectors) (p : NetPair) (o : O
   up (suc k) n zero e h = absurd (omega (arith, e))
   up (suc k) n (suc m) e h = one_up m (up k n m (omega (arith, e)) h)
 
-  -- no tables agree
-  pub no_tables : (r : Rung) → Holds p o r → NoTablesAgree p.spec p.imp
+  -- no tables agree, one for each kind
+  pub no_tables : (r : Rung) → Holds p o r → NoSharedTablesAgree p.spec p.imp p.kinds
   no_tables Ternary h = up 5 0 5 refl h
   no_tables Symbolic h = up 4 1 5 refl h
   no_tables Local h = up 3 2 5 refl h
@@ -91,10 +94,10 @@ module _ (weakens : Weakens) (vectors : PatternsAreVectors) (p : NetPair) (o : O
   shows Expand said (Decided small (expanded.Error vectors cnf refutation) is same) on = is.none
   shows Expand said (Decided small (expanded.Repair tables) is same) on = not_said said _ same refl on
 
-  pub said_excludes : (r : Rung) (said : Said) → MaySay p o r said → says_error said ≡ true → NoTablesAgree p.spec p.imp
+  pub said_excludes : (r : Rung) (said : Said) → MaySay p o r said → says_error said ≡ true → NoSharedTablesAgree p.spec p.imp p.kinds
   said_excludes r said says on = no_tables r (shows r said says on)
 
-  climb_excludes : (rungs : List Rung) (lines : List Line) → Climbs p o rungs lines → list_any is_error lines ≡ true → NoTablesAgree p.spec p.imp
+  climb_excludes : (rungs : List Rung) (lines : List Line) → Climbs p o rungs lines → list_any is_error lines ≡ true → NoSharedTablesAgree p.spec p.imp p.kinds
   climb_excludes [] [] Top any = absurd (true≢false (sym any))
   climb_excludes [] (line ∷ more) climb any = elim climb [ ]
   climb_excludes (r ∷ rest) [] climb any = elim climb [ ]
@@ -105,7 +108,7 @@ module _ (weakens : Weakens) (vectors : PatternsAreVectors) (p : NetPair) (o : O
       only false e = e
   climb_excludes (r ∷ rest) (line ∷ more) (Step is says on behind) any = by (is_error line) refl any (climb_excludes rest more behind)
     where
-      by : (b : Bool) → is_error line ≡ b → (b || list_any is_error more) ≡ true → (list_any is_error more ≡ true → NoTablesAgree p.spec p.imp) → NoTablesAgree p.spec p.imp
+      by : (b : Bool) → is_error line ≡ b → (b || list_any is_error more) ≡ true → (list_any is_error more ≡ true → NoSharedTablesAgree p.spec p.imp p.kinds) → NoSharedTablesAgree p.spec p.imp p.kinds
       by true e any rest = said_excludes r line.said says e
       by false e any rest = rest any
 

@@ -23,4 +23,5 @@ pub mod RepairLaw
 pub mod StayLaw
 pub mod TableTexts
 pub mod ToldLaw
+pub mod ShownBoxes
 pub mod SomeClimbs

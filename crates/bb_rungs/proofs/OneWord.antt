@@ -3,6 +3,7 @@
 use Rattle.std.proofs.Common.{◌≡◌, ◌<◌, ◌≤◌, Bool, true, List, ◌++◌, ℕ, true≢false, refl, sym, ap, ap₂, ◌∙◌, arith}
 use Rattle.bb_net.specs.Conditions.{IsKnownWrong, MayBeRight, IsAlwaysWrong}
 use Rattle.bb_net.specs.Completions.{HaveSmallTables}
+use Rattle.bb_net.specs.Kinds.{shown}
 use Rattle.bb_net.specs.Pairs.{NetPair, IsPair}
 use Rattle.bb_bits.specs.Truth.{Truth}
 use Rattle.bb_tern.specs.Patterns.{PatternsAreVectors}
@@ -42,7 +43,7 @@ pub record SayAlike (p : NetPair) (o : Options) (r : Rung) (s t : Said) : Type 0
 
 -- the word of the expansion does not depend on the search
 abbrev pub IsFixed : NetPair → Options → Type 0
-IsFixed p o = HaveSmallTables p.imp.boxes → NeedsMoreClauses p.spec p.imp o.clauses → ⊥
+IsFixed p o = HaveSmallTables (shown p.kinds p.imp.boxes) → NeedsMoreClauses p.spec p.imp p.kinds o.clauses → ⊥
 
 pub above : (n m : ℕ) → n < m → m ≤ n → ⊥
 above n m less more = omega (arith, less, more)
@@ -70,7 +71,7 @@ module _ (p : NetPair) (o : Options) (r : Rung) where
   answers_alike : (a b : InputAnswer) → IsSameAnswer a b → SayAlike p o r (told_answer a) (told_answer b)
   answers_alike choices.Error b same = one_said _ _ _ refl (ap told_answer same)
   answers_alike choices.Clear b same = one_said _ _ _ refl (ap told_answer same)
-  answers_alike (choices.Repair tables) b (others, is, same) = by_told _ _ _ _ refl (ap told_answer is) (say_alike _ _ refl refl refl (λ plain. ap (table_lines p.boxes) same))
+  answers_alike (choices.Repair tables) b (others, is, same) = by_told _ _ _ _ refl (ap told_answer is) (say_alike _ _ refl refl refl (λ plain. ap (table_lines o.shared (shown p.kinds p.boxes)) same))
 
 module _ (laws : OneLaws) (p : NetPair) (o : Options) (kept : IsPair p) where
   -- an error excludes the word that there is none

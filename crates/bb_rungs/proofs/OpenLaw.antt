@@ -5,6 +5,7 @@ use Rattle.std.specs.List.{list_any}
 use Rattle.std.proofs.lemmas.Bool.{cases_lt}
 use Rattle.std.proofs.lemmas.List.Elements.{All-nil, All-cons, All-contains, All-head, All-tail}
 use Rattle.bb_net.specs.Completions.{table_bits}
+use Rattle.bb_net.specs.Kinds.{shown}
 use Rattle.bb_net.specs.Pairs.{NetPair}
 use Rattle.bb_expand.specs.ClauseCounts.{clause_total}
 use Rattle.bb_expand.specs.declared.expanded.Expanded.TheVariants as expanded
@@ -165,7 +166,7 @@ stays_or_depends p o Local fixed asked left = left
 stays_or_depends p o Output fixed asked left = left
 stays_or_depends p o Input fixed asked left = left
 stays_or_depends p o Expand fixed asked (inl wide) = wide
-stays_or_depends p o Expand fixed asked (inr needs) = elim (cases_lt (2 ^ 24) (table_bits p.imp.boxes)) [
+stays_or_depends p o Expand fixed asked (inr needs) = elim (cases_lt (2 ^ 24) (table_bits (shown p.kinds p.imp.boxes))) [
   | inl wide ↦ wide
   | inr small ↦ absurd (fixed (record { asked = asked; small = small; needs = needs }))
 ]
@@ -182,7 +183,7 @@ not_both p o Local leaves decides = decides
 not_both p o Output leaves decides = decides
 not_both p o Input (inl many) decides = decides.1 many
 not_both p o Input (inr none) decides = none.1 decides.0
-not_both p o Expand (inl wide) decides = above (2 ^ 24) (table_bits p.imp.boxes) wide decides.0
+not_both p o Expand (inl wide) decides = above (2 ^ 24) (table_bits (shown p.kinds p.imp.boxes)) wide decides.0
 not_both p o Expand (inr needs) decides = above o.clauses (clause_total p.imp) needs.many decides.1
 
 pub deciders_decide : DecidersDecide

@@ -3,8 +3,8 @@ use Rattle.std.proofs.Common.{◌≡◌, ◌&&◌, ◌||◌, Bool, true, false, 
 use Rattle.std.specs.List.{list_any, flat_map}
 use Rattle.std.proofs.lemmas.List.{append-nil}
 use Rattle.bb_bits.specs.Tables.{TableBits}
-use Rattle.bb_net.specs.Completions.{AreCompletion}
-use Rattle.bb_net.specs.Pairs.{NetPair}
+use Rattle.bb_net.specs.Kinds.{AreSharedCompletion, shown}
+use Rattle.bb_net.specs.Pairs.{NetPair, IsPair}
 use Rattle.bb_expand.specs.declared.expanded.Expanded.TheVariants as expanded
 use Rattle.bb_input.specs.declared.InputAnswer.TheVariants as choices
 use Rattle.bb_rungs.specs.declared.line.Line.{Line}
@@ -14,11 +14,13 @@ use Rattle.bb_options.specs.declared.options.Options.{Options}
 use Rattle.bb_options.specs.declared.rung.Rung.{Rung}
 use Rattle.bb_options.specs.declared.rung.Rung.TheVariants.{Ternary, Symbolic, Local, Output, Input, Expand}
 use Rattle.bb_rungs.specs.declared.verdict.Verdict.TheVariants as verdicts
+use Rattle.bb_rungs.specs.Inside.KindLaws.{KindLaws}
 use Rattle.bb_rungs.specs.Laws.{RepairsAgree}
 use Rattle.bb_rungs.specs.Reports.{details, line_text, rung_line, verdict_line}
 use Rattle.bb_rungs.specs.Rungs.{MaySay, Hit, NoHit, TooMany, Finding, Without, ChoicesTooMany, Answered, TooWide, ClausesTooMany, Decided, Climbs, Top, End, Step, says_error, says_repair, is_error, is_repair}
 use Rattle.bb_rungs.specs.TableLines.{table_lines}
 use Rattle.bb_rungs.proofs.OpenLaw.{neither}
+use Rattle.bb_rungs.proofs.ShownBoxes.{one_shared}
 
 -- the verdict that the design can be finished: no check says that there is an error, and one gives tables
 repairs_alone : (a b : Bool) → (if a then verdicts.Error else (if b then verdicts.Repairable else verdicts.Open)) ≡ verdicts.Repairable → (a ≡ false) × (b ≡ true)
@@ -49,16 +51,16 @@ quiet p o Wide off none = refl
 -- lines that end with tables that agree
 record EndsSo (p : NetPair) (o : Options) (lines : List Line) : Type 0 where
   pub tables : List TableBits
-  pub complete : AreCompletion p.spec p.imp tables
-  pub text : flat_map (line_text p o) lines ≡ flat_map rung_line lines ++ table_lines p.boxes tables
+  pub complete : AreSharedCompletion p.spec p.imp p.kinds tables
+  pub text : flat_map (line_text p o) lines ≡ flat_map rung_line lines ++ table_lines o.shared (shown p.kinds p.boxes) tables
 
-module _ (p : NetPair) (o : Options) where
+module _ (kinds : KindLaws) (p : NetPair) (o : Options) (kept : IsPair p) where
   not_given : {T : Type 0} (said other : Said) → said ≡ other → says_repair other ≡ false → says_repair said ≡ true → T
   not_given said other same off on = absurd (true≢false (sym on ∙ ap says_repair same ∙ off))
 
   -- what is given agrees, and stands behind the line
   abbrev Gives : Said → Type 0
-  Gives said = (tables : List TableBits) × AreCompletion p.spec p.imp tables × (details p o said ≡ table_lines p.boxes tables)
+  Gives said = (tables : List TableBits) × AreSharedCompletion p.spec p.imp p.kinds tables × (details p o said ≡ table_lines o.shared (shown p.kinds p.boxes) tables)
 
   gives : (r : Rung) (said : Said) → MaySay p o r said → says_repair said ≡ true → Gives said
   gives Ternary said (Hit found j is hit same) on = not_given said _ same refl on
@@ -75,7 +77,8 @@ module _ (p : NetPair) (o : Options) where
   gives Input said (ChoicesTooMany many same) on = not_given said _ same refl on
   gives Input said (Answered few choices.Error is same) on = not_given said _ same refl on
   gives Input said (Answered few choices.Clear is same) on = not_given said _ same refl on
-  gives Input said (Answered few (choices.Repair tables) is same) on = (tables.items, is.1.completion, ap (details p o) same)
+  gives Input said (Answered few (choices.Repair tables) is same) on =
+      (tables.items, one_shared kinds p.spec p.imp p.kinds tables.items kept.beside.kinds is.0.one_box is.1.completion, ap (details p o) same)
   gives Expand said (TooWide wide same) on = not_given said _ same refl on
   gives Expand said (ClausesTooMany small many same) on = not_given said _ same refl on
   gives Expand said (Decided small (expanded.Error vectors cnf refutation) is same) on = not_given said _ same refl on
@@ -85,7 +88,7 @@ module _ (p : NetPair) (o : Options) where
   last_line line given = record {
     tables = given.0;
     complete = given.1;
-    text = append-nil (line_text p o line) ∙ ap (λ t. rung_line line ++ t) given.2 ∙ ap (λ t. t ++ table_lines p.boxes given.0) (sym (append-nil (rung_line line)));
+    text = append-nil (line_text p o line) ∙ ap (λ t. rung_line line ++ t) given.2 ∙ ap (λ t. t ++ table_lines o.shared (shown p.kinds p.boxes) given.0) (sym (append-nil (rung_line line)));
   }
 
   one_more : (line : Line) (more : List Line) → details p o line.said ≡ [] → EndsSo p o more → EndsSo p o (line ∷ more)
@@ -96,7 +99,7 @@ module _ (p : NetPair) (o : Options) where
         ap (λ t. (rung_line line ++ t) ++ flat_map (line_text p o) more) none
         ∙ ap (λ t. t ++ flat_map (line_text p o) more) (append-nil (rung_line line))
         ∙ ap (λ t. rung_line line ++ t) rest.text
-        ∙ sym (append_assoc (rung_line line) (flat_map rung_line more) (table_lines p.boxes rest.tables));
+        ∙ sym (append_assoc (rung_line line) (flat_map rung_line more) (table_lines o.shared (shown p.kinds p.boxes) rest.tables));
   }
 
   climb_gives : (rungs : List Rung) (lines : List Line) → Climbs p o rungs lines → list_any is_error lines ≡ false → list_any is_repair lines ≡ true → EndsSo p o lines
@@ -109,10 +112,10 @@ module _ (p : NetPair) (o : Options) where
       let repair_off = goes_on (is_repair line) (is_error line && not o.all) on in
       one_more line more (quiet p o line.said error_off.0 repair_off) (climb_gives rest more behind error_off.1 (in_rest (is_repair line) (list_any is_repair more) any repair_off))
 
-pub repairs_agree : RepairsAgree
-repairs_agree p o lines kept climb verdict =
+pub repairs_agree : KindLaws → RepairsAgree
+repairs_agree kinds p o lines kept climb verdict =
     let alone = repairs_alone (list_any is_error lines) (list_any is_repair lines) verdict in
-    let ends = climb_gives p o _ lines climb alone.0 alone.1 in (
+    let ends = climb_gives kinds p o kept _ lines climb alone.0 alone.1 in (
       ends.tables,
       ends.complete,
       record {

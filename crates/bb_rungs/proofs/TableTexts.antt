@@ -9,12 +9,15 @@ use Rattle.std.proofs.lemmas.List.FromFn.{length-map-range_with_len, get_or-map-
 use Rattle.std.proofs.lemmas.Slice.Zip.{get_or-zip, length-zip}
 use Rattle.bb_bits.specs.Tables.{TableBits, HasAllBits, table_bit}
 use Rattle.bb_net.specs.Netlists.{Pins, box_at}
-use Rattle.bb_net.specs.Pairs.{NetPair, BoxTexts, NamesPins}
+use Rattle.bb_net.specs.Kinds.{shown}
+use Rattle.bb_net.specs.Pairs.{BoxTexts, NamesPins, box_key}
 use Rattle.bb_net.specs.Values.{table_at, FitBoxes}
+use Rattle.bb_rungs.specs.Inside.KindLaws.{KindLaws}
 use Rattle.bb_rungs.specs.Laws.{LinesFixTables, TextsFixTables}
 use Rattle.bb_rungs.specs.declared.verdict.Verdict.TheVariants as verdicts
 use Rattle.bb_rungs.specs.Reports.{rung_line, verdict_line}
 use Rattle.bb_rungs.specs.TableLines.{bit_text, pin_column, table_line, pin_text, box_lines, table_lines}
+use Rattle.bb_rungs.proofs.ShownBoxes.{named_shown}
 
 abbrev first_byte : List ℕ → ℕ
 first_byte [] = 0
@@ -57,16 +60,16 @@ same_bits (x ∷ xs) (y ∷ ys) long same =
     ap (λ b. b ∷ xs) (same_bit x y parts.0) ∙ ap (λ bits. y ∷ bits) (same_bits xs ys (omega (arith, long)) parts.1)
 
 -- the bits at the output pins fix the bits of a row after row
-module _ (box : BoxTexts) (t u : TableBits) (inputs : t.inputs ≡ u.inputs) where
+module _ (shared : Bool) (box : BoxTexts) (t u : TableBits) (inputs : t.inputs ≡ u.inputs) where
   abbrev pin_line : TableBits → ℕ → List ℕ
-  pin_line v pin = table_line box.path (pin_text box pin) (pin_column v pin)
+  pin_line v pin = table_line (box_key shared box) (pin_text box pin) (pin_column v pin)
 
   long_bits : (v w : TableBits) (pin : ℕ) → v.inputs ≡ w.inputs → length (pin_column v pin) ≡ length (pin_column w pin)
   long_bits v w pin e = length-map-range_with_len (λ row. table_bit v row pin) 0 (2 ^ v.inputs) ∙ ap (λ n. 2 ^ n) e ∙ sym (length-map-range_with_len (λ row. table_bit w row pin) 0 (2 ^ w.inputs))
 
   -- what stands before the bits, and the bits
   abbrev front : ℕ → List ℕ
-  front pin = codes "table " ++ box.path ++ codes " " ++ pin_text box pin ++ codes " "
+  front pin = codes "table " ++ box_key shared box ++ codes " " ++ pin_text box pin ++ codes " "
 
   abbrev text : TableBits → ℕ → List ℕ
   text v pin = flat_map bit_text (pin_column v pin)
@@ -152,26 +155,26 @@ same_table t u inputs outputs t_whole u_whole pins = by_rows t u inputs outputs 
         ∙ ap (λ k. get_or u.rows k false) at
 
 -- tables of boxes, one after another
-same_tables : (texts : List BoxTexts) (boxes : List Pins) (tables others : List TableBits) → AllZip NamesPins texts boxes → length tables ≡ length boxes → length others ≡ length boxes
-    → ((b : ℕ) → b < length boxes → AreAlike (table_at tables b) (table_at others b) (length (box_at boxes b).outs)) → table_lines texts tables ≡ table_lines texts others → tables ≡ others
-same_tables [] [] [] [] named count other alike same = refl
-same_tables [] [] (t ∷ tables) others named count other alike same = absurd (omega (arith, count))
-same_tables [] [] [] (u ∷ others) named count other alike same = absurd (omega (arith, other))
-same_tables [] (q ∷ boxes) tables others named count other alike same = absurd named
-same_tables (x ∷ texts) [] tables others named count other alike same = absurd named
-same_tables (x ∷ texts) (q ∷ boxes) [] others named count other alike same = absurd (omega (arith, count))
-same_tables (x ∷ texts) (q ∷ boxes) (t ∷ tables) [] named count other alike same = absurd (omega (arith, other))
-same_tables (x ∷ texts) (q ∷ boxes) (t ∷ tables) (u ∷ others) named count other alike same =
+same_tables : (shared : Bool) (texts : List BoxTexts) (boxes : List Pins) (tables others : List TableBits) → AllZip NamesPins texts boxes → length tables ≡ length boxes → length others ≡ length boxes
+    → ((b : ℕ) → b < length boxes → AreAlike (table_at tables b) (table_at others b) (length (box_at boxes b).outs)) → table_lines shared texts tables ≡ table_lines shared texts others → tables ≡ others
+same_tables shared [] [] [] [] named count other alike same = refl
+same_tables shared [] [] (t ∷ tables) others named count other alike same = absurd (omega (arith, count))
+same_tables shared [] [] [] (u ∷ others) named count other alike same = absurd (omega (arith, other))
+same_tables shared [] (q ∷ boxes) tables others named count other alike same = absurd named
+same_tables shared (x ∷ texts) [] tables others named count other alike same = absurd named
+same_tables shared (x ∷ texts) (q ∷ boxes) [] others named count other alike same = absurd (omega (arith, count))
+same_tables shared (x ∷ texts) (q ∷ boxes) (t ∷ tables) [] named count other alike same = absurd (omega (arith, other))
+same_tables shared (x ∷ texts) (q ∷ boxes) (t ∷ tables) (u ∷ others) named count other alike same =
     let here = alike 0 (omega arith) in
-    let parts = same_lines x t u here.inputs 0 (length x.outs) (table_lines texts tables) (table_lines texts others) same in
+    let parts = same_lines shared x t u here.inputs 0 (length x.outs) (table_lines shared texts tables) (table_lines shared texts others) same in
     let pins : (pin : ℕ) → pin < t.outputs → pin_column t pin ≡ pin_column u pin = λ pin within. parts.0 pin (omega arith) (omega (arith, within, here.pins, named.0.outs)) in
     ap (λ v. v ∷ tables) (same_table t u here.inputs here.outputs here.whole here.other_whole pins)
-    ∙ ap (λ vs. u ∷ vs) (same_tables texts boxes tables others named.1 (omega (arith, count)) (omega (arith, other)) (λ b within. alike (suc b) (omega (arith, within))) parts.1)
+    ∙ ap (λ vs. u ∷ vs) (same_tables shared texts boxes tables others named.1 (omega (arith, count)) (omega (arith, other)) (λ b within. alike (suc b) (omega (arith, within))) parts.1)
 
 -- tables that fit the same boxes
-alike : (p : NetPair) (tables others : List TableBits) → FitBoxes tables p.imp.boxes → FitBoxes others p.imp.boxes → (b : ℕ) → b < length p.imp.boxes
-    → AreAlike (table_at tables b) (table_at others b) (length (box_at p.imp.boxes b).outs)
-alike p tables others fit fits b within = record {
+alike : (boxes : List Pins) (tables others : List TableBits) → FitBoxes tables boxes → FitBoxes others boxes → (b : ℕ) → b < length boxes
+    → AreAlike (table_at tables b) (table_at others b) (length (box_at boxes b).outs)
+alike boxes tables others fit fits b within = record {
   inputs = fit.inputs b within ∙ sym (fits.inputs b within);
   outputs = fit.outputs b within ∙ sym (fits.outputs b within);
   pins = fit.outputs b within;
@@ -179,37 +182,39 @@ alike p tables others fit fits b within = record {
   other_whole = fits.whole b within;
 }
 
-pub lines_fix_tables : LinesFixTables
-lines_fix_tables p tables others kept fit fits same = same_tables p.boxes p.imp.boxes tables others kept.beside.boxes_named fit.count fits.count (alike p tables others fit fits) same
+pub lines_fix_tables : KindLaws → LinesFixTables
+lines_fix_tables kinds shared p tables others kept fit fits same =
+    same_tables shared (shown p.kinds p.boxes) (shown p.kinds p.imp.boxes) tables others (named_shown kinds p kept) fit.count fits.count (alike (shown p.kinds p.imp.boxes) tables others fit fits) same
 
 -- texts with ends of one length
 same_ends : (a b c d : List ℕ) → length b ≡ length d → a ++ b ≡ c ++ d → b ≡ d
 same_ends a b c d long same = (same_fronts a b c d (omega (arith, ap length same, length-append a b, length-append c d, long)) same).1
 
-long_lines : (texts : List BoxTexts) (boxes : List Pins) (tables others : List TableBits) → AllZip NamesPins texts boxes → length tables ≡ length boxes → length others ≡ length boxes
-    → ((b : ℕ) → b < length boxes → AreAlike (table_at tables b) (table_at others b) (length (box_at boxes b).outs)) → length (table_lines texts tables) ≡ length (table_lines texts others)
-long_lines [] [] [] [] named count other alike = refl
-long_lines [] [] (t ∷ tables) others named count other alike = absurd (omega (arith, count))
-long_lines [] [] [] (u ∷ others) named count other alike = absurd (omega (arith, other))
-long_lines [] (q ∷ boxes) tables others named count other alike = absurd named
-long_lines (x ∷ texts) [] tables others named count other alike = absurd named
-long_lines (x ∷ texts) (q ∷ boxes) [] others named count other alike = absurd (omega (arith, count))
-long_lines (x ∷ texts) (q ∷ boxes) (t ∷ tables) [] named count other alike = absurd (omega (arith, other))
-long_lines (x ∷ texts) (q ∷ boxes) (t ∷ tables) (u ∷ others) named count other alike =
-    let here : length (box_lines (x, t)) ≡ length (box_lines (x, u)) = long_pins x t u (alike 0 (omega arith)).inputs 0 (length x.outs) in
-    let rest = long_lines texts boxes tables others named.1 (omega (arith, count)) (omega (arith, other)) (λ b within. alike (suc b) (omega (arith, within))) in
-    length-append (box_lines (x, t)) (table_lines texts tables) ∙ omega (arith, here, rest, length-append (box_lines (x, u)) (table_lines texts others))
+long_lines : (shared : Bool) (texts : List BoxTexts) (boxes : List Pins) (tables others : List TableBits) → AllZip NamesPins texts boxes → length tables ≡ length boxes → length others ≡ length boxes
+    → ((b : ℕ) → b < length boxes → AreAlike (table_at tables b) (table_at others b) (length (box_at boxes b).outs)) → length (table_lines shared texts tables) ≡ length (table_lines shared texts others)
+long_lines shared [] [] [] [] named count other alike = refl
+long_lines shared [] [] (t ∷ tables) others named count other alike = absurd (omega (arith, count))
+long_lines shared [] [] [] (u ∷ others) named count other alike = absurd (omega (arith, other))
+long_lines shared [] (q ∷ boxes) tables others named count other alike = absurd named
+long_lines shared (x ∷ texts) [] tables others named count other alike = absurd named
+long_lines shared (x ∷ texts) (q ∷ boxes) [] others named count other alike = absurd (omega (arith, count))
+long_lines shared (x ∷ texts) (q ∷ boxes) (t ∷ tables) [] named count other alike = absurd (omega (arith, other))
+long_lines shared (x ∷ texts) (q ∷ boxes) (t ∷ tables) (u ∷ others) named count other alike =
+    let here : length (box_lines shared (x, t)) ≡ length (box_lines shared (x, u)) = long_pins shared x t u (alike 0 (omega arith)).inputs 0 (length x.outs) in
+    let rest = long_lines shared texts boxes tables others named.1 (omega (arith, count)) (omega (arith, other)) (λ b within. alike (suc b) (omega (arith, within))) in
+    length-append (box_lines shared (x, t)) (table_lines shared texts tables) ∙ omega (arith, here, rest, length-append (box_lines shared (x, u)) (table_lines shared texts others))
 
-pub texts_fix_tables : TextsFixTables
-texts_fix_tables p text tables others kept fit fits one other =
+pub texts_fix_tables : KindLaws → TextsFixTables
+texts_fix_tables kinds shared p text tables others kept fit fits one other =
     let end = verdict_line verdicts.Repairable in
-    let all_alike = alike p tables others fit fits in
-    let long = long_lines p.boxes p.imp.boxes tables others kept.beside.boxes_named fit.count fits.count all_alike in
-    let same : (flat_map rung_line one.lines ++ table_lines p.boxes tables) ++ end ≡ (flat_map rung_line other.lines ++ table_lines p.boxes others) ++ end = sym one.whole ∙ other.whole in
-    let lines : table_lines p.boxes tables ≡ table_lines p.boxes others =
-    same_ends (flat_map rung_line one.lines) (table_lines p.boxes tables) (flat_map rung_line other.lines) (table_lines p.boxes others) long
-    (append_cancel_right (flat_map rung_line one.lines ++ table_lines p.boxes tables) (flat_map rung_line other.lines ++ table_lines p.boxes others) end same) in
-    lines_fix_tables p tables others kept fit fits lines
+    let texts = shown p.kinds p.boxes in
+    let all_alike = alike (shown p.kinds p.imp.boxes) tables others fit fits in
+    let long = long_lines shared texts (shown p.kinds p.imp.boxes) tables others (named_shown kinds p kept) fit.count fits.count all_alike in
+    let same : (flat_map rung_line one.lines ++ table_lines shared texts tables) ++ end ≡ (flat_map rung_line other.lines ++ table_lines shared texts others) ++ end = sym one.whole ∙ other.whole in
+    let lines : table_lines shared texts tables ≡ table_lines shared texts others =
+    same_ends (flat_map rung_line one.lines) (table_lines shared texts tables) (flat_map rung_line other.lines) (table_lines shared texts others) long
+    (append_cancel_right (flat_map rung_line one.lines ++ table_lines shared texts tables) (flat_map rung_line other.lines ++ table_lines shared texts others) end same) in
+    lines_fix_tables kinds shared p tables others kept fit fits lines
 
 -- one line more
 pub one_more_pin : (f : ℕ → List ℕ) (old text : List ℕ) (k : ℕ) → text ≡ old ++ flat_map f (range_with_len 0 k) → text ++ f k ≡ old ++ flat_map f (range_with_len 0 (k + 1))
@@ -228,12 +233,12 @@ one_more_row g old text k h =
     ∙ ap (λ bits. old ++ flat_map bit_text bits) (sym (map-range_with_len_more g 0 k k (omega arith)))
 
 -- one box more
-pub one_more_box : (old text : List ℕ) (boxes : List BoxTexts) (tables : List TableBits) (b : ℕ) (box : BoxTexts) (t : TableBits) → b < length boxes → length tables ≡ length boxes
-    → box ≡ get_or boxes b box → t ≡ get_or tables b t → text ≡ old ++ flat_map box_lines (take b (zip boxes tables)) → text ++ box_lines (box, t) ≡ old ++ flat_map box_lines (take (b + 1) (zip boxes tables))
-one_more_box old text boxes tables b box t within same is_box is_table h =
+pub one_more_box : (shared : Bool) (old text : List ℕ) (boxes : List BoxTexts) (tables : List TableBits) (b : ℕ) (box : BoxTexts) (t : TableBits) → b < length boxes → length tables ≡ length boxes
+    → box ≡ get_or boxes b box → t ≡ get_or tables b t → text ≡ old ++ flat_map (box_lines shared) (take b (zip boxes tables)) → text ++ box_lines shared (box, t) ≡ old ++ flat_map (box_lines shared) (take (b + 1) (zip boxes tables))
+one_more_box shared old text boxes tables b box t within same is_box is_table h =
     let there : b < length (zip boxes tables) = omega (arith, length-zip boxes tables, within, same) in
     let pair : get_or (zip boxes tables) b (box, t) ≡ (box, t) =
     get_or-zip boxes tables b (box, t) within (omega (arith, within, same)) ∙ ap (λ n. (n, get_or tables b t)) (sym is_box) ∙ ap (λ v. (box, v)) (sym is_table) in
-    ap (λ l. l ++ box_lines (box, t)) h
-    ∙ flat_map_more box_lines old (take b (zip boxes tables)) (box, t)
-    ∙ ap (λ ps. old ++ flat_map box_lines ps) (sym (take_more (zip boxes tables) b (box, t) there ∙ ap (λ p. take b (zip boxes tables) ++ p ∷ []) pair))
+    ap (λ l. l ++ box_lines shared (box, t)) h
+    ∙ flat_map_more (box_lines shared) old (take b (zip boxes tables)) (box, t)
+    ∙ ap (λ ps. old ++ flat_map (box_lines shared) ps) (sym (take_more (zip boxes tables) b (box, t) there ∙ ap (λ p. take b (zip boxes tables) ++ p ∷ []) pair))

@@ -4,9 +4,8 @@ use Rattle.std.proofs.lemmas.List.Elements.{All-nil, All-cons, All-contains, Con
 use Rattle.std.specs.List.{AllZip}
 use Rattle.std.proofs.lemmas.Slice.Zip.{AllZip-long}
 use Rattle.bb_bits.specs.Tables.{TableBits}
-use Rattle.bb_net.specs.Completions.{AreCompletion}
-use Rattle.bb_net.specs.Netlists.{Pins, box_at}
-use Rattle.bb_net.specs.Pairs.{NetPair, IsPair, BoxTexts, NamesPins}
+use Rattle.bb_net.specs.Kinds.{AreSharedCompletion, shown}
+use Rattle.bb_net.specs.Pairs.{NetPair, IsPair, NamesPins}
 use Rattle.bb_tern.specs.Patterns.{PatternsAreVectors}
 use Rattle.bb_sym.specs.declared.found.Found.{Found}
 use Rattle.bb_expand.specs.declared.expanded.Expanded.TheVariants as expanded
@@ -16,17 +15,12 @@ use Rattle.bb_rungs.specs.declared.line.Said.{Said}
 use Rattle.bb_options.specs.declared.options.Options.{Options}
 use Rattle.bb_options.specs.declared.rung.Rung.{Rung}
 use Rattle.bb_options.specs.declared.rung.Rung.TheVariants.{Ternary, Symbolic, Local, Output, Input, Expand}
+use Rattle.bb_rungs.specs.Inside.KindLaws.{KindLaws}
 use Rattle.bb_rungs.specs.Laws.{ClimbsAreTold}
-use Rattle.bb_rungs.specs.Rungs.{MaySay, Hit, NoHit, TooMany, Finding, Without, ChoicesTooMany, Answered, TooWide, ClausesTooMany, Decided, Climbs, Top, End, Step, SaidTells, Tells, TellTables, texts_at, tried}
+use Rattle.bb_rungs.specs.Rungs.{MaySay, Hit, NoHit, TooMany, Finding, Without, ChoicesTooMany, Answered, TooWide, ClausesTooMany, Decided, Climbs, Top, End, Step, SaidTells, Tells, TellTables, tried}
+use Rattle.bb_rungs.proofs.ShownBoxes.{named_shown, names_each, one_shared}
 
--- each box has a text for each pin
-pub names_each : (texts : List BoxTexts) (boxes : List Pins) → AllZip NamesPins texts boxes → (b : ℕ) → b < length texts → NamesPins (texts_at texts b) (box_at boxes b)
-names_each [] boxes named b there = absurd (omega (arith, there))
-names_each (t ∷ texts) [] named b there = absurd named
-names_each (t ∷ texts) (q ∷ boxes) named zero there = named.0
-names_each (t ∷ texts) (q ∷ boxes) named (suc b) there = names_each texts boxes named.1 b (omega (arith, there))
-
-module _ (vectors : PatternsAreVectors) (p : NetPair) (o : Options) (kept : IsPair p) where
+module _ (kinds : KindLaws) (vectors : PatternsAreVectors) (p : NetPair) (o : Options) (kept : IsPair p) where
   with_output : (found : Found) (j : ℕ) → found.output ≡ Some j → j < length p.imp.outs → length found.input.items ≡ p.imp.inputs → Tells p found
   with_output found j is there long = record {
     output = subst (λ told. IfSome told (λ j. j < length p.outs)) (sym is) (omega (arith, there, kept.beside.outs_named));
@@ -39,13 +33,15 @@ module _ (vectors : PatternsAreVectors) (p : NetPair) (o : Options) (kept : IsPa
     input = long ∙ sym kept.beside.ins_named;
   }
 
-  tables_told : (tables : List TableBits) → AreCompletion p.spec p.imp tables → TellTables p tables
-  tables_told tables complete = record {
-    count = complete.fit.count ∙ AllZip-long NamesPins p.boxes p.imp.boxes kept.beside.boxes_named;
-    outputs = λ b there.
-        let within : b < length p.imp.boxes = omega (arith, there, AllZip-long NamesPins p.boxes p.imp.boxes kept.beside.boxes_named) in
-        complete.fit.outputs b within ∙ sym (names_each p.boxes p.imp.boxes kept.beside.boxes_named b there).outs;
-  }
+  tables_told : (tables : List TableBits) → AreSharedCompletion p.spec p.imp p.kinds tables → TellTables p tables
+  tables_told tables complete =
+      let named = named_shown kinds p kept in
+      let long = AllZip-long NamesPins (shown p.kinds p.boxes) (shown p.kinds p.imp.boxes) named in
+      let count : length tables ≡ length (shown p.kinds p.boxes) = complete.fit.count ∙ long in
+      record {
+        count = count;
+        outputs = λ k there. complete.fit.outputs k (omega (arith, there, complete.fit.count)) ∙ sym (names_each (shown p.kinds p.boxes) (shown p.kinds p.imp.boxes) named k (omega (arith, there, count))).outs;
+      }
 
   said_told : (r : Rung) (said : Said) → MaySay p o r said → SaidTells p said
   said_told Ternary said (Hit found j is hit same) =
@@ -64,7 +60,7 @@ module _ (vectors : PatternsAreVectors) (p : NetPair) (o : Options) (kept : IsPa
   said_told Input said (ChoicesTooMany many same) = subst (SaidTells p) (sym same) tt
   said_told Input said (Answered few choices.Error is same) = subst (SaidTells p) (sym same) tt
   said_told Input said (Answered few choices.Clear is same) = subst (SaidTells p) (sym same) tt
-  said_told Input said (Answered few (choices.Repair tables) is same) = subst (SaidTells p) (sym same) (tables_told tables.items is.1.completion)
+  said_told Input said (Answered few (choices.Repair tables) is same) = subst (SaidTells p) (sym same) (tables_told tables.items (one_shared kinds p.spec p.imp p.kinds tables.items kept.beside.kinds is.0.one_box is.1.completion))
   said_told Expand said (TooWide wide same) = subst (SaidTells p) (sym same) tt
   said_told Expand said (ClausesTooMany small many same) = subst (SaidTells p) (sym same) tt
   said_told Expand said (Decided small (expanded.Error vectors cnf refutation) is same) = subst (SaidTells p) (sym same) tt
@@ -79,5 +75,5 @@ module _ (p : NetPair) (o : Options) (P : Said → Type 0) (each : (r : Rung) (s
   climb_each (r ∷ rest) (line ∷ []) (End is says last) = All-cons (λ (line : Line). P line.said) line [] (each r line.said says) (All-nil _)
   climb_each (r ∷ rest) (line ∷ more) (Step is says on behind) = All-cons (λ (line : Line). P line.said) line more (each r line.said says) (climb_each rest more behind)
 
-pub climbs_are_told : PatternsAreVectors → ClimbsAreTold
-climbs_are_told vectors p o lines kept climb = climb_each p o (SaidTells p) (said_told vectors p o kept) _ lines climb
+pub climbs_are_told : KindLaws → PatternsAreVectors → ClimbsAreTold
+climbs_are_told kinds vectors p o lines kept climb = climb_each p o (SaidTells p) (said_told kinds vectors p o kept) _ lines climb

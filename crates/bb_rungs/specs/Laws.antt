@@ -3,11 +3,10 @@ pub mod AlikePairs
 pub mod Searches
 pub mod ShownVectors
 pub mod SomeClimbs
-use Rattle.std.specs.Prelude.{map, ◌≡◌, true, false, List, ◌∷◌, ◌++◌, All, ℕ}
+use Rattle.std.specs.Prelude.{map, ◌≡◌, true, false, List, ◌∷◌, ◌++◌, All, ℕ, Bool}
 use Rattle.std.specs.List.{list_any}
 use Rattle.bb_bits.specs.Tables.{TableBits}
-use Rattle.bb_net.specs.Completions.{AreCompletion}
-use Rattle.bb_net.specs.Conditions.{NoTablesAgree}
+use Rattle.bb_net.specs.Kinds.{AreSharedCompletion, NoSharedTablesAgree, shown}
 use Rattle.bb_net.specs.Pairs.{NetPair, IsPair}
 use Rattle.bb_net.specs.Values.{FitBoxes}
 use Rattle.bb_rungs.specs.declared.line.Line.{Line}
@@ -21,24 +20,24 @@ use Rattle.bb_rungs.specs.Reports.{EndsWithTables, report_text, rung_line, verdi
 use Rattle.bb_rungs.specs.Rungs.{IsClimb, SaidTells, is_error, is_repair}
 use Rattle.bb_rungs.specs.TableLines.{table_lines}
 
--- where a check says that there is an error, no tables agree
+-- where a check says that there is an error, no tables agree, one for each kind of boxes
 abbrev pub ErrorsExcludeTables : Type 0
-ErrorsExcludeTables = (p : NetPair) (o : Options) (lines : List Line) → IsPair p → IsClimb p o lines → list_any is_error lines ≡ true → NoTablesAgree p.spec p.imp
+ErrorsExcludeTables = (p : NetPair) (o : Options) (lines : List Line) → IsPair p → IsClimb p o lines → list_any is_error lines ≡ true → NoSharedTablesAgree p.spec p.imp p.kinds
 
 -- where the verdict is that the design can be finished, the report ends with tables that agree
 abbrev pub RepairsAgree : Type 0
 RepairsAgree = (p : NetPair) (o : Options) (lines : List Line) → IsPair p → IsClimb p o lines → verdict_of lines ≡ verdicts.Repairable
-    → (tables : List TableBits) × AreCompletion p.spec p.imp tables × EndsWithTables p.boxes (report_text p o lines) tables
+    → (tables : List TableBits) × AreSharedCompletion p.spec p.imp p.kinds tables × EndsWithTables o.shared (shown p.kinds p.boxes) (report_text p o lines) tables
 
--- the lines of a table give back its bits: tables of the same boxes with the same lines are the same
+-- the lines of a table give back its bits: tables of the same kinds with the same lines are the same
 abbrev pub LinesFixTables : Type 0
-LinesFixTables = (p : NetPair) (tables others : List TableBits) → IsPair p → FitBoxes tables p.imp.boxes → FitBoxes others p.imp.boxes
-    → table_lines p.boxes tables ≡ table_lines p.boxes others → tables ≡ others
+LinesFixTables = (shared : Bool) (p : NetPair) (tables others : List TableBits) → IsPair p → FitBoxes tables (shown p.kinds p.imp.boxes) → FitBoxes others (shown p.kinds p.imp.boxes)
+    → table_lines shared (shown p.kinds p.boxes) tables ≡ table_lines shared (shown p.kinds p.boxes) others → tables ≡ others
 
 -- so a report ends with the lines of one list of tables
 abbrev pub TextsFixTables : Type 0
-TextsFixTables = (p : NetPair) (text : List ℕ) (tables others : List TableBits) → IsPair p → FitBoxes tables p.imp.boxes → FitBoxes others p.imp.boxes
-    → EndsWithTables p.boxes text tables → EndsWithTables p.boxes text others → tables ≡ others
+TextsFixTables = (shared : Bool) (p : NetPair) (text : List ℕ) (tables others : List TableBits) → IsPair p → FitBoxes tables (shown p.kinds p.imp.boxes) → FitBoxes others (shown p.kinds p.imp.boxes)
+    → EndsWithTables shared (shown p.kinds p.boxes) text tables → EndsWithTables shared (shown p.kinds p.boxes) text others → tables ≡ others
 
 -- what checks find can be told by the names of the pair
 abbrev pub ClimbsAreTold : Type 0

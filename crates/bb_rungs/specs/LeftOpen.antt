@@ -4,6 +4,7 @@
 use Rattle.std.specs.Prelude.{◌⊎◌, ◌<◌, ◌≤◌, ◌^◌, All, Contains}
 use Rattle.bb_net.specs.Completions.{HaveSmallTables, table_bits}
 use Rattle.bb_net.specs.Conditions.{MayBeRightAmong, MayBeRightEverywhere, EachSometimesRight, AllSometimesRight, SomeChoicesSuit}
+use Rattle.bb_net.specs.Kinds.{shown}
 use Rattle.bb_net.specs.Pairs.{NetPair}
 use Rattle.bb_sym.specs.Functions.{symbolic_functions, local_functions, output_functions}
 use Rattle.bb_input.specs.Answers.{IsFinishable}
@@ -23,7 +24,7 @@ LeavesOpen p o Symbolic = AreTooMany o (symbolic_functions p.spec p.imp) ⊎ May
 LeavesOpen p o Local = AreTooMany o (local_functions p.spec p.imp) ⊎ EachSometimesRight p.spec p.imp
 LeavesOpen p o Output = AreTooMany o (output_functions p.spec p.imp) ⊎ AllSometimesRight p.spec p.imp
 LeavesOpen p o Input = AreTooMany o (input_functions p.spec p.imp) ⊎ (SomeChoicesSuit p.spec p.imp × (IsFinishable p.imp → ⊥))
-LeavesOpen p o Expand = (2 ^ 24 < table_bits p.imp.boxes) ⊎ NeedsMoreClauses p.spec p.imp o.clauses
+LeavesOpen p o Expand = (2 ^ 24 < table_bits (shown p.kinds p.imp.boxes)) ⊎ NeedsMoreClauses p.spec p.imp p.kinds o.clauses
 
 abbrev pub AllLeaveOpen : NetPair → Options → Type 0
 AllLeaveOpen p o = All (LeavesOpen p o) (asked_rungs o)
@@ -31,7 +32,7 @@ AllLeaveOpen p o = All (LeavesOpen p o) (asked_rungs o)
 -- what makes the question stay open with a check, whatever the solver does: the same but at the expansion, which may find vectors that
 -- tell where others would need more clauses, so that tables that are too wide are the only cause
 abbrev pub StaysOpen : NetPair → Options → Rung → Type 0
-StaysOpen p o Expand = 2 ^ 24 < table_bits p.imp.boxes
+StaysOpen p o Expand = 2 ^ 24 < table_bits (shown p.kinds p.imp.boxes)
 StaysOpen p o r = LeavesOpen p o r
 
 abbrev pub AllStayOpen : NetPair → Options → Type 0
@@ -45,7 +46,7 @@ Decides p o Symbolic = ⊥
 Decides p o Local = ⊥
 Decides p o Output = ⊥
 Decides p o Input = IsFinishable p.imp × (AreTooMany o (input_functions p.spec p.imp) → ⊥)
-Decides p o Expand = HaveSmallTables p.imp.boxes × (clause_total p.imp ≤ o.clauses)
+Decides p o Expand = HaveSmallTables (shown p.kinds p.imp.boxes) × (clause_total p.imp ≤ o.clauses)
 
 -- one that is asked for does
 abbrev pub SomeDecides : NetPair → Options → Type 0

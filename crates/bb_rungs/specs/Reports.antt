@@ -4,6 +4,7 @@ use Rattle.std.specs.List.{flat_map, list_any, slice_index_or}
 use Rattle.bb_bits.specs.Tables.{TableBits}
 use Rattle.bb_cnf.specs.Lines.{proof_lines}
 use Rattle.bb_net.specs.declared.pair.OutName.{OutName}
+use Rattle.bb_net.specs.Kinds.{shown}
 use Rattle.bb_net.specs.Pairs.{BoxTexts, NetPair}
 use Rattle.bb_rungs.specs.declared.line.Evidence.{Evidence}
 use Rattle.bb_rungs.specs.declared.line.Evidence.TheVariants.{Vector, NoChoices, Refutation}
@@ -61,7 +62,7 @@ evidence_text p o (Refutation proof) = if o.proof then proof_text proof else []
 abbrev pub details : NetPair → Options → Said → List ℕ
 details p o (Error evidence) = evidence_text p o evidence
 details p o Nothing = []
-details p o (Repair tables) = table_lines p.boxes tables.items
+details p o (Repair tables) = table_lines o.shared (shown p.kinds p.boxes) tables.items
 details p o Nodes = []
 details p o Clauses = []
 details p o Wide = []
@@ -95,7 +96,7 @@ report_text p o lines = flat_map (line_text p o) lines ++ verdict_line (verdict_
 
 -- a report with the verdict that the design can be finished: lines of checks, none of which says that there is a mistake, and behind
 -- them those of the tables
-pub record EndsWithTables (boxes : List BoxTexts) (text : List ℕ) (tables : List TableBits) : Type 0 where
+pub record EndsWithTables (shared : Bool) (boxes : List BoxTexts) (text : List ℕ) (tables : List TableBits) : Type 0 where
   pub lines : List Line
   pub quiet : list_any is_error lines ≡ false
-  pub whole : text ≡ flat_map rung_line lines ++ table_lines boxes tables ++ verdict_line verdicts.Repairable
+  pub whole : text ≡ flat_map rung_line lines ++ table_lines shared boxes tables ++ verdict_line verdicts.Repairable

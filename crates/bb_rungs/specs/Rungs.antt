@@ -12,6 +12,7 @@ use Rattle.bb_options.specs.declared.rung.Rung.TheVariants.{Ternary, Symbolic, L
 use Rattle.bb_options.specs.Rungs.{asked_rungs}
 use Rattle.bb_net.specs.Conditions.{IsKnownWrong, MayBeRight, MayBeRightAmong, IsFirstHit, MayBeRightEverywhere, IsAlwaysWrong, EachSometimesRight, HasAlwaysWrong, AllSometimesRight}
 use Rattle.bb_net.specs.Completions.{HaveSmallTables, table_bits}
+use Rattle.bb_net.specs.Kinds.{shown}
 use Rattle.bb_net.specs.Pairs.{NetPair, BoxTexts}
 use Rattle.bb_net.specs.Values.{table_at}
 use Rattle.bb_tern.specs.Patterns.{patterns}
@@ -61,10 +62,10 @@ pub record Tells (p : NetPair) (found : Found) : Type 0 where
   pub output : IfSome found.output (λ j. j < length p.outs)
   pub input : length found.input.items ≡ length p.ins
 
--- tables can be told: one for each box of the pair, with as many outputs as that has
+-- tables can be told: one for each kind of boxes of the pair, with as many outputs as the first of these has
 pub record TellTables (p : NetPair) (tables : List TableBits) : Type 0 where
-  pub count : length tables ≡ length p.boxes
-  pub outputs : (b : ℕ) → b < length p.boxes → (table_at tables b).outputs ≡ length (texts_at p.boxes b).outs
+  pub count : length tables ≡ length (shown p.kinds p.boxes)
+  pub outputs : (k : ℕ) → k < length tables → (table_at tables k).outputs ≡ length (texts_at (shown p.kinds p.boxes) k).outs
 
 abbrev pub EvidenceTells : NetPair → Evidence → Type 0
 EvidenceTells p (Vector found) = Tells p found
@@ -108,9 +109,9 @@ pub data MayChoose (p : NetPair) (o : Options) (said : Said) : Type 0 where
 
 -- what the expansion may say; where the clauses over all vectors are too many, it may decide nevertheless
 pub data MayExpand (p : NetPair) (o : Options) (said : Said) : Type 0 where
-  TooWide : 2 ^ 24 < table_bits p.imp.boxes → said ≡ Wide → MayExpand p o said
-  ClausesTooMany : HaveSmallTables p.imp.boxes → NeedsMoreClauses p.spec p.imp o.clauses → said ≡ Clauses → MayExpand p o said
-  Decided : HaveSmallTables p.imp.boxes → (answer : Expanded) → IsExpanded p.spec p.imp o.clauses answer → said ≡ told_expanded answer → MayExpand p o said
+  TooWide : 2 ^ 24 < table_bits (shown p.kinds p.imp.boxes) → said ≡ Wide → MayExpand p o said
+  ClausesTooMany : HaveSmallTables (shown p.kinds p.imp.boxes) → NeedsMoreClauses p.spec p.imp p.kinds o.clauses → said ≡ Clauses → MayExpand p o said
+  Decided : HaveSmallTables (shown p.kinds p.imp.boxes) → (answer : Expanded) → IsExpanded p.spec p.imp p.kinds o.clauses answer → said ≡ told_expanded answer → MayExpand p o said
 
 abbrev pub MaySay : NetPair → Options → Rung → Said → Type 0
 MaySay p o Ternary said = MayHit p o said

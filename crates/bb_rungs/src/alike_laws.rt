@@ -3,6 +3,7 @@
 ghost use Rattle.bb_rungs.specs.Inside.AlikeLaws.{PairLaws};
 ghost use Rattle.bb_rungs.specs.Laws.AlikePairs.{AlikePairsAreLeftOpen, AlikePairsStayOpen, AlikePairsDependAlike, AlikePairsAreDecided, AlikePairsAreTold, AlikeReportsAreOne, AlikeReportsBeginAsOne, AlikeClimbsSayAlike, AlikeVerdictsNeverClash};
 
+use crate::kind_laws::kind_laws;
 use crate::laws::{errors_exclude_tables, repairs_agree};
 use bb_alike::laws::{
     alike_cells_are_known_alike, alike_cells_have_one_bit, alike_is_mutual, alike_nets_have_cells,
@@ -20,6 +21,7 @@ use bb_tern::laws::patterns_are_vectors;
 fn laws_below()
     ensures { PairLaws }
 {
+    kind_laws();
     functions();
     formulas_are_of_cells();
     alike_is_mutual();

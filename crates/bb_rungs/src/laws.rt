@@ -5,15 +5,17 @@ ghost use Rattle.bb_rungs.specs.Laws.SomeClimbs.{ClimbsExist};
 ghost use Rattle.bb_rungs.specs.Laws.ShownVectors.{FoundVectorsAreMistakes, InputLinesFixVectors};
 
 use crate::alike_laws::alike_climbs_say_alike;
+use crate::kind_laws::kind_laws;
 use bb_bits::truth;
 use bb_net::{conditions_weaken, hit_or_none, known_is_value};
 use bb_sym::laws::findings_exist;
 use bb_tern::laws::patterns_are_vectors;
 
-/// Where a check says that there is an error, no tables agree.
+/// Where a check says that there is an error, no tables agree, one for each kind of boxes.
 pub fn errors_exclude_tables()
     ensures { ErrorsExcludeTables }
 {
+    kind_laws();
     conditions_weaken();
     patterns_are_vectors();
 }
@@ -21,17 +23,23 @@ pub fn errors_exclude_tables()
 /// Where the verdict is that the design can be finished, the report ends with tables that agree.
 pub fn repairs_agree()
     ensures { RepairsAgree }
-{}
+{
+    kind_laws();
+}
 
-/// Tables of the same boxes with the same lines are the same.
+/// Tables of the same kinds of boxes with the same lines are the same.
 pub fn lines_fix_tables()
     ensures { LinesFixTables }
-{}
+{
+    kind_laws();
+}
 
 /// A report ends with the lines of one list of tables.
 pub fn texts_fix_tables()
     ensures { TextsFixTables }
-{}
+{
+    kind_laws();
+}
 
 /// Input lines of the same names with the same text show one vector.
 pub fn input_lines_fix_vectors()
@@ -50,6 +58,7 @@ pub fn found_vectors_are_mistakes()
 pub fn climbs_are_told()
     ensures { ClimbsAreTold }
 {
+    kind_laws();
     patterns_are_vectors();
 }
 
@@ -78,6 +87,7 @@ pub fn deciders_decide()
 pub fn errors_stay()
     ensures { ErrorsStay }
 {
+    kind_laws();
     conditions_weaken();
     patterns_are_vectors();
 }

@@ -4,6 +4,7 @@
 mod alike_laws;
 mod bits;
 mod climbing;
+mod kind_laws;
 mod laws;
 mod line;
 mod proof_lines;

@@ -113,7 +113,7 @@ fn push_details(
 {
     match said {
         Said::Error(evidence) => push_evidence(text, pair, options, evidence),
-        Said::Repair(tables) => push_tables(text, pair.boxes(), tables),
+        Said::Repair(tables) => push_tables(text, options.shared, pair, tables),
         Said::Nothing | Said::Nodes | Said::Clauses | Said::Wide => Ok(()),
     }
 }

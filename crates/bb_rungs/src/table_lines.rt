@@ -1,15 +1,17 @@
 //! The lines of tables in a report.
 
-ghost use Rattle.std.specs.Prelude.{◌≡◌, ◌≤◌, ◌<◌, ◌++◌, ℕ, length, zip, OnOk};
+ghost use Rattle.std.specs.Prelude.{◌≡◌, ◌≤◌, ◌<◌, ◌++◌, ℕ, All, length, map, zip, OnOk};
 ghost use Rattle.std.specs.List.{flat_map};
 ghost use Rattle.bb_bits.specs.Tables.{IsTable};
+ghost use Rattle.bb_net.specs.Kinds.{shown};
 ghost use Rattle.bb_net.specs.Values.{table_at};
-ghost use Rattle.bb_rungs.specs.Rungs.{texts_at};
+ghost use Rattle.bb_rungs.specs.Rungs.{TellTables, texts_at};
 ghost use Rattle.bb_rungs.specs.TableLines.{bit_text, pin_column, table_line, pin_text, box_lines, table_lines};
 
 use crate::bits::push_bit;
+use crate::kind_laws::kind_laws;
 use bb_bits::{Name, NoMemory, Table, tables_have_few_inputs};
-use bb_net::BoxName;
+use bb_net::{BoxName, Pair};
 
 // Appends what a table gives at an output pin, row by row.
 fn push_rows(text: &mut Vec<u8>, table: &Table, pin: u32) -> Result<(), NoMemory>
@@ -27,16 +29,16 @@ fn push_rows(text: &mut Vec<u8>, table: &Table, pin: u32) -> Result<(), NoMemory
 // Appends the line of an output pin.
 fn push_pin(
     text: &mut Vec<u8>,
-    path: &Name,
+    key: &Name,
     name: &Name,
     table: &Table,
     pin: u32,
 ) -> Result<(), NoMemory>
     requires pin { pin < table.now.outputs }
-    ensures text { OnOk result (text.new.items ≡ text.old.items ++ table_line path.now name.now (pin_column table.now pin)) }
+    ensures text { OnOk result (text.new.items ≡ text.old.items ++ table_line key.now name.now (pin_column table.now pin)) }
 {
     text.extend_from_slice(b"table ")?;
-    text.extend_from_slice(path.bytes())?;
+    text.extend_from_slice(key.bytes())?;
     text.extend_from_slice(b" ")?;
     text.extend_from_slice(name.bytes())?;
     text.extend_from_slice(b" ")?;
@@ -46,29 +48,52 @@ fn push_pin(
 }
 
 // Appends the lines of a box.
-fn push_box(text: &mut Vec<u8>, texts: &BoxName, table: &Table) -> Result<(), NoMemory>
+fn push_box(
+    text: &mut Vec<u8>,
+    shared: bool,
+    texts: &BoxName,
+    table: &Table,
+) -> Result<(), NoMemory>
     requires outputs { table.now.outputs ≡ length texts.now.outs }
-    ensures text { OnOk result (text.new.items ≡ text.old.items ++ box_lines (texts.now, table.now)) }
+    ensures text { OnOk result (text.new.items ≡ text.old.items ++ box_lines shared (texts.now, table.now)) }
 {
     for pin in 0..table.outputs() {
         let name = &texts.outs()[pin as usize];
-        push_pin(text, texts.path(), name, table, pin)?;
+        push_pin(text, texts.key(shared), name, table, pin)?;
     }
     Ok(())
 }
 
-/// Appends the lines of the tables of boxes: one for each output pin of each box, in order.
-pub(crate) fn push_tables(
+// Appends the lines of the boxes at these places, each with its table.
+fn push_boxes(
     text: &mut Vec<u8>,
+    shared: bool,
     boxes: &[BoxName],
+    places: &[u32],
     tables: &[Table],
 ) -> Result<(), NoMemory>
-    requires count { length tables.now ≡ length boxes.now }
-    requires outputs { (b : ℕ) → b < length boxes.now → (table_at tables.now b).outputs ≡ length (texts_at boxes.now b).outs }
-    ensures text { OnOk result (text.new.items ≡ text.old.items ++ table_lines boxes.now tables.now) }
+    requires there { All (λ b. b < length boxes.now) places.now }
+    requires count { length tables.now ≡ length places.now }
+    requires outputs { (k : ℕ) → k < length tables.now → (table_at tables.now k).outputs ≡ length (texts_at (map (texts_at boxes.now) places.now) k).outs }
+    ensures text { OnOk result (text.new.items ≡ text.old.items ++ table_lines shared (map (texts_at boxes.now) places.now) tables.now) }
 {
-    for (b, texts) in boxes.iter().enumerate() {
-        push_box(text, texts, &tables[b])?;
+    for (k, b) in places.iter().enumerate() {
+        push_box(text, shared, &boxes[*b as usize], &tables[k])?;
     }
     Ok(())
+}
+
+/// Appends the lines of the tables of kinds of boxes: one for each output pin of the first box of each kind, in order.
+pub(crate) fn push_tables(
+    text: &mut Vec<u8>,
+    shared: bool,
+    pair: &Pair,
+    tables: &[Table],
+) -> Result<(), NoMemory>
+    requires told { TellTables pair.now tables.now }
+    ensures text { OnOk result (text.new.items ≡ text.old.items ++ table_lines shared (shown pair.now.kinds pair.now.boxes) tables.now) }
+{
+    kind_laws();
+    let firsts = pair.first_boxes(*text.allocator())?;
+    push_boxes(text, shared, pair.boxes(), &firsts, tables)
 }

@@ -3,6 +3,7 @@ use Rattle.std.specs.Prelude.{◌≡◌, ℕ, Bool, List, length}
 use Rattle.bb_net.specs.Values.{ValueGoesByBoxes}
 use Rattle.bb_sym.specs.Plain.{Function, table}
 use Rattle.bb_alike.specs.Laws.{FormulasAreOfCells, AlikeIsMutual, AlikeNetsHaveCells, AlikeCellsHaveOneBit, AlikeCellsAreKnownAlike}
+use Rattle.bb_rungs.specs.Inside.KindLaws.{KindLaws}
 use Rattle.bb_filled.specs.Laws.AlikeLaws.{AlikeFilledHaveSameBits}
 use Rattle.bb_filled.specs.Laws.FilledLaws.{FilledExist}
 use Rattle.bb_expand.specs.Laws.{ClausesAreCounted}
@@ -27,6 +28,7 @@ pub record GivenLaws : Type 0 where
 
 pub record PairLaws : Type 0 where
   pub bits : BitLaws
+  pub kinds : KindLaws
   pub known : AlikeCellsAreKnownAlike
   pub fix : FunctionsFixTables
   pub given : GivenLaws

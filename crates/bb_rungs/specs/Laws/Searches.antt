@@ -2,6 +2,7 @@
 use Rattle.std.specs.Prelude.{Contains}
 use Rattle.bb_expand.specs.GivenUp.{NeedsMoreClauses}
 use Rattle.bb_net.specs.Completions.{HaveSmallTables}
+use Rattle.bb_net.specs.Kinds.{shown}
 use Rattle.bb_net.specs.Pairs.{NetPair}
 use Rattle.bb_options.specs.declared.options.Options.{Options}
 use Rattle.bb_options.specs.declared.rung.Rung.TheVariants.{Expand}
@@ -11,5 +12,5 @@ use Rattle.bb_options.specs.Rungs.{asked_rungs}
 -- others may tell
 pub record MayDependOnSearch (p : NetPair) (o : Options) : Type 0 where
   pub asked : Contains (asked_rungs o) Expand
-  pub small : HaveSmallTables p.imp.boxes
-  pub needs : NeedsMoreClauses p.spec p.imp o.clauses
+  pub small : HaveSmallTables (shown p.kinds p.imp.boxes)
+  pub needs : NeedsMoreClauses p.spec p.imp p.kinds o.clauses

@@ -2,6 +2,7 @@
 use Rattle.std.specs.Prelude.{List}
 use Rattle.bb_expand.specs.Laws.{HaveShortRefutations}
 use Rattle.bb_net.specs.Completions.{HaveSmallTables}
+use Rattle.bb_net.specs.Kinds.{shown}
 use Rattle.bb_net.specs.Pairs.{NetPair, IsPair}
 use Rattle.bb_options.specs.declared.options.Options.{Options}
 use Rattle.bb_options.specs.Rungs.{AreBounds}
@@ -11,7 +12,7 @@ use Rattle.bb_rungs.specs.Rungs.{IsClimb}
 -- where its tables may be written down, the clauses over any forced vectors of a pair, if they are within the budget and have no model,
 -- have a refutation that is short enough
 abbrev pub IsProvable : NetPair → Options → Type 0
-IsProvable p o = HaveSmallTables p.imp.boxes → HaveShortRefutations p.spec p.imp o.clauses
+IsProvable p o = HaveSmallTables (shown p.kinds p.imp.boxes) → HaveShortRefutations p.spec p.imp p.kinds o.clauses
 
 -- so each check that is asked for has something to say, and there are lines of all of them
 abbrev pub ClimbsExist : Type 0

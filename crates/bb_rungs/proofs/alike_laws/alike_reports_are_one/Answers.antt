@@ -11,6 +11,7 @@ returns c =
         one = c.conditions_weaken.ensures.one;
         some = c.conditions_weaken.ensures.some;
         choices = c.conditions_weaken.ensures.choices;
+        kinds = c.laws_below.ensures.kinds;
       };
       vectors = c.patterns_are_vectors.ensures;
       bits = c.number_spelled_once.ensures;

@@ -8,6 +8,7 @@ returns c = record {
     cells = c.alike_nets_have_cells.ensures;
     bits = c.alike_cells_have_one_bit.ensures;
   };
+  kinds = c.kind_laws.ensures;
   known = c.alike_cells_are_known_alike.ensures;
   fix = c.functions.ensures.same;
   given = record {

@@ -8,4 +8,5 @@ returns c = errors_stay (record {
   one = c.conditions_weaken.ensures.one;
   some = c.conditions_weaken.ensures.some;
   choices = c.conditions_weaken.ensures.choices;
+  kinds = c.kind_laws.ensures;
 }) c.patterns_are_vectors.ensures

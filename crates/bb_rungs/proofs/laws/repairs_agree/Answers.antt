@@ -2,4 +2,4 @@ use Rattle.bb_rungs.proofs.RepairLaw.{repairs_agree}
 use Rattle.bb_rungs.proofs.laws.repairs_agree.Goals as goal
 
 pub returns : goal.returns
-returns c = repairs_agree
+returns c = repairs_agree c.kind_laws.ensures

@@ -1,22 +1,28 @@
-use Rattle.std.proofs.Common.{◌∙◌, ◌++◌, ap, arith}
-use Rattle.std.specs.Prelude.{zip}
-use Rattle.std.specs.List.{flat_map}
-use Rattle.std.proofs.lemmas.List.{take_all}
-use Rattle.std.proofs.lemmas.Slice.Zip.{length-zip}
-use Rattle.bb_rungs.specs.TableLines.{box_lines}
-use Rattle.bb_rungs.proofs.TableTexts.{one_more_box}
+use Rattle.std.proofs.Common.{◌≡◌, ◌∙◌, ◌++◌, length, sym, ap, subst}
+use Rattle.std.specs.Prelude.{OnOk}
+use Rattle.std.proofs.lemmas.List.{length-map}
+use Rattle.bb_net.specs.Pairs.{NetPair, BoxTexts, IsPair}
+use Rattle.bb_net.specs.Kinds.{first_places}
+use Rattle.bb_rungs.specs.Rungs.{texts_at}
+use Rattle.bb_rungs.specs.TableLines.{table_lines}
+use Rattle.bb_rungs.proofs.ShownBoxes.{first_texts}
 use Rattle.bb_rungs.proofs.table_lines.push_tables.Goals as goal
 
-pub loop-b-preserved : goal.loop-b-preserved
-loop-b-preserved c =
-    c.in_ok-push_box.ensures.text
-    ∙ one_more_box c.args.text.now.items c.loop-b.text.items c.args.boxes.now c.args.tables.now c.loop-b.b c.index-boxes-b.result c.index-tables-b.result
-    c.loop-b-test.true c.requires.count c.index-boxes-b.is c.index-tables-b.is c.loop-b.invariant
+pub push_boxes-requires-clause-there : goal.push_boxes-requires-clause-there
+push_boxes-requires-clause-there c =
+    (first_texts c.kind_laws.ensures c.args.pair.now c.boxes.ensures.kept c.boxes.result.now c.deref.result.now c.boxes.ensures.boxes (c.deref.ensures.value ∙ c.in_ok-firsts.ensures.firsts)).there
+
+pub push_boxes-requires-clause-count : goal.push_boxes-requires-clause-count
+push_boxes-requires-clause-count c =
+    let are = first_texts c.kind_laws.ensures c.args.pair.now c.boxes.ensures.kept c.boxes.result.now c.deref.result.now c.boxes.ensures.boxes (c.deref.ensures.value ∙ c.in_ok-firsts.ensures.firsts) in
+    c.requires.told.count ∙ ap length (sym are.shows) ∙ length-map c.deref.result.now (texts_at c.boxes.result.now)
+
+pub push_boxes-requires-clause-outputs : goal.push_boxes-requires-clause-outputs
+push_boxes-requires-clause-outputs c =
+    let are = first_texts c.kind_laws.ensures c.args.pair.now c.boxes.ensures.kept c.boxes.result.now c.deref.result.now c.boxes.ensures.boxes (c.deref.ensures.value ∙ c.in_ok-firsts.ensures.firsts) in
+    λ k h. c.requires.told.outputs k h ∙ ap (λ ts. length (texts_at ts k).outs) (sym are.shows)
 
 pub returns : goal.returns
-returns c = record {
-  text =
-      c.loop-b.invariant
-      ∙ ap (λ ps. c.args.text.now.items ++ flat_map box_lines ps)
-      (take_all c.loop-b.b (zip c.args.boxes.now c.args.tables.now) (omega (arith, c.loop-b-test.false, length-zip c.args.boxes.now c.args.tables.now, c.requires.count)));
-}
+returns c =
+    let are = first_texts c.kind_laws.ensures c.args.pair.now c.boxes.ensures.kept c.boxes.result.now c.deref.result.now c.boxes.ensures.boxes (c.deref.ensures.value ∙ c.in_ok-firsts.ensures.firsts) in
+    record { text = subst (λ ts. OnOk c.push_boxes.result (c.push_boxes.new.text.items ≡ c.args.text.now.items ++ table_lines c.args.shared ts c.args.tables.now)) are.shows c.push_boxes.ensures.text }
