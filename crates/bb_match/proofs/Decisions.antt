@@ -1,6 +1,6 @@
 -- Of each cause it can be told whether it holds; so two netlists fit or have a first refusal.
 use Rattle.std.proofs.Common.{◌≡◌, ◌≢◌, ◌⊎◌, ℕ, ◌+◌, ◌<◌, Bool, true, false, true≢false, List, [], ◌∷◌, All, Contains, Option, Some, None, refl, sym, ap, subst, ◌∙◌, inl, inr, arith}
-use Rattle.std.specs.Prelude.{IsSome}
+use Rattle.std.specs.Prelude.{IfSome, IsSome}
 use Rattle.std.proofs.lemmas.Bool.{cases_lt}
 use Rattle.std.proofs.lemmas.List.Elements.{All-contains, All-cons, All-nil, All-weaker}
 use Rattle.std.proofs.lemmas.Slice.Eq.{bytes_eq-Decides}
@@ -11,12 +11,12 @@ use Rattle.bb_bits.specs.Closures.{IsFirst}
 use Rattle.bb_net.specs.Flats.{FlatNet}
 use Rattle.bb_match.specs.declared.fault.MatchFault.{MatchFault}
 use Rattle.bb_net.specs.CutPoints.{register_texts, clock_text}
-use Rattle.bb_match.specs.Refusals.{IsMissing, IsFirstMissing, AreAmong, HasNoClock, IsFirstWithoutClock, HaveClocks, IsClockedApart, IsFirstClockedApart, IsClockedAlike, AreClockedAlike, most_pins, input_and_pin_count, Cause, Box, SpecInput, SpecOutput, ImpInput, ImpOutput, SpecRegister, ImpRegister, SpecClock, ImpClock, Clocks, Pins, rank, fault_of, IsTold, IsAbsent, Fit, IsFirstRefusal}
+use Rattle.bb_match.specs.Refusals.{IsMissing, IsFirstMissing, AreAmong, compared, HasNoClock, IsFirstWithoutClock, HaveClocks, IsClockedApart, IsFirstClockedApart, IsClockedAlike, AreClockedAlike, most_pins, input_and_pin_count, Cause, Box, Care, SpecInput, SpecOutput, ImpInput, ImpOutput, SpecRegister, ImpRegister, SpecClock, ImpClock, Clocks, Pins, rank, fault_of, IsTold, IsAbsent, Fit, IsFirstRefusal}
 use Rattle.bb_match.specs.Laws.{FitOrRefused}
 use Rattle.bb_lists.proofs.Orders.{less_or_same}
 use Rattle.bb_lists.proofs.Firsts.{first_there}
 use Rattle.bb_lists.proofs.Members.{contains_here, contains_there, contains_cases, none_in_nil}
-use Rattle.bb_match.proofs.RefusalLaws.{none_is_not_some, cause_at, at_rank, below_eleven}
+use Rattle.bb_match.proofs.RefusalLaws.{none_is_not_some, cause_at, at_rank, below_twelve}
 
 -- equality of texts
 
@@ -131,55 +131,60 @@ first_box : (boxes : List BoxTexts) → ((box : BoxTexts) × (rest : List BoxTex
 first_box [] = inr refl
 first_box (b ∷ rest) = inl (b, rest, refl)
 
-pub told_or_absent : (spec imp : FlatNet) (cause : Cause) → ((n : List ℕ) × IsTold spec imp cause n) ⊎ IsAbsent spec imp cause
-told_or_absent spec imp Box = elim (first_box spec.boxes) [ inl x ↦ inl (x.0.path, (x.0, x.1, x.2, refl)) | inr none ↦ inr none ]
-told_or_absent spec imp SpecInput = missing spec.ins imp.ins
-told_or_absent spec imp SpecOutput = missing spec.outs imp.outs
-told_or_absent spec imp ImpInput = missing imp.ins spec.ins
-told_or_absent spec imp ImpOutput = missing imp.outs spec.outs
-told_or_absent spec imp SpecRegister = missing (register_texts spec) (register_texts imp)
-told_or_absent spec imp ImpRegister = missing (register_texts imp) (register_texts spec)
-told_or_absent spec imp SpecClock = without_clock spec
-told_or_absent spec imp ImpClock = without_clock imp
-told_or_absent spec imp Clocks = clocked_apart spec imp
-told_or_absent spec imp Pins = elim (cases_lt most_pins (input_and_pin_count imp)) [ inl many ↦ inl ([], many) | inr few ↦ inr few ]
+care_or_none : (care : Option (List ℕ)) (outs : List (List ℕ)) → ((n : List ℕ) × (care ≡ Some n) × IsMissing outs n) ⊎ IfSome care (Contains outs)
+care_or_none None outs = inr tt
+care_or_none (Some n) outs = elim (decide_among outs n) [ inl lacks ↦ inl (n, refl, lacks) | inr has ↦ inr has ]
+
+pub told_or_absent : (care : Option (List ℕ)) (spec imp : FlatNet) (cause : Cause) → ((n : List ℕ) × IsTold care spec imp cause n) ⊎ IsAbsent care spec imp cause
+told_or_absent care spec imp Box = elim (first_box spec.boxes) [ inl x ↦ inl (x.0.path, (x.0, x.1, x.2, refl)) | inr none ↦ inr none ]
+told_or_absent care spec imp Care = elim (care_or_none care spec.outs) [ inl x ↦ inl (x.0, (x.1, x.2)) | inr has ↦ inr has ]
+told_or_absent care spec imp SpecInput = missing spec.ins imp.ins
+told_or_absent care spec imp SpecOutput = missing (compared care spec.outs) imp.outs
+told_or_absent care spec imp ImpInput = missing imp.ins spec.ins
+told_or_absent care spec imp ImpOutput = missing imp.outs (compared care spec.outs)
+told_or_absent care spec imp SpecRegister = missing (register_texts spec) (register_texts imp)
+told_or_absent care spec imp ImpRegister = missing (register_texts imp) (register_texts spec)
+told_or_absent care spec imp SpecClock = without_clock spec
+told_or_absent care spec imp ImpClock = without_clock imp
+told_or_absent care spec imp Clocks = clocked_apart spec imp
+told_or_absent care spec imp Pins = elim (cases_lt most_pins (input_and_pin_count imp)) [ inl many ↦ inl ([], many) | inr few ↦ inr few ]
 
 -- cause after cause
 
 -- no cause before this rank holds
-pub NoneBefore : FlatNet → FlatNet → ℕ → Type 0
-NoneBefore spec imp n = (other : Cause) → rank other < n → IsAbsent spec imp other
+pub NoneBefore : Option (List ℕ) → FlatNet → FlatNet → ℕ → Type 0
+NoneBefore care spec imp n = (other : Cause) → rank other < n → IsAbsent care spec imp other
 
-pub none_at_first : (spec imp : FlatNet) → NoneBefore spec imp 0
+pub none_at_first : (care : Option (List ℕ)) (spec imp : FlatNet) → NoneBefore care spec imp 0
 unfolding NoneBefore
-none_at_first spec imp other lt = absurd (omega (arith, lt))
+none_at_first care spec imp other lt = absurd (omega (arith, lt))
 
-pub none_more : (spec imp : FlatNet) (cause : Cause) → NoneBefore spec imp (rank cause) → IsAbsent spec imp cause → NoneBefore spec imp (rank cause + 1)
+pub none_more : (care : Option (List ℕ)) (spec imp : FlatNet) (cause : Cause) → NoneBefore care spec imp (rank cause) → IsAbsent care spec imp cause → NoneBefore care spec imp (rank cause + 1)
 unfolding NoneBefore
-none_more spec imp cause before absent other lt = elim (less_or_same (rank other) (rank cause)) [
+none_more care spec imp cause before absent other lt = elim (less_or_same (rank other) (rank cause)) [
   | inl h ↦ before other h
   | inr more ↦ elim more [
     | inl h ↦ absurd (omega (arith, h, lt))
-    | inr e ↦ let same : other ≡ cause = sym (at_rank other) ∙ ap cause_at e ∙ at_rank cause in subst (IsAbsent spec imp) (sym same) absent
+    | inr e ↦ let same : other ≡ cause = sym (at_rank other) ∙ ap cause_at e ∙ at_rank cause in subst (IsAbsent care spec imp) (sym same) absent
   ]
 ]
 
-pub refused : (spec imp : FlatNet) (cause : Cause) (n : List ℕ) → NoneBefore spec imp (rank cause) → IsTold spec imp cause n → IsFirstRefusal spec imp (fault_of cause n)
+pub refused : (care : Option (List ℕ)) (spec imp : FlatNet) (cause : Cause) (n : List ℕ) → NoneBefore care spec imp (rank cause) → IsTold care spec imp cause n → IsFirstRefusal care spec imp (fault_of cause n)
 unfolding NoneBefore
-refused spec imp cause n before told = record { cause = cause; name = n; is = refl; told = told; earlier = before }
+refused care spec imp cause n before told = record { cause = cause; name = n; is = refl; told = told; earlier = before }
 
-pub fit_from : (spec imp : FlatNet) → NoneBefore spec imp 11 → Fit spec imp
+pub fit_from : (care : Option (List ℕ)) (spec imp : FlatNet) → NoneBefore care spec imp 12 → Fit care spec imp
 unfolding NoneBefore
-fit_from spec imp before cause = before cause (below_eleven cause)
+fit_from care spec imp before cause = before cause (below_twelve cause)
 
 pub fit_or_refused : FitOrRefused
-fit_or_refused spec imp = step Box (none_at_first spec imp) (λ b0. step SpecInput b0 (λ b1. step SpecOutput b1 (λ b2. step ImpInput b2 (λ b3. step ImpOutput b3 (λ b4. step SpecRegister b4 (λ b5. step ImpRegister b5 (λ b6. step SpecClock b6 (λ b7. step ImpClock b7 (λ b8. step Clocks b8 (λ b9. step Pins b9 (λ b. inl (fit_from spec imp b))))))))))))
+fit_or_refused care spec imp = step Box (none_at_first care spec imp) (λ b0. step Care b0 (λ b1. step SpecInput b1 (λ b2. step SpecOutput b2 (λ b3. step ImpInput b3 (λ b4. step ImpOutput b4 (λ b5. step SpecRegister b5 (λ b6. step ImpRegister b6 (λ b7. step SpecClock b7 (λ b8. step ImpClock b8 (λ b9. step Clocks b9 (λ b10. step Pins b10 (λ b. inl (fit_from care spec imp b)))))))))))))
   where
     Answer : Type 0
-    Answer = Fit spec imp ⊎ ((fault : MatchFault) × IsFirstRefusal spec imp fault)
+    Answer = Fit care spec imp ⊎ ((fault : MatchFault) × IsFirstRefusal care spec imp fault)
 
-    step : (cause : Cause) → NoneBefore spec imp (rank cause) → (NoneBefore spec imp (rank cause + 1) → Answer) → Answer
-    step cause before next = elim (told_or_absent spec imp cause) [
-      | inl told ↦ inr (fault_of cause told.0, refused spec imp cause told.0 before told.1)
-      | inr absent ↦ next (none_more spec imp cause before absent)
+    step : (cause : Cause) → NoneBefore care spec imp (rank cause) → (NoneBefore care spec imp (rank cause + 1) → Answer) → Answer
+    step cause before next = elim (told_or_absent care spec imp cause) [
+      | inl told ↦ inr (fault_of cause told.0, refused care spec imp cause told.0 before told.1)
+      | inr absent ↦ next (none_more care spec imp cause before absent)
     ]

@@ -1,10 +1,14 @@
+pub mod CareLemmas
+pub mod CarePairs
 pub mod CheckLemmas
 pub mod ClockLemmas
 pub mod Decisions
+pub mod KindLemmas
 pub mod Loops
 pub mod PairExists
 pub mod PairLaws
 pub mod PairLemmas
 pub mod PickLemmas
+pub mod PickedOutputs
 pub mod PlaceLemmas
 pub mod RefusalLaws

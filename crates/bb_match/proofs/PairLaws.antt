@@ -1,7 +1,7 @@
--- Two netlists have one pair: places in lists without repetition are fixed by what stands there, and each place of the new
+-- Two netlists have one pair where no care output is asked for: places in lists without repetition are fixed by what stands there, and each place of the new
 -- netlist is the new place of a cell.
 use Rattle.std.proofs.Common.{◌≡◌, ◌≢◌, ℕ, zero, suc, ◌+◌, ◌<◌, ◌≤◌, false, List, [], ◌∷◌, ◌++◌, map, length, get_or, All, AllPairs, Contains, refl, sym, ap, subst, ◌∙◌, inl, inr, arith}
-use Rattle.std.specs.Prelude.{slice_get, Some}
+use Rattle.std.specs.Prelude.{slice_get, Bool, None, Some}
 use Rattle.std.proofs.lemmas.Bool.{cases_lt}
 use Rattle.std.proofs.lemmas.List.{get_or-map, get_or_default, get_or_past, length-map, same_lists}
 use Rattle.std.proofs.lemmas.List.Elements.{All-append, All-head, All-map, All-tail, All-weaker, Contains-append_left, Contains-append_right}
@@ -11,19 +11,19 @@ use Rattle.bb_net.specs.declared.cell.Cell.{Cell}
 use Rattle.bb_net.specs.declared.cell.Cell.TheVariants.{Const}
 use Rattle.bb_net.specs.Netlists.{Netlist, Pins, cell_at}
 use Rattle.bb_net.specs.Laws.KindLaws.{KindsAreOne}
-use Rattle.bb_net.specs.Pairs.{NetPair, BoxTexts}
+use Rattle.bb_net.specs.Pairs.{NetPair, box_key}
 use Rattle.bb_net.specs.Rearrangements.{IsRearranged, new_place}
 use Rattle.bb_net.specs.Flats.{FlatNet, IsFlat}
 use Rattle.bb_net.specs.CutPoints.{TopInput, State, TopOutput, NextState, register_texts, cut_inputs, cut_outputs}
 use Rattle.bb_match.specs.Refusals.{AreAmong, Fit, SpecInput, SpecRegister}
-use Rattle.bb_match.specs.Pairing.{Picks, IsPairOf}
+use Rattle.bb_match.specs.Pairing.{IsPlainPairOf, Picks}
 use Rattle.bb_lists.proofs.Apart.{pairs_tail}
 use Rattle.bb_lists.proofs.Picked.{one_place, picked_at, same_places}
 use Rattle.bb_match.proofs.PairLemmas.{input_count, inputs_below, same_inputs, mk_pair}
 
 -- lists without repetition
 
-pairs_head : {A : Type 0} (R : A → A → Type 0) (x : A) (xs : List A) → AllPairs R (x ∷ xs) → All (R x) xs
+pub pairs_head : {A : Type 0} (R : A → A → Type 0) (x : A) (xs : List A) → AllPairs R (x ∷ xs) → All (R x) xs
 pairs_head R x xs all k d lt = all 0 (suc k) d (omega arith) (omega (arith, lt))
 
 apart_both : {A : Type 0} (xs ys : List A) → AllPairs ◌≢◌ xs → AllPairs ◌≢◌ ys → All (λ x. All (λ y. x ≢ y) ys) xs → AllPairs ◌≢◌ (xs ++ ys)
@@ -66,7 +66,7 @@ pub outputs_among : (f g : FlatNet) → AreAmong f.outs g.outs → AreAmong (reg
 outputs_among f g = among_both TopOutput NextState f.outs (register_texts f) g.outs (register_texts g)
 
 -- so each number is the number of an input
-pub number_found : (spec imp : FlatNet) (numbers : List ℕ) (i : ℕ) → IsFlat spec → Fit spec imp → Picks (cut_inputs spec) numbers (cut_inputs imp) → i < spec.net.inputs → (j : ℕ) × (slice_get numbers j ≡ Some i)
+pub number_found : (spec imp : FlatNet) (numbers : List ℕ) (i : ℕ) → IsFlat spec → Fit None spec imp → Picks (cut_inputs spec) numbers (cut_inputs imp) → i < spec.net.inputs → (j : ℕ) × (slice_get numbers j ≡ Some i)
 number_found spec imp numbers i flat fit picked lt =
     let within : i < length (cut_inputs spec) = omega (arith, lt, input_count spec flat) in
     let x = get_or (cut_inputs spec) i (TopInput []) in
@@ -102,14 +102,14 @@ one_net numbers picks old a b found x y =
     get_or_default a.cells m d (Const false) lt ∙ at_m ∙ sym (get_or_default b.cells m d (Const false) (omega (arith, lt, x.cell_count, y.cell_count)))) in
     ap (λ n. mk_net n a.cells a.boxes a.outs) (x.inputs ∙ sym y.inputs) ∙ ap (λ l. mk_net b.inputs l a.boxes a.outs) cells ∙ ap (λ l. mk_net b.inputs b.cells l a.outs) (x.boxes ∙ sym y.boxes) ∙ ap (λ l. mk_net b.inputs b.cells b.boxes l) (x.outs ∙ sym y.outs)
 
-pub pairs_are_one : KindsAreOne → (spec imp : FlatNet) (p q : NetPair) → IsFlat spec → IsFlat imp → IsPairOf spec imp p → IsPairOf spec imp q → p ≡ q
-pairs_are_one one spec imp p q flat_spec flat_imp a b =
+pub plain_pairs_are_one : KindsAreOne → (shared : Bool) (spec imp : FlatNet) (p q : NetPair) → IsFlat spec → IsFlat imp → IsPlainPairOf shared spec imp p → IsPlainPairOf shared spec imp q → p ≡ q
+plain_pairs_are_one one shared spec imp p q flat_spec flat_imp a b =
     let numbers : b.numbers ≡ a.numbers = same_places (cut_inputs spec) b.numbers a.numbers (cut_inputs imp) (inputs_apart spec flat_spec) b.inputs a.inputs in
     let picks : b.picks ≡ a.picks = same_places (cut_outputs imp) b.picks a.picks (cut_outputs spec) (outputs_apart imp flat_imp) b.outputs a.outputs in
     let same : IsRearranged a.numbers a.picks imp.net q.imp = subst (λ l. IsRearranged a.numbers l imp.net q.imp) picks (subst (λ l. IsRearranged l b.picks imp.net q.imp) numbers b.rearranged) in
     let inputs : spec.net.inputs ≡ imp.net.inputs = same_inputs spec imp flat_spec flat_imp a.fit in
     let net : p.imp ≡ q.imp = one_net a.numbers a.picks imp.net p.imp q.imp (λ m lt. place_found a.numbers imp.net.inputs (length imp.net.cells) m a.rearranged.numbered (inputs_below imp.net flat_imp.net)
     (λ i below. number_found spec imp a.numbers i flat_spec a.fit a.inputs (omega (arith, below, inputs))) lt) a.rearranged same in
-    let kinds : p.kinds ≡ q.kinds = one (map (λ (t : BoxTexts). t.path) imp.boxes) p.kinds q.kinds a.kinds b.kinds in
+    let kinds : p.kinds ≡ q.kinds = one (map (box_key shared) imp.boxes) p.kinds q.kinds a.kinds b.kinds in
     ap (λ x. mk_pair x p.imp p.ins p.outs p.boxes p.kinds) (a.spec_stays ∙ sym b.spec_stays) ∙ ap (λ x. mk_pair q.spec x p.ins p.outs p.boxes p.kinds) net ∙ ap (λ x. mk_pair q.spec q.imp x p.outs p.boxes p.kinds) (a.ins ∙ sym b.ins)
     ∙ ap (λ x. mk_pair q.spec q.imp q.ins x p.boxes p.kinds) (a.outs ∙ sym b.outs) ∙ ap (λ x. mk_pair q.spec q.imp q.ins q.outs x p.kinds) (a.boxes ∙ sym b.boxes) ∙ ap (mk_pair q.spec q.imp q.ins q.outs q.boxes) kinds

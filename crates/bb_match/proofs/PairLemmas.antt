@@ -1,6 +1,6 @@
 -- Two netlists that fit: they have as many inputs and outputs, and their pair has a text for each.
-use Rattle.std.proofs.Common.{◌≡◌, ℕ, ◌+◌, ◌<◌, ◌≤◌, List, [], ◌∷◌, ◌++◌, map, length, All, take, refl, sym, ap, ap₂, subst, ◌∙◌, arith, length-append}
-use Rattle.std.specs.Prelude.{slice_get, slice_index, Some}
+use Rattle.std.proofs.Common.{◌≡◌, ℕ, Bool, ◌+◌, ◌<◌, ◌≤◌, List, [], ◌∷◌, ◌++◌, map, length, All, take, refl, sym, ap, ap₂, subst, ◌∙◌, arith, length-append}
+use Rattle.std.specs.Prelude.{slice_get, slice_index, None, Some}
 use Rattle.std.specs.List.{AllZip, range_with_len}
 use Rattle.std.proofs.lemmas.List.{length-map, map-append, length-take}
 use Rattle.std.proofs.lemmas.List.FromFn.{length-range_with_len}
@@ -10,16 +10,16 @@ use Rattle.bb_net.specs.declared.cell.Cell.TheVariants.{Input}
 use Rattle.bb_net.specs.declared.pair.OutName.{OutName}
 use Rattle.bb_net.specs.Netlists.{Netlist, Pins, first_cells, IsNetlist}
 use Rattle.bb_net.specs.Orders.{moved_pins}
-use Rattle.bb_net.specs.Kinds.{AreKinds, FitKinds}
-use Rattle.bb_net.specs.Laws.KindLaws.{PlacesAreKinds, PlacesFit}
-use Rattle.bb_net.specs.Pairs.{NetPair, BoxTexts, NamesPins, pin_count, AreBeside, AreSmall}
+use Rattle.bb_net.specs.Kinds.{AreKinds}
+use Rattle.bb_net.specs.Pairs.{NetPair, BoxTexts, NamesPins, box_key, pin_count, AreBeside, AreSmall}
 use Rattle.bb_net.specs.Rearrangements.{IsRearranged, new_place}
 use Rattle.bb_net.specs.declared.flat.Reg.{Reg}
 use Rattle.bb_net.specs.Flats.{FlatNet, IsFlat}
 use Rattle.bb_net.specs.CutPoints.{CutInput, TopInput, State, CutOutput, TopOutput, NextState, register_texts, cut_inputs, cut_outputs}
 use Rattle.bb_match.specs.Refusals.{Box, SpecInput, SpecOutput, ImpInput, SpecRegister, ImpRegister, Fit, Pins as TooManyPins}
 use Rattle.bb_match.specs.Inside.Places.{ArePlaces, text_place}
-use Rattle.bb_match.specs.Pairing.{Picks, IsPairOf, input_text, output_name}
+use Rattle.bb_match.specs.Pairing.{Picks, IsPlainPairOf, input_text, output_name}
+use Rattle.bb_match.proofs.KindLemmas.{Fitting, kinds_fit}
 use Rattle.bb_match.proofs.PlaceLemmas.{place_fits}
 use Rattle.bb_match.proofs.PickLemmas.{placed, at_front, at_back, picks_both, picks_length, picks_within, one_length}
 
@@ -39,13 +39,13 @@ output_count f flat =
     let c : length (register_texts f) ≡ length f.regs = length-map f.regs (λ r. r.text) in
     omega (arith, a, b, c, length-append (map TopOutput f.outs) (map NextState (register_texts f)), flat.named.outputs)
 
-pub same_registers : (spec imp : FlatNet) → IsFlat spec → IsFlat imp → Fit spec imp → length spec.regs ≡ length imp.regs
+pub same_registers : (spec imp : FlatNet) → IsFlat spec → IsFlat imp → Fit None spec imp → length spec.regs ≡ length imp.regs
 same_registers spec imp a b fit =
     let s : length (register_texts spec) ≡ length spec.regs = length-map spec.regs (λ r. r.text) in
     let i : length (register_texts imp) ≡ length imp.regs = length-map imp.regs (λ r. r.text) in
     omega (arith, s, i, one_length (register_texts spec) (register_texts imp) a.apart.regs b.apart.regs (fit SpecRegister) (fit ImpRegister))
 
-pub same_inputs : (spec imp : FlatNet) → IsFlat spec → IsFlat imp → Fit spec imp → spec.net.inputs ≡ imp.net.inputs
+pub same_inputs : (spec imp : FlatNet) → IsFlat spec → IsFlat imp → Fit None spec imp → spec.net.inputs ≡ imp.net.inputs
 same_inputs spec imp a b fit =
     omega (arith, a.named.inputs, b.named.inputs, same_registers spec imp a b fit, one_length spec.ins imp.ins a.apart.ins b.apart.ins (fit SpecInput) (fit ImpInput))
 
@@ -95,7 +95,7 @@ next_places_fit f texts entries bound e places flat h =
 
 -- inputs of the implementation in the specification, and outputs of the specification in the implementation
 
-pub numbers_picked : (spec imp : FlatNet) (ins regs : List (List ℕ × ℕ)) → ArePlaces spec.ins ins → ArePlaces (register_texts spec) regs → Fit spec imp
+pub numbers_picked : (spec imp : FlatNet) (ins regs : List (List ℕ × ℕ)) → ArePlaces spec.ins ins → ArePlaces (register_texts spec) regs → Fit None spec imp
     → Picks (cut_inputs spec) (map (λ text. 0 + text_place ins text) imp.ins ++ map (λ text. length spec.ins + text_place regs text) (register_texts imp)) (cut_inputs imp)
 numbers_picked spec imp ins regs at_ins at_regs fit =
     let front : List CutInput = map TopInput spec.ins in
@@ -105,7 +105,7 @@ numbers_picked spec imp ins regs at_ins at_regs fit =
     (placed State (cut_inputs spec) (length spec.ins) (register_texts spec) regs (register_texts imp) at_regs
     (λ k n e. subst (λ b. slice_get (cut_inputs spec) (b + k) ≡ Some (State n)) long (at_back State front (register_texts spec) k n e)) (fit ImpRegister))
 
-pub outputs_picked : (spec imp : FlatNet) (outs regs : List (List ℕ × ℕ)) → ArePlaces imp.outs outs → ArePlaces (register_texts imp) regs → Fit spec imp
+pub outputs_picked : (spec imp : FlatNet) (outs regs : List (List ℕ × ℕ)) → ArePlaces imp.outs outs → ArePlaces (register_texts imp) regs → Fit None spec imp
     → Picks (cut_outputs imp) (map (λ text. 0 + text_place outs text) spec.outs ++ map (λ text. length imp.outs + text_place regs text) (register_texts spec)) (cut_outputs spec)
 outputs_picked spec imp outs regs at_outs at_regs fit =
     let front : List CutOutput = map TopOutput imp.outs in
@@ -123,12 +123,12 @@ same_behind : (first second : List (List ℕ × ℕ)) (base base' these these' t
 same_behind first second base base' these these' those those' b t o =
     ap (λ l. Behind first second l these those) b ∙ ap (λ l. Behind first second base' l those) t ∙ ap (λ l. Behind first second base' these' l) o
 
-pub numbers_made : (spec imp : FlatNet) (ins regs : List (List ℕ × ℕ)) (spec_ins imp_ins reg_texts : List (List ℕ)) (numbers : List ℕ) → ArePlaces spec.ins ins → ArePlaces (register_texts spec) regs → Fit spec imp
+pub numbers_made : (spec imp : FlatNet) (ins regs : List (List ℕ × ℕ)) (spec_ins imp_ins reg_texts : List (List ℕ)) (numbers : List ℕ) → ArePlaces spec.ins ins → ArePlaces (register_texts spec) regs → Fit None spec imp
     → spec_ins ≡ spec.ins → imp_ins ≡ imp.ins → reg_texts ≡ register_texts imp → numbers ≡ map (λ text. 0 + text_place ins text) imp_ins ++ map (λ text. length spec_ins + text_place regs text) reg_texts → Picks (cut_inputs spec) numbers (cut_inputs imp)
 numbers_made spec imp ins regs spec_ins imp_ins reg_texts numbers at_ins at_regs fit s i r made =
     subst (λ l. Picks (cut_inputs spec) l (cut_inputs imp)) (sym (made ∙ same_behind ins regs spec_ins spec.ins imp_ins imp.ins reg_texts (register_texts imp) s i r)) (numbers_picked spec imp ins regs at_ins at_regs fit)
 
-pub picks_made : (spec imp : FlatNet) (outs regs : List (List ℕ × ℕ)) (spec_outs imp_outs reg_texts : List (List ℕ)) (picks : List ℕ) → ArePlaces imp.outs outs → ArePlaces (register_texts imp) regs → Fit spec imp
+pub picks_made : (spec imp : FlatNet) (outs regs : List (List ℕ × ℕ)) (spec_outs imp_outs reg_texts : List (List ℕ)) (picks : List ℕ) → ArePlaces imp.outs outs → ArePlaces (register_texts imp) regs → Fit None spec imp
     → spec_outs ≡ spec.outs → imp_outs ≡ imp.outs → reg_texts ≡ register_texts spec → picks ≡ map (λ text. 0 + text_place outs text) spec_outs ++ map (λ text. length imp_outs + text_place regs text) reg_texts → Picks (cut_outputs imp) picks (cut_outputs spec)
 picks_made spec imp outs regs spec_outs imp_outs reg_texts picks at_outs at_regs fit s i r made =
     subst (λ l. Picks (cut_outputs imp) l (cut_outputs spec)) (sym (made ∙ same_behind outs regs imp_outs imp.outs spec_outs spec.outs reg_texts (register_texts spec) i s r)) (outputs_picked spec imp outs regs at_outs at_regs fit)
@@ -138,7 +138,7 @@ picks_made spec imp outs regs spec_outs imp_outs reg_texts picks at_outs at_regs
 pub numbers_count : (spec imp : FlatNet) (numbers : List ℕ) → IsFlat imp → Picks (cut_inputs spec) numbers (cut_inputs imp) → length numbers ≡ imp.net.inputs
 numbers_count spec imp numbers flat picked = picks_length (cut_inputs spec) numbers (cut_inputs imp) picked ∙ input_count imp flat
 
-pub numbers_there : (spec imp : FlatNet) (numbers : List ℕ) → IsFlat spec → IsFlat imp → Fit spec imp → Picks (cut_inputs spec) numbers (cut_inputs imp) → All (λ n. n < imp.net.inputs) numbers
+pub numbers_there : (spec imp : FlatNet) (numbers : List ℕ) → IsFlat spec → IsFlat imp → Fit None spec imp → Picks (cut_inputs spec) numbers (cut_inputs imp) → All (λ n. n < imp.net.inputs) numbers
 numbers_there spec imp numbers a b fit picked = subst (λ m. All (λ n. n < m) numbers) (input_count spec a ∙ same_inputs spec imp a b fit) (picks_within (cut_inputs spec) numbers (cut_inputs imp) picked)
 
 pub picks_there : (spec imp : FlatNet) (picks : List ℕ) → IsFlat imp → Picks (cut_outputs imp) picks (cut_outputs spec) → All (λ j. j < length imp.net.outs) picks
@@ -173,9 +173,9 @@ outs_texts spec = sym (map-append output_name (map TopOutput spec.outs) (map Nex
 abbrev pub mk_pair : Netlist → Netlist → List (List ℕ) → List OutName → List BoxTexts → List ℕ → NetPair
 mk_pair s net ins outs boxes kinds = record { spec = s; imp = net; ins = ins; outs = outs; boxes = boxes; kinds = kinds }
 
--- the pair of these two with this netlist
-abbrev pub pair_with : FlatNet → FlatNet → Netlist → NetPair
-pair_with spec imp net = record { spec = spec.net; imp = net; ins = map input_text (cut_inputs spec); outs = map output_name (cut_outputs spec); boxes = imp.boxes; kinds = range_with_len 0 (length imp.boxes) }
+-- the pair of these two with this netlist and these kinds
+abbrev pub pair_with : FlatNet → FlatNet → Netlist → List ℕ → NetPair
+pair_with spec imp net kinds = record { spec = spec.net; imp = net; ins = map input_text (cut_inputs spec); outs = map output_name (cut_outputs spec); boxes = imp.boxes; kinds = kinds }
 
 no_boxes : (texts : List BoxTexts) (boxes : List Pins) → texts ≡ [] → AllZip NamesPins texts boxes → boxes ≡ []
 no_boxes [] [] none all = refl
@@ -183,11 +183,10 @@ no_boxes [] (p ∷ ps) none all = absurd all
 no_boxes (t ∷ ts) boxes none all = cc none
 
 pub made_pair : (spec imp : FlatNet) (s net : Netlist) (ins : List (List ℕ)) (outs : List OutName) (boxes : List BoxTexts) (kinds : List ℕ) → s ≡ spec.net → ins ≡ map input_text (cut_inputs spec) → outs ≡ map output_name (cut_outputs spec)
-    → boxes ≡ imp.boxes → kinds ≡ range_with_len 0 (length boxes) → mk_pair s net ins outs boxes kinds ≡ pair_with spec imp net
-made_pair spec imp s net ins outs boxes kinds a b c d e =
+    → boxes ≡ imp.boxes → mk_pair s net ins outs boxes kinds ≡ pair_with spec imp net kinds
+made_pair spec imp s net ins outs boxes kinds a b c d =
     ap (λ x. mk_pair x net ins outs boxes kinds) a ∙ ap (λ x. mk_pair spec.net net x outs boxes kinds) b ∙ ap (λ x. mk_pair spec.net net (map input_text (cut_inputs spec)) x boxes kinds) c
-    ∙ ap (λ x. mk_pair spec.net net (map input_text (cut_inputs spec)) (map output_name (cut_outputs spec)) boxes x) e
-    ∙ ap (λ x. mk_pair spec.net net (map input_text (cut_inputs spec)) (map output_name (cut_outputs spec)) x (range_with_len 0 (length x))) d
+    ∙ ap (λ x. mk_pair spec.net net (map input_text (cut_inputs spec)) (map output_name (cut_outputs spec)) x kinds) d
 
 named_moved : (to : ℕ → ℕ) (texts : List BoxTexts) (boxes : List Pins) → AllZip NamesPins texts boxes → AllZip NamesPins texts (map (moved_pins to) boxes)
 named_moved to [] [] all = all
@@ -202,25 +201,26 @@ count_moved to (p ∷ ps) =
     let outs : length (map to p.outs) ≡ length p.outs = length-map p.outs to in
     omega (arith, ins, outs, count_moved to ps, sum_by-cons (λ (q : Pins). length q.ins + length q.outs) (moved_pins to p) (map (moved_pins to) ps), sum_by-cons (λ (q : Pins). length q.ins + length q.outs) p ps)
 
-new_outs : (spec imp : FlatNet) (numbers picks : List ℕ) (net : Netlist) → IsFlat spec → IsRearranged numbers picks imp.net net → Picks (cut_outputs imp) picks (cut_outputs spec) → length net.outs ≡ length spec.net.outs
+pub new_outs : (spec imp : FlatNet) (numbers picks : List ℕ) (net : Netlist) → IsFlat spec → IsRearranged numbers picks imp.net net → Picks (cut_outputs imp) picks (cut_outputs spec) → length net.outs ≡ length spec.net.outs
 new_outs spec imp numbers picks net flat rearranged picked = ap length rearranged.outs ∙ length-map picks (λ j. new_place numbers (slice_index imp.net.outs j)) ∙ picks_length (cut_outputs imp) picks (cut_outputs spec) picked ∙ output_count spec flat
 
-moved_boxes : (imp : FlatNet) (numbers picks : List ℕ) (net : Netlist) → IsFlat imp → IsRearranged numbers picks imp.net net → length net.boxes ≡ length imp.boxes
-moved_boxes imp numbers picks net b rearranged = ap length rearranged.boxes ∙ length-map imp.net.boxes (moved_pins (new_place numbers)) ∙ AllZip-long NamesPins imp.boxes imp.net.boxes b.named.boxes
+moved_named : (imp : FlatNet) (numbers picks : List ℕ) (net : Netlist) → IsFlat imp → IsRearranged numbers picks imp.net net → AllZip NamesPins imp.boxes net.boxes
+moved_named imp numbers picks net b rearranged = subst (AllZip NamesPins imp.boxes) (sym rearranged.boxes) (named_moved (new_place numbers) imp.boxes imp.net.boxes b.named.boxes)
 
-pub beside : (spec imp : FlatNet) (numbers picks : List ℕ) (net : Netlist) → IsFlat spec → IsFlat imp → Fit spec imp → IsRearranged numbers picks imp.net net → Picks (cut_outputs imp) picks (cut_outputs spec) → PlacesFit → AreBeside (pair_with spec imp net)
-beside spec imp numbers picks net a b fit rearranged picked places = record {
+pub beside : Fitting → (shared : Bool) (spec imp : FlatNet) (numbers picks : List ℕ) (net : Netlist) (kinds : List ℕ) → IsFlat spec → IsFlat imp → Fit None spec imp → IsRearranged numbers picks imp.net net → Picks (cut_outputs imp) picks (cut_outputs spec)
+    → AreKinds (map (box_key shared) imp.boxes) kinds → AreBeside (pair_with spec imp net kinds)
+beside fitting shared spec imp numbers picks net kinds a b fit rearranged picked are = record {
   inputs = same_inputs spec imp a b fit ∙ sym rearranged.inputs;
   outputs = sym (new_outs spec imp numbers picks net a rearranged picked);
   no_box = no_boxes spec.boxes spec.net.boxes (fit Box) a.named.boxes;
   ins_named = length-map (cut_inputs spec) input_text ∙ input_count spec a ∙ same_inputs spec imp a b fit ∙ sym rearranged.inputs;
   outs_named = length-map (cut_outputs spec) output_name ∙ output_count spec a ∙ sym (new_outs spec imp numbers picks net a rearranged picked);
-  boxes_named = subst (AllZip NamesPins imp.boxes) (sym rearranged.boxes) (named_moved (new_place numbers) imp.boxes imp.net.boxes b.named.boxes);
-  kinds = subst (λ n. FitKinds (range_with_len 0 n) net.boxes) (moved_boxes imp numbers picks net b rearranged) (places net.boxes);
+  boxes_named = moved_named imp numbers picks net b rearranged;
+  kinds = kinds_fit fitting shared imp.boxes net.boxes kinds b.apart.boxes b.modules (moved_named imp numbers picks net b rearranged) are;
 }
 
-pub small : (spec imp : FlatNet) (numbers picks : List ℕ) (net : Netlist) → IsFlat spec → IsFlat imp → Fit spec imp → IsRearranged numbers picks imp.net net → Picks (cut_outputs imp) picks (cut_outputs spec) → AreSmall (pair_with spec imp net)
-small spec imp numbers picks net a b fit rearranged picked = record {
+pub small : (spec imp : FlatNet) (numbers picks : List ℕ) (net : Netlist) (kinds : List ℕ) → IsFlat spec → IsFlat imp → Fit None spec imp → IsRearranged numbers picks imp.net net → Picks (cut_outputs imp) picks (cut_outputs spec) → AreSmall (pair_with spec imp net kinds)
+small spec imp numbers picks net kinds a b fit rearranged picked = record {
   spec_cells = omega (arith, a.small.cells);
   imp_cells = omega (arith, b.small.cells, rearranged.cell_count);
   outs = omega (arith, a.small.outs, new_outs spec imp numbers picks net a rearranged picked);
@@ -228,9 +228,9 @@ small spec imp numbers picks net a b fit rearranged picked = record {
   pins = omega (arith, fit TooManyPins, rearranged.inputs, ap pin_count rearranged.boxes, count_moved (new_place numbers) imp.net.boxes);
 }
 
-pub pair_of : (spec imp : FlatNet) (numbers picks : List ℕ) (net : Netlist) → Fit spec imp → IsRearranged numbers picks imp.net net → Picks (cut_inputs spec) numbers (cut_inputs imp) → Picks (cut_outputs imp) picks (cut_outputs spec)
-    → IsFlat imp → PlacesAreKinds → IsPairOf spec imp (pair_with spec imp net)
-pair_of spec imp numbers picks net fit rearranged inputs outputs flat places = record {
+pub pair_of : (shared : Bool) (spec imp : FlatNet) (numbers picks : List ℕ) (net : Netlist) (kinds : List ℕ) → Fit None spec imp → IsRearranged numbers picks imp.net net → Picks (cut_inputs spec) numbers (cut_inputs imp) → Picks (cut_outputs imp) picks (cut_outputs spec)
+    → AreKinds (map (box_key shared) imp.boxes) kinds → IsPlainPairOf shared spec imp (pair_with spec imp net kinds)
+pair_of shared spec imp numbers picks net kinds fit rearranged inputs outputs are = record {
   fit = fit;
   spec_stays = refl;
   numbers = numbers;
@@ -241,5 +241,5 @@ pair_of spec imp numbers picks net fit rearranged inputs outputs flat places = r
   ins = refl;
   outs = refl;
   boxes = refl;
-  kinds = subst (λ n. AreKinds (map (λ (b : BoxTexts). b.path) imp.boxes) (range_with_len 0 n)) (length-map imp.boxes (λ (b : BoxTexts). b.path)) (places (map (λ (b : BoxTexts). b.path) imp.boxes) flat.apart.boxes);
+  kinds = are;
 }

@@ -1,8 +1,12 @@
 -- Why two flat netlists cannot be laid beside each other. They have to have the same inputs, outputs and registers by their
 -- texts, each register with the same clock at the same edge, so that they can be compared output by output and next state by next
--- state; the specification has to be complete. There are eleven causes in one order, and the first that holds is told, with a
--- name. For each cause stands here when it holds and which name is told of it, and beside it what holds where it does not.
-use Rattle.std.specs.Prelude.{◌≡◌, ◌≢◌, ◌⊎◌, ℕ, ◌+◌, ◌<◌, ◌≤◌, List, [], ◌∷◌, All, Contains, IsSome, None}
+-- state; the specification has to be complete. Where a care output is asked for, one by which the specification says at which vectors
+-- the others count, it has to have that one besides, which is not compared and which the implementation lacks. There are twelve causes
+-- in one order, and the first that holds is told, with a name. For each cause stands here when it holds and which name is told of it,
+-- and beside it what holds where it does not.
+use Rattle.std.specs.Prelude.{◌≡◌, ◌≢◌, ◌⊎◌, ℕ, ◌+◌, ◌<◌, ◌≤◌, not, List, [], ◌∷◌, All, Contains, IfSome, IsSome, Option, None, Some}
+use Rattle.std.specs.List.{filter}
+use Rattle.bb_bits.specs.Names.{same_name}
 use Rattle.bb_net.specs.Pairs.{BoxTexts, pin_count}
 use Rattle.bb_net.specs.declared.flat.Reg.{Reg}
 use Rattle.bb_bits.specs.Closures.{IsFirst}
@@ -21,6 +25,12 @@ IsFirstMissing texts others text = IsFirst (IsMissing others) texts text
 
 abbrev pub AreAmong : List (List ℕ) → List (List ℕ) → Type 0
 AreAmong texts others = All (Contains others) texts
+
+-- the texts of the outputs that are compared: all but that of the care output, if one is asked for
+
+abbrev pub compared : Option (List ℕ) → List (List ℕ) → List (List ℕ)
+compared None outs = outs
+compared (Some care) outs = filter (λ text. not (same_name care text)) outs
 
 -- registers whose clock is no input
 
@@ -58,6 +68,8 @@ input_and_pin_count f = f.net.inputs + pin_count f.net.boxes
 pub data Cause : Type 0 where
   -- the specification has a box: the first in the order of the netlist
   Box : Cause
+  -- it has no output of the text of the care output
+  Care : Cause
   -- an input or an output that the other lacks: inputs, then outputs of the specification, then those of the implementation
   SpecInput : Cause
   SpecOutput : Cause
@@ -76,20 +88,22 @@ pub data Cause : Type 0 where
 -- their order
 abbrev pub rank : Cause → ℕ
 rank Box = 0
-rank SpecInput = 1
-rank SpecOutput = 2
-rank ImpInput = 3
-rank ImpOutput = 4
-rank SpecRegister = 5
-rank ImpRegister = 6
-rank SpecClock = 7
-rank ImpClock = 8
-rank Clocks = 9
-rank Pins = 10
+rank Care = 1
+rank SpecInput = 2
+rank SpecOutput = 3
+rank ImpInput = 4
+rank ImpOutput = 5
+rank SpecRegister = 6
+rank ImpRegister = 7
+rank SpecClock = 8
+rank ImpClock = 9
+rank Clocks = 10
+rank Pins = 11
 
 -- the refusal for a cause, told with a name
 abbrev pub fault_of : Cause → List ℕ → MatchFault
 fault_of Box n = faults.SpecBox n
+fault_of Care n = faults.NoCare n
 fault_of SpecInput n = faults.PortDiffers n
 fault_of SpecOutput n = faults.PortDiffers n
 fault_of ImpInput n = faults.PortDiffers n
@@ -102,36 +116,38 @@ fault_of Clocks n = faults.ClockDiffers n
 fault_of Pins n = faults.TooManyPins
 
 -- the cause holds, and this name is told
-abbrev pub IsTold : FlatNet → FlatNet → Cause → List ℕ → Type 0
-IsTold spec imp Box n = (box : BoxTexts) × (rest : List BoxTexts) × (spec.boxes ≡ box ∷ rest) × (n ≡ box.path)
-IsTold spec imp SpecInput n = IsFirstMissing spec.ins imp.ins n
-IsTold spec imp SpecOutput n = IsFirstMissing spec.outs imp.outs n
-IsTold spec imp ImpInput n = IsFirstMissing imp.ins spec.ins n
-IsTold spec imp ImpOutput n = IsFirstMissing imp.outs spec.outs n
-IsTold spec imp SpecRegister n = IsFirstMissing (register_texts spec) (register_texts imp) n
-IsTold spec imp ImpRegister n = IsFirstMissing (register_texts imp) (register_texts spec) n
-IsTold spec imp SpecClock n = IsFirstWithoutClock spec n
-IsTold spec imp ImpClock n = IsFirstWithoutClock imp n
-IsTold spec imp Clocks n = IsFirstClockedApart spec imp n
-IsTold spec imp Pins n = most_pins < input_and_pin_count imp
+abbrev pub IsTold : Option (List ℕ) → FlatNet → FlatNet → Cause → List ℕ → Type 0
+IsTold care spec imp Box n = (box : BoxTexts) × (rest : List BoxTexts) × (spec.boxes ≡ box ∷ rest) × (n ≡ box.path)
+IsTold care spec imp Care n = (care ≡ Some n) × IsMissing spec.outs n
+IsTold care spec imp SpecInput n = IsFirstMissing spec.ins imp.ins n
+IsTold care spec imp SpecOutput n = IsFirstMissing (compared care spec.outs) imp.outs n
+IsTold care spec imp ImpInput n = IsFirstMissing imp.ins spec.ins n
+IsTold care spec imp ImpOutput n = IsFirstMissing imp.outs (compared care spec.outs) n
+IsTold care spec imp SpecRegister n = IsFirstMissing (register_texts spec) (register_texts imp) n
+IsTold care spec imp ImpRegister n = IsFirstMissing (register_texts imp) (register_texts spec) n
+IsTold care spec imp SpecClock n = IsFirstWithoutClock spec n
+IsTold care spec imp ImpClock n = IsFirstWithoutClock imp n
+IsTold care spec imp Clocks n = IsFirstClockedApart spec imp n
+IsTold care spec imp Pins n = most_pins < input_and_pin_count imp
 
 -- what holds where the cause does not
-abbrev pub IsAbsent : FlatNet → FlatNet → Cause → Type 0
-IsAbsent spec imp Box = spec.boxes ≡ []
-IsAbsent spec imp SpecInput = AreAmong spec.ins imp.ins
-IsAbsent spec imp SpecOutput = AreAmong spec.outs imp.outs
-IsAbsent spec imp ImpInput = AreAmong imp.ins spec.ins
-IsAbsent spec imp ImpOutput = AreAmong imp.outs spec.outs
-IsAbsent spec imp SpecRegister = AreAmong (register_texts spec) (register_texts imp)
-IsAbsent spec imp ImpRegister = AreAmong (register_texts imp) (register_texts spec)
-IsAbsent spec imp SpecClock = HaveClocks spec
-IsAbsent spec imp ImpClock = HaveClocks imp
-IsAbsent spec imp Clocks = AreClockedAlike spec imp
-IsAbsent spec imp Pins = input_and_pin_count imp ≤ most_pins
+abbrev pub IsAbsent : Option (List ℕ) → FlatNet → FlatNet → Cause → Type 0
+IsAbsent care spec imp Box = spec.boxes ≡ []
+IsAbsent care spec imp Care = IfSome care (Contains spec.outs)
+IsAbsent care spec imp SpecInput = AreAmong spec.ins imp.ins
+IsAbsent care spec imp SpecOutput = AreAmong (compared care spec.outs) imp.outs
+IsAbsent care spec imp ImpInput = AreAmong imp.ins spec.ins
+IsAbsent care spec imp ImpOutput = AreAmong imp.outs (compared care spec.outs)
+IsAbsent care spec imp SpecRegister = AreAmong (register_texts spec) (register_texts imp)
+IsAbsent care spec imp ImpRegister = AreAmong (register_texts imp) (register_texts spec)
+IsAbsent care spec imp SpecClock = HaveClocks spec
+IsAbsent care spec imp ImpClock = HaveClocks imp
+IsAbsent care spec imp Clocks = AreClockedAlike spec imp
+IsAbsent care spec imp Pins = input_and_pin_count imp ≤ most_pins
 
 -- they fit: there is no cause to refuse them
-abbrev pub Fit : FlatNet → FlatNet → Type 0
-Fit spec imp = (cause : Cause) → IsAbsent spec imp cause
+abbrev pub Fit : Option (List ℕ) → FlatNet → FlatNet → Type 0
+Fit care spec imp = (cause : Cause) → IsAbsent care spec imp cause
 
 -- a cause holds, and none before it, where Told says of a cause which names are told, and Absent when it does not hold
 pub record IsFirstCause (Told : Cause → List ℕ → Type 0) (Absent : Cause → Type 0) (fault : MatchFault) : Type 0 where
@@ -142,5 +158,5 @@ pub record IsFirstCause (Told : Cause → List ℕ → Type 0) (Absent : Cause �
   pub earlier : (other : Cause) → rank other < rank cause → Absent other
 
 -- the first refusal of two netlists
-abbrev pub IsFirstRefusal : FlatNet → FlatNet → MatchFault → Type 0
-IsFirstRefusal spec imp = IsFirstCause (IsTold spec imp) (IsAbsent spec imp)
+abbrev pub IsFirstRefusal : Option (List ℕ) → FlatNet → FlatNet → MatchFault → Type 0
+IsFirstRefusal care spec imp = IsFirstCause (IsTold care spec imp) (IsAbsent care spec imp)

@@ -1,5 +1,5 @@
 //! The causes for which two netlists are refused, tried in their order.
-ghost use Rattle.std.specs.Prelude.{◌≡◌, ◌⊎◌, ◌∷◌, ◌+◌, ◌<◌, ◌≤◌, [], ℕ, List, All, IsSome, IfErr, OnOk};
+ghost use Rattle.std.specs.Prelude.{◌≡◌, ◌⊎◌, ◌∷◌, ◌+◌, ◌<◌, ◌≤◌, [], ℕ, List, All, None, IsSome, IfErr, OnOk};
 ghost use Rattle.bb_net.specs.Pairs.{BoxTexts, pin_count};
 ghost use Rattle.bb_bits.specs.Closures.{IsFirst};
 ghost use Rattle.bb_net.specs.declared.flat.Reg.{Reg};
@@ -16,8 +16,8 @@ use crate::places::{Places, first_missing};
 use bb_bits::Name;
 use bb_net::{BoxName, Flat, Net, Reg};
 
-// Refuses a box.
-fn check_boxes(boxes: &[BoxName]) -> Result<(), MatchFault>
+/// Refuses a box.
+pub(crate) fn check_boxes(boxes: &[BoxName]) -> Result<(), MatchFault>
     ensures ok { OnOk result (boxes.now ≡ []) }
     ensures fault { IfErr result (λ fault. (fault ≡ faults.NoMemory) ⊎ ((box : BoxTexts) × (rest : List BoxTexts) × (boxes.now ≡ box ∷ rest) × (fault ≡ faults.SpecBox box.path))) }
 {
@@ -94,7 +94,7 @@ fn check_pins(net: &Net) -> Result<(), MatchFault>
     }
 }
 
-/// Refuses two flat netlists for the first cause that holds.
+/// Refuses two flat netlists for the first cause that holds, where no care output is asked for.
 pub(crate) fn check(
     spec: &Flat,
     of_spec: &Index,
@@ -103,8 +103,8 @@ pub(crate) fn check(
 ) -> Result<(), MatchFault>
     requires of_spec { IsIndexOf spec.now of_spec.now.reg_texts.items of_spec.now.ins.entries of_spec.now.regs.entries of_spec.now.outs.entries }
     requires of_imp { IsIndexOf imp.now of_imp.now.reg_texts.items of_imp.now.ins.entries of_imp.now.regs.entries of_imp.now.outs.entries }
-    ensures ok { OnOk result (Fit spec.now imp.now) }
-    ensures fault { IfErr result (λ fault. (fault ≡ faults.NoMemory) ⊎ IsFirstRefusal spec.now imp.now fault) }
+    ensures ok { OnOk result (Fit None spec.now imp.now) }
+    ensures fault { IfErr result (λ fault. (fault ≡ faults.NoMemory) ⊎ IsFirstRefusal None spec.now imp.now fault) }
 {
     check_boxes(spec.boxes())?;
     check_ports(&of_imp.ins, spec.ins())?;

@@ -11,7 +11,10 @@ pub enum MatchFault {
     /// The specification has a box: the path of the first.
     #[error("a box in the specification")]
     SpecBox { name: Name },
-    /// A bit of an input port or of an output port that the other lacks.
+    /// The specification has no bit of an output port with the name of the care output that is asked for.
+    #[error("no such care output")]
+    NoCare { name: Name },
+    /// A bit of an input port or of an output port that the other lacks, or the care output where the implementation has it too.
     #[error("a port that the other lacks")]
     PortDiffers { name: Name },
     /// A register bit that the other lacks.

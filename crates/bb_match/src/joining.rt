@@ -1,15 +1,17 @@
 //! Two netlists that fit, joined as a pair.
-ghost use Rattle.std.specs.Prelude.{◌≡◌, ◌≤◌, ◌++◌, length, map, IfOk, OnOk};
+ghost use Rattle.std.specs.Prelude.{◌≡◌, ◌++◌, length, map, None, IfOk, OnOk};
 ghost use Rattle.bb_net.specs.Flats.{IsFlat};
 ghost use Rattle.bb_net.specs.CutPoints.{TopOutput, NextState, register_texts, cut_inputs, cut_outputs};
-ghost use Rattle.bb_match.specs.Pairing.{IsPairOf, Picks, output_name};
+ghost use Rattle.bb_match.specs.Pairing.{IsPlainPairOf, Picks, output_name};
 ghost use Rattle.bb_match.specs.Inside.Places.{IsIndexOf};
 ghost use Rattle.bb_match.specs.Refusals.{Fit};
 
 use crate::index::Index;
+use crate::kinds::kinds_of;
+use crate::parts::PairParts;
 use crate::places::places_behind;
 use bb_bits::{Name, NoMemory};
-use bb_net::{Flat, FlatParts, OutName, Pair, Reg, kinds_may_differ, own_kinds};
+use bb_net::{Flat, FlatParts, OutName, Reg};
 use std::alloc::Global;
 
 /// The numbers that the inputs of the implementation have in the specification.
@@ -20,7 +22,7 @@ pub(crate) fn input_numbers(
     imp: &Flat,
     of_imp: &Index,
 ) -> Result<Vec<u32>, NoMemory>
-    requires fit { Fit spec.now imp.now }
+    requires fit { Fit None spec.now imp.now }
     requires of_spec { IsIndexOf spec.now of_spec.now.reg_texts.items of_spec.now.ins.entries of_spec.now.regs.entries of_spec.now.outs.entries }
     requires of_imp { IsIndexOf imp.now of_imp.now.reg_texts.items of_imp.now.ins.entries of_imp.now.regs.entries of_imp.now.outs.entries }
     ensures numbers { IfOk result (λ numbers. Picks (cut_inputs spec.now) numbers.items (cut_inputs imp.now)) }
@@ -44,7 +46,7 @@ pub(crate) fn output_picks(
     imp: &Flat,
     of_imp: &Index,
 ) -> Result<Vec<u32>, NoMemory>
-    requires fit { Fit spec.now imp.now }
+    requires fit { Fit None spec.now imp.now }
     requires of_spec { IsIndexOf spec.now of_spec.now.reg_texts.items of_spec.now.ins.entries of_spec.now.regs.entries of_spec.now.outs.entries }
     requires of_imp { IsIndexOf imp.now of_imp.now.reg_texts.items of_imp.now.ins.entries of_imp.now.regs.entries of_imp.now.outs.entries }
     ensures picks { IfOk result (λ picks. Picks (cut_outputs imp.now) picks.items (cut_outputs spec.now)) }
@@ -93,24 +95,23 @@ fn out_names(alloc: Global, outs: Vec<Name>, regs: Vec<Reg>) -> Result<Vec<OutNa
     Ok(names)
 }
 
-/// The pair of two netlists that fit, where the numbers of the inputs and the picked outputs are given.
+/// What the pair of two netlists that fit is made of, where the numbers of the inputs and the picked outputs are given.
 pub(crate) fn joined(
     alloc: Global,
     spec: Flat,
     imp: Flat,
+    shared: bool,
     mut reg_texts: Vec<Name>,
     numbers: &[u32],
     picks: &[u32],
-) -> Result<Pair, NoMemory>
-    requires fit { Fit spec imp }
+) -> Result<PairParts, NoMemory>
+    requires fit { Fit None spec imp }
     requires texts { reg_texts.items ≡ register_texts spec }
     requires numbers { Picks (cut_inputs spec) numbers.now (cut_inputs imp) }
     requires picks { Picks (cut_outputs imp) picks.now (cut_outputs spec) }
-    ensures pair { IfOk result (λ p. IsPairOf spec imp p) }
+    ensures pair { IfOk result (λ p. IsPlainPairOf shared spec imp p) }
     ensures kept { IfOk result (λ p. IsFlat spec × IsFlat imp) }
-    ensures small { IfOk result (λ p. (length p.spec.cells ≤ 2000000) × (length p.imp.cells ≤ 2000000)) }
 {
-    kinds_may_differ();
     let FlatParts {
         net: spec_net,
         mut ins,
@@ -122,6 +123,13 @@ pub(crate) fn joined(
     let imp_net = of_imp.net.rearranged(alloc, numbers, picks)?;
     ins.append(&mut reg_texts)?;
     let outs = out_names(alloc, outs, regs)?;
-    let kinds = own_kinds(alloc, of_imp.boxes.len() as u32)?;
-    Ok(Pair::of(spec_net, imp_net, ins, outs, of_imp.boxes, kinds))
+    let kinds = kinds_of(alloc, &of_imp.boxes, shared)?;
+    Ok(PairParts {
+        spec: spec_net,
+        imp: imp_net,
+        ins,
+        outs,
+        boxes: of_imp.boxes,
+        kinds,
+    })
 }

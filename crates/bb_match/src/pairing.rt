@@ -1,18 +1,21 @@
 //! A specification and an implementation as one pair, or the first cause for which they are refused.
 
-ghost use Rattle.std.specs.Prelude.{◌≡◌, ◌⊎◌, ◌≤◌, length, IfOk, IfErr, MatchResult};
+ghost use Rattle.std.specs.Prelude.{◌≡◌, ◌⊎◌, ◌≤◌, length, IfOk, IfErr, MatchResult, None, Some, option_copied};
 ghost use Rattle.bb_net.specs.CutPoints.{register_texts, cut_inputs, cut_outputs};
 ghost use Rattle.bb_net.specs.Flats.{IsFlat};
 ghost use Rattle.bb_match.specs.declared.fault.MatchFault.{MatchFault};
 ghost use Rattle.bb_match.specs.declared.fault.MatchFault.TheVariants.{NoMemory};
-ghost use Rattle.bb_match.specs.Pairing.{IsPairOf, Picks};
+ghost use Rattle.bb_match.specs.Pairing.{IsCaredPairOf, IsPairOf, IsPlainPairOf, Picks};
 ghost use Rattle.bb_match.specs.Inside.Places.{IsIndexOf};
 ghost use Rattle.bb_match.specs.Refusals.{Fit, IsFirstRefusal};
 
-use crate::checking::check;
+use crate::care::{care_place, without_output};
+use crate::checking::{check, check_boxes};
 use crate::fault::MatchFault;
 use crate::index::{Index, index_of};
 use crate::joining::{input_numbers, joined, output_picks};
+use crate::laws::pairs_are_kept;
+use crate::parts::PairParts;
 use bb_bits::Name;
 use bb_net::{Flat, Pair};
 use std::alloc::Global;
@@ -37,10 +40,10 @@ fn numbered(
         of_spec.now.outs.entries }
     requires of_imp { IsIndexOf imp.now of_imp.now.reg_texts.items of_imp.now.ins.entries of_imp.now.regs.entries
         of_imp.now.outs.entries }
-    ensures fit { IfOk result (λ found. Fit spec.now imp.now) }
+    ensures fit { IfOk result (λ found. Fit None spec.now imp.now) }
     ensures ins { IfOk result (λ found. Picks (cut_inputs spec.now) found.ins.items (cut_inputs imp.now)) }
     ensures outs { IfOk result (λ found. Picks (cut_outputs imp.now) found.outs.items (cut_outputs spec.now)) }
-    ensures fault { IfErr result (λ fault. (fault ≡ NoMemory) ⊎ IsFirstRefusal spec.now imp.now fault) }
+    ensures fault { IfErr result (λ fault. (fault ≡ NoMemory) ⊎ IsFirstRefusal None spec.now imp.now fault) }
 {
     check(spec, of_spec, imp, of_imp)?;
     let ins = input_numbers(alloc, spec, of_spec, imp, of_imp)?;
@@ -57,10 +60,10 @@ fn index_and_number(
 ) -> Result<Numbers, MatchFault>
     requires of_spec { IsIndexOf spec.now of_spec.now.reg_texts.items of_spec.now.ins.entries of_spec.now.regs.entries
         of_spec.now.outs.entries }
-    ensures fit { IfOk result (λ found. Fit spec.now imp.now) }
+    ensures fit { IfOk result (λ found. Fit None spec.now imp.now) }
     ensures ins { IfOk result (λ found. Picks (cut_inputs spec.now) found.ins.items (cut_inputs imp.now)) }
     ensures outs { IfOk result (λ found. Picks (cut_outputs imp.now) found.outs.items (cut_outputs spec.now)) }
-    ensures fault { IfErr result (λ fault. (fault ≡ NoMemory) ⊎ IsFirstRefusal spec.now imp.now fault) }
+    ensures fault { IfErr result (λ fault. (fault ≡ NoMemory) ⊎ IsFirstRefusal None spec.now imp.now fault) }
 {
     let of_imp = index_of(alloc, imp)?;
     numbered(alloc, spec, of_spec, imp, &of_imp)
@@ -68,11 +71,11 @@ fn index_and_number(
 
 // The texts of the specification's registers and the numbers of two netlists, or the first cause for which they are refused.
 fn matched(alloc: Global, spec: &Flat, imp: &Flat) -> Result<(Vec<Name>, Numbers), MatchFault>
-    ensures fit { IfOk result (λ found. Fit spec.now imp.now) }
+    ensures fit { IfOk result (λ found. Fit None spec.now imp.now) }
     ensures texts { IfOk result (λ found. found.0.items ≡ register_texts spec.now) }
     ensures ins { IfOk result (λ found. Picks (cut_inputs spec.now) found.1.ins.items (cut_inputs imp.now)) }
     ensures outs { IfOk result (λ found. Picks (cut_outputs imp.now) found.1.outs.items (cut_outputs spec.now)) }
-    ensures fault { IfErr result (λ fault. (fault ≡ NoMemory) ⊎ IsFirstRefusal spec.now imp.now fault) }
+    ensures fault { IfErr result (λ fault. (fault ≡ NoMemory) ⊎ IsFirstRefusal None spec.now imp.now fault) }
 {
     let of_spec = index_of(alloc, spec)?;
     let found = index_and_number(alloc, spec, &of_spec, imp);
@@ -80,25 +83,105 @@ fn matched(alloc: Global, spec: &Flat, imp: &Flat) -> Result<(Vec<Name>, Numbers
     Ok((reg_texts, found?))
 }
 
+// What the pair of two netlists is made of where no care output is asked for, or the first cause for which they are refused.
+fn laid(alloc: Global, spec: Flat, imp: Flat, shared: bool) -> Result<PairParts, MatchFault>
+    ensures ok { IfOk result (λ parts. IsPlainPairOf shared spec imp parts) }
+    ensures kept { IfOk result (λ parts. IsFlat spec × IsFlat imp) }
+    ensures fault { IfErr result (λ fault. (fault ≡ NoMemory) ⊎ IsFirstRefusal None spec imp fault) }
+{
+    let (reg_texts, numbers) = matched(alloc, &spec, &imp)?;
+    let parts = joined(
+        alloc,
+        spec,
+        imp,
+        shared,
+        reg_texts,
+        &numbers.ins,
+        &numbers.outs,
+    )?;
+    Ok(parts)
+}
+
+// The pair of two netlists where no care output is asked for.
+fn plain_pair(alloc: Global, spec: Flat, imp: Flat, shared: bool) -> Result<Pair, MatchFault>
+    ensures ok { IfOk result (λ p. IsPlainPairOf shared spec imp p) }
+    ensures kept { IfOk result (λ p. IsFlat spec × IsFlat imp) }
+    ensures fault { IfErr result (λ fault. (fault ≡ NoMemory) ⊎ IsFirstRefusal None spec imp fault) }
+{
+    pairs_are_kept();
+    let parts = laid(alloc, spec, imp, shared)?;
+    Ok(parts.into_pair())
+}
+
+// The pair of two netlists where a care output is asked for, which is taken out of the specification.
+fn cared_pair(
+    alloc: Global,
+    spec: Flat,
+    imp: Flat,
+    care: &[u8],
+    shared: bool,
+) -> Result<Pair, MatchFault>
+    ensures ok { IfOk result (λ p. IsCaredPairOf care.now shared spec imp p) }
+    ensures kept { IfOk result (λ p. IsFlat spec × IsFlat imp) }
+    ensures fault { IfErr result (λ fault. (fault ≡ NoMemory) ⊎ IsFirstRefusal (Some care.now) spec imp fault) }
+{
+    pairs_are_kept();
+    check_boxes(spec.boxes())?;
+    let place = care_place(alloc, spec.outs(), care)?;
+    let cell = spec.net().outs()[place];
+    let rest = without_output(alloc, spec, place)?;
+    let parts = laid(alloc, rest, imp, shared)?;
+    let p = parts.cared(alloc, cell)?;
+    Ok(p)
+}
+
+// The pair of two netlists, or the first cause for which they are refused.
+fn pair_or_fault(
+    alloc: Global,
+    spec: Flat,
+    imp: Flat,
+    care: Option<&[u8]>,
+    shared: bool,
+) -> Result<Pair, MatchFault>
+    ensures ok { IfOk result (λ p. IsPairOf (option_copied care.entry) shared spec imp p) }
+    ensures kept { IfOk result (λ p. IsFlat spec × IsFlat imp) }
+    ensures fault { IfErr result (λ fault. (fault ≡ NoMemory) ⊎ IsFirstRefusal (option_copied care.entry) spec imp fault) }
+{
+    match care {
+        None => plain_pair(alloc, spec, imp, shared),
+        Some(care) => cared_pair(alloc, spec, imp, care, shared),
+    }
+}
+
 /// The pair of a specification and an implementation, whose netlists are moved into it, or the first cause for which they are
 /// refused.
 ///
 /// Inputs, outputs and registers are matched by their texts. They stand in the order of the specification: the bits of input ports,
-/// then the register bits; the bits of output ports, then the next states of the registers.
-pub fn pair(alloc: Global, spec: Flat, imp: Flat) -> Result<Pair, MatchFault>
+/// then the register bits; the bits of output ports, then the next states of the registers. Where `shared`, boxes of one module are
+/// of one kind, and else each is of a kind of its own.
+///
+/// With `care`, the text of a bit of an output port of the specification, this bit is no output of the pair, and the others count only at
+/// the vectors at which it is 1.
+pub fn pair(
+    alloc: Global,
+    spec: Flat,
+    imp: Flat,
+    care: Option<&[u8]>,
+    shared: bool,
+) -> Result<Pair, MatchFault>
     // What is answered stands for the two, or is the first cause.
-    ensures ok { IfOk result (λ p. IsPairOf spec imp p) }
-    ensures fault { IfErr result (λ fault. (fault ≡ NoMemory) ⊎ IsFirstRefusal spec imp fault) }
+    ensures ok { IfOk result (λ p. IsPairOf (option_copied care.entry) shared spec imp p) }
+    ensures fault { IfErr result (λ fault. (fault ≡ NoMemory) ⊎ IsFirstRefusal (option_copied care.entry) spec imp fault) }
 
     // A pair is answered where there is no cause, and else the first, unless memory runs out.
-    ensures only_fit { Fit spec imp → IfErr result (λ fault. fault ≡ NoMemory) }
-    ensures only_fault { (first : MatchFault) → IsFirstRefusal spec imp first → MatchResult result (λ p. ⊥) (λ fault. (fault ≡ first) ⊎ (fault ≡ NoMemory)) }
+    ensures only_fit { Fit (option_copied care.entry) spec imp → IfErr result (λ fault. fault ≡ NoMemory) }
+    ensures only_fault { (first : MatchFault) → IsFirstRefusal (option_copied care.entry) spec imp first → MatchResult result (λ p. ⊥) (λ fault. (fault ≡ first) ⊎ (fault ≡ NoMemory)) }
 
     // What the two kept, and how small the netlists are.
     ensures kept { IfOk result (λ p. IsFlat spec × IsFlat imp) }
-    ensures small { IfOk result (λ p. (length p.spec.cells ≤ 2000000) × (length p.imp.cells ≤ 2000000)) }
+    ensures plain_small { option_copied care.entry ≡ None → IfOk result (λ p. (length p.spec.cells ≤ 2000000) × (length p.imp.cells ≤ 2000000)) }
+    ensures small { IfOk result (λ p. (length p.spec.cells ≤ 4000000) × (length p.imp.cells ≤ 6000000)) }
 {
-    let (reg_texts, numbers) = matched(alloc, &spec, &imp)?;
-    let p = joined(alloc, spec, imp, reg_texts, &numbers.ins, &numbers.outs)?;
+    let p = pair_or_fault(alloc, spec, imp, care, shared)?;
     Ok(p)
 }

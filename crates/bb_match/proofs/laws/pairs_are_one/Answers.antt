@@ -1,4 +1,4 @@
-use Rattle.bb_match.proofs.PairLaws.{pairs_are_one}
+use Rattle.bb_match.proofs.CarePairs.{pairs_are_one}
 use Rattle.bb_match.proofs.laws.pairs_are_one.Goals as goal
 
 pub returns : goal.returns

@@ -1,7 +1,7 @@
-use Rattle.std.proofs.Common.{refl, inl}
+use Rattle.std.proofs.Common.{None, refl, inl}
 use Rattle.bb_match.specs.declared.fault.MatchFault.TheVariants.{NoMemory}
 use Rattle.bb_match.proofs.CheckLemmas.{if_err, MayRefuse}
 use Rattle.bb_match.proofs.pairing.index_and_number.Goals as goal
 
 pub returns-in_err-of_imp-clause-fault : goal.returns-in_err-of_imp-clause-fault
-returns-in_err-of_imp-clause-fault c = if_err c.from_residual.result (MayRefuse c.args.spec.now c.args.imp.now) NoMemory c.from_residual.ensures.1 (inl refl)
+returns-in_err-of_imp-clause-fault c = if_err c.from_residual.result (MayRefuse None c.args.spec.now c.args.imp.now) NoMemory c.from_residual.ensures.1 (inl refl)

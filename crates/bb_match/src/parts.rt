@@ -1,0 +1,64 @@
+//! What a pair is made of.
+ghost use Rattle.std.specs.Prelude.{◌≡◌, ◌<◌, length, IfOk};
+ghost use Rattle.bb_care.specs.Cared.{cared};
+ghost use Rattle.bb_care.specs.Laws.{HasRoom};
+ghost use Rattle.bb_net.specs.Pairs.{IsPair};
+
+use bb_bits::{Name, NoMemory};
+use bb_care::cared_nets;
+use bb_care::laws::cared_are_pairs;
+use bb_net::{BoxName, Net, OutName, Pair};
+use std::alloc::Global;
+use std::marker::Model;
+
+/// What a pair is made of: two netlists, with the texts of their inputs, outputs and boxes, and the kinds of the boxes.
+#[derive(Drop)]
+pub(crate) struct PairParts {
+    pub spec: Net,
+    pub imp: Net,
+    pub ins: Vec<Name>,
+    pub outs: Vec<OutName>,
+    pub boxes: Vec<BoxName>,
+    pub kinds: Vec<u32>,
+}
+
+impl Model for PairParts {
+    ghost use Rattle.bb_net.specs.Pairs.{NetPair};
+
+    ghost Value = { NetPair };
+
+    ghost view = { λ p. record { spec = p.spec; imp = p.imp; ins = p.ins.items; outs = p.outs.items; boxes = p.boxes.items; kinds = p.kinds.items } };
+}
+
+impl PairParts {
+    /// The pair of these parts.
+    pub fn into_pair(self) -> Pair
+        requires kept { IsPair self }
+        ensures pair { result ≡ self }
+    {
+        Pair::of(
+            self.spec, self.imp, self.ins, self.outs, self.boxes, self.kinds,
+        )
+    }
+
+    /// The pair of these parts whose outputs count only where a cell of the specification is 1.
+    pub fn cared(self, alloc: Global, care: u32) -> Result<Pair, NoMemory>
+        requires kept { IsPair self }
+        requires room { HasRoom self }
+        requires care { care < length self.spec.cells }
+        ensures pair { IfOk result (λ p. p ≡ cared care self) }
+    {
+        cared_are_pairs();
+        let PairParts {
+            spec,
+            imp,
+            ins,
+            outs,
+            boxes,
+            kinds,
+        } = self;
+        let places = Vec::from_slice(alloc, spec.outs())?;
+        let both = cared_nets(alloc, spec, &places, care, imp)?;
+        Ok(Pair::of(both.spec, both.imp, ins, outs, boxes, kinds))
+    }
+}
