@@ -1,19 +1,39 @@
--- Pairs of the same designs are alike: their netlists are, and so they are rearranged in one way.
-use Rattle.std.proofs.Common.{◌≡◌, ◌++◌, map, sym, ap, ap₂, subst, ◌∙◌}
+-- Pairs of the same designs are alike: their netlists are, and so they are rearranged in one way. Where outputs count only where a care
+-- output is 1, this is one output in both specifications, and so the care cells have one formula.
+use Rattle.std.proofs.Common.{◌≡◌, ℕ, ◌<◌, Bool, false, List, Option, None, Some, ◌++◌, length, map, get_or, sym, ap, ap₂, subst, ◌∙◌, arith}
+use Rattle.std.specs.Prelude.{slice_get, slice_index}
+use Rattle.std.proofs.lemmas.List.{get_or-map}
+use Rattle.std.proofs.lemmas.Option.{slice_get_within}
 use Rattle.bb_net.specs.Kinds.{AreKinds}
 use Rattle.bb_net.specs.Laws.KindLaws.{KindsAreOne}
-use Rattle.bb_net.specs.Pairs.{BoxTexts}
+use Rattle.bb_net.specs.Netlists.{IsNetlist}
+use Rattle.bb_net.specs.Pairs.{NetPair, IsPair, box_key}
 use Rattle.bb_net.specs.Rearrangements.{IsRearranged}
-use Rattle.bb_alike.specs.Laws.Alike.{AreAlike}
+use Rattle.bb_alike.specs.Laws.Alike.{AreAlike, ArePairsAlike}
+use Rattle.bb_alike.specs.Laws.Formulas.{Const, formula_at}
 use Rattle.bb_alike.specs.Laws.{RearrangedStayAlike}
+use Rattle.bb_care.specs.Cared.{cared}
+use Rattle.bb_care.specs.Laws.{CaredStayAlike}
 use Rattle.bb_cells.specs.Laws.AlikeNets.{StandingNetsAreAlike}
-use Rattle.bb_net.specs.Flats.{FlatNet}
+use Rattle.bb_net.specs.Flats.{FlatNet, IsFlat}
 use Rattle.bb_cells.specs.Laws.NamingLaws.{AreNamedAlike, StandingNetsAreNamedAlike}
 use Rattle.bb_net.specs.CutPoints.{TopInput, State, TopOutput, NextState, cut_inputs, cut_outputs}
 use Rattle.bb_agree.specs.Laws.AlikePairs.{PairsForDesignsAreAlike}
-use Rattle.bb_match.specs.Pairing.{Picks, input_text, output_name}
-use Rattle.bb_match.specs.Laws.{FlatNetsHaveCutsApart}
-use Rattle.bb_lists.proofs.Picked.{same_places}
+use Rattle.bb_match.specs.Pairing.{IsCaredPairOf, IsPairOf, IsPlainPairOf, Picks, input_text, output_name, without, without_output}
+use Rattle.bb_match.specs.Laws.{FlatNetsHaveCutsApart, PairsAreKept, WithoutOutputsAreFlat}
+use Rattle.bb_lists.proofs.Picked.{one_place, same_places}
+use Rattle.bb_agree.proofs.LessOutputs.{without-map}
+
+-- what is known of pairs, and of netlists that stand for one design
+pub record AlikeLaws : Type 0 where
+  pub kinds : KindsAreOne
+  pub rearranged : RearrangedStayAlike
+  pub apart : FlatNetsHaveCutsApart
+  pub kept : PairsAreKept
+  pub less : WithoutOutputsAreFlat
+  pub cared : CaredStayAlike
+  pub named : StandingNetsAreNamedAlike
+  pub alike : StandingNetsAreAlike
 
 inputs_alike : (f g : FlatNet) → AreNamedAlike f g → cut_inputs f ≡ cut_inputs g
 inputs_alike f g alike = ap₂ (λ ins regs. map TopInput ins ++ map State (map (λ r. r.text) regs)) alike.ins alike.regs
@@ -21,42 +41,135 @@ inputs_alike f g alike = ap₂ (λ ins regs. map TopInput ins ++ map State (map 
 outputs_alike : (f g : FlatNet) → AreNamedAlike f g → cut_outputs f ≡ cut_outputs g
 outputs_alike f g alike = ap₂ (λ outs regs. map TopOutput outs ++ map NextState (map (λ r. r.text) regs)) alike.outs alike.regs
 
-pub pairs_for_designs_are_alike : KindsAreOne → RearrangedStayAlike → FlatNetsHaveCutsApart → StandingNetsAreNamedAlike → StandingNetsAreAlike → PairsForDesignsAreAlike
-pairs_for_designs_are_alike one rearranged_alike apart named alike spec imp p q allowed also a b = record {
-  spec = subst (λ net. AreAlike net q.spec) (sym a.paired.spec_stays) (subst (AreAlike a.spec_net.net) (sym b.paired.spec_stays) (alike spec a.spec_net b.spec_net allowed a.spec_stands b.spec_stands));
-  imp = rearranged_alike a.paired.numbers a.paired.picks a.imp_net.net p.imp b.imp_net.net q.imp a.imp_flat.net a.kept.imp b.imp_flat.net b.kept.imp a.paired.rearranged rearranged (alike imp a.imp_net b.imp_net also a.imp_stands b.imp_stands);
-  ins = a.paired.ins ∙ ap (map input_text) spec_inputs ∙ sym b.paired.ins;
-  outs = a.paired.outs ∙ ap (map output_name) spec_outputs ∙ sym b.paired.outs;
-  boxes = a.paired.boxes ∙ of_imp.boxes ∙ sym b.paired.boxes;
-  kinds = one (map (λ (t : BoxTexts). t.path) b.imp_net.boxes) p.kinds q.kinds (subst (λ texts. AreKinds (map (λ (t : BoxTexts). t.path) texts) p.kinds) of_imp.boxes a.paired.kinds) b.paired.kinds;
-}
-  where
-    of_spec : AreNamedAlike a.spec_net b.spec_net
-    of_spec = named spec a.spec_net b.spec_net allowed a.spec_stands b.spec_stands
+-- four flat netlists, of which the first and the third, and the second and the fourth, are alike and named alike
+record AreTwice (f g u v : FlatNet) : Type 0 where
+  flat_f : IsFlat f
+  flat_g : IsFlat g
+  flat_u : IsFlat u
+  flat_v : IsFlat v
+  spec_named : AreNamedAlike f u
+  imp_named : AreNamedAlike g v
+  spec_alike : AreAlike f.net u.net
+  imp_alike : AreAlike g.net v.net
 
-    of_imp : AreNamedAlike a.imp_net b.imp_net
-    of_imp = named imp a.imp_net b.imp_net also a.imp_stands b.imp_stands
+module _ (laws : AlikeLaws) (shared : Bool) where
+  -- without a care output
 
-    spec_inputs : cut_inputs a.spec_net ≡ cut_inputs b.spec_net
-    spec_inputs = inputs_alike a.spec_net b.spec_net of_spec
+  module _ (f g u v : FlatNet) (twice : AreTwice f g u v) (p q : NetPair) (a : IsPlainPairOf shared f g p) (b : IsPlainPairOf shared u v q) where
+    spec_inputs : cut_inputs f ≡ cut_inputs u
+    spec_inputs = inputs_alike f u twice.spec_named
 
-    spec_outputs : cut_outputs a.spec_net ≡ cut_outputs b.spec_net
-    spec_outputs = outputs_alike a.spec_net b.spec_net of_spec
-
-    imp_inputs : cut_inputs a.imp_net ≡ cut_inputs b.imp_net
-    imp_inputs = inputs_alike a.imp_net b.imp_net of_imp
-
-    imp_outputs : cut_outputs a.imp_net ≡ cut_outputs b.imp_net
-    imp_outputs = outputs_alike a.imp_net b.imp_net of_imp
+    spec_outputs : cut_outputs f ≡ cut_outputs u
+    spec_outputs = outputs_alike f u twice.spec_named
 
     -- the inputs of one text have one number
-    numbers : b.paired.numbers ≡ a.paired.numbers
-    numbers = same_places (cut_inputs b.spec_net) b.paired.numbers a.paired.numbers (cut_inputs b.imp_net) (apart b.spec_net b.spec_flat).inputs b.paired.inputs
-        (subst (λ all. Picks all a.paired.numbers (cut_inputs b.imp_net)) spec_inputs (subst (Picks (cut_inputs a.spec_net) a.paired.numbers) imp_inputs a.paired.inputs))
+    numbers : b.numbers ≡ a.numbers
+    numbers = same_places (cut_inputs u) b.numbers a.numbers (cut_inputs v) (laws.apart u twice.flat_u).inputs b.inputs
+        (subst (λ all. Picks all a.numbers (cut_inputs v)) spec_inputs (subst (Picks (cut_inputs f) a.numbers) (inputs_alike g v twice.imp_named) a.inputs))
 
-    picks : b.paired.picks ≡ a.paired.picks
-    picks = same_places (cut_outputs b.imp_net) b.paired.picks a.paired.picks (cut_outputs b.spec_net) (apart b.imp_net b.imp_flat).outputs b.paired.outputs
-        (subst (λ all. Picks all a.paired.picks (cut_outputs b.spec_net)) imp_outputs (subst (Picks (cut_outputs a.imp_net) a.paired.picks) spec_outputs a.paired.outputs))
+    picks : b.picks ≡ a.picks
+    picks = same_places (cut_outputs v) b.picks a.picks (cut_outputs u) (laws.apart v twice.flat_v).outputs b.outputs
+        (subst (λ all. Picks all a.picks (cut_outputs u)) (outputs_alike g v twice.imp_named) (subst (Picks (cut_outputs g) a.picks) spec_outputs a.outputs))
 
-    rearranged : IsRearranged a.paired.numbers a.paired.picks b.imp_net.net q.imp
-    rearranged = subst (λ l. IsRearranged a.paired.numbers l b.imp_net.net q.imp) picks (subst (λ l. IsRearranged l b.paired.picks b.imp_net.net q.imp) numbers b.paired.rearranged)
+    rearranged : IsRearranged a.numbers a.picks v.net q.imp
+    rearranged = subst (λ l. IsRearranged a.numbers l v.net q.imp) picks (subst (λ l. IsRearranged l b.picks v.net q.imp) numbers b.rearranged)
+
+    plain_alike : IsNetlist p.imp → IsNetlist q.imp → ArePairsAlike p q
+    plain_alike kept also = record {
+      spec = subst (λ net. AreAlike net q.spec) (sym a.spec_stays) (subst (AreAlike f.net) (sym b.spec_stays) twice.spec_alike);
+      imp = laws.rearranged a.numbers a.picks g.net p.imp v.net q.imp twice.flat_g.net kept twice.flat_v.net also a.rearranged rearranged twice.imp_alike;
+      ins = a.ins ∙ ap (map input_text) spec_inputs ∙ sym b.ins;
+      outs = a.outs ∙ ap (map output_name) spec_outputs ∙ sym b.outs;
+      boxes = a.boxes ∙ twice.imp_named.boxes ∙ sym b.boxes;
+      kinds = laws.kinds (map (box_key shared) v.boxes) p.kinds q.kinds (subst (λ texts. AreKinds (map (box_key shared) texts) p.kinds) twice.imp_named.boxes a.kinds) b.kinds;
+    }
+
+  -- netlists without an output
+
+  twice_without : (k : ℕ) (f g u v : FlatNet) → k < length f.outs → AreTwice f g u v → AreTwice (without_output k f) g (without_output k u) v
+  twice_without k f g u v lt twice = record {
+    flat_f = laws.less f k twice.flat_f lt;
+    flat_g = twice.flat_g;
+    flat_u = laws.less u k twice.flat_u (subst (λ outs. k < length outs) twice.spec_named.outs lt);
+    flat_v = twice.flat_v;
+    spec_named = record { inputs = twice.spec_named.inputs; ins = twice.spec_named.ins; regs = twice.spec_named.regs; outs = ap (without k) twice.spec_named.outs; boxes = twice.spec_named.boxes };
+    imp_named = twice.imp_named;
+    spec_alike = record {
+      inputs = twice.spec_alike.inputs;
+      cells = twice.spec_alike.cells;
+      boxes = twice.spec_alike.boxes;
+      outs = without-map (formula_at f.net.cells) k f.net.outs ∙ ap (without k) twice.spec_alike.outs ∙ sym (without-map (formula_at u.net.cells) k u.net.outs);
+    };
+    imp_alike = twice.imp_alike;
+  }
+
+  -- with a care output
+
+  module _ (care : List ℕ) (f g u v : FlatNet) (twice : AreTwice f g u v) (p q : NetPair) (a : IsCaredPairOf care shared f g p) (b : IsCaredPairOf care shared u v q) where
+    -- it has one number in both specifications
+    same_place : a.place ≡ b.place
+    same_place = one_place u.outs a.place b.place care twice.flat_u.apart.outs (subst (λ outs. slice_get outs a.place ≡ Some care) twice.spec_named.outs a.stands) b.stands
+
+    place_there : a.place < length f.outs
+    place_there = slice_get_within f.outs a.place care a.stands
+
+    less : AreTwice (without_output a.place f) g (without_output a.place u) v
+    less = twice_without a.place f g u v place_there twice
+
+    other : IsPlainPairOf shared (without_output a.place u) v b.rest
+    other = subst (λ k. IsPlainPairOf shared (without_output k u) v b.rest) (sym same_place) b.paired
+
+    kept : IsPair a.rest
+    kept = laws.kept None shared (without_output a.place f) g a.rest less.flat_f less.flat_g a.paired
+
+    also : IsPair b.rest
+    also = laws.kept None shared (without_output a.place u) v b.rest less.flat_u less.flat_v other
+
+    rest_alike : ArePairsAlike a.rest b.rest
+    rest_alike = plain_alike (without_output a.place f) g (without_output a.place u) v less a.rest b.rest a.paired other kept.imp also.imp
+
+    -- the care cells
+    abbrev first : ℕ
+    first = slice_index f.net.outs a.place
+
+    abbrev second : ℕ
+    second = slice_index u.net.outs b.place
+
+    first_out : a.place < length f.net.outs
+    first_out = omega (arith, place_there, twice.flat_f.named.outputs)
+
+    second_out : b.place < length u.net.outs
+    second_out = omega (arith, slice_get_within u.outs b.place care b.stands, twice.flat_u.named.outputs)
+
+    one_formula : formula_at f.net.cells first ≡ formula_at u.net.cells second
+    one_formula =
+        sym (get_or-map (formula_at f.net.cells) f.net.outs a.place 0 (Const false) first_out)
+        ∙ ap₂ (λ fs k. get_or fs k (Const false)) twice.spec_alike.outs same_place
+        ∙ get_or-map (formula_at u.net.cells) u.net.outs b.place 0 (Const false) second_out
+
+    cared_alike : ArePairsAlike p q
+    cared_alike =
+        subst (λ x. ArePairsAlike x q) (sym a.is) (subst (ArePairsAlike (cared first a.rest)) (sym b.is)
+        (laws.cared a.rest b.rest first second kept also rest_alike
+        (subst (λ net. first < length net.cells) (sym a.paired.spec_stays) (twice.flat_f.net.outs_there a.place 0 first_out))
+        (subst (λ net. second < length net.cells) (sym b.paired.spec_stays) (twice.flat_u.net.outs_there b.place 0 second_out))
+        (ap (λ net. formula_at net.cells first) a.paired.spec_stays ∙ one_formula ∙ sym (ap (λ net. formula_at net.cells second) b.paired.spec_stays))))
+
+pub pairs_for_designs_are_alike : AlikeLaws → PairsForDesignsAreAlike
+pairs_for_designs_are_alike laws care shared spec imp p q allowed also a b = by care a.paired b.paired
+  where
+    twice : AreTwice a.spec_net a.imp_net b.spec_net b.imp_net
+    twice = record {
+      flat_f = a.spec_flat;
+      flat_g = a.imp_flat;
+      flat_u = b.spec_flat;
+      flat_v = b.imp_flat;
+      spec_named = laws.named spec a.spec_net b.spec_net allowed a.spec_stands b.spec_stands;
+      imp_named = laws.named imp a.imp_net b.imp_net also a.imp_stands b.imp_stands;
+      spec_alike = laws.alike spec a.spec_net b.spec_net allowed a.spec_stands b.spec_stands;
+      imp_alike = laws.alike imp a.imp_net b.imp_net also a.imp_stands b.imp_stands;
+    }
+
+    by : (asked : Option (List ℕ)) → IsPairOf asked shared a.spec_net a.imp_net p → IsPairOf asked shared b.spec_net b.imp_net q → ArePairsAlike p q
+    by None one other = plain_alike laws shared a.spec_net a.imp_net b.spec_net b.imp_net twice p q one other a.kept.imp b.kept.imp
+    by (Some text) one other = cared_alike laws shared text a.spec_net a.imp_net b.spec_net b.imp_net twice p q one other

@@ -1,67 +1,28 @@
 -- Of each cause for which two designs are refused it can be told whether it holds; so they fit or have a first refusal.
-use Rattle.std.proofs.Common.{◌≡◌, ◌≢◌, ◌⊎◌, ℕ, zero, suc, ◌<◌, ◌≤◌, Bool, true, false, true≢false, List, [], ◌∷◌, Contains, refl, sym, ap, ◌∙◌, subst, inl, inr, arith}
-use Rattle.std.specs.Prelude.{All}
+use Rattle.std.proofs.Common.{◌≡◌, ◌≢◌, ◌⊎◌, ℕ, zero, suc, ◌<◌, ◌≤◌, List, [], ◌∷◌, Contains, Option, None, Some, refl, sym, ◌∙◌, subst, inl, inr, arith}
+use Rattle.std.specs.Prelude.{All, IfSome}
 use Rattle.std.proofs.lemmas.Bool.{cases_lt}
-use Rattle.std.proofs.lemmas.List.Elements.{All-contains}
-use Rattle.bb_bits.specs.Closures.{Leads, One, More, IsFirst}
+use Rattle.bb_bits.specs.Closures.{Leads, IsFirst}
 use Rattle.bb_design.specs.Inside.Allowed.{IsAllowed}
 use Rattle.bb_design.specs.Dependence.{dependences}
 use Rattle.bb_design.specs.Hierarchy.{Design, Scope, boxes}
 use Rattle.bb_design.specs.NetBits.{Bit, input_bits, output_bits, top_inputs, written_bits}
 use Rattle.bb_design.specs.Reading.{copied_bits}
-use Rattle.bb_design.specs.Refusals.{Cycle, input_texts, output_texts, register_texts}
+use Rattle.bb_design.specs.Refusals.{input_texts, output_texts, register_texts}
 use Rattle.bb_design.specs.Registers.{RegisterBit, registers}
 use Rattle.bb_design.specs.Texts.{bit_text, path_text}
 use Rattle.bb_cells.specs.BoxOrders.{DependsOnBox, BoxesHaveHeights}
 use Rattle.bb_cells.specs.Stands.{Follows}
 use Rattle.bb_match.specs.declared.fault.MatchFault.{MatchFault}
 use Rattle.bb_match.specs.Laws.{CausesAreRanked}
-use Rattle.bb_match.specs.Refusals.{Cause, Box, SpecInput, SpecOutput, ImpInput, ImpOutput, SpecRegister, ImpRegister, SpecClock, ImpClock, Clocks, Pins, AreAmong, IsFirstMissing, IsMissing, fault_of, most_pins, rank}
-use Rattle.bb_agree.specs.DesignFit.{DependsOnNone, HasClock, HasNoClock, HasOtherClock, IsClockedBy, IsClockedApart, AreClockedAlike, IsFirstRegister, IsTold, IsAbsent, DesignsFit, IsRefusalFor, input_and_pin_count}
+use Rattle.bb_match.specs.Refusals.{Cause, Box, Care, SpecInput, SpecOutput, ImpInput, ImpOutput, SpecRegister, ImpRegister, SpecClock, ImpClock, Clocks, Pins, AreAmong, IsFirstMissing, IsMissing, compared, fault_of, most_pins, rank}
+use Rattle.bb_agree.specs.DesignFit.{DependsOnNone, HasClock, HasNoClock, HasOtherClock, IsClockedBy, IsClockedApart, IsFirstRegister, IsTold, IsAbsent, DesignsFit, IsRefusalFor, input_and_pin_count}
 use Rattle.bb_agree.specs.Laws.DesignRefusals.{FitOrRefused}
-use Rattle.bb_lists.proofs.Deciding.{Decision, Decides, decide_number, decide_list, decide_both, decide_either, decide_same, decide_contains, decide_leads, first_or_none}
-use Rattle.bb_lists.proofs.Firsts.{first_there}
-use Rattle.bb_lists.proofs.Members.{all_from, contains_here, none_in_nil}
+use Rattle.bb_lists.proofs.Deciding.{Decision, decide_both, decide_either, decide_same, decide_contains, decide_leads, first_or_none}
+use Rattle.bb_lists.proofs.Members.{contains_here}
 use Rattle.bb_lists.proofs.Orders.{less_or_same}
 use Rattle.bb_lists.proofs.Places.{head_same}
-
-decide_name : Decides (List ℕ)
-decide_name = decide_list decide_number
-
-decide_bit : Decides Bit
-decide_bit b c = decide_same (equal, parts) (decide_both (decide_list decide_name b.path c.path) (decide_both (decide_name b.net c.net) (decide_number b.place c.place)))
-  where
-    equal : (b.path ≡ c.path) × ((b.net ≡ c.net) × (b.place ≡ c.place)) → b ≡ c
-    equal h = λ k. record { path = h.0 k; net = h.1.0 k; place = h.1.1 k }
-
-    parts : b ≡ c → (b.path ≡ c.path) × ((b.net ≡ c.net) × (b.place ≡ c.place))
-    parts e = (ap (λ (x : Bit). x.path) e, (ap (λ (x : Bit). x.net) e, ap (λ (x : Bit). x.place) e))
-
-decide_not : {P : Type 0} → Decision P → Decision (P → ⊥)
-decide_not (inl p) = inr (λ n. n p)
-decide_not (inr n) = inl n
-
-decide_bool : Decides Bool
-decide_bool true true = inl refl
-decide_bool false false = inl refl
-decide_bool true false = inr true≢false
-decide_bool false true = inr (λ e. true≢false (sym e))
-
--- one of a list of which it holds
-decide_some : {A : Type 0} (Q : A → Type 0) → ((x : A) → Decision (Q x)) → (xs : List A) → Decision ((x : A) × Contains xs x × Q x)
-decide_some Q decide xs = from (first_or_none Q decide xs)
-  where
-    from : ((x : _) → Contains xs x → Q x → ⊥) ⊎ ((x : _) × IsFirst Q xs x) → Decision ((x : _) × Contains xs x × Q x)
-    from (inl none) = inr (λ h. none h.0 h.1 h.2)
-    from (inr r) = inl (r.0, first_there Q xs r.0 r.1, r.1.holds)
-
--- what is not false of any is true of all, where it can be told
-all_not : {A : Type 0} (Q : A → Type 0) → ((x : A) → Decision (Q x)) → (xs : List A) → ((x : A) → Contains xs x → (Q x → ⊥) → ⊥) → All Q xs
-all_not Q decide xs none = all_from Q xs (λ x has. by x has (decide x))
-  where
-    by : (x : _) → Contains xs x → Decision (Q x) → Q x
-    by x has (inl q) = q
-    by x has (inr off) = absurd (none x has off)
+use Rattle.bb_agree.proofs.BitDecisions.{all_not, decide_bit, decide_bool, decide_name, decide_not, decide_some}
 
 -- texts that the other lacks
 
@@ -71,6 +32,16 @@ missing texts others = from (first_or_none (IsMissing others) (λ n. decide_not 
     from : ((n : List ℕ) → Contains texts n → IsMissing others n → ⊥) ⊎ ((n : List ℕ) × IsFirst (IsMissing others) texts n) → ((n : List ℕ) × IsFirstMissing texts others n) ⊎ AreAmong texts others
     from (inl none) = inr (all_not (Contains others) (decide_contains decide_name others) texts none)
     from (inr r) = inl r
+
+-- the care output
+
+care_there : (care : Option (List ℕ)) (outs : List (List ℕ)) → ((n : List ℕ) × ((care ≡ Some n) × IsMissing outs n)) ⊎ IfSome care (Contains outs)
+care_there None outs = inr tt
+care_there (Some care) outs = from (decide_contains decide_name outs care)
+  where
+    from : Decision (Contains outs care) → ((n : List ℕ) × ((Some care ≡ Some n) × IsMissing outs n)) ⊎ Contains outs care
+    from (inl has) = inr has
+    from (inr none) = inl (care, (refl, none))
 
 -- clocks
 
@@ -141,7 +112,7 @@ module _ (d e : Design) where
   decide_clocked_apart : (r : RegisterBit) → Decision (IsClockedApart d e r)
   decide_clocked_apart r = decide_same (λ h. (h.0, h.1, h.2.0, h.2.1), λ h. (h.0, h.1, (h.2, h.3))) (decide_some (Clashes r) (decide_clash r) (registers e))
 
-  alike : ((r : RegisterBit) → Contains (registers d) r → IsClockedApart d e r → ⊥) → IsAbsent d e Clocks
+  alike : ((r : RegisterBit) → Contains (registers d) r → IsClockedApart d e r → ⊥) → IsAbsent None d e Clocks
   alike none r q has there same = record { edges = edges (decide_bool q.item.falling r.item.falling); clocks = λ b c first second. clocks b c first second (decide_name (bit_text e c) (bit_text d b)) }
     where
       edges : Decision (q.item.falling ≡ r.item.falling) → q.item.falling ≡ r.item.falling
@@ -152,10 +123,10 @@ module _ (d e : Design) where
       clocks b c first second (inl one) = one
       clocks b c first second (inr ne) = absurd (none r has (q, there, same, inr (b, c, first, second, ne)))
 
-  clocked_apart : ((n : List ℕ) × IsFirstRegister d (IsClockedApart d e) n) ⊎ IsAbsent d e Clocks
+  clocked_apart : ((n : List ℕ) × IsFirstRegister d (IsClockedApart d e) n) ⊎ IsAbsent None d e Clocks
   clocked_apart = from (first_or_none (IsClockedApart d e) decide_clocked_apart (registers d))
     where
-      from : ((r : RegisterBit) → Contains (registers d) r → IsClockedApart d e r → ⊥) ⊎ ((r : RegisterBit) × IsFirst (IsClockedApart d e) (registers d) r) → ((n : List ℕ) × IsFirstRegister d (IsClockedApart d e) n) ⊎ IsAbsent d e Clocks
+      from : ((r : RegisterBit) → Contains (registers d) r → IsClockedApart d e r → ⊥) ⊎ ((r : RegisterBit) × IsFirst (IsClockedApart d e) (registers d) r) → ((n : List ℕ) × IsFirstRegister d (IsClockedApart d e) n) ⊎ IsAbsent None d e Clocks
       from (inl none) = inr (alike none)
       from (inr r) = inl (bit_text d r.0.bit, (r.0, r.1, refl))
 
@@ -201,28 +172,29 @@ module _ (d : Design) where
       by (inl (t, there, on)) below = below t (falls s t there on) there
       by (inr none) below = (s, has, λ t there on. none (t, there, on))
 
-  first_free : BoxesHaveHeights → IsAllowed d → ((n : List ℕ) × IsTold d d Box n) ⊎ (boxes d ≡ [])
+  first_free : BoxesHaveHeights → IsAllowed d → ((n : List ℕ) × IsTold None d d Box n) ⊎ (boxes d ≡ [])
   first_free heights allowed = by (boxes d) refl
     where
       found : (s : Scope) → Contains (boxes d) s
-          → ((x : Scope) → Contains (boxes d) x → DependsOnNone d x → ⊥) ⊎ ((x : Scope) × IsFirst (DependsOnNone d) (boxes d) x) → ((n : List ℕ) × IsTold d d Box n) ⊎ (boxes d ≡ [])
+          → ((x : Scope) → Contains (boxes d) x → DependsOnNone d x → ⊥) ⊎ ((x : Scope) × IsFirst (DependsOnNone d) (boxes d) x) → ((n : List ℕ) × IsTold None d d Box n) ⊎ (boxes d ≡ [])
       found s has (inr r) = inl (path_text r.0.path, (r.0, r.1, refl))
       found s has (inl none) =
           let h = heights d allowed in
           let low = lowest h.0 h.1 (suc (h.0 s)) s (omega arith) has in
           absurd (none low.0 low.1 low.2)
 
-      by : (all : List Scope) → boxes d ≡ all → ((n : List ℕ) × IsTold d d Box n) ⊎ (boxes d ≡ [])
+      by : (all : List Scope) → boxes d ≡ all → ((n : List ℕ) × IsTold None d d Box n) ⊎ (boxes d ≡ [])
       by [] same = inr same
       by (s ∷ all) same = found s (subst (λ l. Contains l s) (sym same) (contains_here s all)) (first_or_none (DependsOnNone d) decide_none (boxes d))
 
-module _ (heights : BoxesHaveHeights) (ranked : CausesAreRanked) (spec imp : Design) (allowed : IsAllowed spec) where
-  told_or_absent : (cause : Cause) → ((n : List ℕ) × IsTold spec imp cause n) ⊎ IsAbsent spec imp cause
+module _ (heights : BoxesHaveHeights) (ranked : CausesAreRanked) (care : Option (List ℕ)) (spec imp : Design) (allowed : IsAllowed spec) where
+  told_or_absent : (cause : Cause) → ((n : List ℕ) × IsTold care spec imp cause n) ⊎ IsAbsent care spec imp cause
   told_or_absent Box = first_free spec heights allowed
+  told_or_absent Care = care_there care (output_texts spec)
   told_or_absent SpecInput = missing (input_texts spec) (input_texts imp)
-  told_or_absent SpecOutput = missing (output_texts spec) (output_texts imp)
+  told_or_absent SpecOutput = missing (compared care (output_texts spec)) (output_texts imp)
   told_or_absent ImpInput = missing (input_texts imp) (input_texts spec)
-  told_or_absent ImpOutput = missing (output_texts imp) (output_texts spec)
+  told_or_absent ImpOutput = missing (output_texts imp) (compared care (output_texts spec))
   told_or_absent SpecRegister = missing (register_texts spec) (register_texts imp)
   told_or_absent ImpRegister = missing (register_texts imp) (register_texts spec)
   told_or_absent SpecClock = clockless spec
@@ -231,34 +203,34 @@ module _ (heights : BoxesHaveHeights) (ranked : CausesAreRanked) (spec imp : Des
   told_or_absent Pins = elim (cases_lt most_pins (input_and_pin_count imp)) [ inl many ↦ inl ([], many) | inr few ↦ inr few ]
 
   abbrev Refused : Type 0
-  Refused = (fault : MatchFault) × IsRefusalFor spec imp fault
+  Refused = (fault : MatchFault) × IsRefusalFor care spec imp fault
 
   -- no cause of the first ranks holds, or one of them is the first
-  front : (n : ℕ) → n ≤ 11 → ((cause : Cause) → rank cause < n → IsAbsent spec imp cause) ⊎ Refused
+  front : (n : ℕ) → n ≤ 12 → ((cause : Cause) → rank cause < n → IsAbsent care spec imp cause) ⊎ Refused
   front zero le = inl (λ cause lt. absurd (omega (arith, lt)))
   front (suc n) le = by (front n (omega (arith, le)))
     where
-      next : (cause : Cause) → rank cause ≡ n → ((other : Cause) → rank other < n → IsAbsent spec imp other) → ((m : List ℕ) × IsTold spec imp cause m) ⊎ IsAbsent spec imp cause
-          → ((other : Cause) → rank other < suc n → IsAbsent spec imp other) ⊎ Refused
+      next : (cause : Cause) → rank cause ≡ n → ((other : Cause) → rank other < n → IsAbsent care spec imp other) → ((m : List ℕ) × IsTold care spec imp cause m) ⊎ IsAbsent care spec imp cause
+          → ((other : Cause) → rank other < suc n → IsAbsent care spec imp other) ⊎ Refused
       next cause at before (inl (m, told)) = inr (fault_of cause m, record { cause = cause; name = m; is = refl; told = told; earlier = λ other lt. before other (omega (arith, lt, at)) })
       next cause at before (inr absent) = inl (λ other lt. from other lt (less_or_same (rank other) n))
         where
-          from : (other : Cause) → rank other < suc n → (rank other < n) ⊎ ((n < rank other) ⊎ (rank other ≡ n)) → IsAbsent spec imp other
+          from : (other : Cause) → rank other < suc n → (rank other < n) ⊎ ((n < rank other) ⊎ (rank other ≡ n)) → IsAbsent care spec imp other
           from other lt (inl low) = before other low
           from other lt (inr (inl high)) = absurd (omega (arith, lt, high))
-          from other lt (inr (inr same)) = subst (IsAbsent spec imp) (sym (ranked.one other cause (same ∙ sym at))) absent
+          from other lt (inr (inr same)) = subst (IsAbsent care spec imp) (sym (ranked.one other cause (same ∙ sym at))) absent
 
-      by : ((cause : Cause) → rank cause < n → IsAbsent spec imp cause) ⊎ Refused → ((cause : Cause) → rank cause < suc n → IsAbsent spec imp cause) ⊎ Refused
+      by : ((cause : Cause) → rank cause < n → IsAbsent care spec imp cause) ⊎ Refused → ((cause : Cause) → rank cause < suc n → IsAbsent care spec imp cause) ⊎ Refused
       by (inr refused) = inr refused
       by (inl before) = let c = ranked.each n (omega (arith, le)) in next c.0 c.1 before (told_or_absent c.0)
 
-  fits : DesignsFit spec imp ⊎ Refused
-  fits = from (front 11 (omega arith))
+  fits : DesignsFit care spec imp ⊎ Refused
+  fits = from (front 12 (omega arith))
     where
-      from : ((cause : Cause) → rank cause < 11 → IsAbsent spec imp cause) ⊎ Refused → DesignsFit spec imp ⊎ Refused
+      from : ((cause : Cause) → rank cause < 12 → IsAbsent care spec imp cause) ⊎ Refused → DesignsFit care spec imp ⊎ Refused
       from (inl none) = inl (λ cause. none cause (ranked.below cause))
       from (inr refused) = inr refused
 
 module _ (heights : BoxesHaveHeights) (ranked : CausesAreRanked) where
   pub fit_or_refused : FitOrRefused
-  fit_or_refused spec imp allowed = fits heights ranked spec imp allowed
+  fit_or_refused care spec imp allowed = fits heights ranked care spec imp allowed

@@ -1,8 +1,8 @@
 -- What a flat netlist that stands for a sound design tells of it: its texts, its registers with their clocks, its boxes, and how many
 -- pins there are.
-use Rattle.std.proofs.Common.{◌≡◌, ◌⊎◌, ℕ, ◌+◌, ◌<◌, List, [], ◌∷◌, map, length, Contains, Option, Some, None, refl, sym, ap, ap₂, true≢false, ◌∙◌, subst, inl, inr, arith, get_or}
+use Rattle.std.proofs.Common.{◌≡◌, ◌⊎◌, ℕ, ◌+◌, List, [], ◌∷◌, map, length, Contains, Option, Some, None, refl, sym, ap, ap₂, true≢false, ◌∙◌, subst, arith}
 use Rattle.std.specs.Prelude.{IsSome, sum_by, slice_get}
-use Rattle.std.specs.List.{AllZip, enumerate_from}
+use Rattle.std.specs.List.{AllZip}
 use Rattle.std.specs.Option.{option_and_then}
 use Rattle.std.proofs.lemmas.List.{length-map}
 use Rattle.std.proofs.lemmas.List.Sorted.{Contains-permutation, IsPermutation-sym, sum_by-IsPermutation}
@@ -10,25 +10,25 @@ use Rattle.std.proofs.lemmas.List.Sums.{sum_by-cons}
 use Rattle.bb_bits.specs.Closures.{IsFirst, Leads}
 use Rattle.bb_net.specs.CutPoints as cut
 use Rattle.bb_net.specs.CutPoints.{clock_text}
-use Rattle.bb_net.specs.Flats.{FlatNet, AreNamed}
+use Rattle.bb_net.specs.Flats.{FlatNet}
 use Rattle.bb_net.specs.Netlists.{Pins}
 use Rattle.bb_net.specs.Pairs.{BoxTexts, NamesPins, pin_count}
 use Rattle.bb_net.specs.declared.flat.Reg.{Reg}
 use Rattle.bb_design.specs.Inside.Allowed.{IsAllowed}
 use Rattle.bb_design.specs.Hierarchy.{Design, Scope, boxes}
-use Rattle.bb_design.specs.NetBits.{Bit, input_bits, output_bits, top_inputs, written_bits}
+use Rattle.bb_design.specs.NetBits.{Bit, input_bits, output_bits, top_inputs}
 use Rattle.bb_design.specs.Reading.{copied_bits}
 use Rattle.bb_design.specs.Refusals.{TwoDrivers, register_texts}
 use Rattle.bb_design.specs.Registers.{RegisterBit, registers, cut_bits}
 use Rattle.bb_design.specs.Texts.{bit_text, pin_text}
-use Rattle.bb_cells.specs.BoxOrders.{DependsOnBox, MayFollow, IsBoxOrder, StandingNetsHaveBoxOrders}
+use Rattle.bb_cells.specs.BoxOrders.{MayFollow, IsBoxOrder, StandingNetsHaveBoxOrders}
 use Rattle.bb_cells.specs.Laws.NamingLaws.{FollowedInputsAreOne, StandingNetsAreNamed}
 use Rattle.bb_cells.specs.Stands.{StandsFor, IsRegister, IsClock, box_texts}
 use Rattle.bb_match.specs.Refusals as net
 use Rattle.bb_agree.specs.DesignFit.{DependsOnNone, HasClock, HasNoClock, IsClockedBy, input_and_pin_count}
 use Rattle.bb_lists.proofs.Firsts.{first_one, first_there}
 use Rattle.bb_lists.proofs.Members.{contains_here, none_in_nil}
-use Rattle.bb_lists.proofs.Places.{got-map, there_at, some_same, head_same}
+use Rattle.bb_lists.proofs.Places.{got-map, there_at, head_same}
 use Rattle.bb_agree.proofs.FirstAcross.{first_as}
 
 one_clock : (b c : Bit) → b ∷ [] ≡ c ∷ [] → b ≡ c

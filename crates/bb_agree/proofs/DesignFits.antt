@@ -1,9 +1,8 @@
 -- Flat netlists fit, and are refused, as the designs do for which they stand, cause by cause.
-use Rattle.std.proofs.Common.{◌≡◌, ◌≢◌, ◌⊎◌, ◌↔◌, ℕ, ◌<◌, List, [], Contains, Some, refl, sym, ap, ◌∙◌, subst, inl, inr, arith}
-use Rattle.std.specs.Prelude.{◌≤◌, All, IsSome}
+use Rattle.std.proofs.Common.{◌≡◌, ◌≢◌, ◌⊎◌, ◌↔◌, ℕ, ◌<◌, List, Contains, Option, Some, sym, ap, ◌∙◌, subst, inl, inr, arith}
+use Rattle.std.specs.Prelude.{◌≤◌, All, IfSome, IsSome}
 use Rattle.std.specs.List.{AllZip}
 use Rattle.std.proofs.lemmas.List.Elements.{All-contains}
-use Rattle.bb_bits.specs.Closures.{IsFirst}
 use Rattle.bb_net.specs.CutPoints as cut
 use Rattle.bb_net.specs.CutPoints.{clock_text}
 use Rattle.bb_net.specs.Flats.{FlatNet}
@@ -20,9 +19,9 @@ use Rattle.bb_cells.specs.Laws.NamingLaws.{FollowedInputsAreOne, StandingNetsAre
 use Rattle.bb_cells.specs.Stands.{StandsFor, IsRegister, box_texts}
 use Rattle.bb_match.specs.declared.fault.MatchFault.{MatchFault}
 use Rattle.bb_match.specs.Refusals as net
-use Rattle.bb_match.specs.Refusals.{Cause, Box, SpecInput, SpecOutput, ImpInput, ImpOutput, SpecRegister, ImpRegister, SpecClock, ImpClock, Clocks, Pins, AreAmong, IsFirstMissing, rank}
-use Rattle.bb_agree.specs.DesignFit.{HasClock, HasNoClock, IsClockedBy, AreClockedAlike, IsClockedApart, IsFirstRegister, IsTold, IsAbsent, DesignsFit, IsRefusalFor, input_and_pin_count}
-use Rattle.bb_agree.specs.Laws.DesignRefusals.{AreNetsFor, AreTakenAlike, NetsAreTakenAsDesigns}
+use Rattle.bb_match.specs.Refusals.{Cause, Box, Care, SpecInput, SpecOutput, ImpInput, ImpOutput, SpecRegister, ImpRegister, SpecClock, ImpClock, Clocks, Pins, AreAmong, IsFirstMissing, IsMissing, compared, rank}
+use Rattle.bb_agree.specs.DesignFit.{HasClock, HasNoClock, IsClockedBy, IsClockedApart, IsFirstRegister, IsTold, IsAbsent, DesignsFit, IsRefusalFor, input_and_pin_count}
+use Rattle.bb_agree.specs.Laws.DesignRefusals.{AreNetsFor, NetsAreTakenAsDesigns}
 use Rattle.bb_lists.proofs.Members.{all_from}
 use Rattle.bb_lists.proofs.Places.{some_same}
 use Rattle.bb_agree.proofs.DesignFacts.{reg_texts, clocked_from, has_clock, some_clock, no_clock, clockless, clock_one, boxless, no_boxes, first_box, box_first, pins_count}
@@ -67,7 +66,7 @@ module _ (have_orders : StandingNetsHaveBoxOrders) (have_texts : StandingNetsAre
         let there = clocked_from have_orders have_texts one_input d f good s r g is (some_clock have_orders have_texts one_input d f good s r g is (c, by_it)) in
         there.2 ∙ ap (λ b. Some (bit_text d b)) (clock_one have_orders have_texts one_input d f good s r there.0 c there.1 by_it)
 
-  module _ (spec imp : Design) (f g : FlatNet) (good : IsAllowed spec) (also : IsAllowed imp) (nets : AreNetsFor spec imp f g) where
+  module _ (care : Option (List ℕ)) (spec imp : Design) (f g : FlatNet) (good : IsAllowed spec) (also : IsAllowed imp) (nets : AreNetsFor spec imp f g) where
     s : StandsFor spec f
     s = nets.spec_stands
 
@@ -80,7 +79,7 @@ module _ (have_orders : StandingNetsHaveBoxOrders) (have_texts : StandingNetsAre
     imp_regs : cut.register_texts g ≡ register_texts imp
     imp_regs = reg_texts have_orders have_texts one_input imp g also t
 
-    alike_to : net.AreClockedAlike f g → IsAbsent spec imp Clocks
+    alike_to : net.AreClockedAlike f g → IsAbsent care spec imp Clocks
     alike_to all r q has there same =
         let a = beside_left (IsRegister spec) (registers spec) f.regs s.regs r has in
         let b = beside_left (IsRegister imp) (registers imp) g.regs t.regs q there in
@@ -90,7 +89,7 @@ module _ (have_orders : StandingNetsHaveBoxOrders) (have_texts : StandingNetsAre
           clocks = λ x y first second. some_same (bit_text imp y) (bit_text spec x) (sym (clock_told imp g also t q b.0 b.2 y second) ∙ both.1 ∙ clock_told spec f good s r a.0 a.2 x first);
         }
 
-    alike_back : All (HasClock spec) (registers spec) → All (HasClock imp) (registers imp) → IsAbsent spec imp Clocks → net.AreClockedAlike f g
+    alike_back : All (HasClock spec) (registers spec) → All (HasClock imp) (registers imp) → IsAbsent care spec imp Clocks → net.AreClockedAlike f g
     alike_back spec_have imp_have all = all_from (net.IsClockedAlike f g) f.regs (λ a has b there same.
         let r = beside_right (IsRegister spec) (registers spec) f.regs s.regs a has in
         let q = beside_right (IsRegister imp) (registers imp) g.regs t.regs b there in
@@ -141,12 +140,13 @@ module _ (have_orders : StandingNetsHaveBoxOrders) (have_texts : StandingNetsAre
     imp_pins : net.input_and_pin_count g ≡ input_and_pin_count imp
     imp_pins = pins_count have_orders have_texts one_input imp g also t
 
-    absent_to : (cause : Cause) → net.IsAbsent f g cause → IsAbsent spec imp cause
+    absent_to : (cause : Cause) → net.IsAbsent care f g cause → IsAbsent care spec imp cause
     absent_to Box none = boxless have_orders have_texts one_input spec f good s none
+    absent_to Care there = subst (λ outs. IfSome care (Contains outs)) s.outs there
     absent_to SpecInput among = across AreAmong _ _ _ _ s.ins t.ins among
-    absent_to SpecOutput among = across AreAmong _ _ _ _ s.outs t.outs among
+    absent_to SpecOutput among = across AreAmong _ _ _ _ (ap (compared care) s.outs) t.outs among
     absent_to ImpInput among = across AreAmong _ _ _ _ t.ins s.ins among
-    absent_to ImpOutput among = across AreAmong _ _ _ _ t.outs s.outs among
+    absent_to ImpOutput among = across AreAmong _ _ _ _ t.outs (ap (compared care) s.outs) among
     absent_to SpecRegister among = across AreAmong _ _ _ _ spec_regs imp_regs among
     absent_to ImpRegister among = across AreAmong _ _ _ _ imp_regs spec_regs among
     absent_to SpecClock all = clocks_to spec f good s all
@@ -155,14 +155,15 @@ module _ (have_orders : StandingNetsHaveBoxOrders) (have_texts : StandingNetsAre
     absent_to Pins few = subst (λ n. n ≤ net.most_pins) imp_pins few
 
     abbrev Earlier : Cause → Type 0
-    Earlier cause = (other : Cause) → rank other < rank cause → IsAbsent spec imp other
+    Earlier cause = (other : Cause) → rank other < rank cause → IsAbsent care spec imp other
 
-    absent_back : (cause : Cause) → Earlier cause → IsAbsent spec imp cause → net.IsAbsent f g cause
+    absent_back : (cause : Cause) → Earlier cause → IsAbsent care spec imp cause → net.IsAbsent care f g cause
     absent_back Box earlier none = no_boxes have_orders have_texts one_input spec f good s none
+    absent_back Care earlier there = subst (λ outs. IfSome care (Contains outs)) (sym s.outs) there
     absent_back SpecInput earlier among = across AreAmong _ _ _ _ (sym s.ins) (sym t.ins) among
-    absent_back SpecOutput earlier among = across AreAmong _ _ _ _ (sym s.outs) (sym t.outs) among
+    absent_back SpecOutput earlier among = across AreAmong _ _ _ _ (ap (compared care) (sym s.outs)) (sym t.outs) among
     absent_back ImpInput earlier among = across AreAmong _ _ _ _ (sym t.ins) (sym s.ins) among
-    absent_back ImpOutput earlier among = across AreAmong _ _ _ _ (sym t.outs) (sym s.outs) among
+    absent_back ImpOutput earlier among = across AreAmong _ _ _ _ (sym t.outs) (ap (compared care) (sym s.outs)) among
     absent_back SpecRegister earlier among = across AreAmong _ _ _ _ (sym spec_regs) (sym imp_regs) among
     absent_back ImpRegister earlier among = across AreAmong _ _ _ _ (sym imp_regs) (sym spec_regs) among
     absent_back SpecClock earlier all = clocks_back spec f good s all
@@ -170,12 +171,13 @@ module _ (have_orders : StandingNetsHaveBoxOrders) (have_texts : StandingNetsAre
     absent_back Clocks earlier all = alike_back (earlier SpecClock (omega arith)) (earlier ImpClock (omega arith)) all
     absent_back Pins earlier few = subst (λ n. n ≤ net.most_pins) (sym imp_pins) few
 
-    told_to : (cause : Cause) (n : List ℕ) → Earlier cause → net.IsTold f g cause n → IsTold spec imp cause n
+    told_to : (cause : Cause) (n : List ℕ) → Earlier cause → net.IsTold care f g cause n → IsTold care spec imp cause n
     told_to Box n earlier (box, rest, stand, is) = let r = first_box have_orders have_texts one_input spec f good s box rest stand in (r.0, r.1, is ∙ ap (λ (b : BoxTexts). b.path) r.2)
+    told_to Care n earlier (asked, missing) = (asked, subst (λ outs. IsMissing outs n) s.outs missing)
     told_to SpecInput n earlier told = across (λ a b. Missing a n b) _ _ _ _ s.ins t.ins told
-    told_to SpecOutput n earlier told = across (λ a b. Missing a n b) _ _ _ _ s.outs t.outs told
+    told_to SpecOutput n earlier told = across (λ a b. Missing a n b) _ _ _ _ (ap (compared care) s.outs) t.outs told
     told_to ImpInput n earlier told = across (λ a b. Missing a n b) _ _ _ _ t.ins s.ins told
-    told_to ImpOutput n earlier told = across (λ a b. Missing a n b) _ _ _ _ t.outs s.outs told
+    told_to ImpOutput n earlier told = across (λ a b. Missing a n b) _ _ _ _ t.outs (ap (compared care) s.outs) told
     told_to SpecRegister n earlier told = across (λ a b. Missing a n b) _ _ _ _ spec_regs imp_regs told
     told_to ImpRegister n earlier told = across (λ a b. Missing a n b) _ _ _ _ imp_regs spec_regs told
     told_to SpecClock n earlier told = clockless_to spec f good s n told
@@ -183,12 +185,13 @@ module _ (have_orders : StandingNetsHaveBoxOrders) (have_texts : StandingNetsAre
     told_to Clocks n earlier told = apart_to (earlier SpecClock (omega arith)) (earlier ImpClock (omega arith)) n told
     told_to Pins n earlier told = subst (λ n. net.most_pins < n) imp_pins told
 
-    told_back : (cause : Cause) (n : List ℕ) → Earlier cause → IsTold spec imp cause n → net.IsTold f g cause n
+    told_back : (cause : Cause) (n : List ℕ) → Earlier cause → IsTold care spec imp cause n → net.IsTold care f g cause n
     told_back Box n earlier (scope, first, is) = let r = box_first have_orders have_texts one_input spec f good s scope first in (box_texts spec scope, r.0, r.1, is)
+    told_back Care n earlier (asked, missing) = (asked, subst (λ outs. IsMissing outs n) (sym s.outs) missing)
     told_back SpecInput n earlier told = across (λ a b. Missing a n b) _ _ _ _ (sym s.ins) (sym t.ins) told
-    told_back SpecOutput n earlier told = across (λ a b. Missing a n b) _ _ _ _ (sym s.outs) (sym t.outs) told
+    told_back SpecOutput n earlier told = across (λ a b. Missing a n b) _ _ _ _ (ap (compared care) (sym s.outs)) (sym t.outs) told
     told_back ImpInput n earlier told = across (λ a b. Missing a n b) _ _ _ _ (sym t.ins) (sym s.ins) told
-    told_back ImpOutput n earlier told = across (λ a b. Missing a n b) _ _ _ _ (sym t.outs) (sym s.outs) told
+    told_back ImpOutput n earlier told = across (λ a b. Missing a n b) _ _ _ _ (sym t.outs) (ap (compared care) (sym s.outs)) told
     told_back SpecRegister n earlier told = across (λ a b. Missing a n b) _ _ _ _ (sym spec_regs) (sym imp_regs) told
     told_back ImpRegister n earlier told = across (λ a b. Missing a n b) _ _ _ _ (sym imp_regs) (sym spec_regs) told
     told_back SpecClock n earlier told = clockless_back spec f good s n told
@@ -196,10 +199,10 @@ module _ (have_orders : StandingNetsHaveBoxOrders) (have_texts : StandingNetsAre
     told_back Clocks n earlier told = apart_back (earlier SpecClock (omega arith)) (earlier ImpClock (omega arith)) n told
     told_back Pins n earlier told = subst (λ n. net.most_pins < n) (sym imp_pins) told
 
-    fit : net.Fit f g ↔ DesignsFit spec imp
+    fit : net.Fit care f g ↔ DesignsFit care spec imp
     fit = (λ fits cause. absent_to cause (fits cause), λ fits cause. absent_back cause (λ other low. fits other) (fits cause))
 
-    refused : (fault : MatchFault) → net.IsFirstRefusal f g fault ↔ IsRefusalFor spec imp fault
+    refused : (fault : MatchFault) → net.IsFirstRefusal care f g fault ↔ IsRefusalFor care spec imp fault
     refused fault = (
       λ r.
           let earlier : Earlier r.cause = λ other low. absent_to other (r.earlier other low) in
@@ -214,4 +217,4 @@ module _ (have_orders : StandingNetsHaveBoxOrders) (have_texts : StandingNetsAre
     )
 
   pub nets_are_taken_as_designs : NetsAreTakenAsDesigns
-  nets_are_taken_as_designs spec imp f g good also nets = record { fit = fit spec imp f g good also nets; refused = refused spec imp f g good also nets }
+  nets_are_taken_as_designs care spec imp f g good also nets = record { fit = fit care spec imp f g good also nets; refused = refused care spec imp f g good also nets }

@@ -1,40 +1,24 @@
--- A pair stands for two designs exactly where they fit, and has the boxes of the implementation.
-use Rattle.std.proofs.Common.{◌≡◌, suc, List, [], ◌∷◌, length, sym, ◌∙◌, arith}
+-- A pair that stands for two designs has the boxes of the implementation, and tables that fit the first of each kind are tables of these.
+use Rattle.std.proofs.Common.{◌≡◌, ℕ, ◌<◌, suc, List, [], ◌∷◌, map, length, get_or, All, sym, subst, ◌∙◌, arith}
 use Rattle.std.specs.List.{AllZip}
+use Rattle.std.proofs.lemmas.List.Elements.{All-head, All-tail}
+use Rattle.std.proofs.lemmas.Option.{slice_get-get_or}
+use Rattle.std.proofs.lemmas.Slice.Zip.{AllZip-long}
 use Rattle.bb_bits.specs.Tables.{TableBits}
+use Rattle.bb_net.specs.Kinds.{AreInOrder, AreKinds, FitKinds, first_places, shown}
 use Rattle.bb_net.specs.Netlists.{Pins}
-use Rattle.bb_net.specs.Pairs.{BoxTexts, NamesPins}
+use Rattle.bb_net.specs.Pairs.{BoxTexts, NamesPins, box_key}
 use Rattle.bb_net.specs.Values.{FitBoxes}
 use Rattle.bb_cells.specs.BoxOrders.{StandingNetsHaveBoxOrders}
-use Rattle.bb_cells.specs.Laws.ListLaws.{StandingNetsAreFlat, StandingNetsArePrintable, StandingNetsExist}
-use Rattle.bb_match.specs.Laws.{FittingHavePair, FittingHaveKeptPair}
+use Rattle.bb_lists.proofs.Zips.{zip_at}
 use Rattle.bb_agree.specs.DesignAgreement.{IsTableOf, FittingTablesAreOfBoxes, PairsHaveBoxOrders}
-use Rattle.bb_agree.specs.Laws.DesignRefusals.{AreNetsFor, FittingDesignsHavePairs, NetsAreTakenAsDesigns, PairsStandExactlyForFitting}
-
-module _ (taken : NetsAreTakenAsDesigns) (have_pair : FittingHavePair) where
-  pub pairs_stand_exactly_for_fitting : PairsStandExactlyForFitting
-  pairs_stand_exactly_for_fitting spec imp good also = record {
-    fit = λ p pair.
-        let nets : AreNetsFor spec imp pair.spec_net pair.imp_net = record { spec_stands = pair.spec_stands; imp_stands = pair.imp_stands } in
-        (taken spec imp pair.spec_net pair.imp_net good also nets).fit.0 pair.paired.fit;
-    pair = λ fit f g nets flat also_flat. have_pair f g flat also_flat ((taken spec imp f g good also nets).fit.1 fit);
-  }
-
-pub fitting_designs_have_pairs : StandingNetsExist → StandingNetsAreFlat → StandingNetsArePrintable → NetsAreTakenAsDesigns → FittingHaveKeptPair → FittingDesignsHavePairs
-fitting_designs_have_pairs exist flat printable taken have_pair spec imp good also fit =
-    let f = exist spec good in
-    let g = exist imp also in
-    let flat_f = flat spec f.0 good f.1 (printable spec f.0 good.bounded f.1) in
-    let flat_g = flat imp g.0 also g.1 (printable imp g.0 also.bounded g.1) in
-    let p = have_pair f.0 g.0 flat_f flat_g ((taken spec imp f.0 g.0 good also (record { spec_stands = f.1; imp_stands = g.1 })).fit.1 fit) in (
-      p.0,
-      record { kept = p.1; spec_net = f.0; imp_net = g.0; spec_stands = f.1; imp_stands = g.1; spec_flat = flat_f; imp_flat = flat_g; paired = p.2 },
-    )
+use Rattle.bb_agree.proofs.PairBoxes.{has_boxes}
 
 pub pairs_have_box_orders : StandingNetsHaveBoxOrders → PairsHaveBoxOrders
-pairs_have_box_orders have_orders spec imp p also pair =
+pairs_have_box_orders have_orders care shared spec imp p also pair =
     let o = have_orders imp pair.imp_net also pair.imp_stands in
-    (o.0, o.1, pair.paired.boxes ∙ o.2)
+    let has = has_boxes care shared pair.spec_net pair.imp_net p pair.paired in
+    (o.0, o.1, has.names ∙ o.2, subst (λ boxes. AreKinds (map (box_key shared) boxes) p.kinds) (sym has.names) has.kinds)
 
 -- tables beside the boxes that they fit
 tables_beside : (texts : List BoxTexts) (boxes : List Pins) (tables : List TableBits) → AllZip NamesPins texts boxes → FitBoxes tables boxes → AllZip IsTableOf texts tables
@@ -54,5 +38,42 @@ tables_beside (x ∷ texts) (b ∷ boxes) (t ∷ tables) names fit =
       }),
     )
 
-pub fitting_tables_are_of_boxes : FittingTablesAreOfBoxes
-fitting_tables_are_of_boxes p tables kept fit = tables_beside p.boxes p.imp.boxes tables kept.beside.boxes_named fit
+-- what belongs to the first boxes of all kinds
+abbrev Firsts : Type 0 → Type 0
+Firsts A = (kinds : List ℕ) (xs : List A) (none : A) → AreInOrder kinds → length xs ≡ length kinds → shown kinds xs ≡ map (λ b. get_or xs b none) (first_places kinds)
+
+chosen_beside : (texts : List BoxTexts) (boxes : List Pins) (none : BoxTexts) (no_pins : Pins) (places : List ℕ) → AllZip NamesPins texts boxes → All (λ b. b < length boxes) places
+    → AllZip NamesPins (map (λ b. get_or texts b none) places) (map (λ b. get_or boxes b no_pins) places)
+chosen_beside texts boxes none no_pins [] names there = tt
+chosen_beside texts boxes none no_pins (b ∷ places) names there =
+    let within : b < length boxes = All-head (λ k. k < length boxes) b places there in (
+      zip_at NamesPins texts boxes b (get_or texts b none) (get_or boxes b no_pins) names (slice_get-get_or texts b none (omega (arith, within, AllZip-long NamesPins texts boxes names))) (slice_get-get_or boxes b no_pins within),
+      chosen_beside texts boxes none no_pins places names (All-tail (λ k. k < length boxes) b places there),
+    )
+
+pub fitting_tables_are_of_boxes : Firsts BoxTexts → Firsts Pins → ((kinds : List ℕ) → AreInOrder kinds → All (λ b. b < length kinds) (first_places kinds)) → FittingTablesAreOfBoxes
+fitting_tables_are_of_boxes text_firsts pin_firsts there p tables kept fit = tables_beside (shown p.kinds p.boxes) (shown p.kinds p.imp.boxes) tables (subst (λ l. AllZip NamesPins l (shown p.kinds p.imp.boxes)) (sym texts_are) (subst (AllZip NamesPins texts_there) (sym pins_are) beside)) fit
+  where
+    names : AllZip NamesPins p.boxes p.imp.boxes
+    names = kept.beside.boxes_named
+
+    is : FitKinds p.kinds p.imp.boxes
+    is = kept.beside.kinds
+
+    none : BoxTexts
+    none = record { path = []; «module» = []; ins = []; outs = [] }
+
+    no_pins : Pins
+    no_pins = record { ins = []; outs = [] }
+
+    texts_there : List BoxTexts
+    texts_there = map (λ b. get_or p.boxes b none) (first_places p.kinds)
+
+    texts_are : shown p.kinds p.boxes ≡ texts_there
+    texts_are = text_firsts p.kinds p.boxes none is.ordered (sym (AllZip-long NamesPins p.boxes p.imp.boxes names) ∙ sym is.count)
+
+    pins_are : shown p.kinds p.imp.boxes ≡ map (λ b. get_or p.imp.boxes b no_pins) (first_places p.kinds)
+    pins_are = pin_firsts p.kinds p.imp.boxes no_pins is.ordered (sym is.count)
+
+    beside : AllZip NamesPins texts_there (map (λ b. get_or p.imp.boxes b no_pins) (first_places p.kinds))
+    beside = chosen_beside p.boxes p.imp.boxes none no_pins (first_places p.kinds) names (subst (λ n. All (λ b. b < n) (first_places p.kinds)) is.count (there p.kinds is.ordered))

@@ -1,5 +1,5 @@
 -- Lists beside each other, element by element: what is first in the one stands beside what is first in the other.
-use Rattle.std.proofs.Common.{◌≡◌, ◌⊎◌, ℕ, List, [], ◌∷◌, ◌++◌, Contains, refl, sym, ap, subst, inl, inr}
+use Rattle.std.proofs.Common.{◌≡◌, ◌⊎◌, List, [], ◌∷◌, ◌++◌, Contains, refl, sym, ap, subst, inl, inr}
 use Rattle.std.specs.List.{AllZip}
 use Rattle.bb_bits.specs.Closures.{IsFirst}
 use Rattle.bb_lists.proofs.Members.{contains_cases, contains_here, contains_there, none_in_nil}

@@ -1,4 +1,5 @@
 pub mod AlikePairs
+pub mod BitDecisions
 pub mod DesignAgreements
 pub mod DesignCauses
 pub mod DesignDecisions
@@ -6,8 +7,16 @@ pub mod DesignFacts
 pub mod DesignFits
 pub mod DesignPairs
 pub mod FirstAcross
+pub mod FittingPairs
 pub mod FreeOutputs
+pub mod LessOutputs
 pub mod Mistakes
+pub mod NamedPairs
 pub mod NamedVectors
 pub mod OneBit
+pub mod PairBoxes
+pub mod SeenDesigns
+pub mod SeenPairs
+pub mod SharedContents
 pub mod SpelledContents
+pub mod WorldOutputs

@@ -60,15 +60,15 @@ turned : (b : Bool) → b ≡ not b → ⊥
 turned true e = cc e
 turned false e = cc e
 
-told_somewhere : (spec imp : Design) (w v : World) (told : Option CutOutput) → DifferAtTold spec imp w v told → (o : CutOutput) × DifferAt spec imp w v o
-told_somewhere spec imp w v (Some o) differ = (o, differ)
-told_somewhere spec imp w v None differ = differ
+told_somewhere : (care : Option (List ℕ)) (spec imp : Design) (w v : World) (told : Option CutOutput) → DifferAtTold care spec imp w v told → (o : CutOutput) × DifferAt care spec imp w v o
+told_somewhere care spec imp w v (Some o) differ = (o, differ)
+told_somewhere care spec imp w v None differ = differ
 
 pub mistakes_refute : MistakesRefute
-mistakes_refute spec imp x told allowed mistake contents fit agree =
-    let (spec_world, imp_world) = mistake.worlds contents fit in
+mistakes_refute care shared spec imp x told allowed mistake contents fill agree =
+    let (spec_world, imp_world) = mistake.worlds contents fill.fit in
     let (w, is_w, has_w) = spec_world in
     let (v, is_v, has_v) = imp_world in
-    let (o, differ) = told_somewhere spec imp w v told (mistake.differ contents fit w v is_w has_w is_v has_v) in
-    let also = (agree x w v is_w has_w is_v has_v o differ.bit).0 differ.spec_has in
+    let (o, differ) = told_somewhere care spec imp w v told (mistake.differ contents fill.fit w v is_w has_w is_v has_v) in
+    let also = (agree x w v is_w has_w is_v has_v (mistake.asked contents fill.fit w is_w has_w) o differ.bit differ.counts).0 differ.spec_has in
     turned differ.bit (one_bit imp allowed.sound v o differ.bit (not differ.bit) (place imp allowed.sound v o differ.bit also) (place imp allowed.sound v o (not differ.bit) differ.imp_has))

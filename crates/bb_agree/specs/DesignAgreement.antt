@@ -1,40 +1,63 @@
 -- When contents of its boxes make a design agree with a specification. Both are taken between their cut points: a register's
 -- present state counts as an input and its next state as an output, and inputs and outputs of the two go by kind and text, so
--- that they agree in every state, in what they give and in the state that comes next.
-use Rattle.std.specs.Prelude.{◌≡◌, ◌↔◌, Bool, List, map, length, Contains}
+-- that they agree in every state, in what they give and in the state that comes next. Where a care output is asked for, a bit of an
+-- output port of the specification by its text, it says at which vectors the others count: those at which it is 1.
+use Rattle.std.specs.Prelude.{◌≡◌, ◌≢◌, ◌↔◌, ℕ, Bool, true, false, List, map, length, Contains, Option, None, Some}
 use Rattle.std.specs.List.{AllZip}
 use Rattle.bb_bits.specs.Contents.{Contents}
 use Rattle.bb_bits.specs.Tables.{TableBits, HasAllBits, rows_of}
 use Rattle.bb_net.specs.Agreement.{TablesAgree}
-use Rattle.bb_net.specs.Conditions.{NoTablesAgree}
-use Rattle.bb_net.specs.Pairs.{NetPair, BoxTexts, IsPair}
-use Rattle.bb_net.specs.Values.{FitBoxes}
+use Rattle.bb_net.specs.Kinds.{AreKinds, NoSharedTablesAgree, shown, spread}
+use Rattle.bb_net.specs.Pairs.{NetPair, BoxTexts, IsPair, box_key}
+use Rattle.bb_net.specs.Values.{table_at, FitBoxes}
 use Rattle.bb_cells.specs.Laws.ContentTables.{AreTablesOf}
 use Rattle.bb_net.specs.Flats.{FlatNet, IsFlat}
-use Rattle.bb_design.specs.Hierarchy.{Design, Scope}
+use Rattle.bb_design.specs.Hierarchy.{Design, Scope, boxes}
 use Rattle.bb_design.specs.Inside.Allowed.{IsAllowed}
 use Rattle.bb_cells.specs.BoxOrders.{IsBoxOrder}
 use Rattle.bb_cells.specs.Stands.{StandsFor, box_texts}
+use Rattle.bb_design.specs.Texts.{path_text}
 use Rattle.bb_design.specs.Worlds.{World, Vector, HasVector, IsWorld, FitDesign, outputs_in}
-use Rattle.bb_net.specs.CutPoints.{CutOutput}
+use Rattle.bb_net.specs.CutPoints.{CutOutput, TopOutput}
 use Rattle.bb_match.specs.Pairing.{IsPairOf}
 
--- each output of the one is an output of the other, with the same bit
-abbrev pub HaveSameBits : List (CutOutput × Bool) → List (CutOutput × Bool) → Type 0
-HaveSameBits os ps = (o : CutOutput) (b : Bool) → Contains os (o, b) ↔ Contains ps (o, b)
+-- every output is compared but the care output, if one is asked for
+abbrev pub IsCompared : Option (List ℕ) → CutOutput → Type 0
+IsCompared None o = Unit {0}
+IsCompared (Some care) o = o ≢ TopOutput care
 
--- for every vector, every world of the specification and every world of the implementation have the same bits at all outputs; a
--- specification without boxes has the same worlds for all contents
-abbrev pub ContentsAgree : Design → Design → Contents → Type 0
-ContentsAgree spec imp contents = (x : Vector) (w v : World) → IsWorld spec contents w → HasVector spec x w → IsWorld imp contents v → HasVector imp x v
-    → HaveSameBits (outputs_in spec w) (outputs_in imp v)
+-- each output of the one that is compared is an output of the other, with the same bit, and back
+abbrev pub HaveSameBits : Option (List ℕ) → List (CutOutput × Bool) → List (CutOutput × Bool) → Type 0
+HaveSameBits care os ps = (o : CutOutput) (b : Bool) → IsCompared care o → Contains os (o, b) ↔ Contains ps (o, b)
 
--- no contents that fit the boxes of the implementation do
-abbrev pub NoContentsAgree : Design → Design → Type 0
-NoContentsAgree spec imp = (contents : Contents) → FitDesign imp contents → ContentsAgree spec imp contents → ⊥
+-- agreement is asked where the care output is 1, and everywhere where there is none
+abbrev pub IsAsked : Option (List ℕ) → List (CutOutput × Bool) → Type 0
+IsAsked None os = Unit {0}
+IsAsked (Some care) os = Contains os (TopOutput care, true)
 
--- a pair stands for two designs: it is the pair of flat netlists that stand for them
-pub record IsPairFor (spec imp : Design) (p : NetPair) : Type 0 where
+-- for every vector, every world of the specification in which agreement is asked and every world of the implementation have the same bits
+-- at all outputs that are compared; a specification without boxes has the same worlds for all contents
+abbrev pub ContentsAgree : Option (List ℕ) → Design → Design → Contents → Type 0
+ContentsAgree care spec imp contents = (x : Vector) (w v : World) → IsWorld spec contents w → HasVector spec x w → IsWorld imp contents v → HasVector imp x v
+    → IsAsked care (outputs_in spec w) → HaveSameBits care (outputs_in spec w) (outputs_in imp v)
+
+-- boxes of one module have the same contents
+abbrev pub AreShared : Design → Contents → Type 0
+AreShared d contents = (s t : Scope) → Contains (boxes d) s → Contains (boxes d) t → s.source.name ≡ t.source.name → contents (path_text s.path) ≡ contents (path_text t.path)
+
+-- contents may fill the boxes of a design: they fit and, where asked for, boxes of one module share theirs, since an instance is a copy of
+-- its module, so that one definition serves all (IEEE 1364-2005, 12.1.2)
+pub record MayFill (shared : Bool) (d : Design) (contents : Contents) : Type 0 where
+  pub fit : FitDesign d contents
+  pub one : shared ≡ true → AreShared d contents
+
+-- no contents that may fill the boxes of the implementation do
+abbrev pub NoContentsAgree : Option (List ℕ) → Bool → Design → Design → Type 0
+NoContentsAgree care shared spec imp = (contents : Contents) → MayFill shared imp contents → ContentsAgree care spec imp contents → ⊥
+
+-- a pair stands for two designs: it is the pair of flat netlists that stand for them, in which boxes of one module are of one kind where
+-- they share their contents, and outputs count where the care output is 1, if one is asked for
+pub record IsPairFor (care : Option (List ℕ)) (shared : Bool) (spec imp : Design) (p : NetPair) : Type 0 where
   pub kept : IsPair p
   pub spec_net : FlatNet
   pub imp_net : FlatNet
@@ -42,21 +65,21 @@ pub record IsPairFor (spec imp : Design) (p : NetPair) : Type 0 where
   pub imp_stands : StandsFor imp imp_net
   pub spec_flat : IsFlat spec_net
   pub imp_flat : IsFlat imp_net
-  pub paired : IsPairOf spec_net imp_net p
+  pub paired : IsPairOf care shared spec_net imp_net p
 
 -- tables agree in a pair that stands for two sound designs exactly where the contents agree whose tables they are
 abbrev pub TablesAgreeAsContents : Type 0
-TablesAgreeAsContents = (spec imp : Design) (p : NetPair) → IsAllowed spec → IsAllowed imp → (pair : IsPairFor spec imp p)
+TablesAgreeAsContents = (care : Option (List ℕ)) (shared : Bool) (spec imp : Design) (p : NetPair) → IsAllowed spec → IsAllowed imp → (pair : IsPairFor care shared spec imp p)
     → (contents : Contents) (tables : List TableBits) → FitDesign imp contents → AreTablesOf pair.imp_net contents tables
-    → TablesAgree p.spec p.imp tables ↔ ContentsAgree spec imp contents
+    → TablesAgree p.spec p.imp tables ↔ ContentsAgree care spec imp contents
 
--- and no tables agree exactly where no contents do
+-- and no tables agree, one for each kind, exactly where no contents do that may fill the boxes
 abbrev pub NoTablesNoContents : Type 0
-NoTablesNoContents = (spec imp : Design) (p : NetPair) → IsAllowed spec → IsAllowed imp → IsPairFor spec imp p → NoTablesAgree p.spec p.imp ↔ NoContentsAgree spec imp
+NoTablesNoContents = (care : Option (List ℕ)) (shared : Bool) (spec imp : Design) (p : NetPair) → IsAllowed spec → IsAllowed imp → IsPairFor care shared spec imp p → NoSharedTablesAgree p.spec p.imp p.kinds ↔ NoContentsAgree care shared spec imp
 
--- tables spell contents: at the path of each box these have the rows of its table
-abbrev pub AreSpelled : List BoxTexts → List TableBits → Contents → Type 0
-AreSpelled boxes tables contents = AllZip (λ box t. contents box.path ≡ rows_of t) boxes tables
+-- tables, one for each kind, spell contents: at the path of each box these have the rows of the table of its kind
+abbrev pub AreSpelled : List BoxTexts → List ℕ → List TableBits → Contents → Type 0
+AreSpelled boxes kinds tables contents = AllZip (λ box kind. contents box.path ≡ rows_of (table_at tables kind)) boxes kinds
 
 -- a table of a box, by the texts of its pins: it has a bit for each output in each row
 pub record IsTableOf (box : BoxTexts) (t : TableBits) : Type 0 where
@@ -64,25 +87,47 @@ pub record IsTableOf (box : BoxTexts) (t : TableBits) : Type 0 where
   pub outputs : t.outputs ≡ length box.outs
   pub whole : HasAllBits t
 
--- tables that fit the boxes of a pair are tables of these
+-- tables that fit the first boxes of all kinds of a pair are tables of these
 abbrev pub FittingTablesAreOfBoxes : Type 0
-FittingTablesAreOfBoxes = (p : NetPair) (tables : List TableBits) → IsPair p → FitBoxes tables p.imp.boxes → AllZip IsTableOf p.boxes tables
+FittingTablesAreOfBoxes = (p : NetPair) (tables : List TableBits) → IsPair p → FitBoxes tables (shown p.kinds p.imp.boxes) → AllZip IsTableOf (shown p.kinds p.boxes) tables
 
--- a pair that stands for two sound designs has the boxes of the implementation, in the order of their dependence
+-- a pair that stands for two sound designs has the boxes of the implementation, in the order of their dependence, each of the kind of its key
 abbrev pub PairsHaveBoxOrders : Type 0
-PairsHaveBoxOrders = (spec imp : Design) (p : NetPair) → IsAllowed imp → IsPairFor spec imp p
-    → (order : List Scope) × IsBoxOrder imp order × (p.boxes ≡ map (box_texts imp) order)
+PairsHaveBoxOrders = (care : Option (List ℕ)) (shared : Bool) (spec imp : Design) (p : NetPair) → IsAllowed imp → IsPairFor care shared spec imp p
+    → (order : List Scope) × IsBoxOrder imp order × (p.boxes ≡ map (box_texts imp) order) × AreKinds (map (box_key shared) p.boxes) p.kinds
 
--- tables that fit the boxes of a pair that stands for two sound designs spell contents that fit the implementation
+-- tables that fit the first boxes of all kinds of a pair that stands for two sound designs spell contents that may fill the implementation
 abbrev pub TablesSpellContents : Type 0
-TablesSpellContents = (spec imp : Design) (p : NetPair) → IsAllowed spec → IsAllowed imp → IsPairFor spec imp p → (tables : List TableBits) → FitBoxes tables p.imp.boxes
-    → (contents : Contents) × FitDesign imp contents × AreSpelled p.boxes tables contents
+TablesSpellContents = (care : Option (List ℕ)) (shared : Bool) (spec imp : Design) (p : NetPair) → IsAllowed spec → IsAllowed imp → IsPairFor care shared spec imp p → (tables : List TableBits) → FitBoxes tables (shown p.kinds p.imp.boxes)
+    → (contents : Contents) × MayFill shared imp contents × AreSpelled p.boxes p.kinds tables contents
 
 -- and where the tables agree, so do all contents that they spell
 abbrev pub SpelledContentsAgree : Type 0
-SpelledContentsAgree = (spec imp : Design) (p : NetPair) → IsAllowed spec → IsAllowed imp → IsPairFor spec imp p → (tables : List TableBits) → FitBoxes tables p.imp.boxes → TablesAgree p.spec p.imp tables
-    → (contents : Contents) → FitDesign imp contents → AreSpelled p.boxes tables contents → ContentsAgree spec imp contents
+SpelledContentsAgree = (care : Option (List ℕ)) (shared : Bool) (spec imp : Design) (p : NetPair) → IsAllowed spec → IsAllowed imp → IsPairFor care shared spec imp p → (tables : List TableBits) → FitBoxes tables (shown p.kinds p.imp.boxes)
+    → TablesAgree p.spec p.imp (spread p.kinds tables) → (contents : Contents) → FitDesign imp contents → AreSpelled p.boxes p.kinds tables contents → ContentsAgree care spec imp contents
+
+-- contents that fit may fill boxes that share nothing; shared contents are some of these, so that where no contents agree no shared ones do
+pub record SharingNarrows : Type 0 where
+  pub apart : (d : Design) (contents : Contents) → MayFill false d contents ↔ FitDesign d contents
+  pub less : (d : Design) (contents : Contents) → MayFill true d contents → MayFill false d contents
+  pub none : (care : Option (List ℕ)) (spec imp : Design) → NoContentsAgree care false spec imp → NoContentsAgree care true spec imp
+
+-- what is compared is the same at every vector, whether the care output is 1 there or not
+abbrev pub AgreeEverywhere : Option (List ℕ) → Design → Design → Contents → Type 0
+AgreeEverywhere care spec imp contents = (x : Vector) (w v : World) → IsWorld spec contents w → HasVector spec x w → IsWorld imp contents v → HasVector imp x v
+    → HaveSameBits care (outputs_in spec w) (outputs_in imp v)
+
+-- with a care output less is asked than agreement at every vector: the same where it is 1 in all worlds, nothing where it is 1 in none, and
+-- without one the two are the same
+pub record CareAsksForLess (spec imp : Design) (contents : Contents) : Type 0 where
+  pub less : (care : Option (List ℕ)) → AgreeEverywhere care spec imp contents → ContentsAgree care spec imp contents
+  pub always : (care : Option (List ℕ)) → ((x : Vector) (w : World) → IsWorld spec contents w → HasVector spec x w → IsAsked care (outputs_in spec w)) → ContentsAgree care spec imp contents → AgreeEverywhere care spec imp contents
+  pub never : (care : Option (List ℕ)) → ((x : Vector) (w : World) → IsWorld spec contents w → HasVector spec x w → IsAsked care (outputs_in spec w) → ⊥) → ContentsAgree care spec imp contents
+  pub without : ContentsAgree None spec imp contents ↔ AgreeEverywhere None spec imp contents
+
+abbrev pub CareOutputsAskForLess : Type 0
+CareOutputsAskForLess = (spec imp : Design) (contents : Contents) → CareAsksForLess spec imp contents
 
 -- a design agrees with itself, whatever fits its boxes
 abbrev pub DesignsAgreeWithThemselves : Type 0
-DesignsAgreeWithThemselves = (d : Design) (f : FlatNet) → IsAllowed d → StandsFor d f → IsFlat f → (contents : Contents) → FitDesign d contents → ContentsAgree d d contents
+DesignsAgreeWithThemselves = (care : Option (List ℕ)) (d : Design) (f : FlatNet) → IsAllowed d → StandsFor d f → IsFlat f → (contents : Contents) → FitDesign d contents → ContentsAgree care d d contents

@@ -2,3 +2,4 @@ pub mod DesignAgreement
 pub mod DesignFit
 pub mod Mistakes
 pub mod Laws
+pub mod Inside

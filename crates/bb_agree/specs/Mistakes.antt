@@ -1,7 +1,8 @@
 -- Vectors that show a mistake in two designs: whatever the boxes of the implementation contain, at such a vector the two give different
 -- bits, at the output that is told or, where none is told, at some output, which need not be the same one for all contents. A vector
 -- gives a bit to each bit of an input port of the top and to each register bit, which has it as its present state; an output is a bit
--- of an output port of the top, or what a register bit is to become.
+-- of an output port of the top, or what a register bit is to become. Where a care output is asked for, it is 1 at such a vector, and it
+-- is none of the outputs at which the two differ.
 use Rattle.std.specs.Prelude.{◌≡◌, ◌++◌, ℕ, Bool, not, List, map, Contains, Option, None, Some, slice_get}
 use Rattle.bb_bits.specs.Contents.{Contents}
 use Rattle.bb_net.specs.Agreement.{IsVector, IsOutput}
@@ -13,59 +14,62 @@ use Rattle.bb_design.specs.Hierarchy.{Design}
 use Rattle.bb_design.specs.Refusals.{input_texts, output_texts, register_texts}
 use Rattle.bb_design.specs.Worlds.{World, Vector, HasVector, IsWorld, FitDesign, outputs_in}
 use Rattle.bb_match.specs.Pairing.{input_text, output_name}
-use Rattle.bb_agree.specs.DesignAgreement.{IsPairFor, NoContentsAgree}
+use Rattle.bb_agree.specs.DesignAgreement.{IsAsked, IsCompared, IsPairFor, NoContentsAgree}
+use Rattle.bb_match.specs.Refusals.{compared}
 
--- the inputs and the outputs of a design, in net order: those of the top, and then the register bits
+-- the inputs of a design and the outputs that are compared, in net order: those of the top, and then the register bits
 abbrev pub inputs_of : Design → List CutInput
 inputs_of d = map TopInput (input_texts d) ++ map State (register_texts d)
 
-abbrev pub outputs_of : Design → List CutOutput
-outputs_of d = map TopOutput (output_texts d) ++ map NextState (register_texts d)
+abbrev pub outputs_of : Option (List ℕ) → Design → List CutOutput
+outputs_of care d = map TopOutput (compared care (output_texts d)) ++ map NextState (register_texts d)
 
--- in these worlds the implementation does not have the specification's bit at the output
-pub record DifferAt (spec imp : Design) (w v : World) (o : CutOutput) : Type 0 where
+-- the output is compared, and in these worlds the implementation does not have the specification's bit there
+pub record DifferAt (care : Option (List ℕ)) (spec imp : Design) (w v : World) (o : CutOutput) : Type 0 where
+  pub counts : IsCompared care o
   pub bit : Bool
   pub spec_has : Contains (outputs_in spec w) (o, bit)
   pub imp_has : Contains (outputs_in imp v) (o, not bit)
 
 -- at the output that is told; where none is told, at some output
-abbrev pub DifferAtTold : Design → Design → World → World → Option CutOutput → Type 0
-DifferAtTold spec imp w v (Some o) = DifferAt spec imp w v o
-DifferAtTold spec imp w v None = (o : CutOutput) × DifferAt spec imp w v o
+abbrev pub DifferAtTold : Option (List ℕ) → Design → Design → World → World → Option CutOutput → Type 0
+DifferAtTold care spec imp w v (Some o) = DifferAt care spec imp w v o
+DifferAtTold care spec imp w v None = (o : CutOutput) × DifferAt care spec imp w v o
 
 -- the design has a world with the vector
 abbrev pub HasWorld : Design → Contents → Vector → Type 0
 HasWorld d contents x = (w : World) × IsWorld d contents w × HasVector d x w
 
 -- the vector shows a mistake: for all contents that fit the boxes of the implementation, and some do, both designs have worlds with it,
--- and in all such worlds of the two they differ
-pub record IsMistakeAt (spec imp : Design) (x : Vector) (told : Option CutOutput) : Type 0 where
+-- and in all such worlds of the two agreement is asked and they differ
+pub record IsMistakeAt (care : Option (List ℕ)) (spec imp : Design) (x : Vector) (told : Option CutOutput) : Type 0 where
   pub fit : (contents : Contents) × FitDesign imp contents
   pub worlds : (contents : Contents) → FitDesign imp contents → HasWorld spec contents x × HasWorld imp contents x
+  pub asked : (contents : Contents) → FitDesign imp contents → (w : World) → IsWorld spec contents w → HasVector spec x w → IsAsked care (outputs_in spec w)
   pub differ : (contents : Contents) → FitDesign imp contents → (w v : World) → IsWorld spec contents w → HasVector spec x w → IsWorld imp contents v → HasVector imp x v
-      → DifferAtTold spec imp w v told
+      → DifferAtTold care spec imp w v told
 
 -- laws that a reader expects
 
 -- where an output of a pair that stands for two sound designs is wrong at a vector whatever the outputs of the boxes are, the vector of
 -- the designs with these bits shows a mistake at the output of the same number
 abbrev pub WrongOutputsAreMistakes : Type 0
-WrongOutputsAreMistakes = (spec imp : Design) (p : NetPair) → IsAllowed spec → IsAllowed imp → IsPairFor spec imp p → (xs : List Bool) (j : ℕ) → IsVector p.imp xs → IsOutput p.imp j → IsAlwaysWrong p.spec p.imp xs j
-    → (x : Vector) × (o : CutOutput) × (map x (inputs_of spec) ≡ xs) × (slice_get (outputs_of spec) j ≡ Some o) × IsMistakeAt spec imp x (Some o)
+WrongOutputsAreMistakes = (care : Option (List ℕ)) (shared : Bool) (spec imp : Design) (p : NetPair) → IsAllowed spec → IsAllowed imp → IsPairFor care shared spec imp p → (xs : List Bool) (j : ℕ) → IsVector p.imp xs → IsOutput p.imp j → IsAlwaysWrong p.spec p.imp xs j
+    → (x : Vector) × (o : CutOutput) × (map x (inputs_of spec) ≡ xs) × (slice_get (outputs_of care spec) j ≡ Some o) × IsMistakeAt care spec imp x (Some o)
 
 -- and where some output is wrong, it shows one
 abbrev pub WrongVectorsAreMistakes : Type 0
-WrongVectorsAreMistakes = (spec imp : Design) (p : NetPair) → IsAllowed spec → IsAllowed imp → IsPairFor spec imp p → (xs : List Bool) → IsVector p.imp xs → HasAlwaysWrong p.spec p.imp xs
-    → (x : Vector) × (map x (inputs_of spec) ≡ xs) × IsMistakeAt spec imp x None
+WrongVectorsAreMistakes = (care : Option (List ℕ)) (shared : Bool) (spec imp : Design) (p : NetPair) → IsAllowed spec → IsAllowed imp → IsPairFor care shared spec imp p → (xs : List Bool) → IsVector p.imp xs → HasAlwaysWrong p.spec p.imp xs
+    → (x : Vector) × (map x (inputs_of spec) ≡ xs) × IsMistakeAt care spec imp x None
 
--- in such a pair inputs and outputs have the names of those of the specification, in their order
-pub record IsNamedBy (spec : Design) (p : NetPair) : Type 0 where
+-- in such a pair inputs and outputs have the names of those of the specification that are compared, in their order
+pub record IsNamedBy (care : Option (List ℕ)) (spec : Design) (p : NetPair) : Type 0 where
   pub ins : p.ins ≡ map input_text (inputs_of spec)
-  pub outs : p.outs ≡ map output_name (outputs_of spec)
+  pub outs : p.outs ≡ map output_name (outputs_of care spec)
 
 abbrev pub PairsAreNamed : Type 0
-PairsAreNamed = (spec imp : Design) (p : NetPair) → IsPairFor spec imp p → IsNamedBy spec p
+PairsAreNamed = (care : Option (List ℕ)) (shared : Bool) (spec imp : Design) (p : NetPair) → IsPairFor care shared spec imp p → IsNamedBy care spec p
 
--- where a vector shows a mistake, no contents agree
+-- where a vector shows a mistake, no contents agree, whether boxes share theirs or not
 abbrev pub MistakesRefute : Type 0
-MistakesRefute = (spec imp : Design) (x : Vector) (told : Option CutOutput) → IsAllowed imp → IsMistakeAt spec imp x told → NoContentsAgree spec imp
+MistakesRefute = (care : Option (List ℕ)) (shared : Bool) (spec imp : Design) (x : Vector) (told : Option CutOutput) → IsAllowed imp → IsMistakeAt care spec imp x told → NoContentsAgree care shared spec imp

@@ -1,11 +1,14 @@
 //! Laws of what two texts have one of. Each function has a law as its contract and does nothing.
 
+ghost use Rattle.bb_agree.specs.Inside.LowerLaws.{LowerLaws};
 ghost use Rattle.bb_agree.specs.Laws.AlikePairs.{PairsForDesignsAreAlike};
-ghost use Rattle.bb_agree.specs.DesignAgreement.{DesignsAgreeWithThemselves, FittingTablesAreOfBoxes, NoTablesNoContents, PairsHaveBoxOrders, SpelledContentsAgree, TablesAgreeAsContents, TablesSpellContents};
+ghost use Rattle.bb_agree.specs.DesignAgreement.{CareOutputsAskForLess, DesignsAgreeWithThemselves, FittingTablesAreOfBoxes, NoTablesNoContents, PairsHaveBoxOrders, SharingNarrows, SpelledContentsAgree, TablesAgreeAsContents, TablesSpellContents};
 ghost use Rattle.bb_agree.specs.Laws.DesignRefusals.{DesignRefusalsAreOne, FitOrRefused, FittingDesignsHavePairs, NetsAreTakenAsDesigns, NotFitAndRefused, PairsStandExactlyForFitting};
 ghost use Rattle.bb_agree.specs.Mistakes.{MistakesRefute, PairsAreNamed, WrongOutputsAreMistakes, WrongVectorsAreMistakes};
 
 use bb_alike::laws::rearranged_stay_alike;
+use bb_bits::rows_are_tables;
+use bb_care::laws::{cared_are_right, cared_stay_alike};
 use bb_cells::list_laws::{
     standing_nets_are_flat, standing_nets_are_printable, standing_nets_exist,
     standing_nets_give_outputs,
@@ -16,43 +19,57 @@ use bb_cells::naming_laws::{
 };
 use bb_cells::table_laws::{contents_have_tables, tables_give_outputs, tables_have_contents};
 use bb_match::laws::{
-    causes_are_ranked, fitting_have_kept_pair, fitting_have_pair, fitting_nets_have_their_outputs,
-    flat_nets_have_cuts_apart,
+    causes_are_ranked, compared_are_the_others, fitting_have_kept_pair, fitting_have_pair,
+    fitting_nets_have_their_outputs, flat_nets_have_cuts_apart, pairs_are_kept, pairs_fit,
+    without_outputs_are_flat,
 };
-use bb_net::{keys_have_kinds, rearranged_keeps_values, value_goes_by_boxes};
+use bb_net::{
+    BoxName, BoxPins, keys_have_kinds, kinds_are_shown, rearranged_keeps_values, tables_are_spread,
+    value_goes_by_boxes,
+};
+
+// The laws of the crates below on which those of agreement rest.
+fn lower_laws()
+    ensures { LowerLaws }
+{
+    value_goes_by_boxes();
+    rearranged_keeps_values();
+    standing_nets_give_outputs();
+    tables_give_outputs();
+    contents_have_tables();
+    tables_have_contents();
+    flat_nets_have_cuts_apart();
+    fitting_nets_have_their_outputs();
+    compared_are_the_others();
+    without_outputs_are_flat();
+    pairs_are_kept();
+    cared_are_right();
+}
 
 /// Tables agree in a pair that stands for two sound designs exactly where the contents agree whose tables they are.
 pub fn tables_agree_as_contents()
     ensures { TablesAgreeAsContents }
 {
-    value_goes_by_boxes();
-    rearranged_keeps_values();
-    standing_nets_give_outputs();
-    tables_give_outputs();
-    contents_have_tables();
-    tables_have_contents();
-    flat_nets_have_cuts_apart();
-    fitting_nets_have_their_outputs();
+    lower_laws();
 }
 
-/// No tables agree in such a pair exactly where no contents do.
+/// No tables agree in such a pair, one for each kind, exactly where no contents do.
 pub fn no_tables_no_contents()
     ensures { NoTablesNoContents }
 {
-    value_goes_by_boxes();
-    rearranged_keeps_values();
-    standing_nets_give_outputs();
-    tables_give_outputs();
-    contents_have_tables();
-    tables_have_contents();
-    flat_nets_have_cuts_apart();
-    fitting_nets_have_their_outputs();
+    lower_laws();
+    rows_are_tables();
+    standing_nets_have_box_orders();
+    tables_are_spread();
 }
 
-/// Tables that fit the boxes of a pair are tables of these.
+/// Tables that fit the first boxes of all kinds of a pair are tables of these.
 pub fn fitting_tables_are_of_boxes()
     ensures { FittingTablesAreOfBoxes }
-{}
+{
+    kinds_are_shown::<BoxName>();
+    kinds_are_shown::<BoxPins>();
+}
 
 /// A pair that stands for two sound designs has the boxes of the implementation, in the order of their dependence.
 pub fn pairs_have_box_orders()
@@ -61,32 +78,24 @@ pub fn pairs_have_box_orders()
     standing_nets_have_box_orders();
 }
 
-/// Tables that fit the boxes of such a pair spell contents that fit the design.
+/// Tables that fit the first boxes of all kinds of such a pair spell contents that may fill the design.
 pub fn tables_spell_contents()
     ensures { TablesSpellContents }
 {
-    value_goes_by_boxes();
-    rearranged_keeps_values();
-    standing_nets_give_outputs();
-    tables_give_outputs();
-    contents_have_tables();
-    tables_have_contents();
-    flat_nets_have_cuts_apart();
-    fitting_nets_have_their_outputs();
+    lower_laws();
+    rows_are_tables();
+    standing_nets_have_box_orders();
+    tables_are_spread();
 }
 
 /// Where they agree, so do all contents that they spell.
 pub fn spelled_contents_agree()
     ensures { SpelledContentsAgree }
 {
-    value_goes_by_boxes();
-    rearranged_keeps_values();
-    standing_nets_give_outputs();
-    tables_give_outputs();
-    contents_have_tables();
-    tables_have_contents();
-    flat_nets_have_cuts_apart();
-    fitting_nets_have_their_outputs();
+    lower_laws();
+    rows_are_tables();
+    standing_nets_have_box_orders();
+    tables_are_spread();
 }
 
 /// Netlists that stand for two sound designs fit, and are refused, as these are.
@@ -123,6 +132,7 @@ pub fn pairs_stand_exactly_for_fitting()
     ensures { PairsStandExactlyForFitting }
 {
     nets_are_taken_as_designs();
+    pairs_fit();
     fitting_have_pair();
 }
 
@@ -137,18 +147,21 @@ pub fn fitting_designs_have_pairs()
     fitting_have_kept_pair();
 }
 
+/// Contents that fit may fill boxes that share nothing, and shared ones are some of these; where no contents agree no shared ones do.
+pub fn sharing_narrows()
+    ensures { SharingNarrows }
+{}
+
+/// With a care output less is asked than agreement at every vector.
+pub fn care_outputs_ask_for_less()
+    ensures { CareOutputsAskForLess }
+{}
+
 /// A design agrees with itself, whatever fits its boxes.
 pub fn designs_agree_with_themselves()
     ensures { DesignsAgreeWithThemselves }
 {
-    value_goes_by_boxes();
-    rearranged_keeps_values();
-    standing_nets_give_outputs();
-    tables_give_outputs();
-    contents_have_tables();
-    tables_have_contents();
-    flat_nets_have_cuts_apart();
-    fitting_nets_have_their_outputs();
+    lower_laws();
 }
 
 /// Pairs that stand for the same two sound designs are alike.
@@ -158,6 +171,9 @@ pub fn pairs_for_designs_are_alike()
     keys_have_kinds();
     rearranged_stay_alike();
     flat_nets_have_cuts_apart();
+    pairs_are_kept();
+    without_outputs_are_flat();
+    cared_stay_alike();
     standing_nets_are_named_alike();
     standing_nets_are_alike();
 }
@@ -166,34 +182,22 @@ pub fn pairs_for_designs_are_alike()
 pub fn wrong_outputs_are_mistakes()
     ensures { WrongOutputsAreMistakes }
 {
-    value_goes_by_boxes();
-    rearranged_keeps_values();
-    standing_nets_give_outputs();
-    tables_give_outputs();
-    contents_have_tables();
-    tables_have_contents();
-    flat_nets_have_cuts_apart();
-    fitting_nets_have_their_outputs();
+    lower_laws();
 }
 
 /// Where some output of it is wrong at a vector whatever the boxes give, that shows a mistake.
 pub fn wrong_vectors_are_mistakes()
     ensures { WrongVectorsAreMistakes }
 {
-    value_goes_by_boxes();
-    rearranged_keeps_values();
-    standing_nets_give_outputs();
-    tables_give_outputs();
-    contents_have_tables();
-    tables_have_contents();
-    flat_nets_have_cuts_apart();
-    fitting_nets_have_their_outputs();
+    lower_laws();
 }
 
-/// In such a pair inputs and outputs have the names of those of the specification.
+/// In such a pair inputs and outputs have the names of those of the specification that are compared.
 pub fn pairs_are_named()
     ensures { PairsAreNamed }
-{}
+{
+    compared_are_the_others();
+}
 
 /// Where a vector shows a mistake, no contents agree.
 pub fn mistakes_refute()

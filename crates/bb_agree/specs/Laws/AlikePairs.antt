@@ -1,4 +1,5 @@
 -- Pairs of the same designs.
+use Rattle.std.specs.Prelude.{ℕ, Bool, List, Option}
 use Rattle.bb_net.specs.Pairs.{NetPair}
 use Rattle.bb_alike.specs.Laws.Alike.{ArePairsAlike}
 use Rattle.bb_design.specs.Hierarchy.{Design}
@@ -7,4 +8,4 @@ use Rattle.bb_agree.specs.DesignAgreement.{IsPairFor}
 
 -- pairs that stand for the same two sound designs are alike
 abbrev pub PairsForDesignsAreAlike : Type 0
-PairsForDesignsAreAlike = (spec imp : Design) (p q : NetPair) → IsAllowed spec → IsAllowed imp → IsPairFor spec imp p → IsPairFor spec imp q → ArePairsAlike p q
+PairsForDesignsAreAlike = (care : Option (List ℕ)) (shared : Bool) (spec imp : Design) (p q : NetPair) → IsAllowed spec → IsAllowed imp → IsPairFor care shared spec imp p → IsPairFor care shared spec imp q → ArePairsAlike p q

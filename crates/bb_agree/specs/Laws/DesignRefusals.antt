@@ -1,6 +1,6 @@
 -- Laws of fit and refusal: two designs fit or have a first refusal, and not both; flat netlists that stand for them are refused alike,
 -- so that a pair stands for two designs exactly where these fit.
-use Rattle.std.specs.Prelude.{◌≡◌, ◌⊎◌, ◌↔◌}
+use Rattle.std.specs.Prelude.{◌≡◌, ◌⊎◌, ◌↔◌, ℕ, Bool, List, Option}
 use Rattle.bb_net.specs.Pairs.{NetPair}
 use Rattle.bb_net.specs.Flats.{FlatNet, IsFlat}
 use Rattle.bb_design.specs.Hierarchy.{Design}
@@ -18,33 +18,33 @@ pub record AreNetsFor (spec imp : Design) (f g : FlatNet) : Type 0 where
   pub imp_stands : StandsFor imp g
 
 -- netlists fit as the designs do for which they stand, and are refused as these are
-pub record AreTakenAlike (spec imp : Design) (f g : FlatNet) : Type 0 where
-  pub fit : Fit f g ↔ DesignsFit spec imp
-  pub refused : (fault : MatchFault) → IsFirstRefusal f g fault ↔ IsRefusalFor spec imp fault
+pub record AreTakenAlike (care : Option (List ℕ)) (spec imp : Design) (f g : FlatNet) : Type 0 where
+  pub fit : Fit care f g ↔ DesignsFit care spec imp
+  pub refused : (fault : MatchFault) → IsFirstRefusal care f g fault ↔ IsRefusalFor care spec imp fault
 
 abbrev pub NetsAreTakenAsDesigns : Type 0
-NetsAreTakenAsDesigns = (spec imp : Design) (f g : FlatNet) → IsAllowed spec → IsAllowed imp → AreNetsFor spec imp f g → AreTakenAlike spec imp f g
+NetsAreTakenAsDesigns = (care : Option (List ℕ)) (spec imp : Design) (f g : FlatNet) → IsAllowed spec → IsAllowed imp → AreNetsFor spec imp f g → AreTakenAlike care spec imp f g
 
 -- two designs have one first refusal at most
 abbrev pub DesignRefusalsAreOne : Type 0
-DesignRefusalsAreOne = (spec imp : Design) (e f : MatchFault) → IsRefusalFor spec imp e → IsRefusalFor spec imp f → e ≡ f
+DesignRefusalsAreOne = (care : Option (List ℕ)) (spec imp : Design) (e f : MatchFault) → IsRefusalFor care spec imp e → IsRefusalFor care spec imp f → e ≡ f
 
 -- and do not fit where they have one
 abbrev pub NotFitAndRefused : Type 0
-NotFitAndRefused = (spec imp : Design) (fault : MatchFault) → DesignsFit spec imp → IsRefusalFor spec imp fault → ⊥
+NotFitAndRefused = (care : Option (List ℕ)) (spec imp : Design) (fault : MatchFault) → DesignsFit care spec imp → IsRefusalFor care spec imp fault → ⊥
 
 -- two designs, of which the specification is sound, fit or have a first refusal
 abbrev pub FitOrRefused : Type 0
-FitOrRefused = (spec imp : Design) → IsAllowed spec → DesignsFit spec imp ⊎ ((fault : MatchFault) × IsRefusalFor spec imp fault)
+FitOrRefused = (care : Option (List ℕ)) (spec imp : Design) → IsAllowed spec → DesignsFit care spec imp ⊎ ((fault : MatchFault) × IsRefusalFor care spec imp fault)
 
 -- a pair stands for designs that fit alone, and where they do the pair of flat netlists that stand for them does
-pub record PairsStandForFitting (spec imp : Design) : Type 0 where
-  pub fit : (p : NetPair) → IsPairFor spec imp p → DesignsFit spec imp
-  pub pair : DesignsFit spec imp → (f g : FlatNet) → AreNetsFor spec imp f g → IsFlat f → IsFlat g → (p : NetPair) × IsPairOf f g p
+pub record PairsStandForFitting (care : Option (List ℕ)) (shared : Bool) (spec imp : Design) : Type 0 where
+  pub fit : (p : NetPair) → IsPairFor care shared spec imp p → DesignsFit care spec imp
+  pub pair : DesignsFit care spec imp → (f g : FlatNet) → AreNetsFor spec imp f g → IsFlat f → IsFlat g → (p : NetPair) × IsPairOf care shared f g p
 
 abbrev pub PairsStandExactlyForFitting : Type 0
-PairsStandExactlyForFitting = (spec imp : Design) → IsAllowed spec → IsAllowed imp → PairsStandForFitting spec imp
+PairsStandExactlyForFitting = (care : Option (List ℕ)) (shared : Bool) (spec imp : Design) → IsAllowed spec → IsAllowed imp → PairsStandForFitting care shared spec imp
 
 -- and two sound designs that fit have a pair
 abbrev pub FittingDesignsHavePairs : Type 0
-FittingDesignsHavePairs = (spec imp : Design) → IsAllowed spec → IsAllowed imp → DesignsFit spec imp → (p : NetPair) × IsPairFor spec imp p
+FittingDesignsHavePairs = (care : Option (List ℕ)) (shared : Bool) (spec imp : Design) → IsAllowed spec → IsAllowed imp → DesignsFit care spec imp → (p : NetPair) × IsPairFor care shared spec imp p

@@ -1,4 +1,4 @@
-use Rattle.bb_agree.proofs.DesignPairs.{fitting_designs_have_pairs}
+use Rattle.bb_agree.proofs.FittingPairs.{fitting_designs_have_pairs}
 use Rattle.bb_agree.proofs.laws.fitting_designs_have_pairs.Goals as goal
 
 pub returns : goal.returns

@@ -3,12 +3,11 @@ use Rattle.bb_agree.proofs.laws.tables_spell_contents.Goals as goal
 
 pub returns : goal.returns
 returns c = tables_spell_contents (record {
-  by_boxes = c.value_goes_by_boxes.ensures;
-  rearranged = c.rearranged_keeps_values.ensures;
-  worlds = c.standing_nets_give_outputs.ensures;
-  outputs = c.tables_give_outputs.ensures;
-  tables = c.contents_have_tables.ensures;
-  contents = c.tables_have_contents.ensures;
-  apart = c.flat_nets_have_cuts_apart.ensures;
-  among = c.fitting_nets_have_their_outputs.ensures;
+  laws = c.lower_laws.ensures;
+  orders = c.standing_nets_have_box_orders.ensures;
+  fixed = c.rows_are_tables.ensures.unique;
+  fit = c.tables_are_spread.ensures.fit;
+  shown_fit = c.tables_are_spread.ensures.shown;
+  back = c.tables_are_spread.ensures.back;
+  at = c.tables_are_spread.ensures.at;
 })

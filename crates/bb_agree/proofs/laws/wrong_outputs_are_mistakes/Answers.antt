@@ -2,13 +2,4 @@ use Rattle.bb_agree.proofs.Mistakes.{wrong_outputs_are_mistakes}
 use Rattle.bb_agree.proofs.laws.wrong_outputs_are_mistakes.Goals as goal
 
 pub returns : goal.returns
-returns c = wrong_outputs_are_mistakes (record {
-  by_boxes = c.value_goes_by_boxes.ensures;
-  rearranged = c.rearranged_keeps_values.ensures;
-  worlds = c.standing_nets_give_outputs.ensures;
-  outputs = c.tables_give_outputs.ensures;
-  tables = c.contents_have_tables.ensures;
-  contents = c.tables_have_contents.ensures;
-  apart = c.flat_nets_have_cuts_apart.ensures;
-  among = c.fitting_nets_have_their_outputs.ensures;
-})
+returns c = wrong_outputs_are_mistakes c.lower_laws.ensures
