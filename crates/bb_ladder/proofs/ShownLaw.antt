@@ -5,7 +5,7 @@ use Rattle.std.proofs.lemmas.List.{get_or-map}
 use Rattle.std.proofs.lemmas.List.Elements.{All-weaker}
 use Rattle.std.proofs.lemmas.Option.{get_or_from_slice_get, slice_get_within}
 use Rattle.bb_agree.specs.DesignAgreement.{IsPairFor}
-use Rattle.bb_agree.specs.Mistakes.{inputs_of, outputs_of, IsMistakeAt, PairsAreNamed, WrongOutputsAreMistakes, WrongVectorsAreMistakes}
+use Rattle.bb_agree.specs.Mistakes.{inputs_of, outputs_of, IsMistakeAt, MistakesRefute, PairsAreNamed, WrongOutputsAreMistakes, WrongVectorsAreMistakes}
 use Rattle.bb_design.specs.Inside.Allowed.{IsAllowed}
 use Rattle.bb_design.specs.Hierarchy.{Design}
 use Rattle.bb_design.specs.Worlds.{Vector}
@@ -22,7 +22,7 @@ use Rattle.bb_rungs.specs.declared.line.Said.TheVariants.{Error, Nothing, Repair
 use Rattle.bb_rungs.specs.Reports.{input_line, output_line, told_output}
 use Rattle.bb_rungs.specs.Laws.ShownVectors.{FoundVectorsAreMistakes, IsWrongAt, SaidIsMistake}
 use Rattle.bb_ladder.specs.declared.asked.Asked.{Asked}
-use Rattle.bb_ladder.specs.ShownMistakes.{shown_text, SaidShows, ShowsMistake, AreShown, ErrorsAreShown}
+use Rattle.bb_ladder.specs.ShownMistakes.{shown_text, SaidShows, ShowsMistake, AreShown, ErrorsAreShown, ShownMistakesRefute}
 use Rattle.bb_ladder.specs.TextAnswers.{Judges, Refused, Judged}
 use Rattle.bb_ladder.specs.TextPairs.{DesignsAreAllowed}
 
@@ -31,26 +31,26 @@ abbrev no_name : OutName
 no_name = record { next = false; text = [] }
 
 module _ (at_outputs : WrongOutputsAreMistakes) (at_vectors : WrongVectorsAreMistakes) (named : PairsAreNamed)
-    (s i : Design) (p : NetPair) (s_allowed : IsAllowed s) (i_allowed : IsAllowed i) (pair : IsPairFor s i p) (o : Options) where
+    (care : Option (List ℕ)) (one : Bool) (s i : Design) (p : NetPair) (s_allowed : IsAllowed s) (i_allowed : IsAllowed i) (pair : IsPairFor care one s i p) (o : Options) where
   abbrev IsShown : List Bool → Option ℕ → Type 0
-  IsShown bits j = (x : Vector) × (told : Option CutOutput) × IsMistakeAt s i x told × (told_output p.outs j ++ input_line p.ins bits ≡ shown_text s x told)
+  IsShown bits j = (x : Vector) × (told : Option CutOutput) × IsMistakeAt care s i x told × (told_output p.outs j ++ input_line p.ins bits ≡ shown_text s x told)
 
   inputs_shown : (x : Vector) (bits : List Bool) → map x (inputs_of s) ≡ bits → input_line p.ins bits ≡ input_line (map input_text (inputs_of s)) (map x (inputs_of s))
-  inputs_shown x bits same = ap₂ input_line (named s i p pair).ins (sym same)
+  inputs_shown x bits same = ap₂ input_line (named care one s i p pair).ins (sym same)
 
-  output_shown : (j : ℕ) (out : CutOutput) → slice_get (outputs_of s) j ≡ Some out → told_output p.outs (Some j) ≡ output_line (output_name out)
-  output_shown j out at = ap output_line (ap (λ names. slice_index_or names j no_name) (named s i p pair).outs
-      ∙ get_or-map output_name (outputs_of s) j out no_name (slice_get_within (outputs_of s) j out at) ∙ ap output_name (get_or_from_slice_get (outputs_of s) j out out at))
+  output_shown : (j : ℕ) (out : CutOutput) → slice_get (outputs_of care s) j ≡ Some out → told_output p.outs (Some j) ≡ output_line (output_name out)
+  output_shown j out at = ap output_line (ap (λ names. slice_index_or names j no_name) (named care one s i p pair).outs
+      ∙ get_or-map output_name (outputs_of care s) j out no_name (slice_get_within (outputs_of care s) j out at) ∙ ap output_name (get_or_from_slice_get (outputs_of care s) j out out at))
 
   vector_shown : (bits : List Bool) (j : Option ℕ) → IsVector p.imp bits → IsWrongAt p bits j → IsShown bits j
   vector_shown bits None vector wrong =
-      let (x, same, mistake) = at_vectors s i p s_allowed i_allowed pair bits vector wrong in
+      let (x, same, mistake) = at_vectors care one s i p s_allowed i_allowed pair bits vector wrong in
       (x, None, mistake, inputs_shown x bits same)
   vector_shown bits (Some j) vector (there, wrong) =
-      let (x, out, same, at, mistake) = at_outputs s i p s_allowed i_allowed pair bits j vector there wrong in
+      let (x, out, same, at, mistake) = at_outputs care one s i p s_allowed i_allowed pair bits j vector there wrong in
       (x, Some out, mistake, ap₂ ◌++◌ (output_shown j out at) (inputs_shown x bits same))
 
-  said_shown : (said : Said) → SaidIsMistake p said → SaidShows s i p o said
+  said_shown : (said : Said) → SaidIsMistake p said → SaidShows care s i p o said
   said_shown (Error (evidence.Vector found)) mistake = vector_shown found.input.items found.output mistake.vector mistake.wrong
   said_shown (Error evidence.NoChoices) mistake = tt
   said_shown (Error (evidence.Refutation proof)) mistake = tt
@@ -63,7 +63,7 @@ module _ (at_outputs : WrongOutputsAreMistakes) (at_vectors : WrongVectorsAreMis
 pub errors_are_shown : DesignsAreAllowed → FoundVectorsAreMistakes → WrongOutputsAreMistakes → WrongVectorsAreMistakes → PairsAreNamed → ErrorsAreShown
 errors_are_shown allowed found at_outputs at_vectors named asked spec imp status text (Refused r is two t) one = absurd (omega (arith, two, one))
 errors_are_shown allowed found at_outputs at_vectors named asked spec imp status text (Judged p lines (s, i, are, for) climb same t) one =
-    let shown = said_shown at_outputs at_vectors named s i p (allowed asked.spec_top spec s are.spec_design) (allowed asked.imp_top imp i are.imp_design) for asked.options in
+    let shown = said_shown at_outputs at_vectors named asked.care asked.options.shared s i p (allowed asked.spec_top spec s are.spec_design) (allowed asked.imp_top imp i are.imp_design) for asked.options in
     record {
       s = s;
       i = i;
@@ -73,5 +73,8 @@ errors_are_shown allowed found at_outputs at_vectors named asked spec imp status
       lines = lines;
       climb = climb;
       whole = t;
-      shown = All-weaker (λ (line : Line). SaidIsMistake p line.said) (ShowsMistake s i p asked.options) (λ (line : Line). shown line.said) lines (found p asked.options lines climb);
+      shown = All-weaker (λ (line : Line). SaidIsMistake p line.said) (ShowsMistake asked.care s i p asked.options) (λ (line : Line). shown line.said) lines (found p asked.options lines climb);
     }
+
+pub shown_mistakes_refute : MistakesRefute → ShownMistakesRefute
+shown_mistakes_refute refute care shared s i p o found allowed shown = refute care shared s i shown.0 shown.1 allowed shown.2

@@ -20,10 +20,10 @@ texts_are_judged allowed either fit pairs climbs asked spec imp bounds provable 
         let designs : AreDesignsOf asked spec imp s.0 i.0 = record { spec_design = s.1; imp_design = i.1 } in
         let good = allowed asked.spec_top spec s.0 s.1 in
         let also = allowed asked.imp_top imp i.0 i.1 in
-        elim (fit s.0 i.0 good) [
+        elim (fit asked.care s.0 i.0 good) [
           | inr fault ↦ refused (Pair fault.0) (s.0, i.0, designs, fault.1)
           | inl fits ↦
-              let p = pairs s.0 i.0 good also fits in
+              let p = pairs asked.care asked.options.shared s.0 i.0 good also fits in
               let stands : StandsForTexts asked spec imp p.0 = (s.0, i.0, designs, p.1) in
               let lines = climbs p.0 asked.options p.1.kept bounds (provable p.0 stands) in
               (status_of (verdict_of lines.0), report_text p.0 asked.options lines.0, Judged p.0 lines.0 stands lines.1 refl refl)

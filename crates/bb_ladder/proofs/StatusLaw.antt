@@ -10,20 +10,20 @@ use Rattle.bb_rungs.specs.Reports.{status_of, verdict_of}
 use Rattle.bb_ladder.specs.declared.asked.Asked.{Asked}
 use Rattle.bb_ladder.specs.TextAnswers.{Judges, Refused, Judged, ErrorsRefute, RepairsFinish, OpenAnswersLeaveOpen, StayingOpenAreAnswered, AnswersMayDependOnSearch, StatusesAreOne, StatusesNeverClash, ReportsAreOne, ReportsBeginAsOne}
 use Rattle.bb_texts.specs.TextDesigns.{TextDesignsAreOne}
-use Rattle.bb_ladder.specs.TextPairs.{AreFinished, AreRefuted, AreLeftOpen, AreStayingOpen, NotPairAndRefusal, TextPairsAreAlike}
+use Rattle.bb_ladder.specs.TextPairs.{AreFinished, AreRefuted, AreLeftOpen, AreStayingOpen, NotFinishedAndRefuted, NotPairAndRefusal, TextPairsAreAlike}
 use Rattle.bb_ladder.proofs.TextPairLaws.{is_pair}
 
 -- no two texts are both finished and refuted
-not_both : TextDesignsAreOne → (asked : Asked) (spec imp text : List ℕ) → AreFinished asked spec imp text → AreRefuted asked spec imp → ⊥
-not_both one asked spec imp text finished (s, i, are, stands, none) =
+pub not_finished_and_refuted : TextDesignsAreOne → NotFinishedAndRefuted
+not_finished_and_refuted one asked spec imp text finished (s, i, are, stands, none) =
     let left : s ≡ finished.s = one asked.spec_top spec s finished.s are.spec_design finished.designs.spec_design in
     let right : i ≡ finished.i = one asked.imp_top imp i finished.i are.imp_design finished.designs.imp_design in
-    let refuted = subst (λ z. NoContentsAgree z finished.i) left (subst (λ z. NoContentsAgree s z) right none) in
+    let refuted = subst (λ z. NoContentsAgree asked.care asked.options.shared z finished.i) left (subst (λ z. NoContentsAgree asked.care asked.options.shared s z) right none) in
     let c = finished.contents in
-    refuted c.0 c.1 (finished.agree c.0 c.1 c.2)
+    refuted c.0 c.1 (finished.agree c.0 c.1.fit c.2)
 
 pub statuses_never_clash : TextDesignsAreOne → RepairsFinish → ErrorsRefute → StatusesNeverClash
-statuses_never_clash one finish refute asked spec imp status other text told a b zero is_one = not_both one asked spec imp text (finish asked spec imp status text a zero) (refute asked spec imp other told b is_one)
+statuses_never_clash one finish refute asked spec imp status other text told a b zero is_one = not_finished_and_refuted one asked spec imp text (finish asked spec imp status text a zero) (refute asked spec imp other told b is_one)
 
 -- where they are left open, the answer does not depend on the search
 abbrev IsFixed : Asked → List ℕ → List ℕ → Type 0

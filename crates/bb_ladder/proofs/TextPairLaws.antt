@@ -1,5 +1,5 @@
 -- Two texts have one first refusal at most, and none where a pair stands for them; and what an answer says of the texts.
-use Rattle.std.proofs.Common.{◌≡◌, ◌⊎◌, ℕ, Bool, true, false, if◌then◌else◌, List, refl, sym, ap, subst, ◌∙◌, arith, inl, inr}
+use Rattle.std.proofs.Common.{◌≡◌, ◌⊎◌, ℕ, Bool, true, false, if◌then◌else◌, List, map, refl, sym, ap, subst, ◌∙◌, arith, inl, inr}
 use Rattle.std.specs.List.{AllZip, list_any}
 use Rattle.std.specs.Prelude.{Result, Ok, Err, IfOk, IfErr, MatchResult}
 use Rattle.std.proofs.lemmas.List.Elements.{All-weaker}
@@ -15,7 +15,8 @@ use Rattle.bb_agree.specs.DesignAgreement.{AreSpelled, FittingTablesAreOfBoxes, 
 use Rattle.bb_agree.specs.DesignFit.{IsRefusalFor}
 use Rattle.bb_agree.specs.Laws.DesignRefusals.{DesignRefusalsAreOne, NetsAreTakenAsDesigns, NotFitAndRefused, PairsStandExactlyForFitting}
 use Rattle.bb_match.specs.Refusals.{IsFirstRefusal}
-use Rattle.bb_net.specs.Pairs.{NetPair, IsPair}
+use Rattle.bb_net.specs.Kinds.{AreKinds, shown}
+use Rattle.bb_net.specs.Pairs.{NetPair, IsPair, box_key}
 use Rattle.bb_parse.specs.Laws.{SourcesAreFormed}
 use Rattle.bb_rungs.specs.Laws.AlikePairs.{AlikePairsAreLeftOpen, AlikePairsStayOpen, AlikePairsAreDecided}
 use Rattle.bb_rungs.specs.declared.line.Line.{Line}
@@ -74,19 +75,20 @@ pub with_spec : (asked : Asked) (spec imp : List ℕ) (r : Refusal) (s : Design)
 with_spec asked spec imp r s is (inl none) = inl none
 with_spec asked spec imp r s is (inr each) = inr (each spec s is)
 
-module _ (allowed : DesignsAreAllowed) (taken : NetsAreTakenAsDesigns) (f g : FlatNet) where
+module _ (allowed : DesignsAreAllowed) (taken : NetsAreTakenAsDesigns) (asked : Asked) (f g : FlatNet) where
   abbrev pub IsTextRefusal : Refusal → Type 0
-  IsTextRefusal r = (asked : Asked) (spec imp : List ℕ) (s i : Design) → AreDesignsOf asked spec imp s i → StandsFor s f → StandsFor i g → IsRefusal asked spec imp r
+  IsTextRefusal r = (spec imp : List ℕ) (s i : Design) → AreDesignsOf asked spec imp s i → StandsFor s f → StandsFor i g → IsRefusal asked spec imp r
 
-  refused_for : (fault : MatchFault) → IsFirstRefusal f g fault → IsTextRefusal (Pair fault)
-  refused_for fault is asked spec imp s i are x y =
+  refused_for : (fault : MatchFault) → IsFirstRefusal asked.care f g fault → IsTextRefusal (Pair fault)
+  refused_for fault is spec imp s i are x y =
       let good = allowed asked.spec_top spec s are.spec_design in
       let also = allowed asked.imp_top imp i are.imp_design in
-      (s, i, are, ((taken s i f g good also (record { spec_stands = x; imp_stands = y })).refused fault).0 is)
+      (s, i, are, ((taken asked.care s i f g good also (record { spec_stands = x; imp_stands = y })).refused fault).0 is)
 
-  pub pair_refused : (fault : MatchFault) → (fault ≡ pair.NoMemory) ⊎ IsFirstRefusal f g fault → (of_pair fault ≡ NoMemory) ⊎ IsTextRefusal (of_pair fault)
+  pub pair_refused : (fault : MatchFault) → (fault ≡ pair.NoMemory) ⊎ IsFirstRefusal asked.care f g fault → (of_pair fault ≡ NoMemory) ⊎ IsTextRefusal (of_pair fault)
   pair_refused fault (inl none) = inl (ap of_pair none)
   pair_refused (pair.SpecBox n) (inr is) = inr (refused_for (pair.SpecBox n) is)
+  pair_refused (pair.NoCare n) (inr is) = inr (refused_for (pair.NoCare n) is)
   pair_refused (pair.PortDiffers n) (inr is) = inr (refused_for (pair.PortDiffers n) is)
   pair_refused (pair.RegDiffers n) (inr is) = inr (refused_for (pair.RegDiffers n) is)
   pair_refused (pair.ClockNotInput n) (inr is) = inr (refused_for (pair.ClockNotInput n) is)
@@ -102,8 +104,8 @@ module _ (allowed : DesignsAreAllowed) (one_design : TextDesignsAreOne) (no_faul
     pair_one asked spec imp e f (s, i, are, is) (t, j, be, also) =
         let left : t ≡ s = one_design asked.spec_top spec t s be.spec_design are.spec_design in
         let right : j ≡ i = one_design asked.imp_top imp j i be.imp_design are.imp_design in
-        one_refusal s i e f is
-        (subst (λ z. IsRefusalFor z i f) left (subst (λ z. IsRefusalFor t z f) right also))
+        one_refusal asked.care s i e f is
+        (subst (λ z. IsRefusalFor asked.care z i f) left (subst (λ z. IsRefusalFor asked.care t z f) right also))
 
     pub refusals_are_one : RefusalsAreOne
     refusals_are_one asked spec imp (Spec e) (Spec f) is also = ap Spec (one_fault asked.spec_top spec e f is also)
@@ -127,8 +129,8 @@ module _ (allowed : DesignsAreAllowed) (one_design : TextDesignsAreOne) (no_faul
     no_pair_and_refusal asked spec imp p (Pair e) (s, i, are, for) (t, j, be, is) =
         let left : t ≡ s = one_design asked.spec_top spec t s be.spec_design are.spec_design in
         let right : j ≡ i = one_design asked.imp_top imp j i be.imp_design are.imp_design in
-        apart s i e ((exactly s i (allowed asked.spec_top spec s are.spec_design) (allowed asked.imp_top imp i are.imp_design)).fit p for)
-        (subst (λ z. IsRefusalFor z i e) left (subst (λ z. IsRefusalFor t z e) right is))
+        apart asked.care s i e ((exactly asked.care asked.options.shared s i (allowed asked.spec_top spec s are.spec_design) (allowed asked.imp_top imp i are.imp_design)).fit p for)
+        (subst (λ z. IsRefusalFor asked.care z i e) left (subst (λ z. IsRefusalFor asked.care t z e) right is))
     no_pair_and_refusal asked spec imp p NoMemory stands is = is
 
 -- pairs of two texts are pairs of the same designs
@@ -137,8 +139,8 @@ pub text_pairs_are_alike : DesignsAreAllowed → TextDesignsAreOne → PairsForD
 text_pairs_are_alike allowed one_design law asked spec imp p q (s, i, are, for) (t, j, be, also) =
     let left : t ≡ s = one_design asked.spec_top spec t s be.spec_design are.spec_design in
     let right : j ≡ i = one_design asked.imp_top imp j i be.imp_design are.imp_design in
-    law s i p q (allowed asked.spec_top spec s are.spec_design) (allowed asked.imp_top imp i are.imp_design) for
-    (subst (λ z. IsPairFor z i q) left (subst (λ z. IsPairFor t z q) right also))
+    law asked.care asked.options.shared s i p q (allowed asked.spec_top spec s are.spec_design) (allowed asked.imp_top imp i are.imp_design) for
+    (subst (λ z. IsPairFor asked.care asked.options.shared z i q) left (subst (λ z. IsPairFor asked.care asked.options.shared t z q) right also))
 
 -- what fails fails by the first refusal
 
@@ -161,7 +163,7 @@ module _ (one : RefusalsAreOne) (apart : NotPairAndRefusal) (asked : Asked) (spe
 
 -- the answer to two texts
 
-pub stands_for_texts : (asked : Asked) (spec imp : List ℕ) (s i : Design) → IsDesignOf asked.spec_top spec s → IsDesignOf asked.imp_top imp i → (p : NetPair) → IsPairFor s i p → StandsForTexts asked spec imp p
+pub stands_for_texts : (asked : Asked) (spec imp : List ℕ) (s i : Design) → IsDesignOf asked.spec_top spec s → IsDesignOf asked.imp_top imp i → (p : NetPair) → IsPairFor asked.care asked.options.shared s i p → StandsForTexts asked spec imp p
 stands_for_texts asked spec imp s i x y p for = (s, i, record { spec_design = x; imp_design = y }, for)
 
 pub judged : {E : Type 0} (asked : Asked) (spec imp : List ℕ) (p : NetPair) → StandsForTexts asked spec imp p → (result : Result Answer E)
@@ -210,20 +212,23 @@ repairs_finish allowed repairs spell agree exactly have_orders of_boxes asked sp
     let (tables, complete, ends) = repairs p asked.options lines for.kept climb (is_repairable (verdict_of lines) (sym same ∙ zero)) in
     let s_allowed = allowed asked.spec_top spec s are.spec_design in
     let i_allowed = allowed asked.imp_top imp i are.imp_design in
-    let boxes = have_orders s i p i_allowed for in
-    let spelled = spell s i p s_allowed i_allowed for tables complete.fit in
+    let shared = asked.options.shared in
+    let boxes = have_orders asked.care shared s i p i_allowed for in
+    let spelled = spell asked.care shared s i p s_allowed i_allowed for tables complete.fit in
     record {
       s = s;
       i = i;
       designs = are;
-      fit = (exactly s i s_allowed i_allowed).fit p for;
+      fit = (exactly asked.care shared s i s_allowed i_allowed).fit p for;
       order = boxes.0;
       ordered = boxes.1;
+      kinds = p.kinds;
+      keyed = subst (λ l. AreKinds (map (box_key shared) l) p.kinds) boxes.2 boxes.3;
       tables = tables;
-      shapes = subst (λ l. AllZip IsTableOf l tables) boxes.2 (of_boxes p tables for.kept complete.fit);
-      lines = subst (λ l. EndsWithTables l text tables) boxes.2 (subst (λ z. EndsWithTables p.boxes z tables) (sym t) ends);
-      contents = (spelled.0, spelled.1, subst (λ l. AreSpelled l tables spelled.0) boxes.2 spelled.2);
-      agree = λ contents fits spells. agree s i p s_allowed i_allowed for tables complete.fit complete.agree contents fits (subst (λ l. AreSpelled l tables contents) (sym boxes.2) spells);
+      shapes = subst (λ l. AllZip IsTableOf (shown p.kinds l) tables) boxes.2 (of_boxes p tables for.kept complete.fit);
+      lines = subst (λ l. EndsWithTables shared (shown p.kinds l) text tables) boxes.2 (subst (λ z. EndsWithTables shared (shown p.kinds p.boxes) z tables) (sym t) ends);
+      contents = (spelled.0, spelled.1, subst (λ l. AreSpelled l p.kinds tables spelled.0) boxes.2 spelled.2);
+      agree = λ contents fits spells. agree asked.care shared s i p s_allowed i_allowed for tables complete.fit complete.agree contents fits (subst (λ l. AreSpelled l p.kinds tables contents) (sym boxes.2) spells);
     }
 
 pub errors_refute : DesignsAreAllowed → ErrorsExcludeTables → NoTablesNoContents → PairsStandExactlyForFitting → ErrorsRefute
@@ -232,7 +237,7 @@ errors_refute allowed excludes exactly fitting asked spec imp status text (Judge
     let none = excludes p asked.options lines for.kept climb (status_error lines (sym same ∙ one)) in
     let good = allowed asked.spec_top spec s are.spec_design in
     let also = allowed asked.imp_top imp i are.imp_design in
-    (s, i, are, (fitting s i good also).fit p for, (exactly s i p good also for).0 none)
+    (s, i, are, (fitting asked.care asked.options.shared s i good also).fit p for, (exactly asked.care asked.options.shared s i p good also for).0 none)
 
 pub is_pair : (asked : Asked) (spec imp : List ℕ) (p : NetPair) → StandsForTexts asked spec imp p → IsPair p
 is_pair asked spec imp p (s, i, are, for) = for.kept

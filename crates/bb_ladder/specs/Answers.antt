@@ -19,7 +19,7 @@ pub record Question : Type 0 where
   pub asked : TextsAsked
 
 abbrev pub question : Request → Question
-question r = record { spec = r.spec; imp = r.imp; asked = record { spec_top = r.top_spec; imp_top = r.top_imp; options = r.options } }
+question r = record { spec = r.spec; imp = r.imp; asked = record { spec_top = r.top_spec; imp_top = r.top_imp; care = r.care; options = r.options } }
 
 -- words that do not compare two files ask nothing of them
 abbrev pub question_of : List (List ℕ) → Option Question

@@ -7,9 +7,9 @@ use Rattle.bb_words.specs.Asked.{MadePair, made_asked}
 use Rattle.bb_ladder.specs.declared.asked.Asked.{Asked as TextsAsked}
 use Rattle.bb_ladder.specs.TextAnswers.{Judges}
 
--- what is asked of its two texts: the module add is the top of both
+-- what is asked of its two texts: the module add is the top of both, and all outputs have to agree everywhere
 abbrev pub asked_of : Options → TextsAsked
-asked_of options = record { spec_top = Some (codes "add"); imp_top = Some (codes "add"); options = options }
+asked_of options = record { spec_top = Some (codes "add"); imp_top = Some (codes "add"); care = None; options = options }
 
 -- the lines before its report: how wide it is, and how many inputs it has
 abbrev pub made_head : ℕ → List ℕ

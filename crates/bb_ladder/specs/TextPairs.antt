@@ -11,9 +11,10 @@ use Rattle.bb_cells.specs.Stands.{box_texts}
 use Rattle.bb_design.specs.Hierarchy.{Design, Scope}
 use Rattle.bb_design.specs.Inside.Allowed.{IsAllowed}
 use Rattle.bb_design.specs.Worlds.{FitDesign}
-use Rattle.bb_agree.specs.DesignAgreement.{AreSpelled, ContentsAgree, IsPairFor, IsTableOf, NoContentsAgree}
+use Rattle.bb_agree.specs.DesignAgreement.{AreSpelled, ContentsAgree, IsPairFor, IsTableOf, MayFill, NoContentsAgree}
 use Rattle.bb_agree.specs.DesignFit.{DesignsFit, IsRefusalFor}
-use Rattle.bb_net.specs.Pairs.{NetPair}
+use Rattle.bb_net.specs.Kinds.{AreKinds, shown}
+use Rattle.bb_net.specs.Pairs.{NetPair, box_key}
 use Rattle.bb_rungs.specs.LeftOpen.{AllLeaveOpen, AllStayOpen, SomeDecides}
 use Rattle.bb_rungs.specs.Reports.{EndsWithTables}
 use Rattle.bb_ladder.specs.declared.asked.Asked.{Asked}
@@ -30,36 +31,40 @@ pub record AreDesignsOf (asked : Asked) (spec imp : List ℕ) (s i : Design) : T
 abbrev pub IsRefusal : Asked → List ℕ → List ℕ → Refusal → Type 0
 IsRefusal asked spec imp (Spec fault) = IsSideFault asked.spec_top spec fault
 IsRefusal asked spec imp (Imp fault) = (s : Design) × IsDesignOf asked.spec_top spec s × IsSideFault asked.imp_top imp fault
-IsRefusal asked spec imp (Pair fault) = (s i : Design) × AreDesignsOf asked spec imp s i × IsRefusalFor s i fault
+IsRefusal asked spec imp (Pair fault) = (s i : Design) × AreDesignsOf asked spec imp s i × IsRefusalFor asked.care s i fault
 IsRefusal asked spec imp NoMemory = ⊥
 
 -- the pair stands for the two texts: it stands for their designs
 abbrev pub StandsForTexts : Asked → List ℕ → List ℕ → NetPair → Type 0
-StandsForTexts asked spec imp p = (s i : Design) × AreDesignsOf asked spec imp s i × IsPairFor s i p
+StandsForTexts asked spec imp p = (s i : Design) × AreDesignsOf asked spec imp s i × IsPairFor asked.care asked.options.shared s i p
 
--- they fit, and no contents of the boxes make the two agree
+-- they fit, and no contents that may fill the boxes make the two agree where agreement is asked: everywhere or, with a care output, where
+-- this is 1
 abbrev pub AreRefuted : Asked → List ℕ → List ℕ → Type 0
-AreRefuted asked spec imp = (s i : Design) × AreDesignsOf asked spec imp s i × DesignsFit s i × NoContentsAgree s i
+AreRefuted asked spec imp = (s i : Design) × AreDesignsOf asked spec imp s i × DesignsFit asked.care s i × NoContentsAgree asked.care asked.options.shared s i
 
 -- a pair stands for the two, and for each such pair each check that is asked for leaves the question open
 pub record AreLeftOpen (asked : Asked) (spec imp : List ℕ) : Type 0 where
   pub pair : (p : NetPair) × StandsForTexts asked spec imp p
   pub left : (p : NetPair) → StandsForTexts asked spec imp p → AllLeaveOpen p asked.options
 
--- they fit, and the text ends with lines of tables that spell contents of the boxes, in the order of their dependence: there are such
--- contents, and with all of them the two agree
+-- they fit, and the text ends with lines of tables that spell contents of the boxes, in the order of their dependence, each of which has
+-- the table of its kind: its own or, where boxes of one module share their contents, that of its module. There are such contents that may
+-- fill the boxes, and with all that fit these and that the tables spell the two agree where agreement is asked
 pub record AreFinished (asked : Asked) (spec imp text : List ℕ) : Type 0 where
   pub s : Design
   pub i : Design
   pub designs : AreDesignsOf asked spec imp s i
-  pub fit : DesignsFit s i
+  pub fit : DesignsFit asked.care s i
   pub order : List Scope
   pub ordered : IsBoxOrder i order
+  pub kinds : List ℕ
+  pub keyed : AreKinds (map (box_key asked.options.shared) (map (box_texts i) order)) kinds
   pub tables : List TableBits
-  pub shapes : AllZip IsTableOf (map (box_texts i) order) tables
-  pub lines : EndsWithTables (map (box_texts i) order) text tables
-  pub contents : (contents : Contents) × FitDesign i contents × AreSpelled (map (box_texts i) order) tables contents
-  pub agree : (contents : Contents) → FitDesign i contents → AreSpelled (map (box_texts i) order) tables contents → ContentsAgree s i contents
+  pub shapes : AllZip IsTableOf (shown kinds (map (box_texts i) order)) tables
+  pub lines : EndsWithTables asked.options.shared (shown kinds (map (box_texts i) order)) text tables
+  pub contents : (contents : Contents) × MayFill asked.options.shared i contents × AreSpelled (map (box_texts i) order) kinds tables contents
+  pub agree : (contents : Contents) → FitDesign i contents → AreSpelled (map (box_texts i) order) kinds tables contents → ContentsAgree asked.care s i contents
 
 -- a pair stands for the two for which a check that is asked for decides
 abbrev pub AreDecided : Asked → List ℕ → List ℕ → Type 0
@@ -82,6 +87,10 @@ RefusalsAreOne = (asked : Asked) (spec imp : List ℕ) (e f : Refusal) → IsRef
 -- and no pair where they have one
 abbrev pub NotPairAndRefusal : Type 0
 NotPairAndRefusal = (asked : Asked) (spec imp : List ℕ) (p : NetPair) (refusal : Refusal) → StandsForTexts asked spec imp p → IsRefusal asked spec imp refusal → ⊥
+
+-- no two texts are both finished and refuted
+abbrev pub NotFinishedAndRefuted : Type 0
+NotFinishedAndRefuted = (asked : Asked) (spec imp text : List ℕ) → AreFinished asked spec imp text → AreRefuted asked spec imp → ⊥
 
 -- pairs that stand for two texts are alike
 abbrev pub TextPairsAreAlike : Type 0

@@ -21,6 +21,7 @@ fn asked_of(alloc: Global, options: &Options) -> Result<Asked, NoMemory>
     Ok(Asked {
         spec_top: Some(Name::of(alloc, b"add")?),
         imp_top: Some(Name::of(alloc, b"add")?),
+        care: None,
         options: *options,
     })
 }

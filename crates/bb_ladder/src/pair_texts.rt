@@ -23,11 +23,11 @@ use bb_net::{Flat, Pair};
 use bb_texts::{Refusal, flat_of, of_imp, of_pair, of_spec};
 use std::alloc::Global;
 
-// The bytes of a top's name, if it has one.
-fn top_bytes(top: &Option<Name>) -> Option<&[u8]>
-    ensures bytes { option_copied result ≡ top.now }
+// The bytes of a name, if there is one.
+fn bytes_of(given: &Option<Name>) -> Option<&[u8]>
+    ensures bytes { option_copied result ≡ given.now }
 {
-    match top {
+    match given {
         Some(name) => Some(name.bytes()),
         None => None,
     }
@@ -39,7 +39,7 @@ fn spec_flat(alloc: Global, spec: &[u8], asked: &Asked) -> Result<Flat, Refusal>
     ensures ok { IfOk result (λ flat. (s : Design) × IsDesignOf asked.now.spec_top spec.now s × StandsFor s flat) }
     ensures refusal { IfErr result (λ refusal. (refusal ≡ Refusal.NoMemory) ⊎ ((imp : List ℕ) → IsRefusal asked.now spec.now imp refusal)) }
 {
-    match flat_of(alloc, spec, top_bytes(&asked.spec_top)) {
+    match flat_of(alloc, spec, bytes_of(&asked.spec_top)) {
         Ok(flat) => Ok(flat),
         Err(fault) => Err(of_spec(fault)),
     }
@@ -52,7 +52,7 @@ fn imp_flat(alloc: Global, imp: &[u8], asked: &Asked) -> Result<Flat, Refusal>
     ensures refusal { IfErr result (λ refusal. (refusal ≡ Refusal.NoMemory)
         ⊎ ((spec : List ℕ) (s : Design) → IsDesignOf asked.now.spec_top spec s → IsRefusal asked.now spec imp.now refusal)) }
 {
-    match flat_of(alloc, imp, top_bytes(&asked.imp_top)) {
+    match flat_of(alloc, imp, bytes_of(&asked.imp_top)) {
         Ok(flat) => Ok(flat),
         Err(fault) => Err(of_imp(fault)),
     }
@@ -65,15 +65,16 @@ pub(crate) fn keeps(pair: &Pair)
     pair.imp();
 }
 
-// The pair of the two flat netlists.
-fn beside(alloc: Global, spec: Flat, imp: Flat) -> Result<Pair, Refusal>
-    ensures ok { IfOk result (λ p. (s i : Design) → StandsFor s spec → StandsFor i imp → IsPairFor s i p) }
+// The pair of the two flat netlists, as it is asked for: with a care output, and with boxes of one module that share their contents.
+fn beside(alloc: Global, spec: Flat, imp: Flat, asked: &Asked) -> Result<Pair, Refusal>
+    ensures ok { IfOk result (λ p. (s i : Design) → StandsFor s spec → StandsFor i imp → IsPairFor asked.now.care asked.now.options.shared s i p) }
     ensures refusal { IfErr result (λ refusal. (refusal ≡ Refusal.NoMemory)
-        ⊎ ((asked : Asked) (spec_text imp_text : List ℕ) (s i : Design) → AreDesignsOf asked spec_text imp_text s i → StandsFor s spec → StandsFor i imp → IsRefusal asked spec_text imp_text refusal)) }
+        ⊎ ((spec_text imp_text : List ℕ) (s i : Design) → AreDesignsOf asked.now spec_text imp_text s i → StandsFor s spec → StandsFor i imp → IsRefusal asked.now spec_text imp_text refusal)) }
 {
     designs_are_allowed();
     nets_are_taken_as_designs();
-    match pair(alloc, spec, imp) {
+    let care = bytes_of(&asked.care);
+    match pair(alloc, spec, imp, care, asked.options.shared) {
         Ok(pair) => {
             keeps(&pair);
             Ok(pair)
@@ -97,7 +98,7 @@ fn made(alloc: Global, spec: &[u8], imp: &[u8], asked: &Asked) -> Result<Pair, R
         Ok(flat) => flat,
         Err(refusal) => return Err(refusal),
     };
-    beside(alloc, of_spec, of_imp)
+    beside(alloc, of_spec, of_imp, asked)
 }
 
 /// The pair of the text of a specification and that of an implementation, or why they are refused.

@@ -35,11 +35,12 @@ pub fn run_quietly(
     // The status is that of a report that may be answered, unless memory runs out.
     ensures whole { result < 5 → (text : List ℕ) × MayAnswer (map string_bytes words.now) (holds_of files.old) (reads_of files.old) (reads_of files.new) result text }
 
-    // The design is finished by tables whose contents make every output and every next state agree on every vector.
+    // The design is finished by tables whose contents make every output and every next state agree on every vector, where a care output is
+    // asked for at which it is 1.
     ensures repairable { result ≡ 0 → (asked : TextsAsked) (spec imp : List ℕ) → AreTexts (map string_bytes words.now) Held (holds_of files.old) (reads_of files.old) (reads_of files.new) asked spec imp
         → (text : List ℕ) × AreFinished asked spec imp text }
 
-    // No contents of the boxes make every output and every next state agree on every vector, and a report shows how.
+    // No contents of the boxes make every output and every next state agree on every such vector, and a report shows how.
     ensures error { result ≡ 1 → (asked : TextsAsked) (spec imp : List ℕ) → AreTexts (map string_bytes words.now) Held (holds_of files.old) (reads_of files.old) (reads_of files.new) asked spec imp
         → AreRefuted asked spec imp }
     ensures shown { result ≡ 1 → (asked : TextsAsked) (spec imp : List ℕ) → AreTexts (map string_bytes words.now) Held (holds_of files.old) (reads_of files.old) (reads_of files.new) asked spec imp

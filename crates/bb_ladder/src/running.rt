@@ -123,11 +123,12 @@ pub fn run<F: Files, K: Sink>(alloc: Global, words: &[String], files: &mut F, ou
     ensures front { result ≡ 6 → (status : ℕ) × (text : List ℕ) × (n : ℕ) × (n < length text) × Appends (K.written out.old) (K.written out.new) (take n text)
         × MayAnswer (map string_bytes words.now) (F.holds files.old) (F.reads files.old) (F.reads files.new) status text }
 
-    // The design is reported as repairable only with tables whose contents make every output and every next state agree on every vector.
+    // The design is reported as repairable only with tables whose contents make every output and every next state agree on every vector,
+    // where a care output is asked for at which it is 1.
     ensures repairable { result ≡ 0 → (from : Source) (asked : TextsAsked) (spec imp : List ℕ) → AreTexts (map string_bytes words.now) from (F.holds files.old) (F.reads files.old) (F.reads files.new) asked spec imp
         → (text : List ℕ) × Appends (K.written out.old) (K.written out.new) (head_of (map string_bytes words.now) ++ text) × AreFinished asked spec imp text }
 
-    // An error is reported only where no contents of the boxes make every output and every next state agree on every vector.
+    // An error is reported only where no contents of the boxes make every output and every next state agree on every such vector.
     ensures error { result ≡ 1 → (from : Source) (asked : TextsAsked) (spec imp : List ℕ) → AreTexts (map string_bytes words.now) from (F.holds files.old) (F.reads files.old) (F.reads files.new) asked spec imp → AreRefuted asked spec imp }
 
     // And the report shows how: behind the line of a check that finds it at a vector stand the output that is wrong there, where

@@ -4,13 +4,13 @@
 ghost use Rattle.bb_ladder.specs.Answers.{AnswersSpeakOfTexts};
 ghost use Rattle.bb_ladder.specs.CallRefusals.{CallRefusalsAreOne, RefusalsAreTold, RefusedCallsAreTold};
 ghost use Rattle.bb_ladder.specs.GivenTexts.{AnsweredHaveGiven};
-ghost use Rattle.bb_ladder.specs.ShownMistakes.{ErrorsAreShown};
+ghost use Rattle.bb_ladder.specs.ShownMistakes.{ErrorsAreShown, ShownMistakesRefute};
 ghost use Rattle.bb_ladder.specs.TextAnswers.{ErrorsRefute, RepairsFinish, OpenAnswersLeaveOpen, DecidedAreAnswered, StayingOpenAreAnswered, JudgedRefusalsAreFirst, RefusedAreAnsweredOnce, ReportsAreOne, ReportsBeginAsOne, StatusesAreOne, StatusesNeverClash};
-ghost use Rattle.bb_ladder.specs.TextPairs.{DesignsAreAllowed, NotPairAndRefusal, RefusalsAreOne, TextPairsAreAlike};
+ghost use Rattle.bb_ladder.specs.TextPairs.{DesignsAreAllowed, NotFinishedAndRefuted, NotPairAndRefusal, RefusalsAreOne, TextPairsAreAlike};
 
 use crate::refuting::refutations_are_answered;
 use bb_agree::laws::{
-    design_refusals_are_one, fitting_tables_are_of_boxes, no_tables_no_contents,
+    design_refusals_are_one, fitting_tables_are_of_boxes, mistakes_refute, no_tables_no_contents,
     not_fit_and_refused, pairs_are_named, pairs_for_designs_are_alike, pairs_have_box_orders,
     pairs_stand_exactly_for_fitting, spelled_contents_agree, tables_spell_contents,
     wrong_outputs_are_mistakes, wrong_vectors_are_mistakes,
@@ -50,6 +50,20 @@ pub fn no_pair_and_refusal()
     texts_have_designs();
     pairs_stand_exactly_for_fitting();
     not_fit_and_refused();
+}
+
+/// No two texts are both finished and refuted.
+pub fn not_finished_and_refuted()
+    ensures { NotFinishedAndRefuted }
+{
+    texts_have_designs();
+}
+
+/// Where a report shows a mistake at a vector, no contents agree.
+pub fn shown_mistakes_refute()
+    ensures { ShownMistakesRefute }
+{
+    mistakes_refute();
 }
 
 /// Pairs that stand for two texts are alike.

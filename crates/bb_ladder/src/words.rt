@@ -37,11 +37,11 @@ pub enum Call<'a> {
     Made { n: u32, options: Options },
 }
 
-// The name of a top, if one is given.
-fn top_name(alloc: Global, top: Option<&str>) -> Result<Option<Name>, NoMemory>
-    ensures name { IfOk result (λ name. name ≡ option_copied top.entry) }
+// A name, if one is given.
+fn given_name(alloc: Global, given: Option<&str>) -> Result<Option<Name>, NoMemory>
+    ensures name { IfOk result (λ name. name ≡ option_copied given.entry) }
 {
-    match top {
+    match given {
         Some(text) => Ok(Some(Name::of(alloc, text.as_bytes())?)),
         None => Ok(None),
     }
@@ -52,8 +52,9 @@ fn texts_asked(alloc: Global, asked: &WordsAsked<'_>) -> Result<Asked, NoMemory>
     ensures asked { IfOk result (λ texts. texts ≡ (question (request_of asked.now)).asked) }
 {
     Ok(Asked {
-        spec_top: top_name(alloc, asked.top_spec)?,
-        imp_top: top_name(alloc, asked.top_imp)?,
+        spec_top: given_name(alloc, asked.top_spec)?,
+        imp_top: given_name(alloc, asked.top_imp)?,
+        care: given_name(alloc, asked.care)?,
         options: asked.options,
     })
 }

@@ -9,6 +9,7 @@ use Rattle.bb_texts.specs.SideWords.{fault_words, with_name}
 
 abbrev pub pair_words : MatchFault → List ℕ
 pair_words (pair.SpecBox n) = with_name (codes "specbox") n
+pair_words (pair.NoCare n) = with_name (codes "care") n
 pair_words (pair.PortDiffers n) = with_name (codes "port") n
 pair_words (pair.RegDiffers n) = with_name (codes "register") n
 pair_words (pair.ClockNotInput n) = with_name (codes "clockinput") n

@@ -18,6 +18,7 @@ fn push_pair_fault(text: &mut Vec<u8>, fault: &MatchFault) -> Result<(), NoMemor
 {
     match fault {
         MatchFault::SpecBox { name } => push_with_name(text, "specbox", name),
+        MatchFault::NoCare { name } => push_with_name(text, "care", name),
         MatchFault::PortDiffers { name } => push_with_name(text, "port", name),
         MatchFault::RegDiffers { name } => push_with_name(text, "register", name),
         MatchFault::ClockNotInput { name } => push_with_name(text, "clockinput", name),

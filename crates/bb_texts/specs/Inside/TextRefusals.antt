@@ -26,6 +26,7 @@ of_imp side.NoMemory = NoMemory
 
 abbrev pub of_pair : MatchFault → Refusal
 of_pair (pair.SpecBox n) = Pair (pair.SpecBox n)
+of_pair (pair.NoCare n) = Pair (pair.NoCare n)
 of_pair (pair.PortDiffers n) = Pair (pair.PortDiffers n)
 of_pair (pair.RegDiffers n) = Pair (pair.RegDiffers n)
 of_pair (pair.ClockNotInput n) = Pair (pair.ClockNotInput n)
