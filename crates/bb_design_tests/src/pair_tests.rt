@@ -13,6 +13,7 @@ use std::test::Fail;
 fn tell_fault(out: &mut String, fault: &MatchFault) -> Result<(), AllocError> {
     match fault {
         MatchFault::SpecBox { name } => tell_named(out, "specbox", name),
+        MatchFault::NoCare { name } => tell_named(out, "care", name),
         MatchFault::PortDiffers { name } => tell_named(out, "port", name),
         MatchFault::RegDiffers { name } => tell_named(out, "register", name),
         MatchFault::ClockNotInput { name } => tell_named(out, "clockinput", name),
@@ -22,7 +23,7 @@ fn tell_fault(out: &mut String, fault: &MatchFault) -> Result<(), AllocError> {
     }
 }
 
-// The names of a pair: inputs, outputs and next states, boxes.
+// The names of a pair: inputs, outputs and next states, boxes with their kinds.
 fn tell_pair(out: &mut String, pair: &Pair) -> Result<(), AllocError> {
     if pair.ins().len() > 100 {
         return out.push_str("fit");
@@ -37,18 +38,26 @@ fn tell_pair(out: &mut String, pair: &Pair) -> Result<(), AllocError> {
         out.push_str(if name.next { " next " } else { " " })?;
         tell_name(out, &name.text)?;
     }
-    for of in pair.boxes() {
+    for (of, kind) in pair.boxes().iter().zip(pair.kinds()) {
         out.push_str(" box ")?;
         tell_name(out, of.path())?;
+        write!(out, " {kind}")?;
     }
     Ok(())
 }
 
-fn told<R: Abort>(rt: &R, alloc: Global, spec: &str, imp: &str) -> Result<String, Fail> {
+fn told<R: Abort>(
+    rt: &R,
+    alloc: Global,
+    (spec, imp): (&str, &str),
+    care: Option<&str>,
+    shared: bool,
+) -> Result<String, Fail> {
     let spec = flat_of(rt, alloc, spec.as_bytes(), None)?;
     let imp = flat_of(rt, alloc, imp.as_bytes(), None)?;
     let mut out = String::new(alloc);
-    match pair(alloc, spec, imp) {
+    let care = care.map(|text| text.as_bytes());
+    match pair(alloc, spec, imp, care, shared) {
         Ok(found) => tell_pair(&mut out, &found)?,
         Err(fault) => tell_fault(&mut out, &fault)?,
     }
@@ -74,12 +83,18 @@ fn text_of(word: &str) -> &str {
 }
 
 // Compares rows of a specification, an implementation and what is told.
-fn rows<R: Abort>(rt: &R, alloc: Global, table: &str) -> Result<(), Fail> {
+fn rows<R: Abort>(
+    rt: &R,
+    alloc: Global,
+    table: &str,
+    care: Option<&str>,
+    shared: bool,
+) -> Result<(), Fail> {
     for line in table.lines() {
         if is_row(line) {
             let (texts, expected) = halves(line);
             let (spec, imp) = texts.split_once(" / ").unwrap_or((texts, ""));
-            let found = told(rt, alloc, text_of(spec), text_of(imp))?;
+            let found = told(rt, alloc, (text_of(spec), text_of(imp)), care, shared)?;
             assert_eq!(rt; found.as_str(), expected, "{texts}");
         }
     }
@@ -88,10 +103,10 @@ fn rows<R: Abort>(rt: &R, alloc: Global, table: &str) -> Result<(), Fail> {
 
 const PAIRED: &str = "
 COPY / COPY => in a out y
-COPY / BOX => in a out y box u
-COPY / CHAINED => in a out y box u2 box u1
+COPY / BOX => in a out y box u 0
+COPY / CHAINED => in a out y box u2 0 box u1 1
 RISING / RISING => in c d q out y next q
-WRITTEN / SYNTHESIZED => in clk d[1] d[0] u1.q[1] u1.q[0] out y next u1.q[1] next u1.q[0] box h
+WRITTEN / SYNTHESIZED => in clk d[1] d[0] u1.q[1] u1.q[0] out y next u1.q[1] next u1.q[0] box h 0
 // The order is that of the specification.
 module s(a, y, b, z); input a, b; output y, z; reg p, q; always @(posedge a) p <= b; always @(posedge a) q <= a; and(y, p, q); or(z, a, b); endmodule / module t(z, b, a, y); output z, y; input b, a; reg q; reg p; always @(posedge a) p <= b; always @(posedge a) q <= a; and(y, p, q); or(z, a, b); endmodule => in a b p q out y z next p next q
 // A bus and its bits under escaped names.
@@ -99,7 +114,18 @@ module s(a, y); input [1:0] a; output y; and(y, a[1], a[0]); endmodule / module 
 
 #[test]
 fn pairs(rt: HostRuntime) -> Result<(), Fail> {
-    rows(&rt, rt.alloc(), PAIRED)
+    rows(&rt, rt.alloc(), PAIRED, None, false)
+}
+
+const SHARED: &str = "
+COPY / BOX => in a out y box u 0
+COPY / CHAINED => in a out y box u2 0 box u1 0
+// Two modules, one of which comes again behind the other.
+module s(a, x, y, z); input a; output x, y, z; buf(x, a); buf(y, a); buf(z, a); endmodule / module t(a, x, y, z); input a; output x, y, z; bx u(a, x); by v(a, y); bx w(a, z); endmodule module bx(i, o); input i; output o; endmodule module by(i, o); input i; output o; endmodule => in a out x y z box u 0 box v 1 box w 0";
+
+#[test]
+fn boxes_of_one_module_may_be_of_one_kind(rt: HostRuntime) -> Result<(), Fail> {
+    rows(&rt, rt.alloc(), SHARED, None, true)
 }
 
 const REFUSED: &str = "
@@ -138,7 +164,8 @@ module s(a); input [2047:0] a; reg q; always @(posedge a[0]) q <= a[1]; endmodul
 
 #[test]
 fn refused_pairs(rt: HostRuntime) -> Result<(), Fail> {
-    rows(&rt, rt.alloc(), REFUSED)
+    rows(&rt, rt.alloc(), REFUSED, None, false)?;
+    rows(&rt, rt.alloc(), REFUSED, None, true)
 }
 
 const TWO_CAUSES: &str = "
@@ -156,7 +183,32 @@ module s(a); input [2047:0] a; reg q; always @(posedge a[0]) q <= a[1]; endmodul
 
 #[test]
 fn of_two_causes_the_first_is_told(rt: HostRuntime) -> Result<(), Fail> {
-    rows(&rt, rt.alloc(), TWO_CAUSES)
+    rows(&rt, rt.alloc(), TWO_CAUSES, None, false)
+}
+
+const CARED: &str = "
+module s(a, k, y); input a; output k, y; buf(y, a); not(k, a); endmodule / COPY => in a out y
+module s(a, y, k); input a; output y, k; buf(y, a); not(k, a); endmodule / BOX => in a out y box u 0
+// It is the only output.
+module s(a, k); input a; output k; buf(k, a); endmodule / module t(a); input a; endmodule => in a out
+// A register of its name stays one.
+module s(c, k); input c; output k; reg k; always @(posedge c) k <= c; endmodule / module t(c); input c; reg k; always @(posedge c) k <= c; endmodule => in c k out next k
+// It is no output.
+COPY / COPY => care k
+module s(a, k, y); input a, k; output y; buf(y, a); endmodule / module t(a, k, y); input a, k; output y; buf(y, a); endmodule => care k
+module s(a, k, y); input a; output [0:0] k; output y; buf(y, a); buf(k[0], a); endmodule / COPY => care k
+RISING / RISING => care k
+// Behind a box of the specification, and before all else.
+BOX / COPY => specbox u
+COPY / RISING => care k
+COPY / module t(a, y); input [0:0] a; output y; buf(y, a[0]); endmodule => care k
+// The implementation has it too, or lacks another output.
+module s(a, k, y); input a; output k, y; buf(y, a); not(k, a); endmodule / module t(a, k, y); input a; output k, y; buf(y, a); not(k, a); endmodule => port k
+module s(a, k, y, z); input a; output k, y, z; buf(y, a); not(k, a); buf(z, a); endmodule / COPY => port z";
+
+#[test]
+fn a_care_output_is_left_out(rt: HostRuntime) -> Result<(), Fail> {
+    rows(&rt, rt.alloc(), CARED, Some("k"), false)
 }
 
 #[test]
@@ -170,6 +222,8 @@ fn both_netlists_stand_in_the_order_of_the_specification(rt: HostRuntime) -> Res
         alloc,
         flat_of(&rt, alloc, spec.as_bytes(), None)?,
         flat_of(&rt, alloc, imp.as_bytes(), None)?,
+        None,
+        false,
     )?;
     // y, z and the next state, for a, b and the state.
     for (x, expected) in [

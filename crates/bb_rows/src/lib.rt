@@ -2,6 +2,8 @@
 #![tactic(auto)]
 
 #[cfg(test)]
+mod care_tests;
+#[cfg(test)]
 mod example_tests;
 #[cfg(test)]
 mod expansion_tests;
@@ -19,6 +21,8 @@ mod pair_tests;
 mod pairs;
 #[cfg(test)]
 mod row_tests;
+#[cfg(test)]
+mod sharing_tests;
 pub mod texts;
 
 pub use memory::{Outcome, run_in_memory};

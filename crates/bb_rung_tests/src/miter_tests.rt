@@ -36,12 +36,14 @@ fn by_diagrams(
     Ok(difference(alloc, spec, imp, nodes, 16))
 }
 
-// What patterns find.
-fn by_patterns(alloc: Global, spec: &Net, imp: &Net) -> Result<Vec<Vec<bool>>, Fail> {
+// What patterns find, where so many vectors are wanted.
+fn by_patterns(alloc: Global, spec: &Net, imp: &Net, wanted: usize) -> Result<Vec<Vec<bool>>, Fail>
+    requires { 1 ≤ wanted }
+{
     if !are_comparable(spec, imp) {
         return Err(Fail::new("not comparable"));
     }
-    Ok(differing_patterns(alloc, spec, imp, 1)?)
+    Ok(differing_patterns(alloc, spec, imp, 1, wanted)?)
 }
 
 // A conjunction beside the constant 0. The functions have three beads.
@@ -58,7 +60,7 @@ fn the_one_vector_where_they_differ_is_found(rt: HostRuntime) -> Result<(), Fail
         by_diagrams(alloc, &spec, &imp, 2)?.err(),
         Some(RungFault::Nodes)
     );
-    let vectors = by_patterns(alloc, &spec, &imp)?;
+    let vectors = by_patterns(alloc, &spec, &imp, 64)?;
     assert_eq!(rt; vectors.len(), 1);
     assert_eq!(rt; vectors[0].as_slice(), [true, true].as_slice());
     Ok(())
@@ -70,10 +72,11 @@ fn each_vector_is_told_once(rt: HostRuntime) -> Result<(), Fail> {
     let alloc = rt.alloc();
     let spec = net(alloc, 2, &[], &[Cell::Xor(2, 3)], &[4])?;
     let imp = net(alloc, 2, &[], &[], &[0])?;
-    let vectors = by_patterns(alloc, &spec, &imp)?;
+    let vectors = by_patterns(alloc, &spec, &imp, 64)?;
     assert_eq!(rt; vectors.len(), 2);
     assert_eq!(rt; vectors[0].as_slice(), [true, false].as_slice());
     assert_eq!(rt; vectors[1].as_slice(), [false, true].as_slice());
+    assert_eq!(rt; by_patterns(alloc, &spec, &imp, 1)?.len(), 1);
     Ok(())
 }
 
@@ -85,6 +88,6 @@ fn equivalent_netlists_do_not_differ(rt: HostRuntime) -> Result<(), Fail> {
     let imp_cells = [Cell::Not(2), Cell::Not(3), Cell::Or(4, 5), Cell::Not(6)];
     let imp = net(alloc, 2, &[], &imp_cells, &[7])?;
     assert!(rt; matches!(by_diagrams(alloc, &spec, &imp, 100)?, Ok(None)));
-    assert!(rt; by_patterns(alloc, &spec, &imp)?.is_empty());
+    assert!(rt; by_patterns(alloc, &spec, &imp, 64)?.is_empty());
     Ok(())
 }

@@ -28,10 +28,11 @@ fn tell_checks(out: &mut String, options: &Options) -> Result<(), AllocError> {
     write!(out, " {} {}", options.patterns, options.seed)
 }
 
-// The nodes, the clauses, the results that are remembered, and whether there is a proof.
+// The nodes, the clauses, the results that are remembered, whether there is a proof, and that modules share their contents, if they do.
 fn tell_bounds(out: &mut String, options: &Options) -> Result<(), AllocError> {
     write!(out, " {} {}", options.nodes, options.clauses)?;
-    write!(out, " {} {}", options.cache, options.proof)
+    write!(out, " {} {}", options.cache, options.proof)?;
+    out.push_str(if options.shared { " shared" } else { "" })
 }
 
 // The two files and their tops.
@@ -45,7 +46,11 @@ fn tell_files(out: &mut String, asked: &Asked<'_>) -> Result<(), AllocError> {
 fn tell(out: &mut String, asked: &Asked<'_>) -> Result<(), AllocError> {
     tell_files(out, asked)?;
     tell_checks(out, &asked.options)?;
-    tell_bounds(out, &asked.options)
+    tell_bounds(out, &asked.options)?;
+    match asked.care {
+        Some(text) => write!(out, " care {text}"),
+        None => Ok(()),
+    }
 }
 
 // The width of a made pair, and the checks.
@@ -105,7 +110,9 @@ bbeq -- a b c => refused
 // twice
 bbeq a b --all --all => refused
 bbeq a b --proof --all --proof => refused
+bbeq --shared a b --shared => refused
 bbeq a b --seed 1 --seed=2 => refused
+bbeq a b --care k --care k => refused
 bbeq a b --top-spec m --top-spec m => refused
 // unknown
 bbeq a b -h => refused
@@ -126,6 +133,14 @@ bbeq a b --nodes= => refused
 bbeq a b --from= => refused
 bbeq a b --all=1 => refused
 bbeq a b --proof= => refused
+bbeq a b --shared=bx => refused
+bbeq a b --care => refused
+bbeq a b --care= => refused
+bbeq a b --care  => refused
+// no name of a bit
+bbeq a b --care=k\u{7f} => refused
+bbeq a b --care k\tm => refused
+bbeq a b --care ä => refused
 // no number within the bounds
 bbeq a b --seed 0 => refused
 bbeq a b --seed=18446744073709551616 => refused
@@ -161,10 +176,13 @@ bbeq a b => a b none none ternary expand false 32 1 1000000 2000000 65536 false
 // each of them alone, in both forms
 bbeq a b --all => a b none none ternary expand true 32 1 1000000 2000000 65536 false
 bbeq a b --proof => a b none none ternary expand false 32 1 1000000 2000000 65536 true
+bbeq a b --shared => a b none none ternary expand false 32 1 1000000 2000000 65536 false shared
 bbeq a b --top-spec m => a b m none ternary expand false 32 1 1000000 2000000 65536 false
 bbeq a b --top-spec=m => a b m none ternary expand false 32 1 1000000 2000000 65536 false
 bbeq a b --top-impl m => a b none m ternary expand false 32 1 1000000 2000000 65536 false
 bbeq a b --top-impl=m => a b none m ternary expand false 32 1 1000000 2000000 65536 false
+bbeq a b --care k => a b none none ternary expand false 32 1 1000000 2000000 65536 false care k
+bbeq a b --shared --care=k[0] => a b none none ternary expand false 32 1 1000000 2000000 65536 false shared care k[0]
 bbeq a b --from local => a b none none local expand false 32 1 1000000 2000000 65536 false
 bbeq a b --from=output => a b none none output expand false 32 1 1000000 2000000 65536 false
 bbeq a b --to ternary => a b none none ternary ternary false 32 1 1000000 2000000 65536 false
@@ -193,6 +211,7 @@ bbeq -- -s.v -- => -s.v -- none none ternary expand false 32 1 1000000 2000000 6
 // a value that begins with a minus sign, or holds other signs
 bbeq a b --top-spec=-m => a b -m none ternary expand false 32 1 1000000 2000000 65536 false
 bbeq a b --top-impl=m=n => a b none m=n ternary expand false 32 1 1000000 2000000 65536 false
+bbeq a b --care=!-~ => a b none none ternary expand false 32 1 1000000 2000000 65536 false care !-~
 bbeq a b --seed 00000000000000000009 => a b none none ternary expand false 32 9 1000000 2000000 65536 false
 // one minus sign alone is a word, and may be a value
 bbeq a b --top-spec - => a b - none ternary expand false 32 1 1000000 2000000 65536 false
@@ -225,6 +244,7 @@ bbeq a b --rup= => refused
 // beside each other flag and option, also where the value is the one that stands for it
 bbeq a b --rup --all => refused
 bbeq a b --proof --rup => refused
+bbeq a b --rup --shared => refused
 bbeq a b --rup --top-spec m => refused
 bbeq a b --rup --top-impl=m => refused
 bbeq a b --rup --from ternary => refused
@@ -234,6 +254,7 @@ bbeq a b --rup --seed 1 => refused
 bbeq a b --rup --nodes 1000000 => refused
 bbeq a b --rup --clauses=2000000 => refused
 bbeq a b --rup --cache 65536 => refused
+bbeq a b --rup --care k => refused
 bbeq a b --rup --make 4 => refused
 bbeq a b --rup --nodes x => refused";
 
@@ -252,6 +273,9 @@ bbeq --make 00000000000000000009 => make 9 ternary expand false 32 1 1000000 200
 bbeq --from expand --make 4 --proof => make 4 expand expand false 32 1 1000000 2000000 65536 true
 bbeq --all --make 4 --to output --patterns 0 --seed 2 => make 4 ternary output true 0 2 1000000 2000000 65536 false
 bbeq --nodes 5 --clauses 6 --cache 7 --make 4 => make 4 ternary expand false 32 1 5 6 7 false
+// a made pair has one box
+bbeq --make 4 --shared => refused
+bbeq --make 4 --care k => refused
 // no number, or none within the bounds
 bbeq --make => refused
 bbeq --make= => refused
