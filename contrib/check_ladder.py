@@ -3,6 +3,7 @@ import json
 import os
 import re
 
+from check_parts import CARED
 from tries import BBEQ, bbeq, example, is_told, read, run, script, write
 
 SPEC = """module m(input clk, a, b, output reg q, output z);
@@ -32,6 +33,9 @@ def ladder_part(tally, folder):
             tally.note(f"ladder {os.path.basename(os.path.dirname(spec))} {' '.join(words)}", (own.status, own.out) == (joined.status, joined.out)
                        and lines == own.out.count("rung "), joined.why())
     spec, implementation = example("carry", "spec.v"), example("carry", "impl.v")
+    cared = [write(folder, f"cared{at}.v", text) for at, text in enumerate(CARED)]
+    own, joined = bbeq(*cared, "--care", "k", "--shared"), run([script("ladder"), *cared, "--care", "k", "--shared"])
+    tally.note("ladder --care --shared", (own.status, own.out) == (joined.status, joined.out) and own.status == 0, joined.why())
     told = os.path.join(folder, "told.json")
     done = run([script("ladder"), spec, implementation, "--json", told])
     found = json.loads(read(told)) if os.path.exists(told) else {}
@@ -88,6 +92,8 @@ RIGHT = "and(t, a, b); buf(y[0], t);"
 # No contents of the box are both: the one output needs it to be an and, and the next state an or.
 TWO = WHOLE.format(body="bx u(a, b, t); buf(y[0], t);") + "module bx(i, j, o); input i, j; output o; endmodule\n"
 OTHER_WAY = WHOLE.format(body="wire v; and(t, a, b); or(v, a, b); buf(y[0], v);")
+# The same where c is 1.
+CARED_WAY = OTHER_WAY.replace("z, w)", "z, w, k)").replace("z, w;", "z, w, k; buf(k, c);")
 # Here the box lacks the pin b.
 SHORT = WHOLE.format(body="bx u(a, t); buf(y[0], t);") + "module bx(i, o); input i; output o; endmodule\n"
 
@@ -102,6 +108,9 @@ def why_part(tally, folder):
         tally.note(f"why: {name}", done.status == 0 and (done.out == wanted if wanted else len(lines) == 2 and lines[1] == "boxes u"), done.why())
         done = run([script("why"), "--runs", report, left, right, "--", "--to", "input"])
         tally.note(f"why --runs: {name}", "outputs: verdict " in done.out and done.out.splitlines()[-1] == "boxes u", done.why())
+    left, right = write(folder, "spec.v", CARED_WAY), write(folder, "impl.v", TWO)
+    done = run([script("why"), "--care", "k", write(folder, "report", bbeq(left, right, "--care", "k").out), left, right])
+    tally.note("why --care", done.out == "next r[1]\noutput y[0]\nboxes u\n", done.why())
     spec, implementation = example("carry", "spec.v"), example("carry", "impl.v")
     done = run([script("why"), write(folder, "report", bbeq(spec, implementation).out), spec, implementation])
     tally.note("why of a report without an error", is_told(done, "why"), done.why())

@@ -215,8 +215,6 @@ TWO = ("module m(a, b, y, z); input a, b; output y, z; not(y, a); buf(z, b); end
        "module m(a, b, y, z); input a, b; output y, z; bx u(a, y); bx v(b, z); endmodule\nmodule bx(i, o); input i; output o; endmodule\n")
 CARED = ("module m(a, b, c, y, z, k); input a, b, c; output y, z, k; xor(y, a, c); buf(z, b); xnor(k, b, c); endmodule\n",
          "module m(a, b, c, y, z); input a, b, c; output y, z; bx u(a, b, y); buf(z, c); endmodule\n" + BOX)
-# Stands for a program that knows --care: it takes any pair, and says nothing of it.
-STAND_IN = "#!/bin/sh\necho 'rung ternary none'\necho 'verdict open'\nexit 3\n"
 
 
 def shared_try(tally, folder):
@@ -231,31 +229,24 @@ def shared_try(tally, folder):
     own = bbeq(specification, implementation, "--shared")
     joined = run([script("run"), made])
     tally.note(f"run of parts that share a module hands --shared on: {own.out.splitlines()[-1]}", joined.status == own.status
-               and joined.out.splitlines()[-1:] == own.out.splitlines()[-1:] and own.status in (1, 2), joined.why())
+               and joined.out.splitlines()[-1:] == own.out.splitlines()[-1:] and own.status in (0, 1), joined.why())
 
 
 def care_try(tally, folder):
     specification, implementation = sides_of(folder, CARED)
     own = bbeq(specification, implementation, "--care", "k")
-    made, done, count = cut(folder, specification, implementation, "--care", "k")
-    if own.status == 2:
-        tally.note("parts --care: the program's refusal is shown, and nothing is written",
-                   (done.status, done.out) == (2, own.out)
-                   and not os.path.exists(made), done.why())
-    program = write(folder, "program", STAND_IN)
-    os.chmod(program, 0o755)
-    done = run([script("parts"), specification, implementation, "-o", made, "--care", "k"], env={**os.environ, "BBEQ": program})
+    made, done, _ = cut(folder, specification, implementation, "--care", "k")
     texts = [[read(os.path.join(made, part, side)) for side in ("spec.v", "impl.v")] for part in ("1", "2")]
     tally.note("parts --care: each part has the care output with what it reads", done.status == 0 and all(
         "output k;" in spec and "output k;" not in imp and all(f"input {bit};" in text for text in (spec, imp) for bit in "bc")
         for spec, imp in texts), str(texts))
-    joined = run([script("run"), made], env={**os.environ, "BBEQ": program})
-    tally.note("run hands --care on", joined.status == 3, joined.why())
+    joined = run([script("run"), made])
+    tally.note("run hands --care on", joined.status == own.status == 0, joined.why())
     for name in ("y", "nothing"):
-        done = run([script("parts"), specification, implementation, "-o", os.path.join(folder, name), "--care", name],
-                   env={**os.environ, "BBEQ": program})
-        tally.note(f"parts --care {name}", is_told(done, "parts") and not os.path.exists(os.path.join(folder, name)),
-                   done.why())
+        other = bbeq(specification, implementation, "--care", name)
+        done = run([script("parts"), specification, implementation, "-o", os.path.join(folder, name), "--care", name])
+        tally.note(f"parts --care {name}: {other.out.strip()}", (done.status, done.out) == (2, other.out)
+                   and not os.path.exists(os.path.join(folder, name)), done.why())
 
 
 def bad_words(tally, folder):

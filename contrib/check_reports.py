@@ -4,7 +4,7 @@ import os
 import random
 import re
 
-from drawn import drawn_pair
+from drawn import drawn_cared, drawn_pair, drawn_shared
 from language import Reader, top_of
 from reports import tables
 from tries import TOP, bbeq, example, is_told, read, run, script, write
@@ -29,11 +29,17 @@ def reports_part(tally, folder):
     verdicts = [try_drawn(tally, folder, seed) for seed in range(DRAWN)]
     shares = {name: verdicts.count(name) for name in ("error", "repairable", "open")}
     tally.note(f"drawn pairs: {shares}, at least a fifth each", all(5 * count >= DRAWN for count in shares.values()))
+    verdicts = [try_shared(tally, folder, seed) for seed in range(DRAWN)]
+    shares = {name: verdicts.count(name) for name in ("error", "repairable", "sharing")}
+    tally.note(f"drawn pairs of shared contents: {shares}, at least a fifth each", all(5 * count >= DRAWN for count in shares.values()))
+    verdicts = [try_cared(tally, folder, seed) for seed in range(DRAWN)]
+    shares = {name: verdicts.count(name) for name in ("error", "repairable", "legal")}
+    tally.note(f"drawn pairs with a care output: {shares}, at least a fifth each", all(5 * count >= DRAWN for count in shares.values()))
 
 
-def pair_in(texts):
+def pair_in(texts, shared=False, care=None):
     sides = [{module.name: module for module in Reader(text).modules()} for text in texts]
-    return pair_of(*[(modules, top_of("a text", modules, None)) for modules in sides])
+    return pair_of(*[(modules, top_of("a text", modules, None)) for modules in sides], shared, care)
 
 
 def blocks_in(path):
@@ -154,6 +160,32 @@ def try_drawn(tally, folder, seed):
     return done[1].out.split()[-1] if done[1].out else "none"
 
 
+def try_shared(tally, folder, seed):
+    """Compares the report of a drawn pair whose boxes of one module share their contents; the result is the verdict, or that only
+    sharing is in the way of agreement."""
+    texts = drawn_shared(seed)
+    pair, done = pair_in(texts, True), report_of(folder, texts, "--shared")
+    right = is_due(pair, done) and UNFINISHED.search(done.out) is None
+    tally.note(f"drawn pair {seed} of shared contents", right, "\n".join([*texts, done.why()]))
+    told = done.out.split()[-1] if done.out else "none"
+    apart = next(pair_in(texts).completions(), None) is not None
+    return "sharing" if told == "error" and apart else told
+
+
+def try_cared(tally, folder, seed):
+    """Compares the reports of a drawn pair with a care output; the result is the verdict, or that the two agree only where this output
+    is 1."""
+    texts, care, shared = drawn_cared(seed)
+    words, asked = asked_of(random.Random(f"care asked {seed}"))
+    given = ["--care", care] + ["--shared"] * shared
+    pair, done = pair_in(texts, shared, care), [report_of(folder, texts, *given), report_of(folder, texts, *given, *words)]
+    wrong = [one for one, of in zip(done, ({}, asked)) if not is_due(pair, one, **of) or UNFINISHED.search(one.out)]
+    tally.note(f"drawn pair {seed} with the care output {care}", not wrong, "\n".join([*texts, *[one.why() for one in wrong]]))
+    told = done[0].out.split()[-1] if done[0].out else "none"
+    pair.counts = pair.every
+    return "legal" if told == "repairable" and next(pair.completions(), None) is None else told
+
+
 # The script.
 
 def evaluate_tries(tally, folder):
@@ -169,5 +201,11 @@ def evaluate_tries(tally, folder):
     tally.note("evaluate: other tables do not", done.status == 1 and done.out.endswith("input a=1 b=0 cin=1\n"), done.why())
     done = run([script("evaluate"), *carry, write(folder, "short", "table u co 01\nverdict repairable\n")])
     tally.note("evaluate refuses tables of other boxes", is_told(done, "evaluate"), done.why())
+    legal = write(folder, "legal", "module s(a, k, y); input a; output k, y; buf(k, a); buf(y, a); endmodule\n"), \
+        write(folder, "one", "module t(a, y); input a; output y; b u(y); endmodule\nmodule b(o); output o; endmodule\n")
+    done = run([script("evaluate"), "--care", "k", *legal])
+    tally.note("evaluate --care: what agrees where k is 1", done.out == "some contents agree\ntable u o 1\n", done.why())
+    done = run([script("evaluate"), "--care", "y", *legal])
+    tally.note("evaluate --care: the care output is no output of the implementation", is_told(done, "evaluate"), done.why())
     done = run([script("evaluate"), "--lines", *carry])
     tally.note("evaluate --lines: the report that is due", done.out == report, done.why())

@@ -17,6 +17,17 @@ FILLED_REPORT = "rung expand repair\n" + "".join(
     for path in ("u1.v", "u1.v2", "u2.v", "u2.v2", "u3.v", "u3.v2")) + "verdict repairable\n"
 
 
+# One content for all instances of the module, in each of which it stands twice, one behind the other.
+SHARED_SPEC = FILLED_SPEC.replace("not(", "buf(")
+SHARED_REPORT = "rung expand repair\ntable bx o 10\nverdict repairable\n"
+
+# Two modules, each of which has the name of the other's instance.
+CROSSED = """module t(a, b, y1, y2); input a, b; output y1, y2; p q(a, y1); q p(b, y2); endmodule
+module p(i, o); input i; output o; endmodule
+module q(i, o); input i; output o; endmodule
+"""
+CROSSED_REPORT = "rung expand repair\ntable p o 01\ntable q o 10\nverdict repairable\n"
+
 # Rows with equal outputs: all whose first pin is 1, and two others.
 JOINED = "module t(a, y); input [2:0] a; output [1:0] y; bx u(a, y); endmodule\nmodule bx(i, o); input [2:0] i; output [1:0] o; endmodule\n"
 JOINED_REPORT = "rung input repair\ntable u o[1] 01010000\ntable u o[0] 00001111\nverdict repairable\n"
@@ -40,16 +51,16 @@ verdict repairable
 """
 
 
-def repaired(report, implementation, spec, folder, style):
+def repaired(report, implementation, spec, folder, *words):
     """The filled implementation agrees with the specification: read by the program, by way of gates where that is due."""
     filled = os.path.join(folder, "filled.v")
-    done = run([script("fill"), "--style", style, report, implementation, "-o", filled])
+    done = run([script("fill"), *words, report, implementation, "-o", filled])
     if done.status:
         return False, done
     done = run(["iverilog", "-o", os.devnull, filled])
     if done.status:
         return False, done
-    if style != "assign":
+    if "assign" not in words:
         done = run([script("gates"), filled, "-o", filled])
         if done.status:
             return False, done
@@ -71,8 +82,18 @@ def repairs(folder):
 def fill_part(tally, folder):
     for name, report, implementation, spec in list(repairs(folder)):
         for style in ("case", "casez", "assign"):
-            right, done = repaired(report, implementation, spec, folder, style)
+            right, done = repaired(report, implementation, spec, folder, "--style", style)
             tally.note(f"fill --style {style}: {name}", right, done.why())
+    report, spec = write(folder, "shared", SHARED_REPORT), write(folder, "ss.v", SHARED_SPEC)
+    right, done = repaired(report, write(folder, "k.v", FILLED), spec, folder, "--style", "assign", "--shared")
+    once = read(os.path.join(folder, "filled.v")).count("module bx")
+    tally.note("fill --shared fills the module once", right and once == 1, done.why())
+    other = run([script("fill"), report, os.path.join(folder, "k.v")])
+    tally.note("fill tells a report of modules from one of boxes", is_told(other, "fill") and "--shared" in other.err, other.why())
+    report, crossed = write(folder, "crossed", CROSSED_REPORT), write(folder, "c.v", CROSSED)
+    done = [run([script("fill"), "--style", "assign", "--only", *words, report, crossed]) for words in ([], ["--boxes"], ["--shared"])]
+    tally.note("fill asks whose the tables are where both would fit", is_told(done[0], "fill") and "--boxes or --shared" in done[0].err
+               and [one.status for one in done[1:]] == [0, 0] and done[1].out != done[2].out, done[0].why())
     done = run([script("fill"), "--style", "casez", "--only", write(folder, "joined", JOINED_REPORT), write(folder, "j.v", JOINED)])
     tally.note("fill --style casez joins rows", done.status == 0 and done.out.count("3'b") == 3 and "3'b1??: o = 2'b01;" in done.out, done.why())
     rtl = write(folder, "rtl.v", "module bx #(parameter W = 3 /* pins */)(input [W-1:0] i, output [1:0] o); endmodule\n")

@@ -24,8 +24,8 @@ class Circuit:
     """What drives each net, from the ports and registers on. `bits` and `wide` are what may be read, of one bit and of two; an
     item is a text, or a box with the bits that it reads and drives."""
 
-    def __init__(self, draw, frame, boxes, is_apart=False):
-        self.draw, self.frame, self.used, self.driven = draw, frame, set(), []
+    def __init__(self, draw, frame, boxes, is_apart=False, kinds=tuple(BOXES)):
+        self.draw, self.frame, self.used, self.driven, self.kinds, self.same = draw, frame, set(), [], kinds, {}
         self.bits, self.wide, self.items, self.count, self.left = list(frame.bits), list(frame.wide), [], 0, MOST_CONTENTS * (1 + is_apart)
         for place in range(2 + boxes + draw.randrange(3) + 4 * is_apart):
             if is_apart and draw.randrange(2):
@@ -104,7 +104,7 @@ class Circuit:
                                      f"supply0 {one}; {name}({a}, {b}, , {other});")), one, other)
 
     def box(self):
-        kind = self.draw.choice(list(BOXES))
+        kind = self.draw.choice(self.kinds)
         ins, outs = BOXES[kind]
         if outs << ins <= self.left:
             self.left -= outs << ins
@@ -112,8 +112,8 @@ class Circuit:
             nets = [self.net() for _ in range(outs)]
             self.drive((kind, self.count, [self.bit() for _ in range(ins)], nets, list(self.bits)), *nets)
 
-    # The text, where boxes are left as they are ("box"), or are gates of what they read ("own"), of what some box reads ("pins"),
-    # or of anything that stands before them ("any").
+    # The text, where boxes are left as they are ("box"), or are gates of what they read ("own"), the same for all of a module
+    # ("same"), of what some box reads ("pins"), or of anything that stands before them ("any").
 
     def item(self, item, filling):
         if isinstance(item, str):
@@ -122,9 +122,19 @@ class Circuit:
         if filling == "box":
             pins = [f"{{{ins[0]}, {ins[1]}}}", f"{{{outs[0]}, {outs[1]}}}"] if kind == "b22" else ins + outs
             return f"{kind} u{number}({', '.join(pins)});"
+        if filling == "same":
+            gates = [self.gate_of(kind, pin, len(ins)) for pin in range(len(outs))]
+            return " ".join(f"{gate}({out}, {ins[one]}, {ins[other]});" for out, (gate, one, other) in zip(outs, gates))
         pins = {bit for item in self.items if isinstance(item, tuple) for bit in item[2]}
         read = {"own": ins, "pins": [bit for bit in before if bit in pins], "any": before}[filling]
         return " ".join(f"{self.draw.choice(GATES)}({out}, {self.draw.choice(read)}, {self.draw.choice(read)});" for out in outs)
+
+    def gate_of(self, kind, pin, ins):
+        """The gate of an output pin of a module, and which of its input pins it reads."""
+        key = BELOW.get(kind, (kind,))[0], pin
+        if key not in self.same:
+            self.same[key] = self.draw.choice(GATES), self.draw.randrange(ins), self.draw.randrange(ins)
+        return self.same[key]
 
     def text(self, top, filling, ends):
         """The module with this name on top, in any order; `ends` has what goes to each output and register."""
@@ -171,6 +181,46 @@ def drawn_apart(seed):
     """The same with up to four boxes and with more outputs, of which some share nothing."""
     draw = random.Random(f"apart {seed}")
     return paired(seed, draw, Frame(draw, 3 + draw.randrange(3)), (1, 2, 3, 4, 4), True)
+
+
+def drawn_shared(seed):
+    """A pair with two or three boxes of one module or of two, most of whose outputs are those of boxes. For one seed of three one
+    content serves all boxes of a module, for one each box has contents of its own, and for one there is a mistake elsewhere too."""
+    draw = random.Random(f"shared {seed}")
+    frame = Frame(draw, 3)
+    kinds = draw.sample(("b11", "b12", "b21", "n21"), 1 + draw.randrange(2))
+    circuit = Circuit(draw, frame, draw.choice((2, 3, 3)), kinds=kinds)
+    boxed = [bit for item in circuit.items if isinstance(item, tuple) for bit in item[3]]
+    places = len(frame.outs + frame.registers)
+    ends = (draw.sample(boxed, len(boxed)) + [draw.choice(boxed or circuit.last) for _ in range(places)])[:places]
+    implementation = circuit.text("t", "box", ends)
+    for _ in range(2 * (seed % 3 == 2)):
+        ends[draw.randrange(len(ends))] = draw.choice(circuit.bits)
+    return circuit.text("s", "own" if seed % 3 == 1 else "same", ends), implementation
+
+
+def drawn_cared(seed):
+    """A pair with a care output, its name, and whether boxes of one module share their contents. Where that output is 0 some outputs of
+    the specification are others; for one seed of three there is a mistake elsewhere too, and for one it is another circuit."""
+    draw = random.Random(f"care {seed}")
+    frame, shared = Frame(draw), not draw.randrange(3)
+    kinds = draw.sample(("b11", "b12", "b21", "n21"), 1 + draw.randrange(2)) if shared else tuple(BOXES)
+    circuit = Circuit(draw, frame, draw.choice((1, 1, 2, 2, 3)), kinds=kinds)
+    ends = [draw.choice(circuit.last) for _ in frame.outs + frame.registers]
+    implementation = circuit.text("t", "box", ends)
+    if seed % 3 == 1:
+        ends[draw.randrange(len(ends))] = draw.choice(circuit.bits)
+    if seed % 3 == 2:
+        circuit = Circuit(draw, frame, 0)
+        ends = [draw.choice(circuit.last) for _ in ends]
+    a, b = draw.choice(frame.bits), draw.choice(frame.bits)
+    care = draw.choice((a, f"~{a}", f"{a} & {b}", f"{a} | {b}", f"{a} ^ {b}", "1'b1", "1'b0")[:5 + 2 * (seed % 10 == 0)])
+    ends = [end if draw.randrange(5) < 3 else f"({care} ? {end} : {draw.choice(circuit.bits)})" for end in ends]
+    name, declared = draw.choice((("k", "output k;"), ("k[0]", "output [0:0] k;"), ("k[7]", "output [7:7] k;")))
+    frame.ports.insert(draw.randrange(len(frame.ports)), "k")
+    frame.declared += f" {declared}"
+    circuit.items.append(f"assign {name} = {care};")
+    return (circuit.text("s", "same" if shared else "own", ends), implementation), name, shared
 
 
 def paired(seed, draw, frame, boxes, is_apart=False):

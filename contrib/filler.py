@@ -9,16 +9,16 @@ from scripts import Fault
 class Filler:
     """Finds the modules that are needed: one for each module and the contents below it."""
 
-    def __init__(self, text, modules, tables, style, other="", parameters_of=None):
-        self.text, self.modules, self.tables, self.style, self.attributes = text, modules, tables, style, []
+    def __init__(self, text, modules, tables, style, other="", parameters_of=None, shared=False):
+        self.text, self.modules, self.tables, self.style, self.shared, self.attributes = text, modules, tables, style, shared, []
         self.other, self.parameters_of = other, parameters_of or {}
         tokens(text, self.attributes)
-        self.names, self.variants, self.used, self.paths = {}, {}, set(modules), set()
+        self.names, self.variants, self.used, self.filled_keys = {}, {}, set(modules), set()
 
     def signature(self, module, path):
         """What stands in an instance: the tables of a box, and for other modules what stands in their instances."""
         if module.is_box() and path:
-            self.paths.add(path)
+            self.filled_keys.add(self.key(module, path))
             return self.contents(module, path)
         below = []
         for instance in module.instances:
@@ -28,12 +28,17 @@ class Filler:
             below.append(self.variant(self.modules[instance.module], name))
         return tuple(below)
 
+    def key(self, module, path):
+        """What the tables of a box are called by: its path, or its module where all boxes of one have the same."""
+        return module.name if self.shared else path
+
     def contents(self, module, path):
         pins = [bit_text(net.name, index) for net, index in module.pins("output")]
         rows = 2 ** len(module.pins("input"))
-        lines = self.tables.get(path, [])
+        lines = self.tables.get(self.key(module, path), [])
         if [pin for pin, _ in lines] != pins or any(len(bits) != rows for _, bits in lines):
-            raise Fault(f"the report has no tables that fit box {path} of module {module.name}; {self.other}")
+            other = "its tables are those of modules, so give --shared" if not self.shared and module.name in self.tables else self.other
+            raise Fault(f"the report has no tables that fit box {path} of module {module.name}; {other}")
         return tuple(bits for _, bits in lines)
 
     def variant(self, module, path):
@@ -70,7 +75,7 @@ class Filler:
 
     def fill(self, top, only):
         self.variant(top, "")
-        others = sorted(set(self.tables) - self.paths)
+        others = sorted(set(self.tables) - self.filled_keys)
         if others:
             raise Fault(f"the implementation has no box {others[0]}, of which the report has a table; {self.other}")
         place, parts = 0, []
@@ -115,8 +120,9 @@ class Filler:
         return "".join(text) + self.text[place:module.end]
 
     def filled(self, module, name, contents, path):
-        same = sum(1 for other in self.paths if self.tables.get(other) == self.tables[path])
-        whose = path if same == 1 else f"{path} and {same - 1} more"
+        key = self.key(module, path)
+        same = 1 if self.shared else sum(1 for other in self.filled_keys if self.tables.get(other) == self.tables[key])
+        whose = key if same == 1 else f"{key} and {same - 1} more"
         kind = "reg " if self.style != "assign" and module.pins("input") else ""
         ports = [module.nets[port] for port in module.ports]
         lines = [f"// The contents of {whose}, as bbeq found them.",

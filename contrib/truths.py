@@ -1,5 +1,6 @@
 """What is true of a specification and an implementation with boxes, found by trying everything: all vectors at once, all bits
-that boxes may give, all contents. The checks are those of docs/REPORT.md, each by what it is said to find and to show."""
+that boxes may give, all contents, of which those of one module may be the same; where a care output of the specification is 0
+nothing is wrong. The checks are those of docs/REPORT.md, each by what it is said to find and to show."""
 from functools import cached_property, reduce
 from itertools import product
 
@@ -66,10 +67,13 @@ def in_order(design, vector):
 class Pair:
     """Two designs with the same inputs, registers and outputs, of which the first has no boxes."""
 
-    def __init__(self, spec, imp):
+    def __init__(self, spec, imp, shared=False, care=None):
         if spec.boxes:
             raise Fault(f"the specification has a box {spec.boxes[0].path}")
-        self.imp, self.names, self.outputs = imp, spec.inputs, [name for name, _ in spec.outputs]
+        asked = ("output", care)
+        if care and asked not in dict(spec.outputs):
+            raise Fault(f"the specification has no output {care}")
+        self.imp, self.names, self.outputs = imp, spec.inputs, [name for name, _ in spec.outputs if name != asked]
         if set(self.names) != set(imp.inputs) or set(self.outputs) != {name for name, _ in imp.outputs}:
             raise Fault("the two have other ports or registers")
         if len(self.names) > MOST_INPUTS:
@@ -78,16 +82,23 @@ class Pair:
             if max(len(box.ins), len(box.outs)) > MOST_PINS:
                 raise Fault(f"box {box.path} has more than {MOST_PINS} input or output pins")
         self.vector = vectors(self.names)
-        self.wanted = self.outputs_of(World(spec, self.vector, unknown))
+        world = World(spec, self.vector, unknown)
+        self.wanted = self.outputs_of(world)
+        self.every = world.every
+        self.counts = dict(spec.outputs)[asked](world).one if care else self.every
         self.boxes = in_order(imp, self.vector)
+        self.keys = {box.path: box.module if shared else box.path for box in self.boxes}
+        self.kinds = {}
+        for box in self.boxes:
+            self.kinds.setdefault(self.keys[box.path], box)
 
     def outputs_of(self, world):
         makers = dict(world.design.outputs)
         return [makers[name](world) for name in self.outputs]
 
     def wrong(self, world):
-        """For each output the vectors at which it is known and wrong."""
-        return [bit.one & want.zero | bit.zero & want.one for bit, want in zip(self.outputs_of(world), self.wanted)]
+        """For each output the vectors at which it counts and is known and wrong."""
+        return [self.counts & (bit.one & want.zero | bit.zero & want.one) for bit, want in zip(self.outputs_of(world), self.wanted)]
 
     def filled(self, contents):
         return World(self.imp, self.vector, contents)
@@ -162,31 +173,35 @@ class Pair:
 
     def completions(self):
         """All contents with which the two agree at every vector."""
-        bits = sum(len(box.outs) * 2 ** len(box.ins) for box in self.boxes)
+        bits = sum(len(box.outs) * 2 ** len(box.ins) for box in self.kinds.values())
         if bits > MOST_CONTENTS:
             raise Fault(f"the contents of the boxes have {bits} bits, and no more than {MOST_CONTENTS} are tried")
-        rows = [product(lists(len(box.outs)), repeat=2 ** len(box.ins)) for box in self.boxes]
+        rows = [product(lists(len(box.outs)), repeat=2 ** len(box.ins)) for box in self.kinds.values()]
         for contents in product(*rows):
-            filled = {box.path: chosen for box, chosen in zip(self.boxes, contents)}
+            filled = self.spread(dict(zip(self.kinds, contents)))
             if self.difference(filled) is None:
                 yield filled
+
+    def spread(self, contents):
+        """Contents by their keys, for each box."""
+        return {box.path: contents[self.keys[box.path]] for box in self.boxes}
 
     def difference(self, contents):
         """What shows that contents do not agree: the first output that is wrong, and for it the first vector."""
         return self.first(self.wrong(self.filled(by_rows(contents))))[1] or None
 
     def table_lines(self, contents):
-        return [f"table {box.path} {pin} {''.join(str(int(row[place])) for row in contents[box.path])}"
-                for box in self.boxes for place, pin in enumerate(box.pins)]
+        return [f"table {key} {pin} {''.join(str(int(row[place])) for row in contents[box.path])}"
+                for key, box in self.kinds.items() for place, pin in enumerate(box.pins)]
 
     def contents_in(self, found):
-        """The contents of tables by the path of their box, or None where they are not those of these boxes."""
-        shape = {box.path: [(pin, 2 ** len(box.ins)) for pin in box.pins] for box in self.boxes if box.pins}
+        """The contents of tables by the keys of their boxes, or None where they are not those of these boxes."""
+        shape = {key: [(pin, 2 ** len(box.ins)) for pin in box.pins] for key, box in self.kinds.items() if box.pins}
         if {path: [(pin, len(bits)) for pin, bits in lines] for path, lines in found.items()} != shape:
             return None
-        bits = {box.path: [line for _, line in found.get(box.path, [])] for box in self.boxes}
-        return {box.path: [tuple(line[row] == "1" for line in bits[box.path]) for row in range(2 ** len(box.ins))]
-                for box in self.boxes}
+        bits = {key: [line for _, line in found.get(key, [])] for key in self.kinds}
+        return self.spread({key: [tuple(line[row] == "1" for line in bits[key]) for row in range(2 ** len(box.ins))]
+                            for key, box in self.kinds.items()})
 
 
 def patterns(count, drawn, seed):
@@ -224,6 +239,7 @@ def climb(pair, first="ternary", last="expand", go_on=False, drawn=32, seed=1, u
     return [*lines, f"verdict {verdict}"]
 
 
-def pair_of(spec, imp):
-    """The pair of two designs, each as modules by name and the top."""
-    return Pair(Design(*spec), Design(*imp))
+def pair_of(spec, imp, shared=False, care=None):
+    """The pair of two designs, each as modules by name and the top; boxes of one module may share their contents, and an output of the
+    specification may say where the two have to agree."""
+    return Pair(Design(*spec), Design(*imp), shared, care)

@@ -54,9 +54,10 @@ INVERTING = ("nand", "nor", "xnor", "not")
 
 
 class Box(NamedTuple):
-    """A box: its path, its pins as the bits of its nets, and the texts of its output pins."""
+    """A box: its path, its module, its pins as the bits of its nets, and the texts of its output pins."""
 
     path: str
+    module: str
     ins: list
     outs: list
     pins: list
@@ -216,7 +217,7 @@ class Design:
         def keys(direction):
             return [(scope.path, net.name, index) for net, index in scope.module.pins(direction)]
 
-        box = Box(scope.path[:-1], keys("input"), keys("output"), [bit_text(*key[1:]) for key in keys("output")])
+        box = Box(scope.path[:-1], scope.module.name, keys("input"), keys("output"), [bit_text(*key[1:]) for key in keys("output")])
         self.boxes.append(box)
         self.drive(box.outs, lambda world, place: world.outputs(box)[-1 - place])
 
