@@ -6,6 +6,8 @@ mod bits;
 #[cfg(test)]
 mod designs;
 #[cfg(test)]
+mod fill_tests;
+#[cfg(test)]
 mod pair_tests;
 #[cfg(test)]
 mod reading;

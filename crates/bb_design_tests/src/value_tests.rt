@@ -77,8 +77,8 @@ fn modules_of_boxes(rt: HostRuntime) -> Result<(), Fail> {
     Ok(())
 }
 
-// The tables whose rows stand one behind the other, with a blank between two.
-fn tables(alloc: Global, flat: &Flat, all: &str) -> Result<Vec<Table>, Fail> {
+/// The tables whose rows stand one behind the other, with a blank between two.
+pub(crate) fn tables(alloc: Global, flat: &Flat, all: &str) -> Result<Vec<Table>, Fail> {
     let mut tables = Vec::new(alloc);
     for (of, rows) in flat.boxes().iter().zip(all.split(' ')) {
         let rows = bits(alloc, rows)?;

@@ -1,0 +1,15 @@
+pub mod WordLaws
+pub mod TreeLaws
+pub mod AnswerLaws
+pub mod FillAnswers
+pub mod SizeLemmas
+pub mod StemLemmas
+pub mod TextLists
+pub mod PortLists
+pub mod ClashLemmas
+pub mod Loops
+pub mod Indexes
+pub mod Choices
+pub mod BoxPlaces
+pub mod Levels
+pub mod Sheets

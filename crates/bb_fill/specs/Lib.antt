@@ -1,0 +1,10 @@
+pub use Rattle.bb_net.specs.Flats
+pub mod Answers
+pub mod Clashes
+pub mod Filled
+pub mod Inside
+pub mod Laws
+pub mod Lines
+pub mod Sizes
+pub mod Trees
+pub mod Words

@@ -1,0 +1,35 @@
+-- What stands for an output pin of a box that holds a table: a tree of choices between the pin's bits in the rows of the table, row 0 first.
+-- For each input pin of the box, from the last to the first, each two neighbouring values become one, which is the second of the two where
+-- the input pin is 1 and the first where it is 0. The one value that is left is that of the output pin: it is the pin's bit in the row
+-- whose number the bits at the input pins spell, the first pin most significant. Each choice is a conditional (IEEE 1364-2005, 5.1.13)
+-- with a net of its own.
+use Rattle.std.specs.Prelude.{ℕ, ◌+◌, ◌/◌, ◌^◌, Bool, List, [], ◌∷◌, ◌++◌, length, map}
+use Rattle.std.specs.List.{range_with_len}
+use Rattle.bb_bits.specs.Tables.{TableBits, table_bit}
+use Rattle.bb_fill.specs.Words.{Word, ChoiceNet}
+use Rattle.bb_fill.specs.Lines.{Line, Assign}
+
+-- the bits of an output pin in all rows
+abbrev pub column : TableBits → ℕ → List Bool
+column t pin = map (λ row. table_bit t row pin) (range_with_len 0 (2 ^ t.inputs))
+
+-- choices by a pin between each two neighbouring values, which are numbered on from a number
+abbrev pub halved : Word → ℕ → List Word → List Line
+halved pin number (low ∷ high ∷ values) = Assign (ChoiceNet number) pin high low ∷ halved pin (number + 1) values
+halved pin number (value ∷ []) = []
+halved pin number [] = []
+
+-- the nets of so many choices, numbered on from a number
+abbrev pub choice_nets : ℕ → ℕ → List Word
+choice_nets number count = map (λ i. ChoiceNet (number + i)) (range_with_len 0 count)
+
+-- the choices of a tree over some values, where the pins stand from the last to the first
+abbrev pub tree_lines : List Word → ℕ → List Word → List Line
+tree_lines [] number values = []
+tree_lines (pin ∷ pins) number values =
+    halved pin number values ++ tree_lines pins (number + length values / 2) (choice_nets number (length values / 2))
+
+-- the values that are left: with 2^k values and k pins it is one
+abbrev pub tree_values : List Word → ℕ → List Word → List Word
+tree_values [] number values = values
+tree_values (pin ∷ pins) number values = tree_values pins (number + length values / 2) (choice_nets number (length values / 2))

@@ -1,0 +1,56 @@
+//! The stem of the words of nets.
+
+ghost use Rattle.std.specs.Prelude.{◌≡◌, ◌<◌, ◌^◌, max, map, replicate};
+ghost use Rattle.bb_fill.specs.Words.{greatest, leading, stem_of};
+
+use bb_bits::Name;
+use bb_net::{Flat, Reg};
+
+// With how many `_` a text begins.
+fn leading(name: &Name) -> usize
+    ensures leading { result ≡ leading name.now }
+    ensures few { result < 2 ^ 63 }
+{
+    let bytes = name.bytes();
+    for (i, byte) in bytes.iter().enumerate() {
+        if *byte != b'_' {
+            return i;
+        }
+    }
+    bytes.len()
+}
+
+// The greater of a number and those with which texts begin.
+fn most_of(most: usize, names: &[Name]) -> usize
+    requires few { most < 2 ^ 63 }
+    ensures most { result ≡ max most (greatest (map leading names.now)) }
+    ensures few { result < 2 ^ 63 }
+{
+    let mut most = most;
+    for name in names {
+        most = most.max(leading(name));
+    }
+    most
+}
+
+// The greatest number with which the texts of registers begin.
+fn most_of_registers(most: usize, regs: &[Reg]) -> usize
+    requires few { most < 2 ^ 63 }
+    ensures most { result ≡ max most (greatest (map (λ r. leading r.text) regs.now)) }
+    ensures few { result < 2 ^ 63 }
+{
+    let mut most = most;
+    for reg in regs {
+        most = most.max(leading(&reg.text));
+    }
+    most
+}
+
+/// How many `_` the stem has.
+pub(crate) fn stem_length(flat: &Flat) -> usize
+    ensures stem { replicate result 95 ≡ stem_of flat.now }
+{
+    let most = most_of(0, flat.ins());
+    let most = most_of_registers(most, flat.regs());
+    most_of(most, flat.outs()) + 1
+}

@@ -1,0 +1,171 @@
+//! Trees of choices over the tables of boxes.
+
+ghost use Rattle.std.specs.Prelude.{◌≡◌, ◌+◌, ◌*◌, ◌^◌, ◌<◌, ◌≤◌, ◌++◌, ◌∷◌, [], ℕ, All, length, map, replicate, reverse};
+ghost use Rattle.std.specs.List.{flat_map};
+ghost use Rattle.bb_fill.specs.Words.{Bit, CellNet, word_at, word_text};
+ghost use Rattle.bb_fill.specs.Lines.{Buf, Gate, line_text};
+ghost use Rattle.bb_fill.specs.Trees.{column, halved, tree_lines, tree_values};
+ghost use Rattle.bb_fill.specs.Inside.Levels.{HasValues, level_choice, level_words, value_word};
+ghost use Rattle.bb_fill.specs.Inside.Sheets.{Adds};
+
+use crate::sheet::Sheet;
+use crate::words::{put_bit, put_choice, put_net, put_word};
+use bb_bits::{Table, tables_have_few_inputs};
+use bb_net::Flat;
+
+/// The values of a level of a tree: the bits of the rows, or the nets of choices, which are numbered on from a number.
+#[derive(Clone, Copy, Debug, PartialEq, Eq)]
+pub(crate) enum Values {
+    Rows,
+    Nets(u32),
+}
+
+// Puts a value of a level on the sheet.
+fn put_value(out: &mut Sheet, table: &Table, p: u32, stem: usize, values: Values, i: u32)
+    requires pin { p < table.now.outputs }
+    requires values { HasValues table.now values (i + 1) }
+    ensures adds { Adds out.old out.new (word_text (replicate stem 95) (value_word table.now p values i)) }
+{
+    match values {
+        Values::Rows => put_bit(out, table.bit(i, p)),
+        Values::Nets(first) => put_choice(out, stem, first + i),
+    }
+}
+
+// Puts a choice between two neighbouring values of a level on the sheet.
+fn put_level_choice(
+    out: &mut Sheet,
+    flat: &Flat,
+    stem: usize,
+    pin: u32,
+    first: u32,
+    table: &Table,
+    p: u32,
+    values: Values,
+    i: u32,
+)
+    requires there { pin < length flat.now.net.cells }
+    requires pin { p < table.now.outputs }
+    requires values { HasValues table.now values (2 * i + 2) }
+    requires room { (first + i < 2 ^ 32) × (2 * i + 2 ≤ 2 ^ 32) }
+    ensures adds { Adds out.old out.new (line_text (replicate stem 95) (level_choice table.now p values (word_at flat.now pin) first i)) }
+{
+    out.put(b"assign ");
+    put_choice(out, stem, first + i);
+    out.put(b" = ");
+    put_word(out, flat, stem, pin);
+    out.put(b" ? ");
+    put_value(out, table, p, stem, values, 2 * i + 1);
+    out.put(b" : ");
+    put_value(out, table, p, stem, values, 2 * i);
+    out.put(b";\n");
+}
+
+// Puts the choices of a pin on the sheet.
+fn put_level(
+    out: &mut Sheet,
+    flat: &Flat,
+    stem: usize,
+    pin: u32,
+    first: u32,
+    table: &Table,
+    p: u32,
+    values: Values,
+    count: u32,
+)
+    requires there { pin < length flat.now.net.cells }
+    requires pin { p < table.now.outputs }
+    requires values { HasValues table.now values (2 * count) }
+    requires room { (first + count ≤ 2 ^ 32) × (2 * count ≤ 2 ^ 32) }
+    ensures adds { Adds out.old out.new (flat_map (line_text (replicate stem 95)) (halved (word_at flat.now pin) first (level_words table.now p values (2 * count)))) }
+{
+    for i in 0..count {
+        put_level_choice(out, flat, stem, pin, first, table, p, values, i);
+    }
+}
+
+// Puts the choices of some pins on the sheet, from the last to the first, and answers what values are left.
+fn put_levels(
+    out: &mut Sheet,
+    flat: &Flat,
+    stem: usize,
+    pins: &[u32],
+    first: u32,
+    table: &Table,
+    p: u32,
+    values: Values,
+    count: u32,
+) -> Values
+    requires there { All (λ k. k < length flat.now.net.cells) pins.now }
+    requires pin { p < table.now.outputs }
+    requires count { count ≡ 2 ^ length pins.now }
+    requires values { HasValues table.now values count }
+    requires room { first + count ≤ 2 ^ 32 }
+    ensures adds { Adds out.old out.new (flat_map (line_text (replicate stem 95)) (tree_lines (reverse (map (word_at flat.now) pins.now)) first (level_words table.now p values count))) }
+    ensures left { tree_values (reverse (map (word_at flat.now) pins.now)) first (level_words table.now p values count) ≡ level_words table.now p result 1 }
+    ensures value { HasValues table.now result 1 }
+{
+    let Some((last, rest)) = pins.split_last() else {
+        return values;
+    };
+    let half = count / 2;
+    put_level(out, flat, stem, *last, first, table, p, values, half);
+    put_levels(
+        out,
+        flat,
+        stem,
+        rest,
+        first + half,
+        table,
+        p,
+        Values::Nets(first),
+        half,
+    )
+}
+
+// Puts the copy of the value of a tree on the sheet.
+fn put_root(out: &mut Sheet, table: &Table, p: u32, stem: usize, number: u32, values: Values)
+    requires pin { p < table.now.outputs }
+    requires value { HasValues table.now values 1 }
+    ensures adds { Adds out.old out.new (line_text (replicate stem 95) (Gate Buf (CellNet number) (level_words table.now p values 1))) }
+{
+    out.put(b"buf(");
+    put_net(out, stem, number);
+    out.put(b",");
+    put_value(out, table, p, stem, values, 0);
+    out.put(b");\n");
+}
+
+/// How many rows a table with an output has.
+pub(crate) fn row_count(table: &Table) -> u32
+    requires some { 0 < table.now.outputs }
+    ensures rows { result ≡ 2 ^ table.now.inputs }
+    ensures some { 1 ≤ result }
+    ensures few { result < 2 ^ 25 }
+{
+    tables_have_few_inputs();
+    1 << table.inputs()
+}
+
+/// Puts what stands for an output pin of a box on the sheet: a tree over its table, and the copy of its value.
+pub(crate) fn put_pin(
+    out: &mut Sheet,
+    flat: &Flat,
+    stem: usize,
+    number: u32,
+    pins: &[u32],
+    first: u32,
+    table: &Table,
+    p: u32,
+)
+    requires there { All (λ k. k < length flat.now.net.cells) pins.now }
+    requires inputs { table.now.inputs ≡ length pins.now }
+    requires pin { p < table.now.outputs }
+    requires room { first + 2 ^ length pins.now ≤ 2 ^ 32 }
+    ensures adds { Adds out.old out.new (flat_map (line_text (replicate stem 95)) (tree_lines (reverse (map (word_at flat.now) pins.now)) first (map Bit (column table.now p))
+        ++ Gate Buf (CellNet number) (tree_values (reverse (map (word_at flat.now) pins.now)) first (map Bit (column table.now p))) ∷ [])) }
+{
+    let rows = row_count(table);
+    let values = put_levels(out, flat, stem, pins, first, table, p, Values::Rows, rows);
+    put_root(out, table, p, stem, number, values);
+}

@@ -1,0 +1,74 @@
+//! Words of the filled text.
+
+ghost use Rattle.std.specs.Prelude.{◌≡◌, ◌+◌, ◌<◌, ◌++◌, if◌then◌else◌, [], codes, decimal, length, map, replicate};
+ghost use Rattle.std.specs.List.{slice_index_or};
+ghost use Rattle.bb_net.specs.CutPoints.{register_texts};
+ghost use Rattle.bb_fill.specs.Words.{printed, word_at, word_text};
+ghost use Rattle.bb_fill.specs.Inside.Sheets.{Adds};
+
+use crate::sheet::Sheet;
+use bb_bits::Name;
+use bb_net::{Cell, Flat};
+
+/// Puts a name on the sheet.
+pub(crate) fn put_name(out: &mut Sheet, name: &Name)
+    ensures adds { Adds out.old out.new (printed name.now) }
+{
+    out.put(b"\\");
+    out.put(name.bytes());
+    out.put(b" ");
+}
+
+/// Puts a bit on the sheet, as a number.
+pub(crate) fn put_bit(out: &mut Sheet, bit: bool)
+    ensures adds { Adds out.old out.new (if bit then codes "1'b1" else codes "1'b0") }
+{
+    if bit {
+        out.put(b"1'b1");
+    } else {
+        out.put(b"1'b0");
+    }
+}
+
+/// Puts the net of a cell on the sheet.
+pub(crate) fn put_net(out: &mut Sheet, stem: usize, number: u32)
+    ensures adds { Adds out.old out.new (replicate stem 95 ++ decimal number) }
+{
+    out.put_stem(stem);
+    out.put_number(number);
+}
+
+/// Puts the net of a choice on the sheet.
+pub(crate) fn put_choice(out: &mut Sheet, stem: usize, number: u32)
+    ensures adds { Adds out.old out.new (replicate stem 95 ++ codes "t" ++ decimal number) }
+{
+    out.put_stem(stem);
+    out.put(b"t");
+    out.put_number(number);
+}
+
+// Puts the text of an input of the netlist on the sheet, of the top or else a register.
+fn put_input(out: &mut Sheet, flat: &Flat, i: u32)
+    requires there { i < length flat.now.ins + length flat.now.regs }
+    ensures adds { Adds out.old out.new (printed (slice_index_or (flat.now.ins ++ register_texts flat.now) i [])) }
+{
+    let ins = flat.ins();
+    let i = i as usize;
+    if i < ins.len() {
+        put_name(out, &ins[i]);
+    } else {
+        put_name(out, &flat.regs()[i - ins.len()].text);
+    }
+}
+
+/// Puts the word of a cell on the sheet.
+pub(crate) fn put_word(out: &mut Sheet, flat: &Flat, stem: usize, place: u32)
+    requires there { place < length flat.now.net.cells }
+    ensures adds { Adds out.old out.new (word_text (replicate stem 95) (word_at flat.now place)) }
+{
+    match flat.net().cells()[place as usize] {
+        Cell::Const(b) => put_bit(out, b),
+        Cell::Input(i) => put_input(out, flat, i),
+        _ => put_net(out, stem, place),
+    }
+}
