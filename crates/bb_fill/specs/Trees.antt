@@ -1,8 +1,7 @@
--- What stands for an output pin of a box that holds a table: a tree of choices between the pin's bits in the rows of the table, row 0 first.
--- For each input pin of the box, from the last to the first, each two neighbouring values become one, which is the second of the two where
--- the input pin is 1 and the first where it is 0. The one value that is left is that of the output pin: it is the pin's bit in the row
--- whose number the bits at the input pins spell, the first pin most significant. Each choice is a conditional (IEEE 1364-2005, 5.1.13)
--- with a net of its own.
+-- What stands for an output pin of a box that holds a table: a binary tree whose leaves are the pin's bits in all rows, that of row 0 at the
+-- left. The level next to the leaves chooses by the last input pin of the box, the root by the first: a node has the value of its right
+-- side where the input pin is 1, and that of its left side where it is 0. So the root has the pin's bit in the row whose number the bits
+-- at the input pins spell, the first pin most significant. Each node is a conditional (IEEE 1364-2005, 5.1.13) with a net of its own.
 use Rattle.std.specs.Prelude.{ℕ, ◌+◌, ◌/◌, ◌^◌, Bool, List, [], ◌∷◌, ◌++◌, length, map}
 use Rattle.std.specs.List.{range_with_len}
 use Rattle.bb_bits.specs.Tables.{TableBits, table_bit}
