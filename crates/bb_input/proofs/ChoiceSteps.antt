@@ -1,13 +1,16 @@
 -- the boxes quantified, one more before the last ones
-use Rattle.std.proofs.Common.{◌≡◌, ◌<◌, ◌≤◌, ℕ, zero, suc, ◌+◌, ◌&&◌, ◌||◌, List, [], ◌∷◌, ◌++◌, length, take, drop, refl, sym, ap, ap₂, ◌∙◌, subst, inl, arith, drop_of_length-le}
+use Rattle.std.proofs.Common.{◌≡◌, ◌<◌, ◌≤◌, ℕ, zero, suc, ◌+◌, ◌&&◌, ◌||◌, List, [], ◌∷◌, ◌++◌, length, take, drop, refl, sym, ap, ap₂, ◌∙◌, subst, inl, inr, arith, drop_of_length-le}
+use Rattle.std.specs.Prelude.{slice_set}
+use Rattle.std.proofs.lemmas.Bool.{cases_eq}
+use Rattle.std.proofs.lemmas.List.{get_or-set_same, get_or-set_other}
 use Rattle.bb_bits.specs.Truth.{Truth, IsBeadOfAny, quantified_block}
 use Rattle.bb_net.specs.Netlists.{Pins, box_at}
 use Rattle.bb_net.specs.Pairs.{pin_count}
 use Rattle.bb_uniq.specs.declared.store.Ref.{Ref}
 use Rattle.bb_uniq.specs.Inside.Nodes.{NodeStore}
-use Rattle.bb_uniq.specs.Inside.Meaning.{truth_of}
+use Rattle.bb_uniq.specs.Inside.Meaning.{truth_of, Keeps}
 use Rattle.bb_sym.specs.Laws.{MakingLaws}
-use Rattle.bb_sym.specs.Inside.Made.{Makes, AreTooMany, StandsFor}
+use Rattle.bb_sym.specs.Inside.Made.{Makes, AreTooMany, StandsFor, ref_at}
 use Rattle.bb_sym.specs.Plain.{block_functions}
 use Rattle.bb_input.specs.InputFunctions.{outs_quantified, box_quantified, boxes_quantified, box_functions, boxes_functions}
 use Rattle.bb_input.proofs.OrderLemmas.{count_more}
@@ -100,3 +103,24 @@ module _ (laws : MakingLaws) (start old : NodeStore) (boxes : List Pins) (t : Tr
       laws.refused_more start (functions_from boxes t i) (functions_from boxes t 0) (later_within laws boxes t i (omega (arith, l)))
       (subst (AreTooMany start) (sym (functions_earlier boxes t i l))
       (laws.refused_then start old (functions_from boxes t (i + 1)) (box_functions (pin_count (take i boxes)) (box_at boxes i) (from_box boxes t (i + 1))) made (subst (AreTooMany old) own_is many)))
+
+-- what the boxes from a number on were quantified in
+abbrev pub AreNoted : NodeStore → List Pins → Truth → ℕ → List Ref → Type 0
+AreNoted s boxes t i noted = (b : ℕ) → i ≤ b → b < length boxes → StandsFor s (from_box boxes t (b + 1)) (ref_at noted b)
+
+-- one more, where a box was quantified since
+pub noted_more : MakingLaws → (old new : NodeStore) → Keeps old new → (boxes : List Pins) (t : Truth) (k : ℕ) → k < length boxes → (noted : List Ref) → length noted ≡ length boxes → (r : Ref)
+    → StandsFor old (from_box boxes t (k + 1)) r → AreNoted old boxes t (k + 1) noted → AreNoted new boxes t k (slice_set noted k r)
+noted_more laws old new kept boxes t k l noted whole r stand before b from there =
+    elim (cases_eq b k) [
+      | inl e ↦
+          let here : ref_at (slice_set noted k r) b ≡ r = ap (ref_at (slice_set noted k r)) e ∙ get_or-set_same noted k r (record { 0 = 0 }) (omega (arith, l, whole)) in
+          subst (StandsFor new (from_box boxes t (b + 1))) (sym here)
+          (subst (λ i. StandsFor new (from_box boxes t (i + 1)) r) (sym e) (laws.stands_still old new (from_box boxes t (k + 1)) r kept stand))
+      | inr other ↦
+          subst (StandsFor new (from_box boxes t (b + 1))) (sym (get_or-set_other noted k b r (record { 0 = 0 }) other))
+          (laws.stands_still old new (from_box boxes t (b + 1)) (ref_at noted b) kept (before b (later b from other) there))
+    ]
+  where
+    later : (b : ℕ) → k ≤ b → (b ≡ k → ⊥) → k + 1 ≤ b
+    later b from other = omega (arith, from, other)

@@ -1,15 +1,17 @@
 -- all functions of the check, part by part
-use Rattle.std.proofs.Common.{◌≡◌, ◌≤◌, ℕ, ◌||◌, List, [], ◌∷◌, ◌++◌, ap, ap₂, ◌∙◌, subst, arith, append_assoc}
+use Rattle.std.proofs.Common.{◌≡◌, ◌<◌, ◌≤◌, ℕ, ◌+◌, ◌||◌, List, [], ◌∷◌, ◌++◌, map, take, drop, slice_index, sym, ap, ap₂, ◌∙◌, subst, subst₂, arith, append_assoc}
+use Rattle.std.specs.Prelude.{All}
 use Rattle.bb_bits.specs.Truth.{Truth, quantified_block}
-use Rattle.bb_net.specs.Netlists.{Netlist, Pins}
+use Rattle.bb_net.specs.Netlists.{Netlist, Pins, IsNetlist}
 use Rattle.bb_net.specs.Pairs.{NetPair, IsPair, pin_count}
 use Rattle.bb_uniq.specs.declared.store.Ref.{Ref}
 use Rattle.bb_uniq.specs.Inside.Nodes.{NodeStore}
 use Rattle.bb_uniq.specs.Inside.Meaning.{truth_of}
 use Rattle.bb_sym.specs.Laws.{MakingLaws}
-use Rattle.bb_sym.specs.Inside.Made.{Makes, AreTooMany, StandsFor}
-use Rattle.bb_sym.specs.Plain.{table, tables, plain_functions_at, block_functions}
-use Rattle.bb_input.specs.InputFunctions.{pins_and_inputs, boxes_first, leads, refutes, refuted, lost, wrong_functions, missed_functions, quantified_functions, boxes_quantified, boxes_functions, input_functions}
+use Rattle.bb_sym.specs.Inside.Made.{Makes, AreTooMany, StandsFor, StandForAll, HaveCells, ref_at}
+use Rattle.bb_sym.specs.Plain.{cell_bit, table, tables, plain_functions_at, block_functions}
+use Rattle.bb_input.specs.InputFunctions.{pins_and_inputs, boxes_first, leads, refutes, refuted, lost, stage, pin_places, wrong_functions, missed_functions, quantified_functions, boxes_quantified, boxes_functions, input_functions}
+use Rattle.bb_input.proofs.PinLemmas.{pins_there}
 use Rattle.bb_input.proofs.RefutingParts.{front_refused}
 
 pub few_pins : (p : NetPair) → IsPair p → pin_count p.imp.boxes ≤ 2048
@@ -76,8 +78,21 @@ module _ (making : MakingLaws) (spec imp : Netlist) (a : NodeStore) where
               (making.then a b e plain_part (refuting_part ++ (inputs_part ++ boxes_part)) plain
               (making.then b c e refuting_part (inputs_part ++ boxes_part) both (making.then c d e inputs_part boxes_part inputs_made (subst (Makes d e) boxes_are last))))
 
-          pub still_refuted : StandsFor e (refuted spec imp) y
-          still_refuted = making.stands_still d e (refuted spec imp) y last.kept refuted_stands
-
           pub lost_stands : (q : Ref) → StandsFor e (boxes_quantified 0 boxes (truth_of d y.0)) q → StandsFor e (lost spec imp) q
           lost_stands q h = record { ref = h.ref; table = h.table ∙ ap₂ (λ (k : List Pins) t. boxes_quantified 0 k t) eb refuted_stands.table }
+
+          pub stage_stands : (b : ℕ) (q : Ref) → StandsFor e (boxes_quantified (pin_count (take (b + 1) boxes)) (drop (b + 1) boxes) (truth_of d y.0)) q → StandsFor e (stage spec imp b) q
+          stage_stands b q h = record {
+            ref = h.ref;
+            table = h.table ∙ ap₂ (λ (k : List Pins) t. boxes_quantified (pin_count (take (b + 1) k)) (drop (b + 1) k) t) eb refuted_stands.table;
+          }
+
+          -- since the cells were made, Refs are kept
+          pub pins_stand : (v : a.vars ≡ pins_and_inputs imp) → IsNetlist imp → (of_spec of_imp refs : List Ref) → HaveCells b (boxes_first imp) spec imp of_spec of_imp → refs ≡ map (ref_at of_imp) (pin_places imp.boxes)
+              → StandForAll e (λ q. table (pins_and_inputs imp) (cell_bit (boxes_first imp) imp (slice_index (pin_places imp.boxes) q))) refs
+          pins_stand v kept of_spec of_imp refs have picks =
+              let since = making.then b c e refuting_part (inputs_part ++ boxes_part) both (making.then c d e inputs_part boxes_part inputs_made (subst (Makes d e) boxes_are last)) in
+              let still = making.cells_still b e (boxes_first imp) spec imp of_spec of_imp since.kept have in
+              let there = subst (λ n. All (λ place. place < n) (pin_places imp.boxes)) (sym have.imp_whole) (pins_there imp kept) in
+              subst₂ (λ n (rs : List Ref). StandForAll e (λ q. table n (cell_bit (boxes_first imp) imp (slice_index (pin_places imp.boxes) q))) rs) (all_made.kept.vars ∙ v) (sym picks)
+              (making.picked_stand e (λ place. table e.vars (cell_bit (boxes_first imp) imp place)) of_imp (pin_places imp.boxes) still.imp_cells there)

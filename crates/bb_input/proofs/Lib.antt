@@ -7,9 +7,11 @@ pub mod NumberSteps
 pub mod OneAnswer
 pub mod OneBox
 pub mod OrderLemmas
+pub mod PinLemmas
 pub mod Points
 pub mod Readings
 pub mod RefutingParts
 pub mod RowSteps
+pub mod Stages
 pub mod Suits
 pub mod SomeAnswers

@@ -10,7 +10,7 @@ use Rattle.bb_net.specs.Netlists.{Netlist, IsNetlist, box_at}
 use Rattle.bb_net.specs.Values.{FitBoxes, table_at}
 use Rattle.bb_input.specs.declared.InputAnswer.{InputAnswer}
 use Rattle.bb_input.specs.declared.InputAnswer.TheVariants.{Error, Clear, Repair}
-use Rattle.bb_input.specs.Answers.{IsAnswer, AreLeastOutputs, AreLeastTables}
+use Rattle.bb_input.specs.Inside.Answers.{IsAnswer, AreLeastOutputs, AreLeastTables}
 use Rattle.bb_input.specs.Laws.{IsSameAnswer}
 
 -- lists of one length that spell one number are the same

@@ -1,7 +1,7 @@
 -- one box: least rows are least outputs, and rows that suit are a table that agrees
-use Rattle.std.proofs.Common.{◌≡◌, ◌==◌, ◌<◌, ◌≤◌, ℕ, zero, suc, ◌+◌, ◌*◌, ◌^◌, inl, inr, get_or, Bool, true, false, List, [], ◌∷◌, ◌++◌, length, map, take, drop, replicate, refl, sym, ap, ap₂, ◌∙◌, subst, arith, length-append, length-take, length-drop, append-nil, append_assoc, take-append-drop, get_or-take, get_or-drop}
+use Rattle.std.proofs.Common.{◌≡◌, ◌==◌, ◌<◌, ◌≤◌, ℕ, zero, suc, ◌+◌, ◌*◌, ◌^◌, inl, inr, get_or, Bool, true, false, List, [], ◌∷◌, ◌++◌, length, map, take, drop, replicate, refl, sym, ap, ap₂, ◌∙◌, subst, subst₂, arith, length-append, length-take, length-drop, append-nil, append_assoc, take-append-drop, get_or-take, get_or-drop}
 use Rattle.std.proofs.lemmas.Bool.{cases_lt}
-use Rattle.std.proofs.lemmas.List.{length-replicate, length-map, take-append-le}
+use Rattle.std.proofs.lemmas.List.{length-replicate, length-map, take-append-le, get_or_default}
 use Rattle.std.proofs.Math.Seq.{take-append_seam}
 use Rattle.std.proofs.lemmas.List.Sums.{sum_by-cons}
 use Rattle.bb_bits.specs.Numbers.{number_of}
@@ -14,9 +14,13 @@ use Rattle.bb_net.specs.Netlists.{Netlist, Pins, IsNetlist, box_at}
 use Rattle.bb_net.specs.Pairs.{pin_count}
 use Rattle.bb_net.specs.Values.{bit_of, flat, flat_with, free_bit, tabled_bit, table_at, output_pins, FitBoxes, ValueGoesByBoxes}
 use Rattle.bb_quant.specs.Inside.LeastPoints.{BeginsAs}
+use Rattle.bb_sym.specs.Inside.Made.{StandsFor, ref_at}
 use Rattle.bb_sym.specs.Laws.{FunctionLaws, PointLaws}
-use Rattle.bb_input.specs.Answers.{AreLeastOutputs, AreLeastTables}
-use Rattle.bb_input.specs.InputFunctions.{pins_and_inputs, pin_bits, refuted}
+use Rattle.bb_uniq.specs.declared.store.Ref.{Ref}
+use Rattle.bb_input.specs.Inside.Answers.{AreLeastOutputs, AreLeastTables}
+use Rattle.bb_input.specs.InputFunctions.{pins_and_inputs, pin_bits, refuted, boxes_quantified}
+use Rattle.bb_input.specs.declared.staging.Prefix.{Prefix}
+use Rattle.bb_input.specs.Inside.Prefixes.{IsPrefix}
 use Rattle.bb_input.specs.Inside.Rows.{IsLeastRow, HasLeastRows}
 use Rattle.bb_input.proofs.OrderLemmas.{pins_of}
 use Rattle.bb_input.proofs.Points.{bits_push}
@@ -215,3 +219,10 @@ module _ (quantifiers : QuantifierLaws) (functions : FunctionLaws) (points : Poi
             none_least quantifiers functions points spec imp box one choices e ins (row_of table (number_of ins)) l
             (ap (λ j. take j (drop (number_of ins * table.outputs) table.rows)) (to ∙ e))
       ]
+
+-- with one box the function of its stage is the one from which the quantification starts
+pub only_stage : (spec imp : Netlist) (made : Prefix) → IsPrefix spec imp made → (box : Pins) → imp.boxes ≡ box ∷ [] → (r : Ref) → r ≡ get_or made.stages.items 0 r → StandsFor made.diagrams.store (refuted spec imp) r
+only_stage spec imp made is box one r at =
+    let there : 0 < length imp.boxes = omega (arith, ap length one) in
+    let here : ref_at made.stages.items 0 ≡ r = sym (at ∙ get_or_default made.stages.items 0 r (record { 0 = 0 }) (omega (arith, there, is.count))) in
+    subst₂ (StandsFor made.diagrams.store) (ap (λ (boxes : List Pins). boxes_quantified (pin_count (take 1 boxes)) (drop 1 boxes) (refuted spec imp)) one) here (is.stages 0 there)

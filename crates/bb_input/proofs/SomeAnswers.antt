@@ -19,7 +19,7 @@ use Rattle.bb_net.specs.Values.{output_pins, ValueGoesByBoxes}
 use Rattle.bb_sym.specs.Laws.{FunctionLaws, PointLaws}
 use Rattle.bb_input.specs.declared.InputAnswer.{InputAnswer}
 use Rattle.bb_input.specs.declared.InputAnswer.TheVariants.{Error, Clear, Repair}
-use Rattle.bb_input.specs.Answers.{IsFinishable, AreLeastOutputs, AreLeastTables, IsAnswer}
+use Rattle.bb_input.specs.Inside.Answers.{IsFinishable, AreLeastOutputs, AreLeastTables, IsAnswer}
 use Rattle.bb_input.specs.Laws.{AnswersExist}
 use Rattle.bb_input.proofs.OneBox.{least_one, least_none}
 

@@ -31,6 +31,10 @@ given_ins imp p = flat_map (λ bits. bits.ins) (pin_bits imp.boxes p)
 abbrev pub in_places : List Pins → List ℕ
 in_places boxes = flat_map (λ pins. pins.ins) boxes
 
+-- the cells at all pins, in the order of their variables
+abbrev pub pin_places : List Pins → List ℕ
+pin_places boxes = flat_map (λ pins. pins.ins ++ pins.outs) boxes
+
 -- the numbers of the input pins of all boxes
 abbrev pub in_pins : Netlist → List ℕ
 in_pins imp = range_with_len 0 (length (in_places imp.boxes))
@@ -85,6 +89,10 @@ boxes_functions first (box ∷ boxes) t =
 -- 1 where no choices suit
 abbrev pub lost : Netlist → Netlist → Truth
 lost spec imp = boxes_quantified 0 imp.boxes (refuted spec imp)
+
+-- 1 where no choices suit for the boxes behind box b, the pins up to its own having the bits of the point
+abbrev pub stage : Netlist → Netlist → ℕ → Truth
+stage spec imp b = boxes_quantified (pin_count (take (b + 1) imp.boxes)) (drop (b + 1) imp.boxes) (refuted spec imp)
 
 -- where outputs are wrong, and where input pins have other bits than their cells: each function, and their folds by or
 abbrev pub wrong_functions : Netlist → Netlist → List Truth

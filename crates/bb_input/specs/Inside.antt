@@ -1,3 +1,5 @@
 -- What the code says to itself: no clause of the top call rests on it.
+pub mod Answers
 pub mod Order
+pub mod Prefixes
 pub mod Rows

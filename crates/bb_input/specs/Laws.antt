@@ -1,9 +1,12 @@
--- What a reader expects of the answers: a pair has one.
-use Rattle.std.specs.Prelude.{◌≡◌, Vec}
+-- What a reader expects of the answers: a pair has one; and of the functions that the check makes on the way.
+use Rattle.std.specs.Prelude.{◌≡◌, ◌↔◌, ◌<◌, ℕ, ◌+◌, Bool, false, List, length, take, drop, Vec}
 use Rattle.std.specs.declared.alloc.Global.{Global}
 use Rattle.bb_bits.specs.Tables.{TableBits}
+use Rattle.bb_bits.specs.Truth.{truth_at}
+use Rattle.bb_net.specs.Conditions.{Suit, Wins, SomeChoicesSuit}
 use Rattle.bb_net.specs.Netlists.{Netlist, IsNetlist}
-use Rattle.bb_input.specs.Answers.{IsAnswer}
+use Rattle.bb_input.specs.Inside.Answers.{IsAnswer}
+use Rattle.bb_input.specs.InputFunctions.{pins_and_inputs, pin_bits, lost, stage}
 use Rattle.bb_input.specs.declared.InputAnswer.{InputAnswer}
 use Rattle.bb_input.specs.declared.InputAnswer.TheVariants.{Error, Clear, Repair}
 
@@ -20,3 +23,13 @@ OneAnswer = (spec imp : Netlist) → IsNetlist imp → (a b : InputAnswer) → I
 -- and each pair has an answer
 abbrev pub AnswersExist : Type 0
 AnswersExist = (spec imp : Netlist) → IsNetlist imp → (a : InputAnswer) × IsAnswer spec imp a
+
+-- the function of a stage is 0 at a point exactly where the boxes behind can be filled, with the bits that the point gives to the pins of
+-- those before
+abbrev pub StagesSay : Type 0
+StagesSay = (spec imp : Netlist) (b : ℕ) → b < length imp.boxes → (p : List Bool) → length p ≡ pins_and_inputs imp
+    → (truth_at (stage spec imp b) p ≡ false) ↔ Wins (Suit spec imp) (drop (b + 1) imp.boxes) (pin_bits (take (b + 1) imp.boxes) p)
+
+-- and the last one where all can be
+abbrev pub LastSays : Type 0
+LastSays = (spec imp : Netlist) (p : List Bool) → length p ≡ pins_and_inputs imp → (truth_at (lost spec imp) p ≡ false) ↔ SomeChoicesSuit spec imp

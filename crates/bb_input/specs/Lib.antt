@@ -1,4 +1,3 @@
-pub mod Answers
 pub mod InputFunctions
 pub mod Laws
 pub mod Inside

@@ -1,11 +1,11 @@
 //! The boxes quantified, from the last to the first: for all bits at the output pins, for some bits at the input pins.
 
-ghost use Rattle.std.specs.Prelude.{◌≡◌, ◌+◌, ◌-◌, ◌<◌, ◌≤◌, ℕ, length, take, IfOk, OnOk, IsErrOf, slice_index_or};
+ghost use Rattle.std.specs.Prelude.{◌≡◌, ◌+◌, ◌-◌, ◌<◌, ◌≤◌, ℕ, length, take, drop, IfOk, OnOk, IsErrOf, slice_index_or};
 ghost use Rattle.bb_net.specs.Netlists.{box_at};
 ghost use Rattle.bb_net.specs.Pairs.{pin_count};
 ghost use Rattle.bb_uniq.specs.Inside.Nodes.{IsRef};
 ghost use Rattle.bb_uniq.specs.Inside.Meaning.{truth_of};
-ghost use Rattle.bb_sym.specs.Inside.Made.{Makes, AreTooMany, StandsFor};
+ghost use Rattle.bb_sym.specs.Inside.Made.{Makes, AreTooMany, StandsFor, ref_at};
 ghost use Rattle.bb_input.specs.InputFunctions.{box_quantified, boxes_quantified, box_functions, boxes_functions};
 
 use bb_dd::{Diagrams, Ref};
@@ -15,18 +15,23 @@ use bb_sym::{RungFault, laws};
 use std::alloc::Global;
 
 /// The boxes quantified, the last one first. Each has its output pins from its entry of `starts` on, and its input pins before.
+/// What a box was quantified in is noted at its entry of `stages`.
 pub(crate) fn quantify_boxes(
     alloc: Global,
     d: &mut Diagrams,
     f: Ref,
     boxes: &[BoxPins],
     starts: &[u32],
+    stages: &mut [Ref],
 ) -> Result<Ref, RungFault>
     requires f { IsRef d.old.store f.0 }
     requires vars { pin_count boxes.now ≤ d.old.store.vars }
     requires few { d.old.store.vars ≤ 2048 }
     requires count { length starts.now ≡ length boxes.now }
     requires starts { (b : ℕ) → b < length boxes.now → slice_index_or starts.now b 0 ≡ pin_count (take b boxes.now) + length (box_at boxes.now b).ins }
+    requires stages { length stages.old ≡ length boxes.now }
+    ensures count { length stages.new ≡ length boxes.now }
+    ensures stages { OnOk result ((b : ℕ) → b < length boxes.now → StandsFor d.new.store (boxes_quantified (pin_count (take (b + 1) boxes.now)) (drop (b + 1) boxes.now) (truth_of d.old.store f.0)) (ref_at stages.new b)) }
     ensures result { IfOk result (StandsFor d.new.store (boxes_quantified 0 boxes.now (truth_of d.old.store f.0))) }
     ensures makes { OnOk result (Makes d.old.store d.new.store (boxes_functions 0 boxes.now (truth_of d.old.store f.0))) }
     ensures nodes { IsErrOf result RungFault.Nodes → AreTooMany d.old.store (boxes_functions 0 boxes.now (truth_of d.old.store f.0)) }
@@ -36,6 +41,7 @@ pub(crate) fn quantify_boxes(
     let mut left = boxes.len();
     while left > 0 {
         left -= 1;
+        stages[left] = r;
         r = quantify_box(alloc, d, r, starts[left], &boxes[left])?;
     }
     Ok(r)

@@ -1,6 +1,6 @@
-//! Laws of the answers. The definitions stand in the specifications; each function here has a law as its contract and does nothing.
+//! Laws of the answers and of the functions on the way. The definitions stand in the specifications; each function here has a law as its contract and does nothing.
 
-ghost use Rattle.bb_input.specs.Laws.{OneAnswer, AnswersExist};
+ghost use Rattle.bb_input.specs.Laws.{OneAnswer, AnswersExist, StagesSay, LastSays};
 
 use bb_bits::{
     number_is_below, number_spelled, number_spelled_once, rows_are_chosen, rows_are_tables, truth,
@@ -33,4 +33,22 @@ pub fn answers_exist()
     value_goes_by_boxes();
     vectors_hold_or_not();
     conditions_hold_or_not();
+}
+
+/// At each point the function of a stage says whether the boxes behind it can be filled.
+pub fn stages_say()
+    ensures { StagesSay }
+{
+    truth::quantifiers();
+    truth::tables();
+    laws::functions();
+}
+
+/// And the last one whether all can.
+pub fn last_says()
+    ensures { LastSays }
+{
+    truth::quantifiers();
+    truth::tables();
+    laws::functions();
 }

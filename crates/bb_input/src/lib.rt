@@ -10,19 +10,22 @@ mod missing;
 mod order;
 mod refuting;
 mod rows;
+mod staging;
 
 use bb_bits::Table;
 pub use checking::input;
-pub use laws::{answers_are_one, answers_exist};
+pub use laws::{answers_are_one, answers_exist, last_says, stages_say};
+pub use staging::{Prefix, make_prefix};
 
 /// What the check by choices answers.
 #[derive(Debug, Drop)]
 pub enum InputAnswer {
     /// Boxes cannot be filled so that what they give depends on their inputs alone and every output is right.
     Error,
-    /// Choices for their inputs suit, one box after another, but there are several boxes or their tables are too large.
+    /// Choices for their inputs suit, one box after another, but no tables are told: there are several boxes, which for bb_nest are
+    /// not nested, or their tables are too large.
     Clear,
-    /// A table for each box, of which there is at most one, with which every output is right. Each row is the least that suits,
-    /// as a number with the first output pin most significant.
+    /// A table for each box, with which every output is right: of one box at most, or for bb_nest of nested boxes. Each row is the
+    /// least that suits, as a number with the first output pin most significant.
     Repair(Vec<Table>),
 }

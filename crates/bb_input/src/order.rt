@@ -4,7 +4,7 @@ ghost use Rattle.std.specs.Prelude.{◌≡◌, ◌+◌, ◌++◌, ◌<◌, ◌�
 ghost use Rattle.std.specs.List.{range_with_len};
 ghost use Rattle.bb_net.specs.Netlists.{box_at};
 ghost use Rattle.bb_net.specs.Pairs.{pin_count};
-ghost use Rattle.bb_input.specs.InputFunctions.{in_places};
+ghost use Rattle.bb_input.specs.InputFunctions.{in_places, pin_places};
 ghost use Rattle.bb_input.specs.Inside.Order.{in_variables};
 
 use bb_bits::NoMemory;
@@ -76,6 +76,19 @@ pub(crate) fn input_places(alloc: Global, boxes: &[BoxPins]) -> Result<Vec<u32>,
     let mut places = Vec::new(alloc);
     for pins in boxes {
         places.extend_from_slice(pins.ins())?;
+    }
+    Ok(places)
+}
+
+/// The cells at all pins, box after box, each box's input pins and then its output pins.
+#[tactic(auto, using(crate::proofs::PinLemmas::pins_more))]
+pub(crate) fn all_places(alloc: Global, boxes: &[BoxPins]) -> Result<Vec<u32>, NoMemory>
+    ensures { IfOk result (λ places. places.items ≡ pin_places boxes.now) }
+{
+    let mut places = Vec::new(alloc);
+    for pins in boxes {
+        places.extend_from_slice(pins.ins())?;
+        places.extend_from_slice(pins.outs())?;
     }
     Ok(places)
 }

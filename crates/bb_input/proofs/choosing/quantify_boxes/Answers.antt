@@ -1,5 +1,5 @@
 use Rattle.std.proofs.Common.{rules, IsErrOf, ◌≡◌, ◌<◌, ◌+◌, ◌-◌, [], length, take, slice_index_or, refl, sym, ap, ◌∙◌, subst, arith}
-use Rattle.std.proofs.lemmas.List.{get_or_default}
+use Rattle.std.proofs.lemmas.List.{get_or_default, length-set}
 use Rattle.bb_net.specs.Netlists.{Pins, box_at}
 use Rattle.bb_net.specs.Pairs.{pin_count}
 use Rattle.bb_uniq.specs.Inside.Meaning.{truth_of}
@@ -7,7 +7,7 @@ use Rattle.bb_sym.specs.declared.fault.RungFault.TheVariants.{Nodes}
 use Rattle.bb_sym.specs.Inside.Made.{Makes, AreTooMany, StandsFor}
 use Rattle.bb_input.specs.InputFunctions.{box_quantified, box_functions}
 use Rattle.bb_input.proofs.OrderLemmas.{fits_more}
-use Rattle.bb_input.proofs.ChoiceSteps.{from_box, functions_from, from_none, functions_none, boxes_made, boxes_stand, boxes_refused}
+use Rattle.bb_input.proofs.ChoiceSteps.{from_box, functions_from, from_none, functions_none, boxes_made, boxes_stand, boxes_refused, AreNoted, noted_more}
 use Rattle.bb_input.proofs.choosing.quantify_boxes.Goals as goal
 
 pub loop-left-init : goal.loop-left-init
@@ -18,6 +18,8 @@ loop-left-init c =
       omega arith,
       record { ref = c.requires.f; table = sym (from_none c.args.boxes.now t n refl) },
       subst (Makes s s) (sym (functions_none c.args.boxes.now t n refl)) (c.making.ensures.none s),
+      c.requires.stages,
+      (λ b from there. absurd (omega (arith, from, there))),
     )
 
 pub quantify_box-requires-clause-before : goal.quantify_box-requires-clause-before
@@ -85,11 +87,14 @@ loop-left-preserved c =
     let t = truth_of s c.args.f.0 in
     let stand = subst (λ i. StandsFor old (from_box boxes t i) c.loop-left.r) next c.loop-left.invariant.1 in
     let made = subst (λ i. Makes s old (functions_from boxes t i)) next c.loop-left.invariant.2 in
+    let noted = subst (λ i. AreNoted old boxes t i c.loop-left.stages) next c.loop-left.invariant.4 in
     let new = c.quantify_box.new.d.store in (
       omega (arith, l),
       boxes_stand c.making.ensures s old boxes t k l c.loop-left.r stand made (slice_index_or c.args.starts.now k 0 - length box.ins) first new c.in_ok-r.r
           (subst (λ (pins : Pins). StandsFor new (box_quantified (slice_index_or c.args.starts.now k 0 - length box.ins) pins (truth_of old c.loop-left.r.0)) c.in_ok-r.r) same c.in_ok-r.ensures.result),
       boxes_made c.making.ensures s old boxes t k l c.loop-left.r stand made (slice_index_or c.args.starts.now k 0 - length box.ins) first new (subst (λ (pins : Pins). Makes old new (box_functions (slice_index_or c.args.starts.now k 0 - length box.ins) pins (truth_of old c.loop-left.r.0))) same c.in_ok-r.ensures.makes),
+      length-set c.loop-left.stages k c.loop-left.r ∙ c.loop-left.invariant.3,
+      noted_more c.making.ensures old new c.in_ok-r.ensures.makes.kept boxes t k l c.loop-left.stages c.loop-left.invariant.3 c.loop-left.r stand noted,
     )
 
 pub returns-clause-result : goal.returns-clause-result
@@ -101,3 +106,6 @@ pub returns-clause-makes : goal.returns-clause-makes
 returns-clause-makes c =
     let none : c.loop-left.left ≡ 0 = omega (arith, c.loop-left-test.false) in
     subst (λ i. Makes c.args.d.now.store c.loop-left.d.store (functions_from c.args.boxes.now (truth_of c.args.d.now.store c.args.f.0) i)) none c.loop-left.invariant.2
+
+pub returns-clause-stages : goal.returns-clause-stages
+returns-clause-stages c = λ b l. c.loop-left.invariant.4 b (omega (arith, c.loop-left-test.false)) l
