@@ -1,0 +1,17 @@
+pub mod Agreeing
+pub mod Copies
+pub mod Decisions
+pub mod FilledRows
+pub mod Filling
+pub mod FlatBits
+pub mod Loops
+pub mod OneAnswer
+pub mod Points
+pub mod Reading
+pub mod Refs
+pub mod RowSteps
+pub mod SeenPins
+pub mod Singles
+pub mod SomeAnswers
+pub mod StageRows
+pub mod Told

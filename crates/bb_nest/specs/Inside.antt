@@ -1,0 +1,4 @@
+-- What the code says to itself: no clause of the top call rests on it.
+pub mod LawsBelow
+pub mod Readers
+pub mod StageRows

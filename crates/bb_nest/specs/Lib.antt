@@ -1,0 +1,5 @@
+pub mod Answers
+pub mod Laws
+pub mod Nested
+pub mod Rows
+pub mod Inside

@@ -1,0 +1,127 @@
+//! The table of a box, row by row the least one with which the boxes behind it can still be filled.
+
+ghost use Rattle.std.specs.Prelude.{◌≡◌, ◌≢◌, ◌+◌, ◌*◌, ◌^◌, ◌<◌, ◌≤◌, ◌++◌, ℕ, Bool, false, List, length, map, take, drop, replicate, All, IfOk};
+ghost use Rattle.bb_bits.specs.Numbers.{number_of};
+ghost use Rattle.bb_bits.specs.Tables.{row_of};
+ghost use Rattle.bb_net.specs.Values.{bit_of};
+ghost use Rattle.bb_uniq.specs.Inside.Nodes.{IsRef};
+ghost use Rattle.bb_uniq.specs.Inside.Meaning.{truth_of};
+ghost use Rattle.bb_nest.specs.Inside.StageRows.{IsStageRow, HasStageRows, front_of};
+
+use crate::spelling::spell;
+use bb_bits::{NoMemory, Table, number_spelled_once, tables_have_few_inputs};
+use bb_dd::{Diagrams, Ref};
+use bb_quant::least;
+use std::alloc::Global;
+
+/// The table of a box behind pins of which each has the bit of its reader: each row is the least at which `f` is 0, or 0 where
+/// there is none.
+pub(crate) fn stage_table(
+    alloc: Global,
+    d: &Diagrams,
+    f: Ref,
+    readers: &[usize],
+    inputs: u32,
+    outputs: u32,
+    point: &mut [bool],
+) -> Result<Table, NoMemory>
+    requires f { IsRef d.now.store f.0 }
+    requires small { outputs * 2 ^ inputs ≤ 2 ^ 24 }
+    requires point { length point.old ≡ d.now.store.vars }
+    requires pins { length readers.now + (inputs + outputs) ≤ d.now.store.vars }
+    requires readers { All (λ p. p < inputs) readers.now }
+    ensures len { length point.new ≡ length point.old }
+    ensures inputs { IfOk result (λ table. table.inputs ≡ inputs) }
+    ensures outputs { IfOk result (λ table. table.outputs ≡ outputs) }
+    ensures rows { 0 < outputs → IfOk result (λ table. HasStageRows d.now.store.vars (truth_of d.now.store f.0) readers.now table (2 ^ inputs)) }
+{
+    let mut table = Table::zeros(alloc, inputs, outputs)?;
+    if outputs > 0 {
+        fill_rows(d, f, readers, &mut table, point);
+    }
+    Ok(table)
+}
+
+/// Fills all rows of a table.
+fn fill_rows(d: &Diagrams, f: Ref, readers: &[usize], table: &mut Table, point: &mut [bool])
+    requires f { IsRef d.now.store f.0 }
+    requires outputs { 0 < table.old.outputs }
+    requires point { length point.old ≡ d.now.store.vars }
+    requires pins { length readers.now + (table.old.inputs + table.old.outputs) ≤ d.now.store.vars }
+    requires readers { All (λ p. p < table.old.inputs) readers.now }
+    ensures len { length point.new ≡ length point.old }
+    ensures inputs { table.new.inputs ≡ table.old.inputs }
+    ensures outputs { table.new.outputs ≡ table.old.outputs }
+    ensures rows { HasStageRows d.now.store.vars (truth_of d.now.store f.0) readers.now table.new (2 ^ table.old.inputs) }
+{
+    tables_have_few_inputs();
+    number_spelled_once();
+    let inputs = table.inputs();
+    for row in 0..1 << inputs {
+        fill_row(d, f, readers, table, row, point);
+    }
+}
+
+/// Fills the row with a number.
+fn fill_row(
+    d: &Diagrams,
+    f: Ref,
+    readers: &[usize],
+    table: &mut Table,
+    row: u32,
+    point: &mut [bool],
+)
+    requires f { IsRef d.now.store f.0 }
+    requires point { length point.old ≡ d.now.store.vars }
+    requires pins { length readers.now + (table.old.inputs + table.old.outputs) ≤ d.now.store.vars }
+    requires readers { All (λ p. p < table.old.inputs) readers.now }
+    requires row { row < 2 ^ table.old.inputs }
+    ensures len { length point.new ≡ length point.old }
+    ensures inputs { table.new.inputs ≡ table.old.inputs }
+    ensures outputs { table.new.outputs ≡ table.old.outputs }
+    ensures row { (ins : List Bool) → length ins ≡ table.old.inputs → number_of ins ≡ row
+        → IsStageRow d.now.store.vars (truth_of d.now.store f.0) table.old.outputs (front_of readers.now ins) (row_of table.new row) }
+    ensures others { (other : ℕ) → other < row → row_of table.new other ≡ row_of table.old other }
+{
+    number_spelled_once();
+    let start = readers.len();
+    let front = start + table.inputs() as usize;
+    spell(row, &mut point[start..front]);
+    copy_seen(readers, point);
+    if !least(d, f, false, front, point) {
+        clear(&mut point[front..]);
+    }
+    write_row(table, row, &point[front..]);
+}
+
+/// Sets bits to 0.
+fn clear(bits: &mut [bool])
+    ensures { bits.new ≡ replicate (length bits.old) false }
+{
+    bits.fill(false);
+}
+
+/// Gives each pin before the input pins the bit of its reader.
+fn copy_seen(readers: &[usize], point: &mut [bool])
+    requires there { All (λ p. length readers.now + p < length point.old) readers.now }
+    requires fit { length readers.now ≤ length point.old }
+    ensures copied { point.new ≡ map (λ p. bit_of point.old (length readers.now + p)) readers.now ++ drop (length readers.now) point.old }
+{
+    for (q, p) in readers.iter().enumerate() {
+        point[q] = point[readers.len() + *p];
+    }
+}
+
+/// Writes a row of a table: the first of some bits.
+fn write_row(table: &mut Table, row: u32, bits: &[bool])
+    requires row { row < 2 ^ table.old.inputs }
+    requires bits { table.old.outputs ≤ length bits.now }
+    ensures inputs { table.new.inputs ≡ table.old.inputs }
+    ensures outputs { table.new.outputs ≡ table.old.outputs }
+    ensures row { row_of table.new row ≡ take table.old.outputs bits.now }
+    ensures others { (other : ℕ) → other < row → row_of table.new other ≡ row_of table.old other }
+{
+    for pin in 0..table.outputs() {
+        table.set(row, pin, bits[pin as usize]);
+    }
+}
