@@ -14,8 +14,8 @@ pub enum Rung {
     Local,
     /// The outputs together are wrong at some vector, whatever the boxes give.
     Output,
-    /// Whatever the boxes give for their inputs alone, box by box, some output is wrong at some vector. With one box this is
-    /// exact.
+    /// Whatever the boxes give for their inputs alone, box by box, some output is wrong at some vector. With one box, and with
+    /// nested boxes, this is exact.
     Input,
     /// Whatever tables the boxes hold, some output is wrong at some vector, by clauses over all vectors. This is exact.
     Expand,

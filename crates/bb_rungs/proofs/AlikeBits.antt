@@ -81,7 +81,7 @@ module _ (a b : Netlist) (one : IsNetlist a) (other : IsNetlist b) (alike : AreA
   pub boxes_as_many : AreAsMany a.boxes b.boxes
   boxes_as_many = as_many a.cells b.cells a.boxes b.boxes alike.boxes
 
-  free_alike : (z : List Bool) (c p : ℕ) (ins : List Bool) → free_bit a.boxes z c p ins ≡ free_bit b.boxes z c p ins
+  pub free_alike : (z : List Bool) (c p : ℕ) (ins : List Bool) → free_bit a.boxes z c p ins ≡ free_bit b.boxes z c p ins
   free_alike z c p ins = ap (λ n. bit_of z (n + p)) (output_pins_alike (take c a.boxes) (take c b.boxes) (first_boxes_alike a.boxes b.boxes boxes_as_many c))
 
   -- boxes that give the same

@@ -56,6 +56,13 @@ first_boxes_alike [] (q ∷ qs) h (suc n) = absurd h
 first_boxes_alike (p ∷ ps) [] h (suc n) = absurd h
 first_boxes_alike (p ∷ ps) (q ∷ qs) h (suc n) = (h.0, h.1, first_boxes_alike ps qs h.2 n)
 
+pub last_boxes_alike : (ps qs : List Pins) → AreAsMany ps qs → (n : ℕ) → AreAsMany (drop n ps) (drop n qs)
+last_boxes_alike ps qs h zero = h
+last_boxes_alike [] [] h (suc n) = tt
+last_boxes_alike [] (q ∷ qs) h (suc n) = absurd h
+last_boxes_alike (p ∷ ps) [] h (suc n) = absurd h
+last_boxes_alike (p ∷ ps) (q ∷ qs) h (suc n) = last_boxes_alike ps qs h.2 n
+
 pub in_places_alike : (ps qs : List Pins) → AreAsMany ps qs → length (in_places ps) ≡ length (in_places qs)
 in_places_alike [] [] h = refl
 in_places_alike [] (q ∷ qs) h = absurd h

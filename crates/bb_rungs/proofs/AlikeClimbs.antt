@@ -1,6 +1,6 @@
 -- Reports of pairs that are alike are the same, but for what stands behind the line of the expansion, and but for this line where it may
 -- depend on the search; so all climbs of them, and all of one pair, have the same lines. And no two of them contradict each other.
-use Rattle.std.proofs.Common.{◌≡◌, ◌⊎◌, ◌<◌, ◌^◌, ◌&&◌, ◌||◌, Bool, true, false, not, if◌then◌else◌, List, [], ◌∷◌, ◌++◌, ℕ, map, AllPairs, Contains, true≢false, inl, inr, refl, sym, ap, ap₂, subst, ◌∙◌, arith}
+use Rattle.std.proofs.Common.{◌≡◌, ◌⊎◌, ◌<◌, ◌^◌, ◌&&◌, ◌||◌, Bool, true, false, not, if◌then◌else◌, List, [], ◌∷◌, ◌++◌, ℕ, map, AllPairs, Contains, true≢false, inl, inr, refl, sym, ap₂, subst, ◌∙◌, arith}
 use Rattle.std.specs.Prelude.{codes}
 use Rattle.std.specs.List.{AllZip, list_any}
 use Rattle.std.proofs.lemmas.List.Elements.{All-head}

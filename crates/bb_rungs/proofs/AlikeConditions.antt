@@ -12,7 +12,7 @@ use Rattle.bb_rungs.proofs.AlikeFunctions.{ShareAll}
 abbrev pub AreKnownAlike : Netlist → Netlist → Type 0
 AreKnownAlike a b = (x : List Bool) (j : ℕ) → j < length a.outs → tern_of (tern a x) (slice_index a.outs j) ≡ tern_of (tern b x) (slice_index b.outs j)
 
-wins_alike : (P Q : List PinBits → Type 0) → ((chosen : List PinBits) → P chosen → Q chosen) → (ps qs : List Pins) → AreAsMany ps qs → (chosen : List PinBits) → Wins P ps chosen → Wins Q qs chosen
+pub wins_alike : (P Q : List PinBits → Type 0) → ((chosen : List PinBits) → P chosen → Q chosen) → (ps qs : List Pins) → AreAsMany ps qs → (chosen : List PinBits) → Wins P ps chosen → Wins Q qs chosen
 wins_alike P Q to [] [] h chosen w = to chosen w
 wins_alike P Q to [] (q ∷ qs) h chosen w = absurd h
 wins_alike P Q to (p ∷ ps) [] h chosen w = absurd h

@@ -9,21 +9,23 @@ use Rattle.bb_net.specs.Kinds.{AreSharedCompletion, FitKinds, shown, spread}
 use Rattle.bb_net.specs.Netlists.{Netlist}
 use Rattle.bb_net.specs.Pairs.{NetPair, IsPair}
 use Rattle.bb_sym.specs.Functions.{symbolic_functions, local_functions, output_functions}
-use Rattle.bb_input.specs.Answers.{IsFinishable}
 use Rattle.bb_input.specs.InputFunctions.{input_functions}
 use Rattle.bb_expand.specs.ClauseCounts.{clause_total, clauses_per_vector}
 use Rattle.bb_expand.specs.GivenUp.{NeedsMoreClauses}
+use Rattle.bb_nest.specs.Answers.{AreFinishable}
+use Rattle.bb_nest.specs.Nested.{AreNested}
 use Rattle.bb_alike.specs.Laws.Alike.{AreAlike, ArePairsAlike}
 use Rattle.bb_alike.specs.Laws.Formulas.{cell_formulas}
 use Rattle.bb_rungs.specs.Inside.AlikeLaws.{PairLaws}
 use Rattle.bb_rungs.proofs.AlikeBits.{known_outputs, share_bits}
-use Rattle.bb_rungs.proofs.AlikeBoxes.{AreAsMany, box_count_alike, table_bits_alike}
+use Rattle.bb_rungs.proofs.AlikeBoxes.{AreAsMany, table_bits_alike}
 use Rattle.bb_rungs.proofs.AlikeConditions.{AreKnownAlike, vector}
 use Rattle.bb_rungs.proofs.AlikeCounts.{clause_totals_alike, per_vector_alike}
 use Rattle.bb_rungs.proofs.AlikeFunctions.{ShareAll, local_among, output_among}
 use Rattle.bb_rungs.proofs.AlikeGivenUp.{needs_alike}
 use Rattle.bb_rungs.proofs.AlikeInputs.{input_among}
 use Rattle.bb_rungs.proofs.AlikeKnown.{symbolic_among}
+use Rattle.bb_rungs.proofs.AlikePins.{SharePins, nested_alike, share_pins}
 use Rattle.bb_rungs.proofs.AlikeTables.{AreAmong}
 use Rattle.bb_rungs.proofs.AlikeWitnesses.{agree_alike, many_fit}
 use Rattle.bb_rungs.proofs.ShownBoxes.{many_shown}
@@ -32,6 +34,7 @@ use Rattle.bb_rungs.proofs.ShownBoxes.{many_shown}
 pub record Share (p q : NetPair) : Type 0 where
   pub nets : ShareAll p.spec p.imp q.spec q.imp
   pub known : AreKnownAlike p.imp q.imp
+  pub pins : SharePins p.imp q.imp
   pub clauses : clause_total p.imp ≡ clause_total q.imp
   -- the first boxes of kinds have as many pins
   pub firsts : AreAsMany (shown p.kinds p.imp.boxes) (shown q.kinds q.imp.boxes)
@@ -56,9 +59,9 @@ module _ (p q : NetPair) (share : Share p q) where
         (λ x long. agree_alike p.spec p.imp q.spec q.imp share.nets (spread p.kinds tables) x (h.agree x (vector p.spec p.imp q.spec q.imp share.nets x long)));
   }
 
-  pub finishable_alike : IsFinishable p.imp → IsFinishable q.imp
+  pub finishable_alike : AreFinishable p.imp p.kinds → AreFinishable q.imp q.kinds
   finishable_alike h = record {
-    one_box = subst (λ n. n ≤ 1) (box_count_alike p.imp.boxes q.imp.boxes share.nets.imp.boxes) h.one_box;
+    nested = subst (AreNested q.imp) share.kinds (nested_alike p.imp q.imp share.nets.imp.inputs share.nets.imp.boxes share.pins p.kinds h.nested);
     small = subst (λ n. n ≤ 2 ^ 24) (table_bits_alike p.imp.boxes q.imp.boxes share.nets.imp.boxes) h.small;
   }
 
@@ -87,6 +90,7 @@ module _ (laws : PairLaws) (p q : NetPair) (one : IsPair p) (other : IsPair q) (
   share = record {
     nets = nets;
     known = outputs_known;
+    pins = share_pins p.imp q.imp one.imp other.imp alike.imp laws.bits.bits;
     clauses = totals;
     firsts = firsts;
     kinds = alike.kinds;

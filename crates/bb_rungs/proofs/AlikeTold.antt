@@ -12,7 +12,7 @@ use Rattle.bb_sym.specs.Finds.{IsSometimesRight}
 use Rattle.bb_expand.specs.declared.expanded.Expanded.TheVariants as expanded
 use Rattle.bb_input.specs.declared.InputAnswer.{InputAnswer}
 use Rattle.bb_input.specs.declared.InputAnswer.TheVariants as choices
-use Rattle.bb_input.specs.Answers.{IsAnswer}
+use Rattle.bb_nest.specs.Answers.{IsAnswer}
 use Rattle.bb_rungs.specs.declared.line.Evidence.TheVariants.{Refutation}
 use Rattle.bb_rungs.specs.declared.line.Proof.{Proof}
 use Rattle.bb_rungs.specs.declared.line.Said.{Said}
@@ -24,9 +24,10 @@ use Rattle.bb_rungs.specs.Laws.AlikePairs.{AlikePairsAreTold, IsNoRefutation}
 use Rattle.bb_rungs.specs.Rungs.{IsFirstOf, IsLeastOf, MaySay, MayHit, Hit, NoHit, MayFind, TooMany, Finding, Without, MayChoose, ChoicesTooMany, Answered, TooWide, ClausesTooMany, Decided}
 use Rattle.bb_rungs.proofs.AlikeConditions.{right_among_alike, right_everywhere_alike, each_right_alike, all_right_alike, choices_alike, may_be_right}
 use Rattle.bb_rungs.specs.Inside.AlikeLaws.{PairLaws}
+use Rattle.bb_rungs.proofs.AlikeRows.{nested_tables_alike}
 use Rattle.bb_rungs.proofs.AlikeShared.{Share, bits_alike, small_alike, finishable_alike, shared_completion_alike, share, share_back}
 use Rattle.bb_rungs.proofs.AlikeTables.{AreAmong, too_many_among}
-use Rattle.bb_rungs.proofs.AlikeWitnesses.{known_wrong_alike, always_wrong_alike, sometimes_right_alike, has_wrong_alike, first_hit_alike, least_vector_alike, first_found_alike, least_tables_alike}
+use Rattle.bb_rungs.proofs.AlikeWitnesses.{known_wrong_alike, always_wrong_alike, sometimes_right_alike, has_wrong_alike, first_hit_alike, least_vector_alike, first_found_alike}
 
 -- the clauses of a pair are refuted
 pub record IsRefuted (p : NetPair) (o : Options) (r : Rung) (said : Said) : Type 0 where
@@ -78,10 +79,10 @@ module _ (p q : NetPair) (to : Share p q) (from : Share q p) (o : Options) where
         (has_wrong_alike p.spec p.imp q.spec q.imp to.nets) (has_wrong_alike q.spec q.imp p.spec p.imp from.nets) found.input.items least,
   )
 
-  answers_told : (answer : InputAnswer) → IsAnswer p.spec p.imp answer → IsAnswer q.spec q.imp answer
+  answers_told : (answer : InputAnswer) → IsAnswer p.spec p.imp p.kinds answer → IsAnswer q.spec q.imp q.kinds answer
   answers_told choices.Error none = λ suit. none (choices_alike q.spec q.imp p.spec p.imp from.nets suit)
   answers_told choices.Clear (suit, none) = (choices_alike p.spec p.imp q.spec q.imp to.nets suit, λ finishable. none (finishable_alike q p from finishable))
-  answers_told (choices.Repair tables) (finishable, least) = (finishable_alike p q to finishable, least_tables_alike p.spec p.imp q.spec q.imp to.nets from.nets tables.items least)
+  answers_told (choices.Repair tables) (finishable, least) = (finishable_alike p q to finishable, nested_tables_alike p.spec p.imp q.spec q.imp to.nets from.nets to.pins tables.items least)
 
   chosen_told : (said : Said) → MayChoose p o said → MayChoose q o said
   chosen_told said (ChoicesTooMany many same) = ChoicesTooMany (too_many_among o _ _ to.input many) same

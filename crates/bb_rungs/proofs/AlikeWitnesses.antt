@@ -1,16 +1,14 @@
 -- What a check finds of one pair it may find of another that is alike: where outputs are wrong, the first and least of it, and tables.
-use Rattle.std.proofs.Common.{ℕ, ◌<◌, Bool, List, [], ◌∷◌, ◌∙◌, sym, subst, arith}
-use Rattle.bb_bits.specs.Numbers.{number_of}
-use Rattle.bb_bits.specs.Tables.{TableBits, row_of}
+use Rattle.std.proofs.Common.{ℕ, ◌<◌, Bool, List, ◌∙◌, sym, subst, arith}
+use Rattle.bb_bits.specs.Tables.{TableBits}
 use Rattle.bb_net.specs.Agreement.{AllRight, IsOutput, SomeWrong}
 use Rattle.bb_net.specs.Completions.{AreCompletion}
 use Rattle.bb_net.specs.Conditions.{IsKnownWrong, IsFirstHit, IsAlwaysWrong, HasAlwaysWrong}
 use Rattle.bb_net.specs.Netlists.{Netlist, Pins}
-use Rattle.bb_net.specs.Values.{FitBoxes, flat_with, table_at}
+use Rattle.bb_net.specs.Values.{FitBoxes, flat_with}
 use Rattle.bb_sym.specs.Finds.{IsLeastVector, IsFirstFound, IsSometimesRight}
-use Rattle.bb_input.specs.Answers.{AreLeastOutputs, AreLeastTables}
 use Rattle.bb_rungs.proofs.AlikeBoxes.{AreAsMany, box_count_alike, output_pins_alike, pins_at_alike}
-use Rattle.bb_rungs.proofs.AlikeConditions.{AreKnownAlike, may_be_right, right_among_alike, suit_alike, there, vector, wanted_alike}
+use Rattle.bb_rungs.proofs.AlikeConditions.{AreKnownAlike, may_be_right, right_among_alike, there, vector, wanted_alike}
 use Rattle.bb_rungs.proofs.AlikeFunctions.{ShareAll}
 
 -- tables fit boxes with as many pins each
@@ -92,19 +90,3 @@ module _ (spec imp other_spec other_imp : Netlist) (to : ShareAll spec imp other
         at = least_vector_alike (λ y. P y j) (λ y. Q y j) (λ y. there y j h.there) (λ y. back y j l) x h.at;
         earlier = λ i before y long. none y i (omega (arith, before, h.there)) (h.earlier i before y (vector spec imp other_spec other_imp to y long));
       }
-
-  least_outputs_alike : (ins outs : List Bool) → AreLeastOutputs spec imp ins outs → AreLeastOutputs other_spec other_imp ins outs
-  least_outputs_alike ins outs h = record {
-    whole = h.whole ∙ output_pins_alike imp.boxes other_imp.boxes to.imp.boxes;
-    suit = suit_alike spec imp other_spec other_imp to (record { ins = ins; outs = outs } ∷ []) h.suit;
-    least = λ others long suit. h.least others (long ∙ output_pins_alike other_imp.boxes imp.boxes from.imp.boxes) (suit_alike other_spec other_imp spec imp from (record { ins = ins; outs = others } ∷ []) suit);
-  }
-
-  pub least_tables_alike : (tables : List TableBits) → AreLeastTables spec imp tables → AreLeastTables other_spec other_imp tables
-  least_tables_alike tables h = record {
-    completion = completion_alike spec imp other_spec other_imp to tables h.completion;
-    rows = λ b l ins long.
-        let count = box_count_alike imp.boxes other_imp.boxes to.imp.boxes in
-        let pins = pins_at_alike imp.boxes other_imp.boxes to.imp.boxes b in
-        least_outputs_alike ins (row_of (table_at tables b) (number_of ins)) (h.rows b (omega (arith, l, count)) ins (long ∙ sym pins.0));
-  }

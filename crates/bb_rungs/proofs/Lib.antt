@@ -8,6 +8,8 @@ pub mod AlikeFunctions
 pub mod AlikeGivenUp
 pub mod AlikeInputs
 pub mod AlikeKnown
+pub mod AlikePins
+pub mod AlikeRows
 pub mod AlikeShared
 pub mod AlikeTables
 pub mod AlikeTold

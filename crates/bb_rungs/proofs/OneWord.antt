@@ -13,7 +13,8 @@ use Rattle.bb_expand.specs.declared.expanded.Expanded.TheVariants as expanded
 use Rattle.bb_expand.specs.GivenUp.{NeedsMoreClauses}
 use Rattle.bb_input.specs.declared.InputAnswer.{InputAnswer}
 use Rattle.bb_input.specs.declared.InputAnswer.TheVariants as choices
-use Rattle.bb_input.specs.Laws.{IsSameAnswer, OneAnswer}
+use Rattle.bb_input.specs.Laws.{IsSameAnswer}
+use Rattle.bb_nest.specs.Laws.{OneAnswer}
 use Rattle.bb_rungs.specs.declared.line.Evidence.TheVariants.{Vector}
 use Rattle.bb_rungs.specs.declared.line.Said.{Said}
 use Rattle.bb_rungs.specs.declared.line.Said.TheVariants.{Error}
@@ -95,7 +96,7 @@ module _ (laws : OneLaws) (p : NetPair) (o : Options) (kept : IsPair p) where
   chosen_alike s t (ChoicesTooMany many same) (Answered few answer is also) = absurd (few many)
   chosen_alike s t (Answered few answer is same) (ChoicesTooMany many also) = absurd (few many)
   chosen_alike s t (Answered few answer is same) (Answered fewer other be also) =
-      by_told p o Input s t _ _ same also (answers_alike p o Input answer other (laws.answers p.spec p.imp kept.imp answer other is be))
+      by_told p o Input s t _ _ same also (answers_alike p o Input answer other (laws.answers p.spec p.imp p.kinds kept.imp answer other is be))
 
   expanded_alike : (s t : Said) → IsFixed p o → MayExpand p o s → MayExpand p o t → (says_error s ≡ true → Stays t) → (says_error t ≡ true → Stays s) → SayAlike p o Expand s t
   expanded_alike s t fixed (TooWide wide same) (TooWide wider also) st ts = one_said p o Expand s t _ same also

@@ -20,7 +20,7 @@ use Rattle.bb_rungs.specs.Reports.{details, line_text, rung_line, verdict_line}
 use Rattle.bb_rungs.specs.Rungs.{MaySay, Hit, NoHit, TooMany, Finding, Without, ChoicesTooMany, Answered, TooWide, ClausesTooMany, Decided, Climbs, Top, End, Step, says_error, says_repair, is_error, is_repair}
 use Rattle.bb_rungs.specs.TableLines.{table_lines}
 use Rattle.bb_rungs.proofs.OpenLaw.{neither}
-use Rattle.bb_rungs.proofs.ShownBoxes.{one_shared}
+use Rattle.bb_rungs.proofs.ShownBoxes.{apart_shared}
 
 -- the verdict that the design can be finished: no check says that there is an error, and one gives tables
 repairs_alone : (a b : Bool) → (if a then verdicts.Error else (if b then verdicts.Repairable else verdicts.Open)) ≡ verdicts.Repairable → (a ≡ false) × (b ≡ true)
@@ -78,7 +78,7 @@ module _ (kinds : KindLaws) (p : NetPair) (o : Options) (kept : IsPair p) where
   gives Input said (Answered few choices.Error is same) on = not_given said _ same refl on
   gives Input said (Answered few choices.Clear is same) on = not_given said _ same refl on
   gives Input said (Answered few (choices.Repair tables) is same) on =
-      (tables.items, one_shared kinds p.spec p.imp p.kinds tables.items kept.beside.kinds is.0.one_box is.1.completion, ap (details p o) same)
+      (tables.items, apart_shared kinds p.spec p.imp p.kinds tables.items kept.beside.kinds is.0.nested.apart is.1.completion, ap (details p o) same)
   gives Expand said (TooWide wide same) on = not_given said _ same refl on
   gives Expand said (ClausesTooMany small many same) on = not_given said _ same refl on
   gives Expand said (Decided small (expanded.Error vectors cnf refutation) is same) on = not_given said _ same refl on

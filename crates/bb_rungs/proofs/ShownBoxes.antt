@@ -1,6 +1,6 @@
 -- What a pair shows of its kinds: the texts name the pins of the first boxes; pairs with as many pins in each box show as many; and where
--- there is at most one box all of it is shown.
-use Rattle.std.proofs.Common.{◌≡◌, ℕ, zero, suc, ◌<◌, ◌≤◌, List, [], ◌∷◌, length, map, All, get_or, refl, sym, ap, subst, ◌∙◌, arith}
+-- all kinds differ all of it is shown.
+use Rattle.std.proofs.Common.{◌≡◌, ◌≢◌, ℕ, zero, suc, ◌<◌, List, [], ◌∷◌, length, map, All, AllPairs, sym, ap, subst, ◌∙◌, arith}
 use Rattle.std.specs.List.{AllZip, range_with_len}
 use Rattle.std.proofs.lemmas.List.Elements.{All-head, All-tail}
 use Rattle.std.proofs.lemmas.Slice.Zip.{AllZip-long}
@@ -53,10 +53,10 @@ module _ (laws : KindLaws) where
       let second : shown kinds qs ≡ map (box_at qs) (first_places kinds) = laws.pins kinds qs (record { ins = []; outs = [] }) other.ordered (sym other.count) in
       subst (λ xs. AreAsMany xs (shown kinds qs)) (sym first) (subst (AreAsMany (map (box_at ps) (first_places kinds))) (sym second) (many_at ps qs many (first_places kinds)))
 
-  -- where there is at most one box, tables of boxes are tables of kinds
-  pub one_shared : (spec imp : Netlist) (kinds : List ℕ) (tables : List TableBits) → FitKinds kinds imp.boxes → length imp.boxes ≤ 1 → AreCompletion spec imp tables → AreSharedCompletion spec imp kinds tables
-  one_shared spec imp kinds tables fit few complete =
-      let places = laws.places kinds imp.boxes fit (laws.one kinds imp.boxes fit few) in
+  -- where all kinds differ, tables of boxes are tables of kinds
+  pub apart_shared : (spec imp : Netlist) (kinds : List ℕ) (tables : List TableBits) → FitKinds kinds imp.boxes → AllPairs ◌≢◌ kinds → AreCompletion spec imp tables → AreSharedCompletion spec imp kinds tables
+  apart_shared spec imp kinds tables fit apart complete =
+      let places = laws.places kinds imp.boxes fit apart in
       let boxes : shown kinds imp.boxes ≡ imp.boxes = ap (λ ks. shown ks imp.boxes) places ∙ laws.all imp.boxes in
       let same : spread kinds tables ≡ tables = ap (λ ks. spread ks tables) places ∙ ap (λ n. spread (range_with_len 0 n) tables) (sym complete.fit.count) ∙ laws.own tables in
       record {

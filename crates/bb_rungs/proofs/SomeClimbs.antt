@@ -7,7 +7,7 @@ use Rattle.bb_bits.specs.Truth.{Truth}
 use Rattle.bb_bits.specs.Laws.TruthLaws.{SizeLaws}
 use Rattle.bb_expand.specs.Laws.{AnswersExist}
 use Rattle.bb_input.specs.InputFunctions.{input_functions}
-use Rattle.bb_input.specs.Laws as choices
+use Rattle.bb_nest.specs.Laws as choices
 use Rattle.bb_lists.proofs.Members.{contains_here}
 use Rattle.bb_lists.proofs.Ranges.{length-run}
 use Rattle.bb_lists.proofs.Vectors.{vec_of}
@@ -78,7 +78,7 @@ module _ (laws : LawsBelow) (p : NetPair) (o : Options) (pair : IsPair p) (bound
   chosen_or_not : Says p o Input
   chosen_or_not = elim (many_or_not (input_functions p.spec p.imp)) [
     | inl many ↦ (Nodes, ChoicesTooMany many refl)
-    | inr few ↦ let a = laws.inputs p.spec p.imp pair.imp in (told_answer a.0, Answered few a.0 a.1 refl)
+    | inr few ↦ let a = laws.inputs p.spec p.imp p.kinds pair.imp in (told_answer a.0, Answered few a.0 a.1 refl)
   ]
 
   expanded_or_not : Says p o Expand

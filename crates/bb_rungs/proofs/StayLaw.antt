@@ -20,7 +20,7 @@ use Rattle.bb_rungs.specs.Laws.{ErrorsStay}
 use Rattle.bb_options.specs.Rungs.{rank, all_rungs, asked_rungs, is_asked}
 use Rattle.bb_rungs.specs.Rungs.{MaySay, Hit, NoHit, TooMany, Finding, Without, ChoicesTooMany, Answered, TooWide, ClausesTooMany, Decided, Climbs, Top, End, Step, says_repair, is_error}
 use Rattle.bb_rungs.proofs.ErrorLaw.{Weakens, Holds, shows, no_tables, up}
-use Rattle.bb_rungs.proofs.ShownBoxes.{one_shared}
+use Rattle.bb_rungs.proofs.ShownBoxes.{apart_shared}
 
 -- a known bit that is wrong is not right
 pub known_not_right : (spec imp : Netlist) (x : List Bool) (j : ℕ) → IsKnownWrong spec imp x j → MayBeRight spec imp x j → ⊥
@@ -59,7 +59,7 @@ module _ (weakens : Weakens) (vectors : PatternsAreVectors) (p : NetPair) (o : O
   stays Input said (Answered few choices.Error is same) h = other said _ same ((λ e. cc e), refl)
   stays Input said (Answered few choices.Clear is same) h = absurd (h is.0)
   stays Input said (Answered few (choices.Repair tables) is same) h =
-      let shared = one_shared weakens.kinds p.spec p.imp p.kinds tables.items kept.beside.kinds is.0.one_box is.1.completion in
+      let shared = apart_shared weakens.kinds p.spec p.imp p.kinds tables.items kept.beside.kinds is.0.nested.apart is.1.completion in
       absurd (no_tables weakens vectors p o kept Input h tables.items shared.fit shared.agree)
   stays Expand said (TooWide wide same) h = other said _ same ((λ e. cc e), refl)
   stays Expand said (ClausesTooMany small many same) h = other said _ same ((λ e. cc e), refl)

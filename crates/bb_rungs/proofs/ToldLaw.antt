@@ -1,7 +1,6 @@
 -- What checks find can be told by the names of the pair.
-use Rattle.std.proofs.Common.{◌≡◌, ℕ, zero, suc, ◌<◌, List, [], ◌∷◌, length, All, Contains, None, Some, IfSome, refl, sym, subst, ◌∙◌, arith}
+use Rattle.std.proofs.Common.{◌≡◌, ℕ, ◌<◌, List, [], ◌∷◌, length, All, Contains, None, Some, IfSome, refl, sym, subst, ◌∙◌, arith}
 use Rattle.std.proofs.lemmas.List.Elements.{All-nil, All-cons, All-contains, Contains-append_right}
-use Rattle.std.specs.List.{AllZip}
 use Rattle.std.proofs.lemmas.Slice.Zip.{AllZip-long}
 use Rattle.bb_bits.specs.Tables.{TableBits}
 use Rattle.bb_net.specs.Kinds.{AreSharedCompletion, shown}
@@ -18,7 +17,7 @@ use Rattle.bb_options.specs.declared.rung.Rung.TheVariants.{Ternary, Symbolic, L
 use Rattle.bb_rungs.specs.Inside.KindLaws.{KindLaws}
 use Rattle.bb_rungs.specs.Laws.{ClimbsAreTold}
 use Rattle.bb_rungs.specs.Rungs.{MaySay, Hit, NoHit, TooMany, Finding, Without, ChoicesTooMany, Answered, TooWide, ClausesTooMany, Decided, Climbs, Top, End, Step, SaidTells, Tells, TellTables, tried}
-use Rattle.bb_rungs.proofs.ShownBoxes.{named_shown, names_each, one_shared}
+use Rattle.bb_rungs.proofs.ShownBoxes.{named_shown, names_each, apart_shared}
 
 module _ (kinds : KindLaws) (vectors : PatternsAreVectors) (p : NetPair) (o : Options) (kept : IsPair p) where
   with_output : (found : Found) (j : ℕ) → found.output ≡ Some j → j < length p.imp.outs → length found.input.items ≡ p.imp.inputs → Tells p found
@@ -60,7 +59,7 @@ module _ (kinds : KindLaws) (vectors : PatternsAreVectors) (p : NetPair) (o : Op
   said_told Input said (ChoicesTooMany many same) = subst (SaidTells p) (sym same) tt
   said_told Input said (Answered few choices.Error is same) = subst (SaidTells p) (sym same) tt
   said_told Input said (Answered few choices.Clear is same) = subst (SaidTells p) (sym same) tt
-  said_told Input said (Answered few (choices.Repair tables) is same) = subst (SaidTells p) (sym same) (tables_told tables.items (one_shared kinds p.spec p.imp p.kinds tables.items kept.beside.kinds is.0.one_box is.1.completion))
+  said_told Input said (Answered few (choices.Repair tables) is same) = subst (SaidTells p) (sym same) (tables_told tables.items (apart_shared kinds p.spec p.imp p.kinds tables.items kept.beside.kinds is.0.nested.apart is.1.completion))
   said_told Expand said (TooWide wide same) = subst (SaidTells p) (sym same) tt
   said_told Expand said (ClausesTooMany small many same) = subst (SaidTells p) (sym same) tt
   said_told Expand said (Decided small (expanded.Error vectors cnf refutation) is same) = subst (SaidTells p) (sym same) tt

@@ -7,8 +7,8 @@ use Rattle.bb_net.specs.Conditions.{MayBeRightAmong, MayBeRightEverywhere, EachS
 use Rattle.bb_net.specs.Kinds.{shown}
 use Rattle.bb_net.specs.Pairs.{NetPair}
 use Rattle.bb_sym.specs.Functions.{symbolic_functions, local_functions, output_functions}
-use Rattle.bb_input.specs.Answers.{IsFinishable}
 use Rattle.bb_input.specs.InputFunctions.{input_functions}
+use Rattle.bb_nest.specs.Answers.{AreFinishable}
 use Rattle.bb_expand.specs.ClauseCounts.{clause_total}
 use Rattle.bb_expand.specs.GivenUp.{NeedsMoreClauses}
 use Rattle.bb_options.specs.declared.options.Options.{Options}
@@ -23,7 +23,7 @@ LeavesOpen p o Ternary = MayBeRightAmong p.spec p.imp (tried p o)
 LeavesOpen p o Symbolic = AreTooMany o (symbolic_functions p.spec p.imp) ⊎ MayBeRightEverywhere p.spec p.imp
 LeavesOpen p o Local = AreTooMany o (local_functions p.spec p.imp) ⊎ EachSometimesRight p.spec p.imp
 LeavesOpen p o Output = AreTooMany o (output_functions p.spec p.imp) ⊎ AllSometimesRight p.spec p.imp
-LeavesOpen p o Input = AreTooMany o (input_functions p.spec p.imp) ⊎ (SomeChoicesSuit p.spec p.imp × (IsFinishable p.imp → ⊥))
+LeavesOpen p o Input = AreTooMany o (input_functions p.spec p.imp) ⊎ (SomeChoicesSuit p.spec p.imp × (AreFinishable p.imp p.kinds → ⊥))
 LeavesOpen p o Expand = (2 ^ 24 < table_bits (shown p.kinds p.imp.boxes)) ⊎ NeedsMoreClauses p.spec p.imp p.kinds o.clauses
 
 abbrev pub AllLeaveOpen : NetPair → Options → Type 0
@@ -38,14 +38,14 @@ StaysOpen p o r = LeavesOpen p o r
 abbrev pub AllStayOpen : NetPair → Options → Type 0
 AllStayOpen p o = All (StaysOpen p o) (asked_rungs o)
 
--- a check decides: the choices where there is at most one box, its table may be written down and the nodes suffice; the expansion
--- where its tables may be written down and the clauses suffice
+-- a check decides: the choices where the boxes are nested, as one alone is, their tables may be written down and the nodes suffice; the
+-- expansion where its tables may be written down and the clauses suffice
 abbrev pub Decides : NetPair → Options → Rung → Type 0
 Decides p o Ternary = ⊥
 Decides p o Symbolic = ⊥
 Decides p o Local = ⊥
 Decides p o Output = ⊥
-Decides p o Input = IsFinishable p.imp × (AreTooMany o (input_functions p.spec p.imp) → ⊥)
+Decides p o Input = AreFinishable p.imp p.kinds × (AreTooMany o (input_functions p.spec p.imp) → ⊥)
 Decides p o Expand = HaveSmallTables (shown p.kinds p.imp.boxes) × (clause_total p.imp ≤ o.clauses)
 
 -- one that is asked for does

@@ -20,10 +20,10 @@ use Rattle.bb_expand.specs.Expanded.{IsExpanded}
 use Rattle.bb_expand.specs.declared.expanded.Expanded.{Expanded}
 use Rattle.bb_expand.specs.declared.expanded.Expanded.TheVariants as expanded
 use Rattle.bb_expand.specs.GivenUp.{NeedsMoreClauses}
-use Rattle.bb_input.specs.Answers.{IsAnswer}
 use Rattle.bb_input.specs.InputFunctions.{input_functions}
 use Rattle.bb_input.specs.declared.InputAnswer.{InputAnswer}
 use Rattle.bb_input.specs.declared.InputAnswer.TheVariants as choices
+use Rattle.bb_nest.specs.Answers.{IsAnswer}
 use Rattle.bb_sym.specs.declared.fault.RungFault.{RungFault}
 use Rattle.bb_sym.specs.declared.fault.RungFault.TheVariants as faults
 use Rattle.bb_sym.specs.declared.found.Found.{Found}
@@ -102,10 +102,10 @@ IsFirstOf p P N = FindsOutput p.imp P N
 abbrev pub IsLeastOf : NetPair → Found → Type 0
 IsLeastOf p = FindsVector p.imp (HasAlwaysWrong p.spec p.imp)
 
--- what the check by choices of the boxes may say: with one box, or none, it finds tables, unless they have too many bits
+-- what the check by choices of the boxes may say: with one box, or none, and with nested boxes it finds tables, unless they have too many bits
 pub data MayChoose (p : NetPair) (o : Options) (said : Said) : Type 0 where
   ChoicesTooMany : AreTooMany o (input_functions p.spec p.imp) → said ≡ Nodes → MayChoose p o said
-  Answered : (AreTooMany o (input_functions p.spec p.imp) → ⊥) → (answer : InputAnswer) → IsAnswer p.spec p.imp answer → said ≡ told_answer answer → MayChoose p o said
+  Answered : (AreTooMany o (input_functions p.spec p.imp) → ⊥) → (answer : InputAnswer) → IsAnswer p.spec p.imp p.kinds answer → said ≡ told_answer answer → MayChoose p o said
 
 -- what the expansion may say; where the clauses over all vectors are too many, it may decide nevertheless
 pub data MayExpand (p : NetPair) (o : Options) (said : Said) : Type 0 where

@@ -12,7 +12,7 @@ use bb_alike::laws::{
 use bb_bits::number_spelled_once;
 use bb_expand::expansions_and_tables;
 use bb_filled::laws::{alike_filled_have_same_bits, filled_exist};
-use bb_input::answers_are_one;
+use bb_nest::answers_are_one;
 use bb_net::{conditions_weaken, value_goes_by_boxes};
 use bb_sym::laws::functions;
 use bb_tern::laws::patterns_are_vectors;

@@ -1,15 +1,18 @@
 //! The checks of a pair, one after another.
 
-ghost use Rattle.std.specs.Prelude.{◌≡◌, [], ◌∷◌, ◌++◌, if◌then◌else◌, Some, IfOk, OnOk};
+ghost use Rattle.std.specs.Prelude.{◌≡◌, [], ◌∷◌, ◌++◌, if◌then◌else◌, Some, IfOk, OnOk, IsErrOf};
+ghost use Rattle.bb_input.specs.InputFunctions.{input_functions};
+ghost use Rattle.bb_nest.specs.Answers.{IsAnswer};
 ghost use Rattle.bb_options.specs.declared.rung.Rung.TheVariants as rungs;
 ghost use Rattle.bb_options.specs.Rungs.{AreBounds, asked_rungs, is_asked};
-ghost use Rattle.bb_rungs.specs.Rungs.{IsClimb, MayHit, MaySay, ends, told};
+ghost use Rattle.bb_rungs.specs.Rungs.{AreTooMany, IsClimb, MayHit, MaySay, ends, told};
 
 use crate::line::{Evidence, Line, Proof, Said};
 use crate::verdict::{is_error, is_repair};
 use bb_bits::NoMemory;
 use bb_expand::{ExpandFault, Expanded, expand};
 use bb_input::{InputAnswer, input};
+use bb_nest::{nest, singles_answer_alike};
 use bb_net::Pair;
 use bb_options::{Options, Rung};
 use bb_sym::{Found, RungFault, local, output, symbolic};
@@ -66,11 +69,25 @@ fn output_says(alloc: Global, pair: &Pair, options: &Options) -> Result<Said, No
     said(output(alloc, pair, options.nodes, options.cache))
 }
 
+// What the check by choices answers: with at most one box, and with several, which may be nested.
+fn chosen(alloc: Global, pair: &Pair, options: &Options) -> Result<InputAnswer, RungFault>
+    requires bounds { AreBounds options.now }
+    ensures answer { IfOk result (IsAnswer pair.now.spec pair.now.imp pair.now.kinds) }
+    ensures nodes { IsErrOf result RungFault.Nodes → AreTooMany options.now (input_functions pair.now.spec pair.now.imp) }
+    ensures within { AreTooMany options.now (input_functions pair.now.spec pair.now.imp) → OnOk result ⊥ }
+{
+    singles_answer_alike();
+    if pair.imp().boxes().len() > 1 {
+        return nest(alloc, pair, options.nodes, options.cache);
+    }
+    input(alloc, pair, options.nodes, options.cache)
+}
+
 fn input_says(alloc: Global, pair: &Pair, options: &Options) -> Result<Said, NoMemory>
     requires bounds { AreBounds options.now }
     ensures said { IfOk result (MaySay pair.now options.now rungs.Input) }
 {
-    match input(alloc, pair, options.nodes, options.cache) {
+    match chosen(alloc, pair, options) {
         Ok(InputAnswer::Error) => Ok(Said::Error(Evidence::NoChoices)),
         Ok(InputAnswer::Clear) => Ok(Said::Nothing),
         Ok(InputAnswer::Repair(tables)) => Ok(Said::Repair(tables)),

@@ -107,6 +107,6 @@ pub fn climbs_exist()
     patterns_are_vectors();
     hit_or_none();
     findings_exist();
-    bb_input::answers_exist();
+    bb_nest::answers_exist();
     bb_expand::answers_exist();
 }

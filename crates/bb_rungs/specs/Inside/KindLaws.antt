@@ -1,5 +1,5 @@
 -- The laws of kinds of boxes on which those of reports rest.
-use Rattle.std.specs.Prelude.{◌≡◌, ◌≢◌, ℕ, ◌<◌, ◌≤◌, List, length, map, All, AllPairs}
+use Rattle.std.specs.Prelude.{◌≡◌, ◌≢◌, ℕ, ◌<◌, List, length, map, All, AllPairs}
 use Rattle.std.specs.List.{range_with_len, slice_index_or}
 use Rattle.bb_bits.specs.Tables.{TableBits}
 use Rattle.bb_net.specs.Conditions.{NoTablesAgree}
@@ -16,8 +16,7 @@ pub record KindLaws : Type 0 where
   pub pins : AreFirsts Pins
   pub texts : AreFirsts BoxTexts
   pub there : (kinds : List ℕ) → AreInOrder kinds → All (λ b. b < length kinds) (first_places kinds)
-  -- one box alone shares nothing
-  pub one : (kinds : List ℕ) (boxes : List Pins) → FitKinds kinds boxes → length boxes ≤ 1 → AllPairs ◌≢◌ kinds
+  -- kinds that all differ share nothing
   pub places : (kinds : List ℕ) (boxes : List Pins) → FitKinds kinds boxes → AllPairs ◌≢◌ kinds → kinds ≡ range_with_len 0 (length boxes)
   pub all : (boxes : List Pins) → shown (range_with_len 0 (length boxes)) boxes ≡ boxes
   pub own : (tables : List TableBits) → spread (range_with_len 0 (length tables)) tables ≡ tables

@@ -5,7 +5,6 @@ returns c = record {
   pins = c.kinds_are_shown.ensures.firsts;
   texts = c.kinds_are_shown-2.ensures.firsts;
   there = c.kinds_are_shown.ensures.there;
-  one = c.kinds_may_differ.ensures.one;
   places = c.kinds_may_differ.ensures.places;
   all = c.kinds_are_shown.ensures.places;
   own = c.kinds_may_differ.ensures.spread;

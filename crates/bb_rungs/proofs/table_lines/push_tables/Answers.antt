@@ -1,8 +1,6 @@
 use Rattle.std.proofs.Common.{◌≡◌, ◌∙◌, ◌++◌, length, sym, ap, subst}
 use Rattle.std.specs.Prelude.{OnOk}
 use Rattle.std.proofs.lemmas.List.{length-map}
-use Rattle.bb_net.specs.Pairs.{NetPair, BoxTexts, IsPair}
-use Rattle.bb_net.specs.Kinds.{first_places}
 use Rattle.bb_rungs.specs.Rungs.{texts_at}
 use Rattle.bb_rungs.specs.TableLines.{table_lines}
 use Rattle.bb_rungs.proofs.ShownBoxes.{first_texts}
