@@ -14,6 +14,8 @@ mod finish_tests;
 mod making_tests;
 pub mod memory;
 #[cfg(test)]
+mod nesting_tests;
+#[cfg(test)]
 mod option_tests;
 #[cfg(test)]
 mod pair_tests;

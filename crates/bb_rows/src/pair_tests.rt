@@ -44,6 +44,6 @@ fn pairs_by_hand_have_their_reports(rt: HostRuntime) -> Result<(), Fail> {
         row(&rt, rt.alloc(), pair)?;
         count = count.saturating_add(1);
     }
-    assert_eq!(rt; count, 32);
+    assert_eq!(rt; count, 34);
     Ok(())
 }

@@ -387,4 +387,34 @@ rung local none
 rung output none
 rung input repair
 table u o 1
+verdict repairable
+
+spec module s(a,y); input a; output [2:0] y; assign y = {~a, a, 1'b1}; endmodule
+impl module t(a,y); input a; output [2:0] y; bx u1(a,w); b2 u2(w,a,v); b4 u3(v,a,w,a,z); assign y = {w, v, z}; endmodule
+     module bx(i,o); input i; output o; endmodule
+     module b2(i,j,o); input i,j; output o; endmodule
+     module b4(i,j,k,l,o); input i,j,k,l; output o; endmodule
+answer yes: each box has the inputs and the outputs of those before it; a row that no choices suit, or that no vector brings, is 0.
+rung ternary none
+rung symbolic none
+rung local none
+rung output none
+rung input repair
+table u1 o 10
+table u2 o 0100
+table u3 o 0010000000000100
+verdict repairable
+
+spec module s(a,b,y); input a,b; output y; and(y,a,b); endmodule
+impl module t(a,b,y); input a,b; output y; bx u1(a,w); b3 u2(b,w,a,y); endmodule
+     module bx(i,o); input i; output o; endmodule
+     module b3(i,j,k,o); input i,j,k; output o; endmodule
+answer yes: the second box sees both inputs and what the first gives.
+rung ternary none
+rung symbolic none
+rung local none
+rung output none
+rung input repair
+table u1 o 00
+table u2 o 00000101
 verdict repairable";

@@ -7,4 +7,8 @@ mod diagram_tests;
 #[cfg(test)]
 mod miter_tests;
 #[cfg(test)]
+mod nested_tests;
+#[cfg(test)]
+mod parts;
+#[cfg(test)]
 mod word_tests;
