@@ -13,9 +13,9 @@ use Rattle.bb_net.specs.declared.cell.Cell.{Cell}
 use Rattle.bb_net.specs.declared.cell.Cell.TheVariants.{Const, Input, Not, And, Or, Xor, Mux, BoxOut}
 use Rattle.bb_net.specs.Flats.{FlatNet}
 use Rattle.bb_net.specs.CutPoints.{register_texts}
-use Rattle.bb_fill.specs.Clashes.{AreInputsApart, AreNamesApart, InputClashes, IsClash, IsInputClash, IsItsRegister, IsOutputClash, OutputClashes, output_cell, output_numbers, output_text, register_text, state_cell}
+use Rattle.bb_fill.specs.Clashes.{AreInputsApart, AreNamesApart, InputClashes, IsClash, IsInputClash, IsItsRegister, IsOutputClash, OutputClashes, output_cell, output_numbers, register_text, state_cell}
 use Rattle.bb_fill.specs.Sizes.{IsSmall, IsTooLarge, cell_count, most_bytes, most_cells, most_nets, net_count}
-use Rattle.bb_fill.specs.Filled.{filled_text}
+use Rattle.bb_fill.specs.Filled.{filled_text, output_text}
 use Rattle.bb_fill.specs.Answers.{Answer, Clash, Clashes, IsFilled, IsLarge, MayFill, Text, TooLarge}
 use Rattle.bb_fill.specs.Laws.{AnswersAreOne, AnswersExist}
 use Rattle.bb_fill.proofs.ClashLemmas.{input_or_not, output_or_not}

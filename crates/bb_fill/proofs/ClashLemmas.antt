@@ -5,7 +5,8 @@ use Rattle.std.proofs.lemmas.List.{length-map}
 use Rattle.bb_lists.proofs.Orders.{less_or_same}
 use Rattle.bb_net.specs.Flats.{FlatNet, AreApart}
 use Rattle.bb_net.specs.CutPoints.{register_texts}
-use Rattle.bb_fill.specs.Clashes.{IsInputClash, IsOutputClash, IsItsRegister, output_cell, output_text, register_text, state_cell}
+use Rattle.bb_fill.specs.Clashes.{IsInputClash, IsOutputClash, IsItsRegister, output_cell, register_text, state_cell}
+use Rattle.bb_fill.specs.Filled.{output_text}
 
 -- registers of one text are one
 pub one_register : (f : FlatNet) (a b : ℕ) → AreApart f → a < length f.regs → b < length f.regs → register_text f a ≡ register_text f b → a ≡ b

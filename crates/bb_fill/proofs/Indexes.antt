@@ -12,7 +12,8 @@ use Rattle.bb_lists.proofs.Names.{same_equal, same_self}
 use Rattle.bb_lists.proofs.Orders.{less_or_not}
 use Rattle.bb_net.specs.Flats.{FlatNet, AreApart}
 use Rattle.bb_net.specs.CutPoints.{register_texts}
-use Rattle.bb_fill.specs.Clashes.{output_text, register_text}
+use Rattle.bb_fill.specs.Clashes.{register_text}
+use Rattle.bb_fill.specs.Filled.{output_text}
 use Rattle.bb_fill.specs.Inside.Indexes.{IsFound, IsIndexUpTo}
 
 -- one text has this number in the new index; of the others it says what the old one said

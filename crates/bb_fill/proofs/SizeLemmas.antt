@@ -22,7 +22,7 @@ halved-length pin k n (v ∷ []) long = absurd (omega (arith, long))
 halved-length pin k zero (low ∷ high ∷ values) long = absurd (omega (arith, long))
 halved-length pin k (suc n) (low ∷ high ∷ values) long = let rest = halved-length pin (k + 1) n values (omega (arith, long)) in omega (arith, rest)
 
-nets-length : (k n : ℕ) → length (choice_nets k n) ≡ n
+pub nets-length : (k n : ℕ) → length (choice_nets k n) ≡ n
 nets-length k n = length-map (range_with_len 0 n) (λ i. ChoiceNet (k + i)) ∙ length-range_with_len 0 n
 
 -- a tree has a choice less than values
@@ -39,7 +39,7 @@ tree-length (pin ∷ pins) k values long =
 pub column-length : (t : TableBits) (p : ℕ) → length (map Bit (column t p)) ≡ 2 ^ t.inputs
 column-length t p = length-map (column t p) Bit ∙ length-map (range_with_len 0 (2 ^ t.inputs)) (λ row. table_bit t row p) ∙ length-range_with_len 0 (2 ^ t.inputs)
 
-pins-length : (f : FlatNet) (b : ℕ) → length (pin_words f b) ≡ length (box_at f.net.boxes b).ins
+pub pins-length : (f : FlatNet) (b : ℕ) → length (pin_words f b) ≡ length (box_at f.net.boxes b).ins
 pins-length f b = length-reverse (map (word_at f) (box_at f.net.boxes b).ins) ∙ length-map (box_at f.net.boxes b).ins (word_at f)
 
 -- an output pin has a line for each row

@@ -14,10 +14,10 @@ use Rattle.bb_fill.specs.Filled.{filled_lines, lines_of_cells, output_lines, reg
 use Rattle.bb_fill.specs.Inside.Sheets.{Writing, Adds}
 use Rattle.bb_fill.proofs.Sheets.{both, same}
 
-pub three_parts : (f : Line → List ℕ) (a b c : List Line) → flat_map f (a ++ b ++ c) ≡ flat_map f a ++ flat_map f b ++ flat_map f c
+pub three_parts : {A : Type 0} (f : Line → List A) (a b c : List Line) → flat_map f (a ++ b ++ c) ≡ flat_map f a ++ flat_map f b ++ flat_map f c
 three_parts f a b c = flat_map-append f (a ++ b) c ∙ ap (λ t. t ++ flat_map f c) (flat_map-append f a b)
 
-pub five_parts : (f : Line → List ℕ) (a b c d e : List Line) → flat_map f (a ++ b ++ c ++ d ++ e) ≡ flat_map f a ++ flat_map f b ++ flat_map f c ++ flat_map f d ++ flat_map f e
+pub five_parts : {A : Type 0} (f : Line → List A) (a b c d e : List Line) → flat_map f (a ++ b ++ c ++ d ++ e) ≡ flat_map f a ++ flat_map f b ++ flat_map f c ++ flat_map f d ++ flat_map f e
 five_parts f a b c d e =
     flat_map-append f (a ++ b ++ c ++ d) e
     ∙ ap (λ t. t ++ flat_map f e) (flat_map-append f (a ++ b ++ c) d ∙ ap (λ t. t ++ flat_map f d) (three_parts f a b c))

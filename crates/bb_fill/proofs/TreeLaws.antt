@@ -2,13 +2,15 @@
 use Rattle.std.proofs.Common.{◌≡◌, ◌∙◌, ℕ, zero, suc, ◌+◌, ◌*◌, ◌/◌, ◌^◌, ◌<◌, Bool, true, false, if◌then◌else◌, List, [], ◌∷◌, ◌++◌, length, map, reverse, refl, sym, ap, ap₂, subst, arith}
 use Rattle.std.specs.List.{range_with_len, slice_index_or}
 use Rattle.std.proofs.lemmas.List.{length-map, length-reverse, map-append, reverse-append, reverse-reverse}
+use Rattle.std.proofs.lemmas.List.Elements.{All-head, All-tail}
 use Rattle.std.proofs.lemmas.List.FromFn.{get_or-map-range_with_len, length-range_with_len}
 use Rattle.bb_bits.specs.Numbers.{number_of}
 use Rattle.bb_bits.specs.Tables.{table_bit}
 use Rattle.bb_fill.specs.Words.{Word, Bit, ChoiceNet}
-use Rattle.bb_fill.specs.Lines.{Line, Assign, Module, Input, Output, Reg, Gate, Always, End}
+use Rattle.bb_fill.specs.Lines.{Assign}
 use Rattle.bb_fill.specs.Trees.{choice_nets, column, halved, tree_lines, tree_values}
-use Rattle.bb_fill.specs.Laws.{AreMet, TreesChoose}
+use Rattle.bb_fill.specs.Laws.{AreMet, IsMet, TreesChoose}
+use Rattle.bb_fill.proofs.Lists.{all_left, all_right}
 use Rattle.bb_fill.proofs.SizeLemmas.{column-length}
 
 -- one more bit behind others doubles their number and adds the bit
@@ -19,7 +21,7 @@ abbrev pub NumbersAreBelow : Type 0
 NumbersAreBelow = (bits : List Bool) → number_of bits < 2 ^ length bits
 
 -- of each two neighbouring bits the second or the first
-abbrev picked : Bool → List Bool → List Bool
+abbrev pub picked : Bool → List Bool → List Bool
 picked b (low ∷ high ∷ bits) = (if b then high else low) ∷ picked b bits
 picked b (bit ∷ []) = []
 picked b [] = []
@@ -34,24 +36,13 @@ picked-at b (suc n) (low ∷ high ∷ bits) (suc m) long =
     let next : 2 * suc m + (if b then 1 else 0) ≡ suc (suc (2 * m + (if b then 1 else 0))) = omega arith in
     picked-at b n bits m (omega (arith, long)) ∙ sym (ap (λ k. slice_index_or (low ∷ high ∷ bits) k false) next)
 
-nets_from : (k a n : ℕ) → map (λ i. ChoiceNet (k + i)) (range_with_len (a + 1) n) ≡ map (λ i. ChoiceNet (k + 1 + i)) (range_with_len a n)
+pub nets_from : (k a n : ℕ) → map (λ i. ChoiceNet (k + i)) (range_with_len (a + 1) n) ≡ map (λ i. ChoiceNet (k + 1 + i)) (range_with_len a n)
 nets_from k a zero = refl
 nets_from k a (suc n) =
     let at : k + (a + 1) ≡ k + 1 + a = omega arith in
     ap₂ (λ j l. ChoiceNet j ∷ l) at (nets_from k (a + 1) n)
 
 module _ (bit : Word → Bool) where
-  met_parts : (xs ys : List Line) → AreMet bit (xs ++ ys) → AreMet bit xs × AreMet bit ys
-  met_parts [] ys met = (tt, met)
-  met_parts (Assign l c h e ∷ xs) ys met = let rest = met_parts xs ys met.1 in ((met.0, rest.0), rest.1)
-  met_parts (Module ports ∷ xs) ys met = met_parts xs ys met
-  met_parts (Input n ∷ xs) ys met = met_parts xs ys met
-  met_parts (Output n ∷ xs) ys met = met_parts xs ys met
-  met_parts (Reg n ∷ xs) ys met = met_parts xs ys met
-  met_parts (Gate g o is ∷ xs) ys met = met_parts xs ys met
-  met_parts (Always e c n w ∷ xs) ys met = met_parts xs ys met
-  met_parts (End ∷ xs) ys met = met_parts xs ys met
-
   -- where a level is met, its nets have the bits that its pin picks
   level_picks : (pin : Word) (k n : ℕ) (values : List Word) → length values ≡ 2 * n → AreMet bit (halved pin k values) → map bit (choice_nets k n) ≡ picked (bit pin) (map bit values)
   level_picks pin k zero [] long met = refl
@@ -60,7 +51,9 @@ module _ (bit : Word → Bool) where
   level_picks pin k zero (low ∷ high ∷ values) long met = absurd (omega (arith, long))
   level_picks pin k (suc n) (low ∷ high ∷ values) long met =
       let first : k + 0 ≡ k = omega arith in
-      ap₂ ◌∷◌ (ap (λ j. bit (ChoiceNet j)) first ∙ met.0) (ap (map bit) (nets_from k 0 n) ∙ level_picks pin (k + 1) n values (omega (arith, long)) met.1)
+      let rest = halved pin (k + 1) values in
+      ap₂ ◌∷◌ (ap (λ j. bit (ChoiceNet j)) first ∙ All-head (IsMet bit) (Assign (ChoiceNet k) pin high low) rest met)
+      (ap (map bit) (nets_from k 0 n) ∙ level_picks pin (k + 1) n values (omega (arith, long)) (All-tail (IsMet bit) (Assign (ChoiceNet k) pin high low) rest met))
 
   one_value : (values : List Word) → length values ≡ 1 → (value : Word) × (values ≡ value ∷ []) × (bit value ≡ slice_index_or (map bit values) 0 false)
   one_value (v ∷ []) long = (v, refl, refl)
@@ -79,19 +72,20 @@ module _ (bit : Word → Bool) where
       let twice : 2 ^ suc (length pins) ≡ 2 * 2 ^ length pins = omega arith in
       let half : n ≡ 2 ^ length pins = omega (arith, long, twice) in
       let even : length values ≡ 2 * n = omega (arith, long, twice, half) in
-      let parts = met_parts (halved pin k values) (tree_lines pins (k + n) (choice_nets k n)) met in
+      let level = halved pin k values in
+      let behind = tree_lines pins (k + n) (choice_nets k n) in
       let nets : length (choice_nets k n) ≡ 2 ^ length pins = length-map (range_with_len 0 n) (λ i. ChoiceNet (k + i)) ∙ length-range_with_len 0 n ∙ half in
-      let rest = chooses double pins (k + n) (choice_nets k n) nets parts.1 in
+      let rest = chooses double pins (k + n) (choice_nets k n) nets (all_right (IsMet bit) level behind met) in
       let m = number_of (map bit (reverse pins)) in
       let bits : length (map bit values) ≡ 2 * n = length-map values bit ∙ even in (
         rest.0,
         rest.1,
-        rest.2 ∙ ap (λ l. slice_index_or l m false) (level_picks pin k n values even parts.0)
+        rest.2 ∙ ap (λ l. slice_index_or l m false) (level_picks pin k n values even (all_left (IsMet bit) level behind met))
             ∙ picked-at (bit pin) n (map bit values) m bits
             ∙ sym (ap (λ j. slice_index_or (map bit values) j false) (number_behind double pin pins)),
       )
 
-  bits_are : ((b : Bool) → bit (Bit b) ≡ b) → (bits : List Bool) → map bit (map Bit bits) ≡ bits
+  pub bits_are : ((b : Bool) → bit (Bit b) ≡ b) → (bits : List Bool) → map bit (map Bit bits) ≡ bits
   bits_are same [] = refl
   bits_are same (b ∷ bits) = ap₂ ◌∷◌ (same b) (bits_are same bits)
 

@@ -10,11 +10,9 @@ use Rattle.bb_net.specs.declared.cell.Cell.TheVariants.{Input}
 use Rattle.bb_net.specs.Netlists.{cell_at}
 use Rattle.bb_net.specs.Flats.{FlatNet}
 use Rattle.bb_net.specs.CutPoints.{register_texts}
+use Rattle.bb_fill.specs.Filled.{output_text}
 
--- the text and the cell of an output of the top
-abbrev pub output_text : FlatNet → ℕ → List ℕ
-output_text f o = slice_index_or f.outs o []
-
+-- the cell of an output of the top
 abbrev pub output_cell : FlatNet → ℕ → Cell
 output_cell f o = cell_at f.net.cells (slice_index f.net.outs o)
 

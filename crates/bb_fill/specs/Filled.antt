@@ -51,20 +51,25 @@ cell_lines f tables k (cells.BoxOut b p) =
 abbrev pub lines_of_cells : FlatNet → List TableBits → List Line
 lines_of_cells f tables = flat_map (λ k. cell_lines f tables k (cell_at f.net.cells k)) (range_with_len 0 (length f.net.cells))
 
--- the line of the output with a number; one that has the text of a register is this register, and has none
+-- the text of the output with a number
+abbrev pub output_text : FlatNet → ℕ → List ℕ
+output_text f o = slice_index_or f.outs o []
+
+-- the line of an output; one that has the text of a register is this register, and has none
 abbrev pub output_lines : FlatNet → ℕ → List Line
-output_lines f o =
-    let name = slice_index_or f.outs o [] in
-    if has_name name (register_texts f) then [] else Gate Buf (Named name) (word_at f (slice_index f.net.outs o) ∷ []) ∷ []
+output_lines f o = if has_name (output_text f o) (register_texts f) then [] else Gate Buf (Named (output_text f o)) (word_at f (slice_index f.net.outs o) ∷ []) ∷ []
 
 -- each register has a clock that is an input
 abbrev pub HaveClocks : FlatNet → Type 0
 HaveClocks f = All (λ r. IsSome r.clock) f.regs
 
--- the line of the register with a number, which takes the netlist's output behind those of the top
+-- what the register with a number takes: the netlist's output behind those of the top
+abbrev pub next_word : FlatNet → ℕ → Word
+next_word f r = word_at f (slice_index f.net.outs (length f.outs + r))
+
+-- the line of a register
 abbrev pub register_line : FlatNet → ℕ → Register → Line
-register_line f r register =
-    Always register.falling (unwrap_or (clock_text f register) []) register.text (word_at f (slice_index f.net.outs (length f.outs + r)))
+register_line f r register = Always register.falling (unwrap_or (clock_text f register) []) register.text (next_word f r)
 
 abbrev pub register_lines : FlatNet → ℕ → List Register → List Line
 register_lines f r [] = []

@@ -1,18 +1,38 @@
 -- Laws of the filled text, and the words that laws alone need.
-use Rattle.std.specs.Prelude.{◌≡◌, ℕ, ◌<◌, ◌^◌, Bool, if◌then◌else◌, List, [], ◌∷◌, ◌++◌, length, map, reverse, Contains, Option, None, Some, codes, decimal}
+use Rattle.std.specs.Prelude.{◌≡◌, ◌≢◌, ◌⊎◌, ℕ, ◌+◌, ◌<◌, ◌^◌, Bool, true, false, not, ◌&&◌, ◌||◌, if◌then◌else◌, List, [], ◌∷◌, ◌++◌, length, map, reverse, fold, All, AllPairs, Contains, Option, None, Some, codes, decimal, slice_get}
+use Rattle.std.specs.List.{flat_map, slice_index_or}
 use Rattle.bb_bits.specs.Numbers.{number_of}
 use Rattle.bb_bits.specs.Tables.{TableBits, table_bit}
-use Rattle.bb_net.specs.Flats.{FlatNet}
-use Rattle.bb_fill.specs.Words.{Word, Bit, Named, CellNet, ChoiceNet, stem_of, texts_of}
-use Rattle.bb_fill.specs.Lines.{Line, Assign}
+use Rattle.bb_net.specs.declared.flat.Reg.{Reg as Register}
+use Rattle.bb_net.specs.Agreement.{IsVector, out_bit}
+use Rattle.bb_net.specs.CutPoints.{clock_text, register_texts}
+use Rattle.bb_net.specs.Flats.{FlatNet, IsFlat}
+use Rattle.bb_net.specs.Values.{FitBoxes, bit_of, flat_with, xor}
+use Rattle.bb_fill.specs.Words.{Word, Bit, Named, CellNet, ChoiceNet, stem_of, texts_of, word_at}
+use Rattle.bb_fill.specs.Lines.{Line, Primitive, Not, And, Or, Xor, Buf, Module, Input, Output, Reg, Gate, Assign, Always, End}
 use Rattle.bb_fill.specs.Trees.{column, tree_lines, tree_values}
+use Rattle.bb_fill.specs.Filled.{HaveClocks, filled_lines, output_text}
+use Rattle.bb_fill.specs.Clashes.{AreNamesApart}
+use Rattle.bb_fill.specs.Sizes.{IsSmall, net_count}
 use Rattle.bb_fill.specs.Answers.{Answer, MayFill}
 
--- where each word has a bit, the left side of each assignment has the bit of the side that is chosen
+-- the bit of a gate for those of its inputs (IEEE 1364-2005, 7.2 and 7.3)
+abbrev pub gate_bit : Primitive → List Bool → Bool
+gate_bit Not bits = not (bit_of bits 0)
+gate_bit And bits = fold ◌&&◌ true bits
+gate_bit Or bits = fold ◌||◌ false bits
+gate_bit Xor bits = fold xor false bits
+gate_bit Buf bits = bit_of bits 0
+
+-- where each word has a bit: the output of a gate has the gate's bit, and the left side of an assignment that of the side that is chosen. A
+-- declaration says nothing of bits, and a register takes its bit at an edge.
+abbrev pub IsMet : (Word → Bool) → Line → Type 0
+IsMet bit (Gate primitive out ins) = bit out ≡ gate_bit primitive (map bit ins)
+IsMet bit (Assign left condition high low) = bit left ≡ (if bit condition then bit high else bit low)
+IsMet bit line = Unit {0}
+
 abbrev pub AreMet : (Word → Bool) → List Line → Type 0
-AreMet bit [] = Unit {0}
-AreMet bit (Assign left condition high low ∷ lines) = (bit left ≡ (if bit condition then bit high else bit low)) × AreMet bit lines
-AreMet bit (line ∷ lines) = AreMet bit lines
+AreMet bit lines = All (IsMet bit) lines
 
 -- the value of a tree is one word. Whatever bits the pins have, it has the bit of the row whose number they spell, the first pin most
 -- significant.
@@ -47,3 +67,91 @@ IsWordOf f (ChoiceNet number) = number < 2 ^ 64
 -- two words that are called alike are one: no net is called as another, or as a port or a register
 abbrev pub WordsAreApart : Type 0
 WordsAreApart = (f : FlatNet) (one other : Word) (name : List ℕ) → IsWordOf f one → IsWordOf f other → identifier (stem_of f) one ≡ Some name → identifier (stem_of f) other ≡ Some name → one ≡ other
+
+-- numbers are themselves, and the names of inputs and registers have the bits of a vector of the netlist
+pub record Gives (f : FlatNet) (x : List Bool) (bit : Word → Bool) : Type 0 where
+  pub numbers : (b : Bool) → bit (Bit b) ≡ b
+  pub inputs : (i : ℕ) → i < f.net.inputs → bit (Named (slice_index_or (f.ins ++ register_texts f) i [])) ≡ bit_of x i
+
+-- where the lines are met at a vector, each cell's word has the cell's bit by the tables, and so has each output's name
+pub record HaveBits (f : FlatNet) (tables : List TableBits) (x : List Bool) (bit : Word → Bool) : Type 0 where
+  pub cells : (k : ℕ) → k < length f.net.cells → bit (word_at f k) ≡ bit_of (flat_with f.net x tables) k
+  pub outputs : (o : ℕ) → o < length f.outs → bit (Named (output_text f o)) ≡ out_bit f.net (flat_with f.net x tables) o
+
+-- there is a table for each box, and no name clashes
+pub record IsReady (f : FlatNet) (tables : List TableBits) : Type 0 where
+  pub flat : IsFlat f
+  pub fit : FitBoxes tables f.net.boxes
+  pub names : AreNamesApart f
+
+abbrev pub LinesHaveBits : Type 0
+LinesHaveBits = (f : FlatNet) (tables : List TableBits) → IsReady f tables → (x : List Bool) (bit : Word → Bool) → IsVector f.net x
+    → Gives f x bit → AreMet bit (filled_lines f tables) → HaveBits f tables x bit
+
+-- a line has a register take this bit, at its edge and by its clock
+pub record IsTaken (f : FlatNet) (tables : List TableBits) (bit : Word → Bool) (register : Register) (next : Bool) : Type 0 where
+  pub clock : List ℕ
+  pub data_word : Word
+  pub line : Contains (filled_lines f tables) (Always register.falling clock register.text data_word)
+  pub clocked : clock_text f register ≡ Some clock
+  pub takes : bit data_word ≡ next
+
+-- and each register takes its next state by the tables
+abbrev pub RegistersTakeBits : Type 0
+RegistersTakeBits = (f : FlatNet) (tables : List TableBits) → IsReady f tables → HaveClocks f → (x : List Bool) (bit : Word → Bool) → IsVector f.net x
+    → Gives f x bit → AreMet bit (filled_lines f tables)
+    → (r : ℕ) (register : Register) → slice_get f.regs r ≡ Some register → IsTaken f tables bit register (out_bit f.net (flat_with f.net x tables) (length f.outs + r))
+
+-- at each vector some bits meet the lines
+abbrev pub LinesCanBeMet : Type 0
+LinesCanBeMet = (f : FlatNet) (tables : List TableBits) → IsReady f tables → (x : List Bool) → IsVector f.net x
+    → (bit : Word → Bool) × Gives f x bit × AreMet bit (filled_lines f tables)
+
+-- what a line drives
+abbrev pub driven : Line → List Word
+driven (Gate primitive out ins) = out ∷ []
+driven (Assign left condition high low) = left ∷ []
+driven (Always falling clock name data_word) = Named name ∷ []
+driven line = []
+
+-- the inputs and what the lines drive
+abbrev pub all_nets : FlatNet → List TableBits → List Word
+all_nets f tables = map Named f.ins ++ flat_map driven (filled_lines f tables)
+
+-- these are different words, as many as the text has nets
+abbrev pub NetsAreDrivenOnce : Type 0
+NetsAreDrivenOnce = (f : FlatNet) (tables : List TableBits) → IsReady f tables → AllPairs ◌≢◌ (all_nets f tables) × (length (all_nets f tables) ≡ net_count f tables)
+
+-- the words of a line
+abbrev pub line_words : Line → List Word
+line_words (Module ports) = map Named ports
+line_words (Input name) = Named name ∷ []
+line_words (Output name) = Named name ∷ []
+line_words (Reg name) = Named name ∷ []
+line_words (Gate primitive out ins) = out ∷ ins
+line_words (Assign left condition high low) = left ∷ condition ∷ high ∷ low ∷ []
+line_words (Always falling clock name data_word) = Named clock ∷ Named name ∷ data_word ∷ []
+line_words End = []
+
+-- what a line reads
+abbrev pub line_reads : Line → List Word
+line_reads (Gate primitive out ins) = ins
+line_reads (Assign left condition high low) = condition ∷ high ∷ low ∷ []
+line_reads (Always falling clock name data_word) = Named clock ∷ data_word ∷ []
+line_reads line = []
+
+-- each word of the lines is a number or one of these nets
+abbrev pub IsNumber : Word → Type 0
+IsNumber word = (b : Bool) × (word ≡ Bit b)
+
+abbrev pub WordsAreNets : Type 0
+WordsAreNets = (f : FlatNet) (tables : List TableBits) → IsReady f tables → HaveClocks f → All (λ word. IsNumber word ⊎ Contains (all_nets f tables) word) (flat_map line_words (filled_lines f tables))
+
+-- and where the text is not too large, they are words of the netlist, of which no two are called alike
+abbrev pub WordsAreOfNetlist : Type 0
+WordsAreOfNetlist = (f : FlatNet) (tables : List TableBits) → IsReady f tables → HaveClocks f → IsSmall f tables → All (IsWordOf f) (flat_map line_words (filled_lines f tables))
+
+-- what a line reads is a number, an input, a register, or driven by a line before it, so no net depends on itself but through a register
+abbrev pub LinesReadWhatIsDriven : Type 0
+LinesReadWhatIsDriven = (f : FlatNet) (tables : List TableBits) → IsReady f tables → HaveClocks f → (before after : List Line) (line : Line) → filled_lines f tables ≡ before ++ line ∷ after
+    → All (λ word. IsNumber word ⊎ Contains (map Named (f.ins ++ register_texts f) ++ flat_map driven before) word) (line_reads line)

@@ -5,7 +5,8 @@ ghost use Rattle.bb_net.specs.Flats.{IsFlat};
 ghost use Rattle.bb_net.specs.Kinds.{spread};
 ghost use Rattle.bb_net.specs.Netlists.{ReadsBefore, box_at, cell_at};
 ghost use Rattle.bb_net.specs.Values.{FitBoxes, table_at};
-ghost use Rattle.bb_fill.specs.Clashes.{output_text, register_text};
+ghost use Rattle.bb_fill.specs.Clashes.{register_text};
+ghost use Rattle.bb_fill.specs.Filled.{output_text};
 
 use bb_bits::{Name, Table};
 use bb_net::{Cell, Flat, tables_are_spread};
