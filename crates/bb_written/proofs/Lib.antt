@@ -1,0 +1,15 @@
+pub mod Classes
+pub mod Cuts
+pub mod Feeds
+pub mod FilledLines
+pub mod FilledTexts
+pub mod Fronts
+pub mod LineDepths
+pub mod LineFits
+pub mod LineItems
+pub mod LineSymbols
+pub mod LineTexts
+pub mod Meanings
+pub mod Reading
+pub mod Statements
+pub mod Stems
