@@ -1,0 +1,14 @@
+pub mod Lists
+pub mod Silent
+pub mod Said
+pub mod SaidNames
+pub mod Clashes
+pub mod Ports
+pub mod Forms
+pub mod Items
+pub mod Implicit
+pub mod Driven
+pub mod WordSpots
+pub mod Lines
+pub mod PlainLines
+pub mod Sound
