@@ -5,6 +5,7 @@ import random
 import re
 
 from drawn import drawn_cared, drawn_pair, drawn_shared
+from nesting import drawn_nested
 from language import Reader, top_of
 from reports import tables
 from tries import TOP, bbeq, example, is_told, read, run, script, write
@@ -35,6 +36,9 @@ def reports_part(tally, folder):
     verdicts = [try_cared(tally, folder, seed) for seed in range(DRAWN)]
     shares = {name: verdicts.count(name) for name in ("error", "repairable", "legal")}
     tally.note(f"drawn pairs with a care output: {shares}, at least a fifth each", all(5 * count >= DRAWN for count in shares.values()))
+    verdicts = [try_nested(tally, folder, seed) for seed in range(DRAWN)]
+    shares = {name: verdicts.count(name) for name in ("error", "repairable", "open")}
+    tally.note(f"drawn pairs by choices: {shares}, at least a fifth each", all(5 * count >= DRAWN for count in shares.values()))
 
 
 def pair_in(texts, shared=False, care=None):
@@ -117,7 +121,7 @@ def is_due(pair, done, **asked):
 
 
 def try_deciders(tally, folder, name, texts, pair):
-    asked = [("expand", "expand")] + ([("input", "input")] if len(pair.boxes) <= 1 else [])
+    asked = [("expand", "expand")] + ([("input", "input")] if pair.readers() is not None else [])
     done = [report_of(folder, texts, "--from", first, "--to", last) for first, last in asked]
     right = all(is_due(pair, one, first=first, last=last) and UNFINISHED.search(one.out) is None
                 for one, (first, last) in zip(done, asked))
@@ -184,6 +188,21 @@ def try_cared(tally, folder, seed):
     told = done[0].out.split()[-1] if done[0].out else "none"
     pair.counts = pair.every
     return "legal" if told == "repairable" and next(pair.completions(), None) is None else told
+
+
+def try_nested(tally, folder, seed):
+    """Compares what the check by choices says of a drawn pair with two or three boxes, of which half are nested; the result is its
+    verdict. Where the boxes are nested it decides, and where they are not it gives no tables, as where they share their contents."""
+    texts, words = drawn_nested(seed), ("--from", "input", "--to", "input")
+    pair, done, shared = pair_in(texts), report_of(folder, texts, *words), report_of(folder, texts, *words, "--shared")
+    right = is_due(pair, done, first="input", last="input") and is_due(pair_in(texts, True), shared, first="input", last="input")
+    told = done.out.split()[-1] if done.out else "none"
+    if told == "repairable":
+        right = right and pair.difference(pair.contents_in(tables(done.out.splitlines()))) is None
+    if told == "error":
+        right = right and next(pair.completions(), None) is None
+    tally.note(f"drawn pair {seed} by choices", right, "\n".join([*texts, done.why(), shared.why()]))
+    return told
 
 
 # The script.

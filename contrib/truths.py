@@ -108,11 +108,30 @@ class Pair:
         """For all bits that the boxes may give, by these bits: the vectors at which each output is wrong, and those at which
         each box reads each row."""
         found = {}
-        for bits in product(*[lists(len(box.outs)) for box in self.boxes]):
-            world = self.filled(fixed({box.path: outs for box, outs in zip(self.boxes, bits)}))
+        for bits, world in self.worlds():
             rows = [{row: chosen_row(world, box, row) for row in lists(len(box.ins))} for box in self.boxes]
             found[bits] = self.wrong(world), rows
         return found
+
+    def worlds(self):
+        """All bits that the boxes may give, each with what the nets have then."""
+        for bits in product(*[lists(len(box.outs)) for box in self.boxes]):
+            yield bits, self.filled(fixed({box.path: outs for box, outs in zip(self.boxes, bits)}))
+
+    def readers(self):
+        """For each box, and for each box before it, the first of its input pins that have the bits of each input and of each output pin
+        of that one, at all vectors and whatever the boxes give; nothing where one has no such pin, or two boxes have one content."""
+        if len(self.kinds) < len(self.boxes):
+            return None
+        seen = [([], []) for _ in self.boxes]
+        for bits, world in self.worlds():
+            for (ins, outs), box, given in zip(seen, self.boxes, bits):
+                ins.append([world.bit(key).one for key in box.ins])
+                outs.append([world.constant(bit).one for bit in given])
+        pins = [(list(zip(*ins)), list(zip(*outs))) for ins, outs in seen]
+        if any(pin not in own for at, (own, _) in enumerate(pins) for side in pins[:at] for pin in side[0] + side[1]):
+            return None
+        return [[tuple([own.index(pin) for pin in ends] for ends in side) for side in pins[:at]] for at, (own, _) in enumerate(pins)]
 
     # The checks: each tells its result, and what it shows of a mistake.
 
@@ -144,12 +163,15 @@ class Pair:
         return [*names, " ".join(["input", *bits])]
 
     def choices(self):
-        """One box is filled with the least outputs for each row; of several it is only told that there are no choices."""
+        """One box, or boxes of which each sees all pins of those before it, are filled with the least outputs for each row behind what the
+        row says of the others; else it is only told that there are no choices."""
         if not self.has_choices([]):
             return "error", []
-        if len(self.boxes) > 1:
+        readers = self.readers()
+        if readers is None:
             return "none", []
-        return "repair", self.table_lines({box.path: [self.least(row) for row in lists(len(box.ins))] for box in self.boxes})
+        return "repair", self.table_lines({box.path: [self.least(box, row, seen) for row in lists(len(box.ins))]
+                                           for box, seen in zip(self.boxes, readers)})
 
     def has_choices(self, chosen):
         """Whether outputs can be chosen for each row of the next box, then of the one behind it, so that every vector is right
@@ -161,8 +183,10 @@ class Pair:
         box = self.boxes[len(chosen)]
         return all(any(self.has_choices([*chosen, (row, outs)]) for outs in lists(len(box.outs))) for row in lists(len(box.ins)))
 
-    def least(self, row):
-        return next(outs for (outs,), (wrong, (rows,)) in self.free.items() if not any(mask & rows[row] for mask in wrong))
+    def least(self, box, row, seen):
+        chosen = [tuple(tuple(row[pin] for pin in ends) for ends in side) for side in seen]
+        found = (outs for outs in lists(len(box.outs)) if self.has_choices([*chosen, (row, outs)]))
+        return next(found, (False,) * len(box.outs))
 
     def expand(self):
         """The first contents that agree, in the order in which they are tried; others may agree too."""
