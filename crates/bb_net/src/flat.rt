@@ -4,7 +4,7 @@ ghost use Rattle.std.specs.Prelude.{◌≡◌};
 ghost use Rattle.bb_net.specs.Flats.{FlatNet, IsFlat};
 
 use crate::{BoxName, Net};
-use bb_bits::Name;
+use bb_bits::{Name, NoMemory};
 use std::marker::Model;
 
 /// A register bit: its text, the edge at which it takes its next state, and the number of the input that is its clock, if one is.
@@ -13,6 +13,18 @@ pub struct Reg {
     pub text: Name,
     pub falling: bool,
     pub clock: Option<u32>,
+}
+
+impl Clone for Reg {
+    ghost is_clone = { λ reg copy. copy ≡ reg };
+
+    fn clone(&self) -> Result<Reg, NoMemory> {
+        Ok(Reg {
+            text: self.text.clone()?,
+            falling: self.falling,
+            clock: self.clock,
+        })
+    }
 }
 
 /// A flat netlist: a netlist with the texts of its inputs, registers, outputs and boxes. Its inputs are those that have texts of
@@ -47,6 +59,20 @@ impl Model for Flat {
     ghost view = { λ f. record { net = f.net; ins = f.ins.items; regs = f.regs.items; outs = f.outs.items; boxes = f.boxes.items } };
 
     ghost invariant = { λ f. IsFlat (record { net = f.net; ins = f.ins.items; regs = f.regs.items; outs = f.outs.items; boxes = f.boxes.items }) };
+}
+
+impl Clone for Flat {
+    ghost is_clone = { λ flat copy. copy ≡ flat };
+
+    fn clone(&self) -> Result<Flat, NoMemory> {
+        Ok(Flat {
+            net: self.net.clone()?,
+            ins: Vec::from_clones(*self.ins.allocator(), &self.ins)?,
+            regs: Vec::from_clones(*self.regs.allocator(), &self.regs)?,
+            outs: Vec::from_clones(*self.outs.allocator(), &self.outs)?,
+            boxes: Vec::from_clones(*self.boxes.allocator(), &self.boxes)?,
+        })
+    }
 }
 
 impl Flat {

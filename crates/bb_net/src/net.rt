@@ -46,6 +46,17 @@ impl BoxPins {
     }
 }
 
+impl Clone for BoxPins {
+    ghost is_clone = { λ pins copy. copy ≡ pins };
+
+    fn clone(&self) -> Result<BoxPins, NoMemory> {
+        Ok(BoxPins {
+            ins: self.ins.clone()?,
+            outs: self.outs.clone()?,
+        })
+    }
+}
+
 /// A netlist: cells in an order in which each reads only earlier ones, its boxes, and the cells at its outputs.
 ///
 /// Cells 0 and 1 are the constants 0 and 1, and the inputs follow in order. A box stands behind each box on whose
@@ -68,6 +79,19 @@ impl Model for Net {
     ghost view = { λ n. record { inputs = n.inputs; cells = n.cells.items; boxes = n.boxes.items; outs = n.outs.items } };
 
     ghost invariant = { λ n. IsNetlist (record { inputs = n.inputs; cells = n.cells.items; boxes = n.boxes.items; outs = n.outs.items }) };
+}
+
+impl Clone for Net {
+    ghost is_clone = { λ net copy. copy ≡ net };
+
+    fn clone(&self) -> Result<Net, NoMemory> {
+        Ok(Net {
+            inputs: self.inputs,
+            cells: self.cells.clone()?,
+            boxes: Vec::from_clones(*self.boxes.allocator(), &self.boxes)?,
+            outs: self.outs.clone()?,
+        })
+    }
 }
 
 impl Net {

@@ -4,7 +4,7 @@ ghost use Rattle.std.specs.Prelude.{◌≡◌, List};
 ghost use Rattle.bb_net.specs.Pairs.{NetPair, BoxTexts, AreBeside, AreSmall, IsPair, box_key};
 
 use crate::Net;
-use bb_bits::Name;
+use bb_bits::{Name, NoMemory};
 use std::marker::Model;
 
 /// The text of an output: a top output, or the next state of a register.
@@ -29,6 +29,19 @@ impl Model for BoxName {
     ghost Value = { BoxTexts };
 
     ghost view = { λ b. record { path = b.path; «module» = b.module; ins = b.ins.items; outs = b.outs.items } };
+}
+
+impl Clone for BoxName {
+    ghost is_clone = { λ name copy. copy ≡ name };
+
+    fn clone(&self) -> Result<BoxName, NoMemory> {
+        Ok(BoxName {
+            path: self.path.clone()?,
+            module: self.module.clone()?,
+            ins: Vec::from_clones(*self.ins.allocator(), &self.ins)?,
+            outs: Vec::from_clones(*self.outs.allocator(), &self.outs)?,
+        })
+    }
 }
 
 impl BoxName {
