@@ -5,7 +5,7 @@ use Rattle.std.specs.List.{AllZip}
 use Rattle.std.proofs.lemmas.List.Elements.{All-contains}
 use Rattle.bb_net.specs.CutPoints as cut
 use Rattle.bb_net.specs.CutPoints.{clock_text}
-use Rattle.bb_net.specs.Flats.{FlatNet}
+use Rattle.bb_net.specs.Flats.{FlatNet, HaveClocks}
 use Rattle.bb_net.specs.Pairs.{BoxTexts}
 use Rattle.bb_net.specs.declared.flat.Reg.{Reg}
 use Rattle.bb_design.specs.Inside.Allowed.{IsAllowed}
@@ -38,12 +38,12 @@ module _ (have_orders : StandingNetsHaveBoxOrders) (have_texts : StandingNetsAre
   -- registers of one netlist
 
   module _ (d : Design) (f : FlatNet) (good : IsAllowed d) (s : StandsFor d f) where
-    clocks_to : net.HaveClocks f → All (HasClock d) (registers d)
+    clocks_to : HaveClocks f → All (HasClock d) (registers d)
     clocks_to all = all_from (HasClock d) (registers d) (λ r has.
         let g = beside_left (IsRegister d) (registers d) f.regs s.regs r has in
         has_clock have_orders have_texts one_input d f good s r g.0 g.2 (All-contains (λ (r : Reg). IsSome r.clock) f.regs g.0 all g.1))
 
-    clocks_back : All (HasClock d) (registers d) → net.HaveClocks f
+    clocks_back : All (HasClock d) (registers d) → HaveClocks f
     clocks_back all = all_from (λ (r : Reg). IsSome r.clock) f.regs (λ g has.
         let r = beside_right (IsRegister d) (registers d) f.regs s.regs g has in
         some_clock have_orders have_texts one_input d f good s r.0 g r.2 (All-contains (HasClock d) (registers d) r.0 all r.1))

@@ -9,9 +9,9 @@ use Rattle.bb_bits.specs.Tables.{TableBits}
 use Rattle.bb_lists.proofs.Members.{any_there, contains-map, either, from_map, keeps}
 use Rattle.bb_lists.proofs.Names.{same_equal}
 use Rattle.bb_net.specs.CutPoints.{register_texts}
-use Rattle.bb_net.specs.Flats.{FlatNet}
+use Rattle.bb_net.specs.Flats.{FlatNet, HaveClocks}
 use Rattle.bb_fill.specs.Words.{Word, Named}
-use Rattle.bb_fill.specs.Filled.{HaveClocks, filled_lines}
+use Rattle.bb_fill.specs.Filled.{filled_lines}
 use Rattle.bb_fill.specs.Sizes.{plain_outputs}
 use Rattle.bb_fill.specs.Laws.{IsNumber, IsReady, WordsAreNets, all_nets, driven, line_words}
 use Rattle.bb_fill.proofs.CellStands.{port_words}

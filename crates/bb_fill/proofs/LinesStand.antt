@@ -11,10 +11,10 @@ use Rattle.bb_lists.proofs.Members.{all_from, contains-map}
 use Rattle.bb_lists.proofs.Places.{some_at, there_at}
 use Rattle.bb_net.specs.declared.flat.Reg.{Reg as Register}
 use Rattle.bb_net.specs.CutPoints.{clock_text, register_texts}
-use Rattle.bb_net.specs.Flats.{FlatNet}
+use Rattle.bb_net.specs.Flats.{FlatNet, HaveClocks}
 use Rattle.bb_fill.specs.Words.{Word, Named, texts_of, word_at}
 use Rattle.bb_fill.specs.Lines.{Line, Gate, Buf, End}
-use Rattle.bb_fill.specs.Filled.{HaveClocks, filled_lines, lines_of_cells, next_word, output_lines, output_text, register_line, register_lines}
+use Rattle.bb_fill.specs.Filled.{filled_lines, lines_of_cells, next_word, output_lines, output_text, register_line, register_lines}
 use Rattle.bb_fill.specs.Laws.{IsReady, LinesReadWhatIsDriven, driven}
 use Rattle.bb_fill.proofs.CellStands.{cells_stand, nets_before, port_words, word_known}
 use Rattle.bb_fill.proofs.DeclaredNames.{declarations_say}

@@ -1,7 +1,7 @@
 -- The filled text: one module in Verilog for a flat netlist whose boxes hold tables. Its ports are the inputs and the outputs of the netlist
 -- and its registers are registers. A gate stands for each gate of the netlist, a conditional for each multiplexer, and for each output pin of a
 -- box a tree of choices over the table of the box. An output is a copy of its cell, or the register of the same text.
-use Rattle.std.specs.Prelude.{ℕ, ◌+◌, ◌-◌, ◌^◌, if◌then◌else◌, List, [], ◌∷◌, ◌++◌, length, map, take, reverse, sum_by, slice_index, All, IsSome}
+use Rattle.std.specs.Prelude.{ℕ, ◌+◌, ◌-◌, ◌^◌, if◌then◌else◌, List, [], ◌∷◌, ◌++◌, length, map, take, reverse, sum_by, slice_index}
 use Rattle.std.specs.List.{flat_map, range_with_len, slice_index_or}
 use Rattle.std.specs.Option.{unwrap_or}
 use Rattle.bb_bits.specs.Earlier.{has_name}
@@ -58,10 +58,6 @@ output_text f o = slice_index_or f.outs o []
 -- the line of an output; one that has the text of a register is this register, and has none
 abbrev pub output_lines : FlatNet → ℕ → List Line
 output_lines f o = if has_name (output_text f o) (register_texts f) then [] else Gate Buf (Named (output_text f o)) (word_at f (slice_index f.net.outs o) ∷ []) ∷ []
-
--- each register has a clock that is an input
-abbrev pub HaveClocks : FlatNet → Type 0
-HaveClocks f = All (λ r. IsSome r.clock) f.regs
 
 -- what the register with a number takes: the netlist's output behind those of the top
 abbrev pub next_word : FlatNet → ℕ → Word

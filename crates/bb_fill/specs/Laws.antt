@@ -6,12 +6,12 @@ use Rattle.bb_bits.specs.Tables.{TableBits, table_bit}
 use Rattle.bb_net.specs.declared.flat.Reg.{Reg as Register}
 use Rattle.bb_net.specs.Agreement.{IsVector, out_bit}
 use Rattle.bb_net.specs.CutPoints.{clock_text, register_texts}
-use Rattle.bb_net.specs.Flats.{FlatNet, IsFlat}
+use Rattle.bb_net.specs.Flats.{FlatNet, IsFlat, HaveClocks}
 use Rattle.bb_net.specs.Values.{FitBoxes, bit_of, flat_with, xor}
 use Rattle.bb_fill.specs.Words.{Word, Bit, Named, CellNet, ChoiceNet, stem_of, texts_of, word_at}
 use Rattle.bb_fill.specs.Lines.{Line, Primitive, Not, And, Or, Xor, Buf, Module, Input, Output, Reg, Gate, Assign, Always, End}
 use Rattle.bb_fill.specs.Trees.{column, tree_lines, tree_values}
-use Rattle.bb_fill.specs.Filled.{HaveClocks, filled_lines, output_text}
+use Rattle.bb_fill.specs.Filled.{filled_lines, output_text}
 use Rattle.bb_fill.specs.Clashes.{AreNamesApart}
 use Rattle.bb_fill.specs.Sizes.{IsSmall, net_count}
 use Rattle.bb_fill.specs.Answers.{Answer, MayFill}

@@ -5,7 +5,8 @@ ghost use Rattle.bb_net.specs.Kinds.{spread};
 ghost use Rattle.bb_net.specs.Values.{FitBoxes};
 ghost use Rattle.bb_fill.specs.Answers.{Answer, MayFill, answer_of};
 ghost use Rattle.bb_fill.specs.Clashes.{AreNamesApart};
-ghost use Rattle.bb_fill.specs.Filled.{HaveClocks, choice_count, filled_text};
+ghost use Rattle.bb_net.specs.Flats.{HaveClocks};
+ghost use Rattle.bb_fill.specs.Filled.{choice_count, filled_text};
 ghost use Rattle.bb_fill.specs.Inside.Indexes.{IsIndex};
 ghost use Rattle.bb_fill.specs.Words.{stem_of};
 

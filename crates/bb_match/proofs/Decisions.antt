@@ -8,10 +8,10 @@ use Rattle.bb_bits.specs.Names.{same_name}
 use Rattle.bb_net.specs.Pairs.{BoxTexts}
 use Rattle.bb_net.specs.declared.flat.Reg.{Reg}
 use Rattle.bb_bits.specs.Closures.{IsFirst}
-use Rattle.bb_net.specs.Flats.{FlatNet}
+use Rattle.bb_net.specs.Flats.{FlatNet, HaveClocks}
 use Rattle.bb_match.specs.declared.fault.MatchFault.{MatchFault}
 use Rattle.bb_net.specs.CutPoints.{register_texts, clock_text}
-use Rattle.bb_match.specs.Refusals.{IsMissing, IsFirstMissing, AreAmong, compared, HasNoClock, IsFirstWithoutClock, HaveClocks, IsClockedApart, IsFirstClockedApart, IsClockedAlike, AreClockedAlike, most_pins, input_and_pin_count, Cause, Box, Care, SpecInput, SpecOutput, ImpInput, ImpOutput, SpecRegister, ImpRegister, SpecClock, ImpClock, Clocks, Pins, rank, fault_of, IsTold, IsAbsent, Fit, IsFirstRefusal}
+use Rattle.bb_match.specs.Refusals.{IsMissing, IsFirstMissing, AreAmong, compared, HasNoClock, IsFirstWithoutClock, IsClockedApart, IsFirstClockedApart, IsClockedAlike, AreClockedAlike, most_pins, input_and_pin_count, Cause, Box, Care, SpecInput, SpecOutput, ImpInput, ImpOutput, SpecRegister, ImpRegister, SpecClock, ImpClock, Clocks, Pins, rank, fault_of, IsTold, IsAbsent, Fit, IsFirstRefusal}
 use Rattle.bb_match.specs.Laws.{FitOrRefused}
 use Rattle.bb_lists.proofs.Orders.{less_or_same}
 use Rattle.bb_lists.proofs.Firsts.{first_there}

@@ -5,10 +5,10 @@ use Rattle.std.proofs.lemmas.List.Elements.{All-contains}
 use Rattle.std.proofs.lemmas.Option.{same_Some}
 use Rattle.bb_net.specs.Pairs.{BoxTexts}
 use Rattle.bb_net.specs.declared.flat.Reg.{Reg}
-use Rattle.bb_net.specs.Flats.{FlatNet}
+use Rattle.bb_net.specs.Flats.{FlatNet, HaveClocks}
 use Rattle.bb_match.specs.declared.fault.MatchFault.TheVariants as faults
 use Rattle.bb_net.specs.CutPoints.{register_texts}
-use Rattle.bb_match.specs.Refusals.{IsMissing, IsFirstMissing, AreAmong, compared, HasNoClock, IsFirstWithoutClock, HaveClocks, IsClockedApart, IsClockedAlike, Cause, Box, Care, SpecInput, SpecOutput, ImpInput, ImpOutput, SpecRegister, ImpRegister, SpecClock, ImpClock, Clocks, Pins, rank, fault_of, IsTold, IsAbsent}
+use Rattle.bb_match.specs.Refusals.{IsMissing, IsFirstMissing, AreAmong, compared, HasNoClock, IsFirstWithoutClock, IsClockedApart, IsClockedAlike, Cause, Box, Care, SpecInput, SpecOutput, ImpInput, ImpOutput, SpecRegister, ImpRegister, SpecClock, ImpClock, Clocks, Pins, rank, fault_of, IsTold, IsAbsent}
 use Rattle.bb_match.specs.Laws.{CausesAreRanked, NotFitAndRefused, FirstRefusalsAreOne}
 use Rattle.bb_lists.proofs.Orders.{less_or_same}
 use Rattle.bb_lists.proofs.Firsts.{first_there, first_one}

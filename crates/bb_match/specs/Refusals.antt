@@ -4,13 +4,13 @@
 -- the others count, it has to have that one besides, which is not compared and which the implementation lacks. There are twelve causes
 -- in one order, and the first that holds is told, with a name. For each cause stands here when it holds and which name is told of it,
 -- and beside it what holds where it does not.
-use Rattle.std.specs.Prelude.{◌≡◌, ◌≢◌, ◌⊎◌, ℕ, ◌+◌, ◌<◌, ◌≤◌, not, List, [], ◌∷◌, All, Contains, IfSome, IsSome, Option, None, Some}
+use Rattle.std.specs.Prelude.{◌≡◌, ◌≢◌, ◌⊎◌, ℕ, ◌+◌, ◌<◌, ◌≤◌, not, List, [], ◌∷◌, All, Contains, IfSome, Option, None, Some}
 use Rattle.std.specs.List.{filter}
 use Rattle.bb_bits.specs.Names.{same_name}
 use Rattle.bb_net.specs.Pairs.{BoxTexts, pin_count}
 use Rattle.bb_net.specs.declared.flat.Reg.{Reg}
 use Rattle.bb_bits.specs.Closures.{IsFirst}
-use Rattle.bb_net.specs.Flats.{FlatNet}
+use Rattle.bb_net.specs.Flats.{FlatNet, HaveClocks}
 use Rattle.bb_match.specs.declared.fault.MatchFault.{MatchFault}
 use Rattle.bb_match.specs.declared.fault.MatchFault.TheVariants as faults
 use Rattle.bb_net.specs.CutPoints.{register_texts, clock_text}
@@ -39,9 +39,6 @@ HasNoClock r = r.clock ≡ None
 
 abbrev pub IsFirstWithoutClock : FlatNet → List ℕ → Type 0
 IsFirstWithoutClock f text = (r : Reg) × IsFirst HasNoClock f.regs r × (text ≡ r.text)
-
-abbrev pub HaveClocks : FlatNet → Type 0
-HaveClocks f = All (λ r. IsSome r.clock) f.regs
 
 -- a register of the one that the other has with another edge, or with a clock of another text
 

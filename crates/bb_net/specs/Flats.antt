@@ -1,6 +1,6 @@
 -- A flat netlist: a netlist with the texts of its inputs, registers, outputs and boxes. Its inputs are those of the top and then
 -- the register bits; its outputs are those of the top and then the data of the registers. A text is a list of bytes.
-use Rattle.std.specs.Prelude.{◌≡◌, ◌≢◌, ℕ, ◌+◌, ◌<◌, ◌≤◌, List, map, length, All, AllPairs, Contains, IfSome}
+use Rattle.std.specs.Prelude.{◌≡◌, ◌≢◌, ℕ, ◌+◌, ◌<◌, ◌≤◌, List, map, length, All, AllPairs, Contains, IfSome, IsSome}
 use Rattle.std.specs.List.{AllZip}
 use Rattle.bb_bits.specs.Names.{IsPrintable}
 use Rattle.bb_net.specs.Netlists.{Netlist, IsNetlist}
@@ -55,3 +55,7 @@ pub record IsFlat (f : FlatNet) : Type 0 where
   pub small : IsWithin f
   -- a clock is an input of the top
   pub clocks : All (λ r. IfSome r.clock (λ k. k < length f.ins)) f.regs
+
+-- the clock of each register is an input
+abbrev pub HaveClocks : FlatNet → Type 0
+HaveClocks f = All (λ r. IsSome r.clock) f.regs

@@ -8,10 +8,10 @@ use Rattle.bb_ast.specs.Syntax.{PlainModule}
 use Rattle.bb_names.specs.Declarations.{implicit_names, implicit_places, is_known}
 use Rattle.bb_net.specs.declared.flat.Reg.{Reg as Register}
 use Rattle.bb_net.specs.CutPoints.{register_texts}
-use Rattle.bb_net.specs.Flats.{FlatNet}
+use Rattle.bb_net.specs.Flats.{FlatNet, HaveClocks}
 use Rattle.bb_fill.specs.Words.{Word, Bit, Named, CellNet, ChoiceNet, stem_of, texts_of}
 use Rattle.bb_fill.specs.Lines.{Line, End}
-use Rattle.bb_fill.specs.Filled.{HaveClocks, filled_lines, register_lines}
+use Rattle.bb_fill.specs.Filled.{filled_lines, register_lines}
 use Rattle.bb_fill.specs.Laws.{IsNumber, IsReady, IsWordOf, NetsAreDrivenOnce, WordsAreApart, WordsAreNets, WordsAreOfNetlist, all_nets, driven, identifier, line_words}
 use Rattle.bb_fill.specs.Sizes.{IsSmall}
 use Rattle.bb_written.specs.Modules.{bodies_of, filled_module}

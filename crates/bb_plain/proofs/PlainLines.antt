@@ -4,10 +4,10 @@ use Rattle.std.proofs.lemmas.List.Elements.{All-contains, Contains-append_cases}
 use Rattle.bb_bits.specs.Tables.{TableBits}
 use Rattle.bb_ast.specs.Syntax.{PlainModule}
 use Rattle.bb_net.specs.CutPoints.{register_texts}
-use Rattle.bb_net.specs.Flats.{FlatNet}
+use Rattle.bb_net.specs.Flats.{FlatNet, HaveClocks}
 use Rattle.bb_fill.specs.Words.{Word, Named, stem_of}
 use Rattle.bb_fill.specs.Lines.{Line, Module, Input, Output, Reg, Gate, Assign, Always, End}
-use Rattle.bb_fill.specs.Filled.{HaveClocks, filled_lines}
+use Rattle.bb_fill.specs.Filled.{filled_lines}
 use Rattle.bb_fill.specs.Laws.{IsReady, NetsAreDrivenOnce, WordsAreApart, WordsAreNets, WordsAreOfNetlist, driven, line_words}
 use Rattle.bb_fill.specs.Sizes.{IsSmall}
 use Rattle.bb_written.specs.Modules.{filled_module}

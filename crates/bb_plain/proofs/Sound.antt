@@ -7,9 +7,9 @@ use Rattle.bb_ast.specs.Syntax.{PlainItem, PlainModule}
 use Rattle.bb_names.specs.Declarations.{Declaration, declarations, declared_by, declared_by_head}
 use Rattle.bb_names.specs.Faults.{module_faults, statement_faults}
 use Rattle.bb_names.specs.Spots.{header_spots, item_spots}
-use Rattle.bb_net.specs.Flats.{FlatNet}
+use Rattle.bb_net.specs.Flats.{FlatNet, HaveClocks}
 use Rattle.bb_fill.specs.Words.{stem_of}
-use Rattle.bb_fill.specs.Filled.{HaveClocks, filled_lines}
+use Rattle.bb_fill.specs.Filled.{filled_lines}
 use Rattle.bb_fill.specs.Laws.{IsReady, NetsAreDrivenOnce, WordsAreApart, WordsAreNets, WordsAreOfNetlist}
 use Rattle.bb_fill.specs.Sizes.{IsSmall}
 use Rattle.bb_written.specs.Modules.{bodies_of, filled_module}

@@ -2,8 +2,7 @@
 use Rattle.std.specs.Prelude.{List, [], ◌∷◌}
 use Rattle.bb_bits.specs.Tables.{TableBits}
 use Rattle.bb_names.specs.Faults.{IsSound}
-use Rattle.bb_net.specs.Flats.{FlatNet}
-use Rattle.bb_fill.specs.Filled.{HaveClocks}
+use Rattle.bb_net.specs.Flats.{FlatNet, HaveClocks}
 use Rattle.bb_fill.specs.Laws.{IsReady}
 use Rattle.bb_fill.specs.Sizes.{IsSmall}
 use Rattle.bb_written.specs.Modules.{filled_module}

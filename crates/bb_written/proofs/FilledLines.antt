@@ -17,12 +17,12 @@ use Rattle.bb_net.specs.declared.cell.Cell.TheVariants as cells
 use Rattle.bb_net.specs.declared.flat.Reg.{Reg as Register}
 use Rattle.bb_net.specs.Netlists.{Pins, ReadsBefore, cell_at, box_at}
 use Rattle.bb_net.specs.Values.{FitBoxes, table_at}
-use Rattle.bb_net.specs.Flats.{FlatNet, IsFlat}
+use Rattle.bb_net.specs.Flats.{FlatNet, IsFlat, HaveClocks}
 use Rattle.bb_net.specs.CutPoints.{register_texts}
 use Rattle.bb_fill.specs.Words.{Word, Bit, Named, CellNet, ChoiceNet, cell_word, word_at}
 use Rattle.bb_fill.specs.Lines.{Line, Input, Output, Reg, Gate, Buf}
 use Rattle.bb_fill.specs.Trees.{column, halved, choice_nets, tree_lines, tree_values}
-use Rattle.bb_fill.specs.Filled.{pin_words, pin_bits, first_choice, cell_lines, lines_of_cells, output_text, output_lines, HaveClocks, register_lines}
+use Rattle.bb_fill.specs.Filled.{pin_words, pin_bits, first_choice, cell_lines, lines_of_cells, output_text, output_lines, register_lines}
 use Rattle.bb_written.proofs.Classes.{all-append}
 use Rattle.bb_written.proofs.LineFits.{IsGoodWord, AreGoodWords, IsGoodLine}
 use Rattle.bb_written.proofs.LineItems.{IsItemLine}

@@ -2,8 +2,8 @@
 use Rattle.std.specs.Prelude.{List, [], ◌∷◌}
 use Rattle.bb_bits.specs.Tables.{TableBits}
 use Rattle.bb_parse.specs.Sources.{ReadsAs}
-use Rattle.bb_net.specs.Flats.{FlatNet}
-use Rattle.bb_fill.specs.Filled.{HaveClocks, filled_text}
+use Rattle.bb_net.specs.Flats.{FlatNet, HaveClocks}
+use Rattle.bb_fill.specs.Filled.{filled_text}
 use Rattle.bb_fill.specs.Laws.{IsReady}
 use Rattle.bb_written.specs.Modules.{filled_module}
 
