@@ -14,7 +14,7 @@ use Rattle.bb_fill.specs.Lines.{Line, End}
 use Rattle.bb_fill.specs.Filled.{filled_lines, register_lines}
 use Rattle.bb_fill.specs.Laws.{IsNumber, IsReady, IsWordOf, NetsAreDrivenOnce, WordsAreApart, WordsAreNets, WordsAreOfNetlist, all_nets, driven, identifier, line_words}
 use Rattle.bb_fill.specs.Sizes.{IsSmall}
-use Rattle.bb_written.specs.Modules.{bodies_of, filled_module}
+use Rattle.bb_written.specs.Laws.Modules.{bodies_of, filled_module}
 use Rattle.bb_lists.proofs.Apart.{apart_append, apart_right}
 use Rattle.bb_lists.proofs.Members.{contains-map, from_flat, from_map, into_flat}
 use Rattle.bb_lists.proofs.Places.{some_same}

@@ -144,16 +144,19 @@ output_driving f o = by (has_name (output_text f o) (register_texts f))
     by true = All-nil IsDriving
     by false = one_driving copy (tt, (word_at f (slice_index f.net.outs o), refl))
 
-all_flat : {A B : Type 0} (P : B → Type 0) (g : A → List B) (xs : List A) → ((x : A) → All P (g x)) → All P (flat_map g xs)
+pub all_flat : {A B : Type 0} (P : B → Type 0) (g : A → List B) (xs : List A) → ((x : A) → All P (g x)) → All P (flat_map g xs)
 all_flat P g [] each = All-nil P
 all_flat P g (x ∷ xs) each = All-append P (g x) (flat_map g xs) (each x) (all_flat P g xs each)
 
+pub cells_driving : (f : FlatNet) (tables : List TableBits) → IsReady f tables → All IsDriving (lines_of_cells f tables)
+cells_driving f tables ready =
+    all_flat IsDriving (λ k. cell_lines f tables k (cell_at f.net.cells k)) (range_with_len 0 (length f.net.cells))
+    (λ k. cell_driving f tables ready.fit k (cell_at f.net.cells k))
+
 pub are_driving : (f : FlatNet) (tables : List TableBits) → IsReady f tables → All IsDriving (driving_lines f tables)
 are_driving f tables ready =
-    let numbers = range_with_len 0 (length f.net.cells) in
     let outputs = range_with_len 0 (length f.outs) in
-    All-append IsDriving (lines_of_cells f tables) (flat_map (output_lines f) outputs)
-    (all_flat IsDriving (λ k. cell_lines f tables k (cell_at f.net.cells k)) numbers (λ k. cell_driving f tables ready.fit k (cell_at f.net.cells k)))
+    All-append IsDriving (lines_of_cells f tables) (flat_map (output_lines f) outputs) (cells_driving f tables ready)
     (all_flat IsDriving (output_lines f) outputs (output_driving f))
 
 registers_storing : (f : FlatNet) (texts : List (List ℕ)) (k : ℕ) (registers : List Register)

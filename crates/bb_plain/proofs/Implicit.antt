@@ -9,7 +9,7 @@ use Rattle.bb_names.specs.Declarations.{implicit_names, implicit_places, is_decl
 use Rattle.bb_fill.specs.Words.{Word, Bit, Named, CellNet, ChoiceNet}
 use Rattle.bb_fill.specs.Lines.{Line, Module, Input, Output, Reg, Gate, Assign, Always, End}
 use Rattle.bb_fill.specs.Laws.{driven, identifier}
-use Rattle.bb_written.specs.Modules.{bodies_of, expression_of}
+use Rattle.bb_written.specs.Laws.Modules.{bodies_of, expression_of}
 use Rattle.bb_lists.proofs.Members.{contains_cases, contains_here, either, keeps, none_in_nil}
 use Rattle.bb_lists.proofs.Names.{same_self}
 use Rattle.bb_lists.proofs.Places.{some_same}

@@ -12,7 +12,7 @@ use Rattle.bb_fill.specs.Words.{stem_of}
 use Rattle.bb_fill.specs.Lines.{Line, Module, Input, Output, Reg, Gate, Assign, Always, End}
 use Rattle.bb_fill.specs.Filled.{filled_lines}
 use Rattle.bb_fill.specs.Laws.{IsReady}
-use Rattle.bb_written.specs.Modules.{bodies_of, filled_module, items_of, plain_head}
+use Rattle.bb_written.specs.Laws.Modules.{bodies_of, filled_module, items_of, plain_head}
 use Rattle.bb_lists.proofs.Members.{contains_here, contains_there, from_map}
 use Rattle.bb_plain.proofs.Forms.{IsDriving, IsStoring, are_driving, are_storing, declared_lines, driving_lines, lines_are, storing_lines}
 use Rattle.bb_plain.proofs.Lists.{flat_none}
@@ -50,7 +50,7 @@ from_items stem k (line ∷ lines) item has =
 abbrev line_says : List ℕ → Line → List Declaration
 line_says stem line = flat_map declared_by (bodies_of stem line)
 
-each_single : {A B C : Type 0} (g : B → List C) (h : A → B) (v : A → C) → ((x : A) → g (h x) ≡ v x ∷ []) → (xs : List A)
+pub each_single : {A B C : Type 0} (g : B → List C) (h : A → B) (v : A → C) → ((x : A) → g (h x) ≡ v x ∷ []) → (xs : List A)
     → flat_map g (map h xs) ≡ map v xs
 each_single g h v single [] = refl
 each_single g h v single (x ∷ xs) = ap₂ ◌++◌ (single x) (each_single g h v single xs)

@@ -10,7 +10,7 @@ use Rattle.bb_names.specs.Spots.{Clock, Declared, Driven, Read, Spot, Stored, Te
 use Rattle.bb_net.specs.Flats.{FlatNet}
 use Rattle.bb_fill.specs.Words.{Word}
 use Rattle.bb_fill.specs.Lines.{Line, Primitive, Not, And, Or, Xor, Buf, Module, Input, Output, Reg, Gate, Assign, Always, End}
-use Rattle.bb_written.specs.Modules.{bodies_of, expression_of, gate_of, port_body}
+use Rattle.bb_written.specs.Laws.Modules.{bodies_of, expression_of, gate_of, port_body}
 use Rattle.bb_plain.proofs.Clashes.{AreOthers, NoClash}
 use Rattle.bb_plain.proofs.Forms.{Takes}
 use Rattle.bb_plain.proofs.Ports.{declared_silent}

@@ -1,12 +1,15 @@
 -- Lists of which each element gives nothing, what is found in a list, and relations between each element and those behind it.
-use Rattle.std.proofs.Common.{◌≡◌, ◌∙◌, ◌⊎◌, inl, inr, suc, Bool, true, false, if◌then◌else◌, Option, Some, None, List, [], ◌∷◌, ◌++◌, append_assoc, map, flat_map, find, All, AllPairs, Contains, refl, sym, ap, subst, arith}
+use Rattle.std.proofs.Common.{◌≡◌, ◌∙◌, ◌⊎◌, inl, inr, ℕ, zero, suc, Bool, true, false, if◌then◌else◌, Option, Some, None, List, [], ◌∷◌, ◌++◌, append_assoc, length, map, flat_map, find, zip, All, AllPairs, Contains, refl, sym, ap, ap₂, subst, arith}
 use Rattle.std.specs.List.{list_any}
 use Rattle.std.proofs.lemmas.List.Elements.{All-append, All-contains, All-head, All-map, All-nil, All-tail, All-weaker, Contains-append_right}
 use Rattle.std.proofs.lemmas.List.Folds.{list_any_at, list_any_none}
 use Rattle.std.proofs.lemmas.List.Kept.{AllPairs-cons}
+use Rattle.std.proofs.lemmas.Option.{none-some, slice_get_read}
+use Rattle.std.specs.Prelude.{slice_get}
 use Rattle.bb_bits.specs.Earlier.{each_from}
 use Rattle.bb_lists.proofs.Apart.{pairs_tail}
 use Rattle.bb_lists.proofs.Members.{all_from, contains_cases, contains_here, contains_there, none_in_nil}
+use Rattle.bb_lists.proofs.Places.{some_same}
 
 pub flat_none : {A B : Type 0} (f : A → List B) (xs : List A) → All (λ x. f x ≡ []) xs → flat_map f xs ≡ []
 flat_none f [] none = refl
@@ -73,3 +76,30 @@ pairs_before R (z ∷ xs) y ys pairs x has = by (contains_cases z xs x has) (pai
         subst (λ w. R w y) same
         (All-contains (R z) (xs ++ y ∷ ys) y (first_all R z (xs ++ y ∷ ys) pairs) (Contains-append_right xs (y ∷ ys) y (contains_here y ys)))
     by (inr more) rest = rest more
+
+-- the place of an element
+
+pub placed : {A : Type 0} (xs : List A) (x : A) → Contains xs x → (k : ℕ) × (slice_get xs k ≡ Some x)
+placed xs x (k, within, is) = (k, slice_get_read xs (length xs) k x refl within (sym is))
+
+-- two lists side by side, place by place
+
+pub zip_place : {A B : Type 0} (xs : List A) (ys : List B) (z : A × B) → Contains (zip xs ys) z
+    → (k : ℕ) × (slice_get xs k ≡ Some z.0) × (slice_get ys k ≡ Some z.1)
+zip_place [] ys z has = absurd (none_in_nil z has)
+zip_place (x ∷ xs) [] z has = absurd (none_in_nil z has)
+zip_place {A = A} {B = B} (x ∷ xs) (y ∷ ys) z has = by (contains_cases {A = A × B} (x, y) (zip xs ys) z has) (zip_place xs ys z)
+  where
+    by : ◌≡◌ {A = A × B} (x, y) z ⊎ Contains (zip xs ys) z → (Contains (zip xs ys) z → (k : ℕ) × (slice_get xs k ≡ Some z.0) × (slice_get ys k ≡ Some z.1))
+        → (k : ℕ) × (slice_get (x ∷ xs) k ≡ Some z.0) × (slice_get (y ∷ ys) k ≡ Some z.1)
+    by (inl same) rest = (0, ap (λ (u : A × B). Some u.0) same, ap (λ (u : A × B). Some u.1) same)
+    by (inr more) rest = let place = rest more in (suc place.0, place.1, place.2)
+
+pub zip_there : {A B : Type 0} (xs : List A) (ys : List B) (z : A × B) (k : ℕ) → slice_get xs k ≡ Some z.0 → slice_get ys k ≡ Some z.1
+    → Contains (zip xs ys) z
+zip_there [] ys z k one other = absurd (none-some z.0 one)
+zip_there (x ∷ xs) [] z k one other = absurd (none-some z.1 other)
+zip_there {A = A} {B = B} (x ∷ xs) (y ∷ ys) z zero one other =
+    subst (λ (u : A × B). Contains (zip (x ∷ xs) (y ∷ ys)) u) (ap₂ {C = A × B} (λ a b. (a, b)) (some_same x z.0 one) (some_same y z.1 other))
+    (contains_here {A = A × B} (x, y) (zip xs ys))
+zip_there {A = A} {B = B} (x ∷ xs) (y ∷ ys) z (suc k) one other = contains_there {A = A × B} (x, y) (zip xs ys) z (zip_there xs ys z k one other)

@@ -10,7 +10,7 @@ use Rattle.bb_fill.specs.Lines.{Line, Module, Input, Output, Reg, Gate, Assign, 
 use Rattle.bb_fill.specs.Filled.{filled_lines}
 use Rattle.bb_fill.specs.Laws.{IsReady, NetsAreDrivenOnce, WordsAreApart, WordsAreNets, WordsAreOfNetlist, driven, line_words}
 use Rattle.bb_fill.specs.Sizes.{IsSmall}
-use Rattle.bb_written.specs.Modules.{filled_module}
+use Rattle.bb_written.specs.Laws.Modules.{filled_module}
 use Rattle.bb_lists.proofs.Members.{all_from, contains_cases, contains_here, contains_there, from_map, into_flat, none_in_nil}
 use Rattle.bb_plain.proofs.Driven.{driven_no_input, driven_no_register, line_of_driving, word_known}
 use Rattle.bb_plain.proofs.Forms.{IsDriving, IsNet, IsStoring, are_driving, are_storing, declared_lines, driving_lines, lines_are, storing_lines}

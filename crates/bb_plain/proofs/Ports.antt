@@ -9,7 +9,7 @@ use Rattle.bb_names.specs.Faults.{clashes, told_if, widest, wrong_role}
 use Rattle.bb_names.specs.Ranges.{range_width}
 use Rattle.bb_names.specs.Spots.{Spot, Declared, HeadName, ModuleName, declared_spots, header_spots}
 use Rattle.bb_net.specs.Flats.{FlatNet}
-use Rattle.bb_written.specs.Modules.{plain_head}
+use Rattle.bb_written.specs.Laws.Modules.{plain_head}
 use Rattle.bb_lists.proofs.Members.{contains_here, from_map}
 use Rattle.bb_plain.proofs.Clashes.{AreOthers, NoClash, names_differ, no_output, no_register}
 use Rattle.bb_plain.proofs.Lists.{any_none, each_all, pairs_before, pairs_both}
@@ -20,7 +20,7 @@ use Rattle.bb_plain.proofs.Silent.{AreSilent, IsSilent}
 abbrev names_of : List PlainHead → List (List ℕ)
 names_of heads = map (λ head. head.name) heads
 
-head_names : (names : List (List ℕ)) → names_of (map plain_head names) ≡ names
+pub head_names : (names : List (List ℕ)) → names_of (map plain_head names) ≡ names
 head_names [] = refl
 head_names (n ∷ ns) = ap (λ l. n ∷ l) (head_names ns)
 
@@ -48,7 +48,7 @@ module _ (text : List PlainModule) (m : PlainModule) (f : FlatNet) (declares : D
 
   -- the names of the header
 
-  ports_differ : AllPairs ◌≢◌ (f.ins ++ f.outs)
+  pub ports_differ : AllPairs ◌≢◌ (f.ins ++ f.outs)
   ports_differ =
       pairs_both ◌≢◌ f.ins f.outs others.apart.ins others.apart.outs
       (λ a b input output same. no_output f others b (subst (Contains f.ins) same input) output)

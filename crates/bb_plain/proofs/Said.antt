@@ -9,7 +9,7 @@ use Rattle.bb_names.specs.declared.net.NetKind.TheVariants.{Reg}
 use Rattle.bb_names.specs.Declarations.{Declaration, declarations, net_declaration, port_declaration}
 use Rattle.bb_net.specs.CutPoints.{register_texts}
 use Rattle.bb_net.specs.Flats.{FlatNet}
-use Rattle.bb_written.specs.Modules.{plain_head}
+use Rattle.bb_written.specs.Laws.Modules.{plain_head}
 use Rattle.bb_lists.proofs.Members.{contains-map, from_map}
 
 -- a port of one bit

@@ -12,13 +12,13 @@ use Rattle.bb_names.specs.Declarations.{Declaration, declarations, direction_of,
 use Rattle.bb_names.specs.Faults.{is_input, is_input_port, is_reg, is_supply}
 use Rattle.bb_net.specs.CutPoints.{register_texts}
 use Rattle.bb_net.specs.Flats.{FlatNet}
-use Rattle.bb_written.specs.Modules.{plain_head}
+use Rattle.bb_written.specs.Laws.Modules.{plain_head}
 use Rattle.bb_lists.proofs.Members.{contains-map, find_there}
 use Rattle.bb_lists.proofs.Names.{same_equal, same_self}
 use Rattle.bb_plain.proofs.Lists.{any_here, find_gives}
 use Rattle.bb_plain.proofs.Said.{Declares, each_said, input_said, output_said, register_said, said_of_input, said_of_output, said_of_register}
 
-both_true : (a b : Bool) → (a && b) ≡ true → (a ≡ true) × (b ≡ true)
+pub both_true : (a b : Bool) → (a && b) ≡ true → (a ≡ true) × (b ≡ true)
 both_true true b e = (refl, e)
 both_true false b e = absurd (true≢false (sym e))
 
@@ -26,11 +26,11 @@ both_true false b e = absurd (true≢false (sym e))
 abbrev found_kind : Option Declaration → NetKind
 found_kind o = unwrap_or (option_and_then (λ d. d.kind) o) Wire
 
-abbrev found_direction : Option Declaration → Option Dir
+abbrev pub found_direction : Option Declaration → Option Dir
 found_direction o = option_and_then (λ d. d.dir) o
 
 -- the name is another one
-same_is : (names : List (List ℕ)) (k n : List ℕ) (b : Bool) → (same_name k n && b) ≡ true → Contains names k → Contains names n
+pub same_is : (names : List (List ℕ)) (k n : List ℕ) (b : Bool) → (same_name k n && b) ≡ true → Contains names k → Contains names n
 same_is names k n b passes has = subst (Contains names) (same_equal k n (both_true (same_name k n) b passes).0) has
 
 module _ (m : PlainModule) (f : FlatNet) (declares : Declares m f) where
@@ -53,13 +53,13 @@ module _ (m : PlainModule) (f : FlatNet) (declares : Declares m f) where
   abbrev has_kind : List ℕ → Declaration → Bool
   has_kind n d = same_name d.name n && is_some d.kind
 
-  abbrev has_direction : List ℕ → Declaration → Bool
+  abbrev pub has_direction : List ℕ → Declaration → Bool
   has_direction n d = same_name d.name n && is_some d.dir
 
   kind_is : (n : List ℕ) → kind_of m n ≡ found_kind (find (has_kind n) (declarations m))
   kind_is n = ap (λ b. if b then Wire else found_kind (find (has_kind n) (declarations m))) (no_instance n)
 
-  direction_is : (n : List ℕ) → direction_of m n ≡ found_direction (find (has_direction n) (declarations m))
+  pub direction_is : (n : List ℕ) → direction_of m n ≡ found_direction (find (has_direction n) (declarations m))
   direction_is n = ap (λ b. if b then None else found_direction (find (has_direction n) (declarations m))) (no_instance n)
 
   -- no net is a supply

@@ -12,7 +12,7 @@ use Rattle.bb_fill.specs.Words.{stem_of}
 use Rattle.bb_fill.specs.Filled.{filled_lines}
 use Rattle.bb_fill.specs.Laws.{IsReady, NetsAreDrivenOnce, WordsAreApart, WordsAreNets, WordsAreOfNetlist}
 use Rattle.bb_fill.specs.Sizes.{IsSmall}
-use Rattle.bb_written.specs.Modules.{bodies_of, filled_module}
+use Rattle.bb_written.specs.Laws.Modules.{bodies_of, filled_module}
 use Rattle.bb_plain.specs.Laws.{FilledModulesAreSound}
 use Rattle.bb_lists.proofs.Members.{contains_here}
 use Rattle.bb_plain.proofs.Clashes.{AreOthers, NoClash, none_clash}

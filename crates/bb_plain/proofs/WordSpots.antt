@@ -12,7 +12,7 @@ use Rattle.bb_names.specs.Spots.{Clock, Driven, Read, Stored, Terminal, Use, Use
 use Rattle.bb_net.specs.Flats.{FlatNet}
 use Rattle.bb_fill.specs.Words.{Word, Bit, Named, CellNet, ChoiceNet}
 use Rattle.bb_fill.specs.Laws.{identifier}
-use Rattle.bb_written.specs.Modules.{expression_of}
+use Rattle.bb_written.specs.Laws.Modules.{expression_of}
 use Rattle.bb_plain.proofs.Forms.{IsNet}
 use Rattle.bb_plain.proofs.Said.{Declares}
 use Rattle.bb_plain.proofs.SaidNames.{no_instance, no_range, no_supply}

@@ -3,4 +3,7 @@
 
 mod laws;
 
-pub use laws::filled_modules_are_sound;
+pub use laws::{
+    filled_designs_are_called_alike, filled_designs_are_counted, filled_designs_are_sound,
+    filled_designs_have_bits, filled_modules_are_sound, filled_modules_are_tops,
+};

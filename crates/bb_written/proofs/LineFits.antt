@@ -14,7 +14,7 @@ use Rattle.bb_parse.specs.Items.{edge_word, gate_word}
 use Rattle.bb_fill.specs.Words.{Word, Bit, Named, CellNet, ChoiceNet}
 use Rattle.bb_fill.specs.Lines.{Line, Module, Input, Output, Reg, Gate, Assign, Always, End, Primitive, primitive_text}
 use Rattle.bb_fill.specs.Lines as lines
-use Rattle.bb_written.specs.Modules.{gate_of}
+use Rattle.bb_written.specs.Laws.Modules.{gate_of}
 use Rattle.bb_written.specs.Inside.Written.{Written, SimpleName, ReservedWord, OneMark, Blank, spelled, spelling, Fits, AreFit}
 use Rattle.bb_written.specs.Inside.WrittenLines.{written_word, written_more, written_list, written_line, edge_text, spaced, ended, declared, header_front, gate_front, assign_front, always_front, bracketed}
 use Rattle.bb_written.proofs.Classes.{ends_identifier, is_formed}

@@ -12,7 +12,7 @@ use Rattle.bb_parse.specs.Declarations.{IsPlainHead, AreHeads, empty, named, IsH
 use Rattle.bb_parse.specs.Items.{gate_word, AreTerminals, IsItem}
 use Rattle.bb_fill.specs.Words.{Word, Bit, Named, CellNet, ChoiceNet}
 use Rattle.bb_fill.specs.Lines.{Line, Primitive, Module, Input, Output, Reg, Gate, Assign, Always, End}
-use Rattle.bb_written.specs.Modules.{expression_of, gate_of, port_body, bodies_of, plain_head}
+use Rattle.bb_written.specs.Laws.Modules.{expression_of, gate_of, port_body, bodies_of, plain_head}
 use Rattle.bb_written.proofs.LineFits.{IsGoodLine, IsNet}
 use Rattle.bb_written.proofs.LineSymbols.{word_symbol, more_symbols, list_symbols, line_symbols}
 

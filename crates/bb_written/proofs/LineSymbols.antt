@@ -13,7 +13,7 @@ use Rattle.bb_parse.specs.Sources.{ends}
 use Rattle.bb_fill.specs.Words.{Word, Bit, Named, CellNet, ChoiceNet}
 use Rattle.bb_fill.specs.Lines.{Line, Module, Input, Output, Reg, Gate, Assign, Always, End, Primitive, primitive_text}
 use Rattle.bb_fill.specs.Lines as lines
-use Rattle.bb_written.specs.Modules.{gate_of}
+use Rattle.bb_written.specs.Laws.Modules.{gate_of}
 use Rattle.bb_written.specs.Inside.Meanings.{symbols_of, meaning}
 use Rattle.bb_written.specs.Inside.Written.{Written, OneMark, Blank}
 use Rattle.bb_written.specs.Inside.WrittenLines.{written_word, written_more, written_list, written_line, spaced, ended, header_front, gate_front, assign_front, always_front, bracketed}

@@ -10,7 +10,7 @@ use Rattle.bb_lex.specs.Laws.{ReadPiecesAreLongest}
 use Rattle.bb_parse.specs.Sources.{AreItems, IsHeaderOf, IsItemOf, ReadsAs}
 use Rattle.bb_fill.specs.Words.{Named}
 use Rattle.bb_fill.specs.Lines.{Line, Module, End, line_text}
-use Rattle.bb_written.specs.Modules.{items_of, plain_head}
+use Rattle.bb_written.specs.Laws.Modules.{items_of, plain_head}
 use Rattle.bb_written.specs.Inside.Written.{Written, spelled, spelling, piece_of, AreFit}
 use Rattle.bb_written.specs.Inside.WrittenLines.{written_line}
 use Rattle.bb_written.proofs.Cuts.{written_cut}

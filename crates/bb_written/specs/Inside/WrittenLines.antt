@@ -7,7 +7,7 @@ use Rattle.bb_lex.specs.declared.mark.Mark.TheVariants.{LeftRound, RightRound, C
 use Rattle.bb_parse.specs.Items.{edge_word, gate_word}
 use Rattle.bb_fill.specs.Words.{Word, Bit, Named, CellNet, ChoiceNet}
 use Rattle.bb_fill.specs.Lines.{Line, Module, Input, Output, Reg, Gate, Assign, Always, End, Primitive, primitive_text}
-use Rattle.bb_written.specs.Modules.{gate_of}
+use Rattle.bb_written.specs.Laws.Modules.{gate_of}
 use Rattle.bb_written.specs.Inside.Written.{Written, EscapedName, SimpleName, ReservedWord, BitNumber, OneMark, Blank, Feed}
 
 -- a word; a blank ends an escaped name
