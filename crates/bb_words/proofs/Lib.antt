@@ -1,5 +1,6 @@
 pub mod CareWords
 pub mod FilesBehind
+pub mod FillWords
 pub mod FoundLemmas
 pub mod JoinedWords
 pub mod MadeWords

@@ -45,7 +45,7 @@ found_refutation found f e =
     no_option : is_alone found ≡ true → is_absent found (codes "make") ≡ true
     no_option alone =
         last_of (is_absent found) other_options (codes "make")
-        (both (not (is_true (first_of (codes "all") found)) && not (is_true (first_of (codes "proof") found)) && not (is_true (first_of (codes "shared") found))) (list_all (is_absent found) options) alone).1
+        (both (not (is_true (first_of (codes "all") found)) && not (is_true (first_of (codes "proof") found)) && not (is_true (first_of (codes "shared") found)) && not (is_true (first_of (codes "fill") found))) (list_all (is_absent found) options) alone).1
 
 -- what is found where a made pair is asked for
 pub record FoundPair (found : List Row) : Type 0 where

@@ -180,17 +180,25 @@ value_shared : (spec imp value : Text) → IsFlagValue spec imp value (codes "sh
 unfolding clap_on_literals
 value_shared spec imp value = is_flag_value spec imp value (codes "shared") refl
 
+flag_fill : (spec imp : Text) → IsFlagTwice spec imp (codes "fill")
+unfolding clap_on_literals
+flag_fill spec imp = is_flag_twice spec imp (codes "fill") refl refl
+
+value_fill : (spec imp value : Text) → IsFlagValue spec imp value (codes "fill")
+unfolding clap_on_literals
+value_fill spec imp value = is_flag_value spec imp value (codes "fill") refl
+
 twice_flags : (spec imp : Text) → All (IsFlagTwice spec imp) flags
-twice_flags spec imp = All-from_recursion (IsFlagTwice spec imp) flags (flag_all spec imp, (flag_proof spec imp, (flag_rup spec imp, (flag_shared spec imp, tt))))
+twice_flags spec imp = All-from_recursion (IsFlagTwice spec imp) flags (flag_all spec imp, (flag_proof spec imp, (flag_rup spec imp, (flag_shared spec imp, (flag_fill spec imp, tt)))))
 
 value_flags : (spec imp value : Text) → All (IsFlagValue spec imp value) flags
-value_flags spec imp value = All-from_recursion (IsFlagValue spec imp value) flags (value_all spec imp value, (value_proof spec imp value, (value_rup spec imp value, (value_shared spec imp value, tt))))
+value_flags spec imp value = All-from_recursion (IsFlagValue spec imp value) flags (value_all spec imp value, (value_proof spec imp value, (value_rup spec imp value, (value_shared spec imp value, (value_fill spec imp value, tt)))))
 
 -- a name that is neither an option's nor a flag's
-no_rule : (name : Text) → bytes_eq (codes "all") name ≡ false → bytes_eq (codes "proof") name ≡ false → bytes_eq (codes "rup") name ≡ false → bytes_eq (codes "shared") name ≡ false → bytes_eq (codes "top-spec") name ≡ false → bytes_eq (codes "top-impl") name ≡ false → bytes_eq (codes "from") name ≡ false → bytes_eq (codes "to") name ≡ false → bytes_eq (codes "patterns") name ≡ false → bytes_eq (codes "seed") name ≡ false → bytes_eq (codes "nodes") name ≡ false → bytes_eq (codes "clauses") name ≡ false → bytes_eq (codes "cache") name ≡ false → bytes_eq (codes "care") name ≡ false → bytes_eq (codes "make") name ≡ false
+no_rule : (name : Text) → bytes_eq (codes "all") name ≡ false → bytes_eq (codes "proof") name ≡ false → bytes_eq (codes "rup") name ≡ false → bytes_eq (codes "shared") name ≡ false → bytes_eq (codes "fill") name ≡ false → bytes_eq (codes "top-spec") name ≡ false → bytes_eq (codes "top-impl") name ≡ false → bytes_eq (codes "from") name ≡ false → bytes_eq (codes "to") name ≡ false → bytes_eq (codes "patterns") name ≡ false → bytes_eq (codes "seed") name ≡ false → bytes_eq (codes "nodes") name ≡ false → bytes_eq (codes "clauses") name ≡ false → bytes_eq (codes "cache") name ≡ false → bytes_eq (codes "care") name ≡ false → bytes_eq (codes "make") name ≡ false
     → arg_by_long shape.rules name ≡ None
 unfolding clap_on_literals
-no_rule name not_all not_proof not_rup not_shared not_top_spec not_top_impl not_from not_to not_patterns not_seed not_nodes not_clauses not_cache not_care not_make = rw (not_all, not_proof, not_rup, not_shared, not_top_spec, not_top_impl, not_from, not_to, not_patterns, not_seed, not_nodes, not_clauses, not_cache, not_care, not_make) refl
+no_rule name not_all not_proof not_rup not_shared not_fill not_top_spec not_top_impl not_from not_to not_patterns not_seed not_nodes not_clauses not_cache not_care not_make = rw (not_all, not_proof, not_rup, not_shared, not_fill, not_top_spec, not_top_impl, not_from, not_to, not_patterns, not_seed, not_nodes, not_clauses, not_cache, not_care, not_make) refl
 
 unknown_turn : (spec imp word name : Text) → bytes_eq word (45 ∷ 45 ∷ []) ≡ false → long_of word ≡ Some (name, None) → arg_by_long shape.rules name ≡ None → IsFault (turn_fault shape names (both_held spec imp) word)
 unfolding clap_on_literals
@@ -207,7 +215,7 @@ differs texts name none k within = from (bytes_eq (get_or texts k []) name) refl
 no_rule_of : (name : Text) → (Contains (flags ++ options) name → ⊥) → arg_by_long shape.rules name ≡ None
 no_rule_of name none =
     let other = differs (flags ++ options) name none in
-    no_rule name (other 0 (omega arith)) (other 1 (omega arith)) (other 2 (omega arith)) (other 3 (omega arith)) (other 4 (omega arith)) (other 5 (omega arith)) (other 6 (omega arith)) (other 7 (omega arith)) (other 8 (omega arith)) (other 9 (omega arith)) (other 10 (omega arith)) (other 11 (omega arith)) (other 12 (omega arith)) (other 13 (omega arith)) (other 14 (omega arith))
+    no_rule name (other 0 (omega arith)) (other 1 (omega arith)) (other 2 (omega arith)) (other 3 (omega arith)) (other 4 (omega arith)) (other 5 (omega arith)) (other 6 (omega arith)) (other 7 (omega arith)) (other 8 (omega arith)) (other 9 (omega arith)) (other 10 (omega arith)) (other 11 (omega arith)) (other 12 (omega arith)) (other 13 (omega arith)) (other 14 (omega arith)) (other 15 (omega arith))
 
 lacks : (xs : List ℕ) → All (λ b. b ≢ 61) xs → Lacks 61 xs
 lacks xs all = λ i within. all i 0 within

@@ -146,14 +146,14 @@ made_within words m e = go (is_taken words) e
 -- so what the code hands over is within the bounds of the checks
 pub handed_within : (words : List (List ℕ)) (r : Result Wanted WordsFault) → IfOk r (Ask words) → IfOk r HasBounds
 handed_within words (Ok (wanted.Comparison a)) asks = (requests_within words (request_of a) asks).bounds
-handed_within words (Ok (wanted.MadePair n options)) asks = let m = made_within words (record { n = n; options = options }) asks in (m.least, m.most, m.bounds)
+handed_within words (Ok (wanted.MadePair n fill options)) asks = let m = made_within words (record { n = n; fill = fill; options = options }) asks in (m.least, m.most, m.bounds)
 handed_within words (Ok (wanted.Refutation cnf adds)) asks = tt
 handed_within words (Err fault) asks = tt
 
 -- what is found in the rows of words that are taken is asked for by them
 pub asks_by_rows : (words : List (List ℕ)) (found : List Row) (w : Wanted) → found ≡ found_in words → is_taken words ≡ true → IsWantedBy found w → Ask words w
 asks_by_rows words found (wanted.Comparison a) same taken is = rw (taken, ← same) is
-asks_by_rows words found (wanted.MadePair n options) same taken is = rw (taken, ← same) is
+asks_by_rows words found (wanted.MadePair n fill options) same taken is = rw (taken, ← same) is
 asks_by_rows words found (wanted.Refutation cnf adds) same taken is = rw (taken, ← same) is
 
 pub nothing_by_rows : (words : List (List ℕ)) (found : List Row) → found ≡ found_in words → is_taken words ≡ true → asked_comparison found ≡ None → asked_made found ≡ None → asked_refutation found ≡ None → AskNothing words

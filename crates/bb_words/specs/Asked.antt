@@ -1,5 +1,5 @@
 -- What the words of a command line ask for: which files are compared and which module is the top of each, by which output the specification
--- says where agreement is asked, which checks are run, and within which bounds; or, with `--make`, how wide a pair is made and compared by these checks, without a file; or, with `--rup`, in which files a formula
+-- says where agreement is asked, whether the filled implementation is to be printed, which checks are run, and within which bounds; or, with `--make`, how wide a pair is made and compared by these checks, without a file; or, with `--rup`, in which files a formula
 -- and its refutation stand. Words that clap does not take, or whose values are not in the table below, ask for nothing.
 use Rattle.std.specs.Prelude.{◌≡◌, ◌&&◌, ◌||◌, ◌≤◌, ℕ, Bool, false, not, is_some, nat_le, List, [], ◌∷◌, Option, Some, None, if◌then◌else◌, option_and_then, option_map, option_copied, find, codes}
 use Rattle.std.specs.Char.{is_ascii_graphic}
@@ -25,12 +25,16 @@ pub record Request : Type 0 where
   pub top_imp : Option (List ℕ)
   -- the text of the care output, where one is asked for
   pub care : Option (List ℕ)
+  -- whether the filled implementation is asked for
+  pub fill : Bool
   pub options : Options
 
 -- a made pair, and the checks that compare it
 pub record MadePair : Type 0 where
   -- the number of bits of its adders
   pub n : ℕ
+  -- whether the filled implementation is asked for
+  pub fill : Bool
   pub options : Options
 
 -- a formula and clause additions
@@ -116,6 +120,7 @@ asked_request found =
       top_spec = top_spec;
       top_imp = top_imp;
       care = care;
+      fill = is_true (first_of (codes "fill") found);
       options = options;
     })))))))
 
@@ -131,7 +136,7 @@ is_absent found option = not (is_some (first_of option found))
 abbrev pub is_alone : List Row → Bool
 is_alone found =
     not (is_true (first_of (codes "all") found)) && not (is_true (first_of (codes "proof") found)) && not (is_true (first_of (codes "shared") found))
-    && list_all (is_absent found) options
+    && not (is_true (first_of (codes "fill") found)) && list_all (is_absent found) options
 
 -- whether the width of a made pair is given
 abbrev pub is_making : List Row → Bool
@@ -151,7 +156,7 @@ abbrev pub asked_made : List Row → Option MadePair
 asked_made found =
     given (option_and_then (number_within 1 256) (first_of (codes "make") found)) (λ n.
     given (asked_options found) (λ options.
-    if not (is_refuting found) && (not options.shared && has_no_files found) then Some (record { n = n; options = options }) else None))
+    if not (is_refuting found) && (not options.shared && has_no_files found) then Some (record { n = n; fill = is_true (first_of (codes "fill") found); options = options }) else None))
 
 -- a refutation is asked for with it alone, and with both files
 abbrev pub asked_refutation : List Row → Option Refutation
@@ -180,19 +185,20 @@ request_of a = record {
   top_spec = option_copied a.top_spec;
   top_imp = option_copied a.top_imp;
   care = option_copied a.care;
+  fill = a.fill;
   options = a.options;
 }
 
 -- what the code hands over, found in these rows
 abbrev pub IsWantedBy : List Row → Wanted → Type 0
 IsWantedBy found (wanted.Comparison a) = asked_comparison found ≡ Some (request_of a)
-IsWantedBy found (wanted.MadePair n options) = asked_made found ≡ Some (record { n = n; options = options })
+IsWantedBy found (wanted.MadePair n fill options) = asked_made found ≡ Some (record { n = n; fill = fill; options = options })
 IsWantedBy found (wanted.Refutation cnf adds) = asked_refutation found ≡ Some (record { cnf = cnf.now; adds = adds.now })
 
 -- and asked for by words
 abbrev pub Ask : List (List ℕ) → Wanted → Type 0
 Ask words (wanted.Comparison a) = asked words ≡ Some (request_of a)
-Ask words (wanted.MadePair n options) = made_asked words ≡ Some (record { n = n; options = options })
+Ask words (wanted.MadePair n fill options) = made_asked words ≡ Some (record { n = n; fill = fill; options = options })
 Ask words (wanted.Refutation cnf adds) = rup_asked words ≡ Some (record { cnf = cnf.now; adds = adds.now })
 
 -- words that ask for nothing
@@ -204,5 +210,5 @@ pub record AskNothing (words : List (List ℕ)) : Type 0 where
 -- the bounds of the checks that are asked for
 abbrev pub HasBounds : Wanted → Type 0
 HasBounds (wanted.Comparison a) = AreBounds a.options
-HasBounds (wanted.MadePair n options) = (1 ≤ n) × (n ≤ 256) × AreBounds options
+HasBounds (wanted.MadePair n fill options) = (1 ≤ n) × (n ≤ 256) × AreBounds options
 HasBounds (wanted.Refutation cnf adds) = Unit {0}

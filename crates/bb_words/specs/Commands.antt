@@ -1,4 +1,4 @@
--- The command whose words are read: two files by their place, four flags, and eleven options with one value each. No option has a short
+-- The command whose words are read: two files by their place, five flags, and eleven options with one value each. No option has a short
 -- form, and neither help nor a version is asked for. Which words it takes, and what they give, is clap's own reading of a command.
 use Rattle.std.specs.Prelude.{◌++◌, Bool, true, List, [], ◌∷◌, map, Some, codes}
 use Rattle.clap.specs.Words.{App, Row, Rule, Text, fault_of, matches_of, new_app, new_rule}
@@ -9,7 +9,7 @@ abbrev pub files : List Text
 files = codes "SPEC" ∷ codes "IMPL" ∷ []
 
 abbrev pub flags : List Text
-flags = codes "all" ∷ codes "proof" ∷ codes "rup" ∷ codes "shared" ∷ []
+flags = codes "all" ∷ codes "proof" ∷ codes "rup" ∷ codes "shared" ∷ codes "fill" ∷ []
 
 abbrev pub options : List Text
 options = codes "top-spec" ∷ codes "top-impl" ∷ codes "from" ∷ codes "to" ∷ codes "patterns" ∷ codes "seed" ∷ codes "nodes" ∷ codes "clauses" ∷ codes "cache" ∷ codes "care" ∷ codes "make" ∷ []

@@ -42,11 +42,11 @@ options_alone = record { from = Ternary; to = Expand; all = false; patterns = 32
 
 -- two files, and of all else what stands for what is not given
 abbrev pub files_alone : List ℕ → List ℕ → Request
-files_alone spec imp = record { spec = spec; imp = imp; top_spec = None; top_imp = None; care = None; options = options_alone }
+files_alone spec imp = record { spec = spec; imp = imp; top_spec = None; top_imp = None; care = None; fill = false; options = options_alone }
 
 -- a made pair, and of all else what stands for what is not given
 abbrev pub pair_alone : ℕ → MadePair
-pair_alone n = record { n = n; options = options_alone }
+pair_alone n = record { n = n; fill = false; options = options_alone }
 
 -- two plain words behind the program's own name are two files, and ask for nothing else
 abbrev pub PlainWordsAreFiles : Type 0
@@ -72,6 +72,10 @@ ValuesMayBeJoined = (program spec imp value : List ℕ) → is_plain spec ≡ tr
 abbrev pub CareNamesAreAsked : Type 0
 CareNamesAreAsked = (program spec imp text : List ℕ) → is_plain spec ≡ true → is_plain imp ≡ true → is_plain text ≡ true
     → asked (program ∷ spec ∷ imp ∷ codes "--care" ∷ text ∷ []) ≡ (if list_all is_ascii_graphic text then Some (record (files_alone spec imp) { care = Some text }) else None)
+
+-- behind two files `--fill` asks for the filled implementation
+abbrev pub FillIsAsked : Type 0
+FillIsAsked = (program spec imp : List ℕ) → is_plain spec ≡ true → is_plain imp ≡ true → asked (program ∷ spec ∷ imp ∷ codes "--fill" ∷ []) ≡ Some (record (files_alone spec imp) { fill = true })
 
 -- less than two words are no two files
 abbrev pub FewWordsAskForNothing : Type 0

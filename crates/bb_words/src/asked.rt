@@ -17,6 +17,8 @@ pub struct Asked<'a> {
     /// The text of the care output, the bit of an output port of the specification that says where agreement is asked, if one is
     /// given: one or more bytes from 33 to 126.
     pub care: Option<&'a str>,
+    /// Whether the filled implementation is asked for.
+    pub fill: bool,
     /// Which checks are run, and their bounds.
     pub options: Options,
 }
@@ -26,10 +28,18 @@ pub struct Asked<'a> {
 pub enum Wanted<'a> {
     /// The comparison of an implementation with its specification, both in files.
     Comparison(Asked<'a>),
-    /// The comparison of a made pair: how many bits its adders have, from 1 to 256, and which checks are run.
-    MadePair { n: u32, options: Options },
+    /// The comparison of a made pair: how many bits its adders have, from 1 to 256, whether the filled implementation is asked for, and
+    /// which checks are run.
+    MadePair {
+        n: u32,
+        fill: bool,
+        options: Options,
+    },
     /// The check of clause additions against a formula: the names of their files, which are parts of the words, and not empty.
-    Refutation { cnf: &'a str, adds: &'a str },
+    Refutation {
+        cnf: &'a str,
+        adds: &'a str,
+    },
 }
 
 /// Why words ask for nothing.

@@ -50,6 +50,7 @@ fn command<'a>(alloc: Global) -> Result<Command<'a>, AllocError>
         .arg(flag(alloc, "proof"))?
         .arg(flag(alloc, "rup"))?
         .arg(flag(alloc, "shared"))?
+        .arg(flag(alloc, "fill"))?
         .arg(valued(alloc, "top-spec"))?
         .arg(valued(alloc, "top-impl"))?
         .arg(valued(alloc, "from"))?

@@ -1,6 +1,6 @@
 //! Laws of what words ask for. Each function has a law as its contract and does nothing.
 
-ghost use Rattle.bb_words.specs.Laws.{AllAreFilesBehind, CareNamesAreAsked, FewWordsAskForNothing, MadePairsAreWithin, PlainWordsAreFiles, RequestsAreWithin, SomeWordsAreRefused, ValuesMayBeJoined, WidthsAskForPairs, WordsAskOnce};
+ghost use Rattle.bb_words.specs.Laws.{AllAreFilesBehind, CareNamesAreAsked, FewWordsAskForNothing, FillIsAsked, MadePairsAreWithin, PlainWordsAreFiles, RequestsAreWithin, SomeWordsAreRefused, ValuesMayBeJoined, WidthsAskForPairs, WordsAskOnce};
 
 /// Whatever words ask for is within the table of the options.
 pub fn requests_are_within()
@@ -30,6 +30,11 @@ pub fn values_may_be_joined()
 /// Behind two files `--care` and a name that can be printed ask where these have to agree; with another name they ask for nothing.
 pub fn care_names_are_asked()
     ensures { CareNamesAreAsked }
+{}
+
+/// Behind two files `--fill` asks for the filled implementation.
+pub fn fill_is_asked()
+    ensures { FillIsAsked }
 {}
 
 /// No word, and one plain word alone, ask for nothing.

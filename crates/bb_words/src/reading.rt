@@ -51,6 +51,7 @@ fn request<'a>(matches: &ArgMatches<'a>) -> Option<Asked<'a>>
     let top_spec = top(value(matches, "top-spec"))?;
     let top_imp = top(value(matches, "top-impl"))?;
     let care = care(value(matches, "care"))?;
+    let fill = is_true(value(matches, "fill"));
     let options = options(matches)?;
     Some(Asked {
         spec,
@@ -58,6 +59,7 @@ fn request<'a>(matches: &ArgMatches<'a>) -> Option<Asked<'a>>
         top_spec,
         top_imp,
         care,
+        fill,
         options,
     })
 }
@@ -94,6 +96,7 @@ fn is_alone(matches: &ArgMatches<'_>) -> bool
     !is_true(value(matches, "all"))
         && !is_true(value(matches, "proof"))
         && !is_true(value(matches, "shared"))
+        && !is_true(value(matches, "fill"))
         && no_option(matches)
 }
 
@@ -133,7 +136,8 @@ fn made_pair<'a>(matches: &ArgMatches<'a>) -> Option<Wanted<'a>>
     if options.shared || !no_files(matches) {
         return None;
     }
-    Some(Wanted::MadePair { n, options })
+    let fill = is_true(value(matches, "fill"));
+    Some(Wanted::MadePair { n, fill, options })
 }
 
 // The comparison that is asked for.
@@ -178,7 +182,7 @@ fn wanted<'a>(matches: &ArgMatches<'a>) -> Option<Wanted<'a>>
 /// | `--cache` | 1 to 1,048,576 | 65,536 |
 /// | `--clauses` | 0 to 8,000,000 | 2,000,000 |
 /// | `--care` | the text of a bit of an output port: one or more bytes from 33 to 126 | none |
-/// | `--all`, `--proof`, `--shared` | none | not set |
+/// | `--all`, `--proof`, `--shared`, `--fill` | none | not set |
 ///
 /// A value stands behind its option as the next word or behind `=`; one that begins with a minus sign, and is more than that,
 /// has to stand behind `=`. No name is empty. A number has at most 20 digits. Behind `--` every word is a file.

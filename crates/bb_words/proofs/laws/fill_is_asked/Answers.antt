@@ -1,0 +1,5 @@
+use Rattle.bb_words.proofs.FillWords.{fill_is_asked}
+use Rattle.bb_words.proofs.laws.fill_is_asked.Goals as goal
+
+pub returns : goal.returns
+returns c = fill_is_asked
