@@ -174,6 +174,6 @@ says_error false false e = cc e
 
 pub alike_verdicts_never_clash : PairLaws → ErrorsExcludeTables → RepairsAgree → AlikeVerdictsNeverClash
 alike_verdicts_never_clash laws excludes repairs p q o lines others kept other alike climb climbs error repair =
-    let (tables, complete, ends) = repairs q o others other climbs repair in
+    let (tables, given, complete, ends) = repairs q o others other climbs repair in
     let own = shared_completion_alike q p (share_back laws p q kept other alike) tables complete in
     excludes p o lines kept climb (says_error (list_any is_error lines) (list_any is_repair lines) error) tables own.fit own.agree

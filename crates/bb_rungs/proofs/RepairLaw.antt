@@ -1,7 +1,10 @@
--- Where the verdict is that the design can be finished, the last check gives tables that agree, and the report ends with them.
-use Rattle.std.proofs.Common.{◌≡◌, ◌&&◌, ◌||◌, Bool, true, false, not, if◌then◌else◌, List, [], ◌∷◌, ◌++◌, append_assoc, true≢false, refl, sym, ap, ◌∙◌}
+-- Tables that a check gives agree. Where the verdict is that the design can be finished, the last check gives some, and the report ends with them.
+use Rattle.std.proofs.Common.{◌≡◌, ◌&&◌, ◌||◌, Bool, true, false, not, if◌then◌else◌, List, [], ◌∷◌, ◌++◌, append_assoc, true≢false, refl, sym, ap, subst, ◌∙◌, ◌⊎◌, inl, inr, Contains}
 use Rattle.std.specs.List.{list_any, flat_map}
+use Rattle.std.specs.Prelude.{Vec}
+use Rattle.std.specs.declared.alloc.Global.{Global}
 use Rattle.std.proofs.lemmas.List.{append-nil}
+use Rattle.std.proofs.lemmas.List.Elements.{All-contains}
 use Rattle.bb_bits.specs.Tables.{TableBits}
 use Rattle.bb_net.specs.Kinds.{AreSharedCompletion, shown}
 use Rattle.bb_net.specs.Pairs.{NetPair, IsPair}
@@ -15,12 +18,14 @@ use Rattle.bb_options.specs.declared.rung.Rung.{Rung}
 use Rattle.bb_options.specs.declared.rung.Rung.TheVariants.{Ternary, Symbolic, Local, Output, Input, Expand}
 use Rattle.bb_rungs.specs.declared.verdict.Verdict.TheVariants as verdicts
 use Rattle.bb_rungs.specs.Inside.KindLaws.{KindLaws}
-use Rattle.bb_rungs.specs.Laws.{RepairsAgree}
-use Rattle.bb_rungs.specs.Reports.{details, line_text, rung_line, verdict_line}
+use Rattle.bb_rungs.specs.Laws.{GivenTablesAgree, RepairsAgree, TablesAreGivenOnce}
+use Rattle.bb_rungs.specs.Reports.{GivesTables, details, line_text, rung_line, verdict_line}
 use Rattle.bb_rungs.specs.Rungs.{MaySay, Hit, NoHit, TooMany, Finding, Without, ChoicesTooMany, Answered, TooWide, ClausesTooMany, Decided, Climbs, Top, End, Step, says_error, says_repair, is_error, is_repair}
 use Rattle.bb_rungs.specs.TableLines.{table_lines}
 use Rattle.bb_rungs.proofs.OpenLaw.{neither}
 use Rattle.bb_rungs.proofs.ShownBoxes.{apart_shared}
+use Rattle.bb_lists.proofs.Members.{contains_cases, contains_here, contains_there, none_in_nil}
+use Rattle.bb_rungs.proofs.ToldLaw.{climb_each}
 
 -- the verdict that the design can be finished: no check says that there is an error, and one gives tables
 repairs_alone : (a b : Bool) → (if a then verdicts.Error else (if b then verdicts.Repairable else verdicts.Open)) ≡ verdicts.Repairable → (a ≡ false) × (b ≡ true)
@@ -39,6 +44,9 @@ only : (b : Bool) → (b || false) ≡ true → b ≡ true
 only true e = refl
 only false e = e
 
+same_tables : (a b : Vec TableBits Global) → Repair a ≡ Repair b → a ≡ b
+same_tables a b e = cc
+
 -- nothing stands behind a line that says neither
 quiet : (p : NetPair) (o : Options) (said : Said) → says_error said ≡ false → says_repair said ≡ false → details p o said ≡ []
 quiet p o (Error evidence) off none = absurd (true≢false off)
@@ -51,49 +59,70 @@ quiet p o Wide off none = refl
 -- lines that end with tables that agree
 record EndsSo (p : NetPair) (o : Options) (lines : List Line) : Type 0 where
   pub tables : List TableBits
+  pub given : GivesTables lines tables
   pub complete : AreSharedCompletion p.spec p.imp p.kinds tables
   pub text : flat_map (line_text p o) lines ≡ flat_map rung_line lines ++ table_lines o.shared (shown p.kinds p.boxes) tables
 
 module _ (kinds : KindLaws) (p : NetPair) (o : Options) (kept : IsPair p) where
-  not_given : {T : Type 0} (said other : Said) → said ≡ other → says_repair other ≡ false → says_repair said ≡ true → T
-  not_given said other same off on = absurd (true≢false (sym on ∙ ap says_repair same ∙ off))
+  not_given : {T : Type 0} (said other : Said) (given : Vec TableBits Global) → said ≡ other → says_repair other ≡ false → said ≡ Repair given → T
+  not_given said other given same off gave = absurd (true≢false (sym (ap says_repair gave) ∙ ap says_repair same ∙ off))
 
-  -- what is given agrees, and stands behind the line
+  -- what is given agrees
+  abbrev Agrees : Said → Type 0
+  Agrees said = (given : Vec TableBits Global) → said ≡ Repair given → AreSharedCompletion p.spec p.imp p.kinds given.items
+
+  is_given : (said : Said) (tables : Vec TableBits Global) → said ≡ Repair tables → AreSharedCompletion p.spec p.imp p.kinds tables.items → Agrees said
+  is_given said tables same complete given gave = subst (λ (z : Vec TableBits Global). AreSharedCompletion p.spec p.imp p.kinds z.items) (same_tables tables given (sym same ∙ gave)) complete
+
+  agrees : (r : Rung) (said : Said) → MaySay p o r said → Agrees said
+  agrees Ternary said (Hit found j is hit same) given gave = not_given said _ given same refl gave
+  agrees Ternary said (NoHit right same) given gave = not_given said _ given same refl gave
+  agrees Symbolic said (TooMany many same) given gave = not_given said _ given same refl gave
+  agrees Symbolic said (Finding few found is same) given gave = not_given said _ given same refl gave
+  agrees Symbolic said (Without few right same) given gave = not_given said _ given same refl gave
+  agrees Local said (TooMany many same) given gave = not_given said _ given same refl gave
+  agrees Local said (Finding few found is same) given gave = not_given said _ given same refl gave
+  agrees Local said (Without few right same) given gave = not_given said _ given same refl gave
+  agrees Output said (TooMany many same) given gave = not_given said _ given same refl gave
+  agrees Output said (Finding few found is same) given gave = not_given said _ given same refl gave
+  agrees Output said (Without few right same) given gave = not_given said _ given same refl gave
+  agrees Input said (ChoicesTooMany many same) given gave = not_given said _ given same refl gave
+  agrees Input said (Answered few choices.Error is same) given gave = not_given said _ given same refl gave
+  agrees Input said (Answered few choices.Clear is same) given gave = not_given said _ given same refl gave
+  agrees Input said (Answered few (choices.Repair tables) is same) given gave =
+      is_given said tables same (apart_shared kinds p.spec p.imp p.kinds tables.items kept.beside.kinds is.0.nested.apart is.1.completion) given gave
+  agrees Expand said (TooWide wide same) given gave = not_given said _ given same refl gave
+  agrees Expand said (ClausesTooMany small many same) given gave = not_given said _ given same refl gave
+  agrees Expand said (Decided small (expanded.Error vectors cnf refutation) is same) given gave = not_given said _ given same refl gave
+  agrees Expand said (Decided small (expanded.Repair tables) is same) given gave = is_given said tables same is given gave
+
+  -- and stands behind the line
   abbrev Gives : Said → Type 0
-  Gives said = (tables : List TableBits) × AreSharedCompletion p.spec p.imp p.kinds tables × (details p o said ≡ table_lines o.shared (shown p.kinds p.boxes) tables)
+  Gives said = (given : Vec TableBits Global) × AreSharedCompletion p.spec p.imp p.kinds given.items × (said ≡ Repair given)
 
-  gives : (r : Rung) (said : Said) → MaySay p o r said → says_repair said ≡ true → Gives said
-  gives Ternary said (Hit found j is hit same) on = not_given said _ same refl on
-  gives Ternary said (NoHit right same) on = not_given said _ same refl on
-  gives Symbolic said (TooMany many same) on = not_given said _ same refl on
-  gives Symbolic said (Finding few found is same) on = not_given said _ same refl on
-  gives Symbolic said (Without few right same) on = not_given said _ same refl on
-  gives Local said (TooMany many same) on = not_given said _ same refl on
-  gives Local said (Finding few found is same) on = not_given said _ same refl on
-  gives Local said (Without few right same) on = not_given said _ same refl on
-  gives Output said (TooMany many same) on = not_given said _ same refl on
-  gives Output said (Finding few found is same) on = not_given said _ same refl on
-  gives Output said (Without few right same) on = not_given said _ same refl on
-  gives Input said (ChoicesTooMany many same) on = not_given said _ same refl on
-  gives Input said (Answered few choices.Error is same) on = not_given said _ same refl on
-  gives Input said (Answered few choices.Clear is same) on = not_given said _ same refl on
-  gives Input said (Answered few (choices.Repair tables) is same) on =
-      (tables.items, apart_shared kinds p.spec p.imp p.kinds tables.items kept.beside.kinds is.0.nested.apart is.1.completion, ap (details p o) same)
-  gives Expand said (TooWide wide same) on = not_given said _ same refl on
-  gives Expand said (ClausesTooMany small many same) on = not_given said _ same refl on
-  gives Expand said (Decided small (expanded.Error vectors cnf refutation) is same) on = not_given said _ same refl on
-  gives Expand said (Decided small (expanded.Repair tables) is same) on = (tables.items, is, ap (details p o) same)
+  gives : (said : Said) → Agrees said → says_repair said ≡ true → Gives said
+  gives (Error evidence) agree on = absurd (true≢false (sym on))
+  gives Nothing agree on = absurd (true≢false (sym on))
+  gives (Repair tables) agree on = (tables, agree tables refl, refl)
+  gives Nodes agree on = absurd (true≢false (sym on))
+  gives Clauses agree on = absurd (true≢false (sym on))
+  gives Wide agree on = absurd (true≢false (sym on))
 
   last_line : (line : Line) → Gives line.said → EndsSo p o (line ∷ [])
   last_line line given = record {
-    tables = given.0;
+    tables = given.0.items;
+    given = (line, given.0, contains_here line [], given.2, refl);
     complete = given.1;
-    text = append-nil (line_text p o line) ∙ ap (λ t. rung_line line ++ t) given.2 ∙ ap (λ t. t ++ table_lines o.shared (shown p.kinds p.boxes) given.0) (sym (append-nil (rung_line line)));
+    text =
+        append-nil (line_text p o line)
+        ∙ ap (λ said. rung_line line ++ details p o said) given.2
+        ∙ ap (λ t. t ++ table_lines o.shared (shown p.kinds p.boxes) given.0.items) (sym (append-nil (rung_line line)));
   }
 
   one_more : (line : Line) (more : List Line) → details p o line.said ≡ [] → EndsSo p o more → EndsSo p o (line ∷ more)
   one_more line more none rest = record {
     tables = rest.tables;
+    given = let (last, given, has, gave, same) = rest.given in (last, given, contains_there line more last has, gave, same);
     complete = rest.complete;
     text =
         ap (λ t. (rung_line line ++ t) ++ flat_map (line_text p o) more) none
@@ -106,7 +135,7 @@ module _ (kinds : KindLaws) (p : NetPair) (o : Options) (kept : IsPair p) where
   climb_gives [] [] Top off any = absurd (true≢false (sym any))
   climb_gives [] (line ∷ more) climb off any = elim climb [ ]
   climb_gives (r ∷ rest) [] climb off any = elim climb [ ]
-  climb_gives (r ∷ rest) (line ∷ []) (End is says last) off any = last_line line (gives r line.said says (only (is_repair line) any))
+  climb_gives (r ∷ rest) (line ∷ []) (End is says last) off any = last_line line (gives line.said (agrees r line.said says) (only (is_repair line) any))
   climb_gives (r ∷ rest) (line ∷ more) (Step is says on behind) off any =
       let error_off = neither (is_error line) (list_any is_error more) off in
       let repair_off = goes_on (is_repair line) (is_error line && not o.all) on in
@@ -117,6 +146,7 @@ repairs_agree kinds p o lines kept climb verdict =
     let alone = repairs_alone (list_any is_error lines) (list_any is_repair lines) verdict in
     let ends = climb_gives kinds p o kept _ lines climb alone.0 alone.1 in (
       ends.tables,
+      ends.given,
       ends.complete,
       record {
         lines = lines;
@@ -124,3 +154,38 @@ repairs_agree kinds p o lines kept climb verdict =
         whole = ap (λ v. flat_map (line_text p o) lines ++ verdict_line v) verdict ∙ ap (λ t. t ++ verdict_line verdicts.Repairable) ends.text;
       },
     )
+
+-- a line behind which checks go on gives none
+only_later : (line : Line) (more : List Line) (tables : List TableBits) → is_repair line ≡ false → GivesTables (line ∷ more) tables → GivesTables more tables
+only_later line more tables off (from, given, has, gave, same) = by (contains_cases line more from has)
+  where
+    by : (line ≡ from) ⊎ Contains more from → GivesTables more tables
+    by (inl here) = absurd (true≢false (sym (ap says_repair gave) ∙ sym (ap is_repair here) ∙ off))
+    by (inr there) = (from, given, there, gave, same)
+
+last_gives : (line : Line) (tables : List TableBits) → GivesTables (line ∷ []) tables → (given : Vec TableBits Global) × (line.said ≡ Repair given) × (given.items ≡ tables)
+last_gives line tables (from, given, has, gave, same) = by (contains_cases line [] from has)
+  where
+    by : (line ≡ from) ⊎ Contains [] from → (given : Vec TableBits Global) × (line.said ≡ Repair given) × (given.items ≡ tables)
+    by (inl here) = (given, ap (λ (z : Line). z.said) here ∙ gave, same)
+    by (inr there) = absurd (none_in_nil from there)
+
+given_once : (p : NetPair) (o : Options) (rungs : List Rung) (lines : List Line) (tables others : List TableBits) → Climbs p o rungs lines → GivesTables lines tables → GivesTables lines others → tables ≡ others
+given_once p o [] [] tables others Top (line, given, has, gave, same) also = absurd (none_in_nil line has)
+given_once p o [] (line ∷ more) tables others climb gives also = elim climb [ ]
+given_once p o (r ∷ rest) [] tables others climb gives also = elim climb [ ]
+given_once p o (r ∷ rest) (line ∷ []) tables others (End is says last) gives also =
+    let one = last_gives line tables gives in
+    let other = last_gives line others also in
+    sym one.2 ∙ ap (λ (z : Vec TableBits Global). z.items) (same_tables one.0 other.0 (sym one.1 ∙ other.1)) ∙ other.2
+given_once p o (r ∷ rest) (line ∷ more) tables others (Step is says on behind) gives also =
+    let off = goes_on (is_repair line) (is_error line && not o.all) on in
+    given_once p o rest more tables others behind (only_later line more tables off gives) (only_later line more others off also)
+
+pub tables_are_given_once : TablesAreGivenOnce
+tables_are_given_once p o lines tables others climb gives also = given_once p o _ lines tables others climb gives also
+
+pub given_tables_agree : KindLaws → GivenTablesAgree
+given_tables_agree kinds p o lines tables kept climb (line, given, has, gave, same) =
+    let each = climb_each p o (Agrees kinds p o kept) (agrees kinds p o kept) _ lines climb in
+    subst (AreSharedCompletion p.spec p.imp p.kinds) same (All-contains (λ (line : Line). Agrees kinds p o kept line.said) lines line each has given gave)

@@ -16,7 +16,7 @@ use Rattle.bb_rungs.specs.declared.verdict.Verdict.TheVariants as verdicts
 use Rattle.bb_options.specs.declared.rung.Rung.{Rung}
 use Rattle.bb_rungs.specs.LeftOpen.{AllLeaveOpen, AllStayOpen, LeavesOpen, SomeDecides, StaysOpen}
 use Rattle.bb_rungs.specs.Laws.Searches.{MayDependOnSearch}
-use Rattle.bb_rungs.specs.Reports.{EndsWithTables, report_text, rung_line, verdict_of}
+use Rattle.bb_rungs.specs.Reports.{EndsWithTables, GivesTables, report_text, rung_line, verdict_of}
 use Rattle.bb_rungs.specs.Rungs.{IsClimb, SaidTells, is_error, is_repair}
 use Rattle.bb_rungs.specs.TableLines.{table_lines}
 
@@ -24,10 +24,18 @@ use Rattle.bb_rungs.specs.TableLines.{table_lines}
 abbrev pub ErrorsExcludeTables : Type 0
 ErrorsExcludeTables = (p : NetPair) (o : Options) (lines : List Line) → IsPair p → IsClimb p o lines → list_any is_error lines ≡ true → NoSharedTablesAgree p.spec p.imp p.kinds
 
--- where the verdict is that the design can be finished, the report ends with tables that agree
+-- where the verdict is that the design can be finished, a check gives tables that agree, and the report ends with these
 abbrev pub RepairsAgree : Type 0
 RepairsAgree = (p : NetPair) (o : Options) (lines : List Line) → IsPair p → IsClimb p o lines → verdict_of lines ≡ verdicts.Repairable
-    → (tables : List TableBits) × AreSharedCompletion p.spec p.imp p.kinds tables × EndsWithTables o.shared (shown p.kinds p.boxes) (report_text p o lines) tables
+    → (tables : List TableBits) × GivesTables lines tables × AreSharedCompletion p.spec p.imp p.kinds tables × EndsWithTables o.shared (shown p.kinds p.boxes) (report_text p o lines) tables
+
+-- whatever tables a check gives, they agree
+abbrev pub GivenTablesAgree : Type 0
+GivenTablesAgree = (p : NetPair) (o : Options) (lines : List Line) (tables : List TableBits) → IsPair p → IsClimb p o lines → GivesTables lines tables → AreSharedCompletion p.spec p.imp p.kinds tables
+
+-- and no two checks give other tables, since the checks end where one gives some
+abbrev pub TablesAreGivenOnce : Type 0
+TablesAreGivenOnce = (p : NetPair) (o : Options) (lines : List Line) (tables others : List TableBits) → IsClimb p o lines → GivesTables lines tables → GivesTables lines others → tables ≡ others
 
 -- the lines of a table give back its bits: tables of the same kinds with the same lines are the same
 abbrev pub LinesFixTables : Type 0

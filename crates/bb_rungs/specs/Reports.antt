@@ -1,6 +1,7 @@
 -- The report of the checks that were run: a line for each, behind it what it found, and last the verdict.
-use Rattle.std.specs.Prelude.{◌≡◌, ℕ, Bool, false, if◌then◌else◌, List, [], ◌∷◌, ◌++◌, map, vec_items, zip, Option, Some, None, codes}
+use Rattle.std.specs.Prelude.{◌≡◌, ℕ, Bool, false, if◌then◌else◌, List, [], ◌∷◌, ◌++◌, map, vec_items, zip, Contains, Option, Some, None, Vec, codes}
 use Rattle.std.specs.List.{flat_map, list_any, slice_index_or}
+use Rattle.std.specs.declared.alloc.Global.{Global}
 use Rattle.bb_bits.specs.Tables.{TableBits}
 use Rattle.bb_cnf.specs.Lines.{proof_lines}
 use Rattle.bb_net.specs.declared.pair.OutName.{OutName}
@@ -73,6 +74,10 @@ rung_line line = codes "rung " ++ rung_name line.rung ++ codes " " ++ result_nam
 
 abbrev pub line_text : NetPair → Options → Line → List ℕ
 line_text p o line = rung_line line ++ details p o line.said
+
+-- a check says that these tables agree
+abbrev pub GivesTables : List Line → List TableBits → Type 0
+GivesTables lines tables = (line : Line) × (given : Vec TableBits Global) × Contains lines line × (line.said ≡ Repair given) × (given.items ≡ tables)
 
 -- an error, where a check says so; else tables, where one gives them
 abbrev pub verdict_of : List Line → Verdict

@@ -1,6 +1,6 @@
 //! Laws of what checks say. Each function has a law as its contract and does nothing.
 
-ghost use Rattle.bb_rungs.specs.Laws.{ErrorsExcludeTables, RepairsAgree, LinesFixTables, TextsFixTables, ClimbsAreTold, ClimbsLeaveOpen, StayingOpenIsTold, StayingOpenIsLeftOpen, LeftOpenStaysOpen, DecidersDecide, ErrorsStay, ClimbsSayAlike};
+ghost use Rattle.bb_rungs.specs.Laws.{ErrorsExcludeTables, RepairsAgree, GivenTablesAgree, LinesFixTables, TextsFixTables, ClimbsAreTold, ClimbsLeaveOpen, StayingOpenIsTold, StayingOpenIsLeftOpen, TablesAreGivenOnce, LeftOpenStaysOpen, DecidersDecide, ErrorsStay, ClimbsSayAlike};
 ghost use Rattle.bb_rungs.specs.Laws.SomeClimbs.{ClimbsExist};
 ghost use Rattle.bb_rungs.specs.Laws.ShownVectors.{FoundVectorsAreMistakes, InputLinesFixVectors};
 
@@ -26,6 +26,18 @@ pub fn repairs_agree()
 {
     kind_laws();
 }
+
+/// Whatever tables a check gives, they agree.
+pub fn given_tables_agree()
+    ensures { GivenTablesAgree }
+{
+    kind_laws();
+}
+
+/// And no two checks give other tables.
+pub fn tables_are_given_once()
+    ensures { TablesAreGivenOnce }
+{}
 
 /// Tables of the same kinds of boxes with the same lines are the same.
 pub fn lines_fix_tables()

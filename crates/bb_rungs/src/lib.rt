@@ -20,9 +20,10 @@ pub use bb_options::{Options, Rung};
 pub use climbing::climb;
 pub use laws::{
     climbs_are_told, climbs_exist, climbs_leave_open, climbs_say_alike, deciders_decide,
-    errors_exclude_tables, errors_stay, found_vectors_are_mistakes, input_lines_fix_vectors,
-    left_open_stays_open, lines_fix_tables, repairs_agree, staying_open_is_told, texts_fix_tables,
+    errors_exclude_tables, errors_stay, found_vectors_are_mistakes, given_tables_agree,
+    input_lines_fix_vectors, left_open_stays_open, lines_fix_tables, repairs_agree,
+    staying_open_is_told, tables_are_given_once, texts_fix_tables,
 };
 pub use line::{Evidence, Line, Proof, Said};
 pub use reporting::report;
-pub use verdict::{Verdict, verdict_of};
+pub use verdict::{Verdict, given_tables, verdict_of};

@@ -1,10 +1,14 @@
 //! The verdict of the checks that were run.
 
-ghost use Rattle.std.specs.Prelude.{◌≡◌};
+ghost use Rattle.std.specs.Prelude.{◌≡◌, false, IfNone, IfSome, Vec};
+ghost use Rattle.std.specs.declared.alloc.Global.{Global};
 ghost use Rattle.std.specs.List.{list_any};
-ghost use Rattle.bb_rungs.specs.Reports.{is_error, is_repair, verdict_of, verdict_name, status_of};
+ghost use Rattle.bb_bits.specs.Tables.{TableBits};
+ghost use Rattle.bb_rungs.specs.declared.line.Said.TheVariants.{Repair};
+ghost use Rattle.bb_rungs.specs.Reports.{GivesTables, is_error, is_repair, verdict_of, verdict_name, status_of};
 
 use crate::line::{Line, Said};
+use bb_bits::Table;
 
 /// What all checks together say.
 #[derive(Clone, Copy, Debug, PartialEq, Eq)]
@@ -67,6 +71,30 @@ fn any_repair(lines: &[Line]) -> bool
     ensures any { result ≡ list_any is_repair lines.now }
 {
     lines.iter().any(|line| is_repair(line))
+}
+
+// The tables that a check gives, if it gives some.
+fn said_tables(line: &Line) -> Option<&[Table]>
+    ensures some { IfSome result (λ tables. (given : Vec TableBits Global) × (line.now.said ≡ Repair given) × (given.items ≡ tables.now)) }
+    ensures none { IfNone result (is_repair line.now ≡ false) }
+{
+    match &line.said {
+        Said::Repair(tables) => Some(tables),
+        _ => None,
+    }
+}
+
+/// The tables that a check gives, one for each kind of boxes, if one gives some.
+pub fn given_tables(lines: &[Line]) -> Option<&[Table]>
+    ensures some { IfSome result (λ tables. GivesTables lines.now tables.now) }
+    ensures none { IfNone result (list_any is_repair lines.now ≡ false) }
+{
+    for line in lines {
+        if let Some(tables) = said_tables(line) {
+            return Some(tables);
+        }
+    }
+    None
 }
 
 /// The verdict of the checks that were run: an error where one says so, else tables where one gives them.
