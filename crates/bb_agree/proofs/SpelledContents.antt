@@ -14,7 +14,7 @@ use Rattle.bb_cells.specs.Laws.ContentTables.{AreTablesOf}
 use Rattle.bb_design.specs.Hierarchy.{Design}
 use Rattle.bb_design.specs.Inside.Allowed.{IsAllowed}
 use Rattle.bb_design.specs.Worlds.{FitDesign}
-use Rattle.bb_agree.specs.DesignAgreement.{AreSpelled, ContentsAgree, IsPairFor, MayFill, SpelledContentsAgree, TablesSpellContents}
+use Rattle.bb_agree.specs.DesignAgreement.{AreSpelled, ContentsAgree, IsPairFor, MayFill, SpelledContentsAgree, SpelledContentsHaveTables, TablesSpellContents}
 use Rattle.bb_agree.proofs.DesignAgreements.{tables_to_contents}
 use Rattle.bb_agree.proofs.PairBoxes.{HasBoxesOf, box_count, from_pair}
 use Rattle.bb_agree.proofs.SharedContents.{SharedLaws, boxes_of, found, no_texts, pair_is_seen, rows_by_kind, spread_fit}
@@ -71,6 +71,9 @@ module _ {care : Option (List ℕ)} {shared : Bool} (rules : SharedLaws) (spec i
 
 pub spelled_contents_agree : SharedLaws → SpelledContentsAgree
 spelled_contents_agree rules care shared spec imp p spec_allowed imp_allowed pair tables fit agree contents fits spelled = spelled_agree rules spec imp p spec_allowed imp_allowed pair tables fit agree contents fits spelled
+
+pub spelled_contents_have_tables : SharedLaws → SpelledContentsHaveTables
+spelled_contents_have_tables rules care shared spec imp p spec_allowed imp_allowed pair tables fit contents spelled = are_tables rules spec imp p spec_allowed imp_allowed pair tables fit contents spelled
 
 pub tables_spell_contents : SharedLaws → TablesSpellContents
 tables_spell_contents rules care shared spec imp p spec_allowed imp_allowed pair tables fit = spell rules spec imp p spec_allowed imp_allowed pair tables fit

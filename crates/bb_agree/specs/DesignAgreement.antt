@@ -106,6 +106,11 @@ abbrev pub SpelledContentsAgree : Type 0
 SpelledContentsAgree = (care : Option (List ℕ)) (shared : Bool) (spec imp : Design) (p : NetPair) → IsAllowed spec → IsAllowed imp → IsPairFor care shared spec imp p → (tables : List TableBits) → FitBoxes tables (shown p.kinds p.imp.boxes)
     → TablesAgree p.spec p.imp (spread p.kinds tables) → (contents : Contents) → FitDesign imp contents → AreSpelled p.boxes p.kinds tables contents → ContentsAgree care spec imp contents
 
+-- contents that the tables spell have them as tables, one for each box, in the netlist of the implementation
+abbrev pub SpelledContentsHaveTables : Type 0
+SpelledContentsHaveTables = (care : Option (List ℕ)) (shared : Bool) (spec imp : Design) (p : NetPair) → IsAllowed spec → IsAllowed imp → (pair : IsPairFor care shared spec imp p) → (tables : List TableBits) → FitBoxes tables (shown p.kinds p.imp.boxes)
+    → (contents : Contents) → AreSpelled p.boxes p.kinds tables contents → AreTablesOf pair.imp_net contents (spread p.kinds tables)
+
 -- contents that fit may fill boxes that share nothing; shared contents are some of these, so that where no contents agree no shared ones do
 pub record SharingNarrows : Type 0 where
   pub apart : (d : Design) (contents : Contents) → MayFill false d contents ↔ FitDesign d contents

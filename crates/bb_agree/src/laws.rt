@@ -2,7 +2,7 @@
 
 ghost use Rattle.bb_agree.specs.Inside.LowerLaws.{LowerLaws};
 ghost use Rattle.bb_agree.specs.Laws.AlikePairs.{PairsForDesignsAreAlike};
-ghost use Rattle.bb_agree.specs.DesignAgreement.{CareOutputsAskForLess, DesignsAgreeWithThemselves, FittingTablesAreOfBoxes, NoTablesNoContents, PairsHaveBoxOrders, SharingNarrows, SpelledContentsAgree, TablesAgreeAsContents, TablesSpellContents};
+ghost use Rattle.bb_agree.specs.DesignAgreement.{CareOutputsAskForLess, DesignsAgreeWithThemselves, FittingTablesAreOfBoxes, NoTablesNoContents, PairsHaveBoxOrders, SharingNarrows, SpelledContentsAgree, SpelledContentsHaveTables, TablesAgreeAsContents, TablesSpellContents};
 ghost use Rattle.bb_agree.specs.Laws.DesignRefusals.{DesignRefusalsAreOne, FitOrRefused, FittingDesignsHavePairs, NetsAreTakenAsDesigns, NotFitAndRefused, PairsStandExactlyForFitting};
 ghost use Rattle.bb_agree.specs.Mistakes.{MistakesRefute, PairsAreNamed, WrongOutputsAreMistakes, WrongVectorsAreMistakes};
 
@@ -91,6 +91,16 @@ pub fn tables_spell_contents()
 /// Where they agree, so do all contents that they spell.
 pub fn spelled_contents_agree()
     ensures { SpelledContentsAgree }
+{
+    lower_laws();
+    rows_are_tables();
+    standing_nets_have_box_orders();
+    tables_are_spread();
+}
+
+/// Contents that the tables spell have them as tables, one for each box.
+pub fn spelled_contents_have_tables()
+    ensures { SpelledContentsHaveTables }
 {
     lower_laws();
     rows_are_tables();
