@@ -28,7 +28,7 @@ no_second verdicts.Open e = omega (arith, e)
 
 pub judged_refusals_are_first : JudgedRefusalsAreFirst
 judged_refusals_are_first asked spec imp status text (Refused refusal is s t) two = (refusal, is, t)
-judged_refusals_are_first asked spec imp status text (Judged p lines stands climb s t) two = absurd (no_second (verdict_of lines) (sym s ∙ two))
+judged_refusals_are_first asked spec imp status text (Judged p lines d i are for climb s rest follows t) two = absurd (no_second (verdict_of lines) (sym s ∙ two))
 
 apart : (a b : List ℕ) → a ≡ b → READ_LIMIT ≤ length a → length b < READ_LIMIT → ⊥
 apart a b same long short = far (length a) (length b) READ_LIMIT (ap length same) long short
@@ -72,7 +72,7 @@ refusals_are_told laws words from holds before after line (Usage none no_pair ne
 refusals_are_told laws words from holds before after line (Asked q asks files) told =
     OfComparison q asks (files_refusal (Judges q.asked) (IsPairRefusal q.asked) (judged_refusals_are_first q.asked) from holds q.spec q.imp before after line (told.comparison q asks) files)
 refusals_are_told laws words from holds before after line (Making m makes quiet judges) told =
-    let first = judged_refusals_are_first (asked_of m.options) (made_spec m.n) (made_imp m.n) 2 judges.0 judges.1 refl in
+    let first = judged_refusals_are_first (asked_of m.fill m.options) (made_spec m.n) (made_imp m.n) 2 judges.0 judges.1 refl in
     OfMadePair m makes (first.0, first.1, alone_at_two m.n 2 judges.0 line refl judges.2 ∙ first.2)
 refusals_are_told laws words from holds before after line (Refuting f asks files) told =
     OfRefutation f asks (files_refusal Checks IsCheckRefusal laws.refused from holds f.cnf f.adds before after line (told.refutation f asks) files)
@@ -186,10 +186,10 @@ module _ (once : WordsAskOnce) (words : List (List ℕ)) (from : Source) (holds 
   comparison_refused q asks (OfMadePair m makes refusal) = absurd (never_files_and_made once words q m asks makes)
   comparison_refused q asks (OfRefutation f also refusal) = absurd (never_both once words q f asks also)
 
-  made_refused : (m : MadePair) → made_asked words ≡ Some m → IsCallRefusal words from holds before after line → IsPairRefusal (asked_of m.options) (made_spec m.n) (made_imp m.n) line
+  made_refused : (m : MadePair) → made_asked words ≡ Some m → IsCallRefusal words from holds before after line → IsPairRefusal (asked_of m.fill m.options) (made_spec m.n) (made_imp m.n) line
   made_refused m makes (OfWords none unmade nor is) = absurd (asks_no_pair m (made_asked words) unmade makes)
   made_refused m makes (OfComparison q asks refusal) = absurd (never_files_and_made once words q m asks makes)
-  made_refused m makes (OfMadePair p also refusal) = subst (λ (z : MadePair). IsPairRefusal (asked_of z.options) (made_spec z.n) (made_imp z.n) line) (same_pair p m (sym also ∙ makes)) refusal
+  made_refused m makes (OfMadePair p also refusal) = subst (λ (z : MadePair). IsPairRefusal (asked_of z.fill z.options) (made_spec z.n) (made_imp z.n) line) (same_pair p m (sym also ∙ makes)) refusal
   made_refused m makes (OfRefutation f asks refusal) = absurd (once.not_made_and_refuted words m f makes asks)
 
   refutation_refused : (f : Refutation) → rup_asked words ≡ Some f → IsCallRefusal words from holds before after line → IsFilesRefusal IsCheckRefusal from holds before after f.cnf f.adds line
@@ -204,7 +204,7 @@ refused_calls_are_told once laws answered words from holds before after status t
 refused_calls_are_told once laws answered words from holds before after status text line (Asked q asks files) refused calm =
     files_told (Judges q.asked) (IsPairRefusal q.asked) (pair_told answered q.asked) from holds q.spec q.imp before after line status text calm (comparison_refused once words from holds before after line q asks refused) files
 refused_calls_are_told once laws answered words from holds before after status text line (Making m makes quiet judges) refused calm =
-    let told = pair_told answered (asked_of m.options) (made_spec m.n) (made_imp m.n) line status judges.0 judges.1 (made_refused once words from holds before after line m makes refused) in
+    let told = pair_told answered (asked_of m.fill m.options) (made_spec m.n) (made_imp m.n) line status judges.0 judges.1 (made_refused once words from holds before after line m makes refused) in
     (told.0, alone_at_two m.n status judges.0 text told.0 judges.2 ∙ told.1)
 refused_calls_are_told once laws answered words from holds before after status text line (Refuting f asks files) refused calm =
     files_told Checks IsCheckRefusal (λ first second told n said checks is. laws.stays_refused first second n said told checks is) from holds f.cnf f.adds before after line status text calm (refutation_refused once words from holds before after line f asks refused) files
@@ -216,7 +216,7 @@ call_refusals_are_one once laws one words from holds before after line other ref
     by None e None h None g = words_refused once words from holds before after line e h g refused ∙ sym (words_refused once words from holds before after other e h g also)
     by (Some q) e p h r g = same_line (IsPairRefusal q.asked) (pair_one one q.asked) from holds q.spec q.imp before after line other
         (comparison_refused once words from holds before after line q e refused) (comparison_refused once words from holds before after other q e also)
-    by None e (Some m) h r g = pair_one one (asked_of m.options) (made_spec m.n) (made_imp m.n) line other
+    by None e (Some m) h r g = pair_one one (asked_of m.fill m.options) (made_spec m.n) (made_imp m.n) line other
         (made_refused once words from holds before after line m h refused) (made_refused once words from holds before after other m h also)
     by None e None h (Some f) g = same_line IsCheckRefusal (check_one laws) from holds f.cnf f.adds before after line other
         (refutation_refused once words from holds before after line f g refused) (refutation_refused once words from holds before after other f g also)

@@ -59,7 +59,7 @@ module _ (once : WordsAskOnce) (words : List (List ℕ)) (holds : List ℕ → O
   texts_given (Asked q asks files) is =
       let gave = files_gave (Judges q.asked) holds q.spec q.imp before after status text earlier known is files in
       Compared q.asked gave.0 gave.1 (FileTexts q asks refl gave.2)
-  texts_given (Making m makes quiet judges) is = Compared (asked_of m.options) (made_spec m.n) (made_imp m.n) (MadeTexts m makes refl refl refl)
+  texts_given (Making m makes quiet judges) is = Compared (asked_of m.fill m.options) (made_spec m.n) (made_imp m.n) (MadeTexts m makes refl refl refl)
   texts_given (Refuting f asks files) is =
       let gave = files_gave Checks holds f.cnf f.adds before after status text earlier known is files in
       Checked f gave.0 gave.1 (record { asks = asks; bytes = gave.2 })

@@ -1,23 +1,21 @@
 -- What statuses 0, 1, 3 and 4 say of the two files: the tables of the report make the designs agree, no contents of the boxes do and
 -- its vectors show mistakes, each check leaves the question open, or a read failed.
-use Rattle.std.proofs.Common.{◌≡◌, ◌<◌, ◌⊎◌, ℕ, ◌==◌, Bool, true, false, if◌then◌else◌, List, ◌++◌, length, Option, Some, None, arith, codes, option_map, refl, sym, ◌∙◌, ap, subst}
+use Rattle.std.proofs.Common.{◌≡◌, ◌<◌, ℕ, ◌==◌, Bool, true, false, if◌then◌else◌, List, ◌++◌, length, Option, Some, None, arith, codes, option_map, refl, sym, ◌∙◌, ap, subst}
 use Rattle.bb_outside.specs.Counts.{IsRead, Reads, Rose}
 use Rattle.bb_texts.specs.declared.limit.TheConstants.{READ_LIMIT}
 use Rattle.bb_ladder.specs.declared.asked.Asked.{Asked as TextsAsked}
-use Rattle.bb_cnf.specs.Clauses.{Formula}
-use Rattle.bb_cnf.specs.declared.clauses.Lit.{Lit}
 use Rattle.bb_make.specs.Adders.{made_imp, made_spec}
 use Rattle.bb_words.specs.Asked.{MadePair, Refutation, Request, asked, made_asked, rup_asked}
 use Rattle.bb_words.specs.Laws.{WordsAskOnce}
 use Rattle.bb_ladder.specs.Answers.{Question, AfterSpec, ImpUnread, ImpLong, BothRead, OfFiles, SpecUnread, SpecLong, SpecRead, MayAnswer, Usage, Asked, Making, Refuting, AreRefutationTexts, AreTexts, FileTexts, MadeTexts, Gives, IsReport, question, question_of}
 use Rattle.bb_ladder.specs.MadePairs.{JudgesMade, asked_of, head_by, head_of, made_head, made_text}
-use Rattle.bb_ladder.specs.Refutations.{AreRead, CheckLaws, Checks, FailsAt, IsRefutation, SaysWhether, no_line}
+use Rattle.bb_ladder.specs.Refutations.{CheckLaws, Checks, FailsAt, IsRefutation, no_line}
 use Rattle.bb_ladder.specs.ShownMistakes.{AreShown, ErrorsAreShown}
-use Rattle.bb_ladder.specs.Sources.{AreBytes, MayHaveFailed, Source}
-use Rattle.bb_ladder.specs.TextAnswers.{Judges, Refused, Judged, ErrorsRefute, RepairsFinish, OpenAnswersLeaveOpen, DecidedAreAnswered, StayingOpenAreAnswered}
-use Rattle.bb_ladder.specs.TextPairs.{AreRefuted, AreFinished, AreLeftOpen, AreStayingOpen, AreDecided}
-use Rattle.bb_ladder.proofs.SourceLemmas.{both_whole, failed_alone, failed_second, first_of_both, given_alone, given_never_long, given_second}
-use Rattle.bb_ladder.proofs.TextPairLaws.{report_status}
+use Rattle.bb_ladder.specs.Sources.{AreBytes, Source}
+use Rattle.bb_ladder.specs.TextAnswers.{Judges, Refused, Judged, ErrorsRefute, RepairsFill, RepairsFinish, OpenAnswersLeaveOpen}
+use Rattle.bb_ladder.specs.TextPairs.{AreRefuted, AreFinished, AreLeftOpen, IsFilled}
+use Rattle.bb_ladder.proofs.SourceLemmas.{both_whole}
+use Rattle.bb_ladder.proofs.AnswerLaws.{report_status}
 
 pub same_question : (a b : Question) → Some a ≡ Some b → a ≡ b
 same_question a b e = cc
@@ -116,10 +114,10 @@ module _ (judged : List ℕ → List ℕ → ℕ → List ℕ → Type 0) (so : 
 module _ (once : WordsAskOnce) (so : TextsAsked → List ℕ → List ℕ → List ℕ → Type 0) (n : ℕ) (not_refused : n ≡ 2 → ⊥) (not_unread : n ≡ 4 → ⊥)
     (judged : (asked : TextsAsked) (spec imp : List ℕ) (status : ℕ) (text : List ℕ) → Judges asked spec imp status text → status ≡ n → so asked spec imp text) where
   made_so : (words : List (List ℕ)) (status : ℕ) (text : List ℕ) (known m : MadePair) → JudgesMade known status text → made_asked words ≡ Some m → known ≡ m → status ≡ n
-      → IsReport so words (asked_of m.options) (made_spec m.n) (made_imp m.n) text
+      → IsReport so words (asked_of m.fill m.options) (made_spec m.n) (made_imp m.n) text
   made_so words status text known m judges makes same is =
       let of_m = subst (λ z. JudgesMade z status text) same judges in
-      (of_m.0, behind_head words m status of_m.0 text makes (λ two. not_refused (sym is ∙ two)) of_m.2, judged (asked_of m.options) (made_spec m.n) (made_imp m.n) status of_m.0 of_m.1 is)
+      (of_m.0, behind_head words m status of_m.0 text makes (λ two. not_refused (sym is ∙ two)) of_m.2, judged (asked_of m.fill m.options) (made_spec m.n) (made_imp m.n) status of_m.0 of_m.1 is)
 
   answer_so : (words : List (List ℕ)) (from : Source) (holds : List ℕ → Option (List ℕ)) (before after : Reads) (status : ℕ) (text : List ℕ) (asked : TextsAsked) (spec imp : List ℕ) → MayAnswer words holds before after status text → status ≡ n
       → AreTexts words from holds before after asked spec imp → IsReport so words asked spec imp text
@@ -134,7 +132,7 @@ module _ (once : WordsAskOnce) (so : TextsAsked → List ℕ → List ℕ → Li
   answer_so words from holds before after status text asked spec imp (Asked known e files) is (MadeTexts m makes a x y) = absurd (never_files_and_made once words known m e makes)
   answer_so words from holds before after status text asked spec imp (Making known e quiet judges) is (FileTexts q asks same both) = absurd (never_files_and_made once words q known asks e)
   answer_so words from holds before after status text asked spec imp (Making known e quiet judges) is (MadeTexts m makes a x y) =
-      subst (λ z. IsReport so words z spec imp text) (sym a) (subst (λ z. IsReport so words (asked_of m.options) z imp text) (sym x) (subst (λ z. IsReport so words (asked_of m.options) (made_spec m.n) z text) (sym y)
+      subst (λ z. IsReport so words z spec imp text) (sym a) (subst (λ z. IsReport so words (asked_of m.fill m.options) z imp text) (sym x) (subst (λ z. IsReport so words (asked_of m.fill m.options) (made_spec m.n) z text) (sym y)
       (made_so words status text known m judges makes (same_pair known m (sym e ∙ makes)) is)))
   answer_so words from holds before after status text asked spec imp (Refuting f e files) is (FileTexts q asks same both) = absurd (never_both once words q f asks e)
   answer_so words from holds before after status text asked spec imp (Refuting f e files) is (MadeTexts m makes a x y) = absurd (once.not_made_and_refuted words m f makes e)
@@ -154,6 +152,12 @@ module _ (once : WordsAskOnce) (so : List ℕ → List ℕ → List ℕ → Type
 pub repair_sound : WordsAskOnce → RepairsFinish → (words : List (List ℕ)) (from : Source) (holds : List ℕ → Option (List ℕ)) (before after : Reads) (status : ℕ) (text : List ℕ) (asked : TextsAsked) (spec imp : List ℕ) → MayAnswer words holds before after status text → status ≡ 0
     → AreTexts words from holds before after asked spec imp → IsReport AreFinished words asked spec imp text
 repair_sound once finish = answer_so once AreFinished 0 (λ e. omega (arith, e)) (λ e. omega (arith, e)) finish
+
+pub filled_sound : WordsAskOnce → RepairsFill → (words : List (List ℕ)) (from : Source) (holds : List ℕ → Option (List ℕ)) (before after : Reads) (status : ℕ) (text : List ℕ) (asked : TextsAsked) (spec imp : List ℕ) → MayAnswer words holds before after status text → status ≡ 0
+    → AreTexts words from holds before after asked spec imp → asked.fill ≡ true → IsReport IsFilled words asked spec imp text
+filled_sound once fills words from holds before after status text asked spec imp may zero texts filled =
+    let found = answer_so once (λ asked spec imp text. asked.fill ≡ true → IsFilled asked spec imp text) 0 (λ e. omega (arith, e)) (λ e. omega (arith, e)) fills words from holds before after status text asked spec imp may zero texts in
+    (found.0, found.1, found.2 filled)
 
 pub error_sound : WordsAskOnce → ErrorsRefute → (words : List (List ℕ)) (from : Source) (holds : List ℕ → Option (List ℕ)) (before after : Reads) (status : ℕ) (text : List ℕ) (asked : TextsAsked) (spec imp : List ℕ) → MayAnswer words holds before after status text → status ≡ 1
     → AreTexts words from holds before after asked spec imp → AreRefuted asked spec imp
@@ -181,7 +185,7 @@ no_sound once laws = refutation_so once (λ first second text. (n : ℕ) × (tex
 -- no text that is judged gives the status of a failed read
 never_unread : (asked : TextsAsked) (spec imp : List ℕ) (status : ℕ) (text : List ℕ) → Judges asked spec imp status text → status ≡ 4 → ⊥
 never_unread asked spec imp status text (Refused r is s t) four = omega (arith, s, four)
-never_unread asked spec imp status text (Judged p lines stands climb s t) four = report_status lines (sym s ∙ four)
+never_unread asked spec imp status text (Judged p lines d i are for climb s rest follows t) four = report_status lines (sym s ∙ four)
 
 -- a failed read is told only where one was counted
 files_unread : (judged : List ℕ → List ℕ → ℕ → List ℕ → Type 0) → ((spec imp : List ℕ) (status : ℕ) (text : List ℕ) → judged spec imp status text → status ≡ 4 → ⊥)
@@ -196,7 +200,7 @@ pub unread_rose : CheckLaws → (words : List (List ℕ)) (holds : List ℕ → 
     → Rose before.faults after.faults
 unread_rose laws words holds before after status text (Usage none no_pair neither c s t) four = absurd (omega (arith, s, four))
 unread_rose laws words holds before after status text (Asked q e files) four = files_unread (Judges q.asked) (never_unread q.asked) holds q.spec q.imp before after status text files four
-unread_rose laws words holds before after status text (Making m e quiet judges) four = absurd (never_unread (asked_of m.options) (made_spec m.n) (made_imp m.n) status judges.0 judges.1 four)
+unread_rose laws words holds before after status text (Making m e quiet judges) four = absurd (never_unread (asked_of m.fill m.options) (made_spec m.n) (made_imp m.n) status judges.0 judges.1 four)
 unread_rose laws words holds before after status text (Refuting f e files) four =
     files_unread Checks (λ first second n line checks. (laws.small first second n line checks).1) holds f.cnf f.adds before after status text files four
 
@@ -204,7 +208,7 @@ unread_rose laws words holds before after status text (Refuting f e files) four 
 pub made_is_read : WordsAskOnce → (words : List (List ℕ)) (m : MadePair) (holds : List ℕ → Option (List ℕ)) (before after : Reads) (status : ℕ) (text : List ℕ) → made_asked words ≡ Some m → MayAnswer words holds before after status text → status ≡ 4 → ⊥
 made_is_read once words m holds before after status text makes (Usage none no_pair neither c s t) four = omega (arith, s, four)
 made_is_read once words m holds before after status text makes (Asked q e files) four = never_files_and_made once words q m e makes
-made_is_read once words m holds before after status text makes (Making known e quiet judges) four = never_unread (asked_of known.options) (made_spec known.n) (made_imp known.n) status judges.0 judges.1 four
+made_is_read once words m holds before after status text makes (Making known e quiet judges) four = never_unread (asked_of known.fill known.options) (made_spec known.n) (made_imp known.n) status judges.0 judges.1 four
 made_is_read once words m holds before after status text makes (Refuting f e files) four = once.not_made_and_refuted words m f makes e
 
 -- no refutation is left open
@@ -229,62 +233,3 @@ open_compares once laws words holds before after status text (Asked q e files) t
     by : (o : Option Refutation) → rup_asked words ≡ o → o ≡ None
     by None same = refl
     by (Some f) same = absurd (never_both once words q f e same)
-
--- what is answered to two texts within the limit, where no read failed
-module _ (judged : List ℕ → List ℕ → ℕ → List ℕ → Type 0) (spec imp : List ℕ) (S : ℕ → Type 0) (answered : (status : ℕ) (text : List ℕ) → judged spec imp status text → S status)
-    (spec_short : length spec < READ_LIMIT) (imp_short : length imp < READ_LIMIT) (from : Source) (holds : List ℕ → Option (List ℕ)) (first second : List ℕ) (before after : Reads)
-    (both : AreBytes from holds before after first second spec imp) (calm : MayHaveFailed from before after → ⊥) where
-  after_answered : (between : Reads) (bytes : List ℕ) (status : ℕ) (text : List ℕ) → Gives (holds first) bytes → length bytes < READ_LIMIT → IsRead before between first (Some (Some bytes))
-      → AfterSpec judged (holds second) second between after bytes status text → S status
-  after_answered between bytes status text g short c (ImpUnread d rose s t) = absurd (calm (failed_second holds first second from before between after spec imp (Some bytes) both c d rose))
-  after_answered between bytes status text g short c (ImpLong long h l d s t) =
-      absurd (given_never_long from long imp (given_second holds first second from before between after spec imp long (Some bytes) both h c d) l imp_short)
-  after_answered between bytes status text g short c (BothRead read h low d j) =
-      let whole = both_whole holds first second from before between after spec imp bytes read both g short c h low d in
-      answered status text (subst (λ z. judged z imp status text) whole.0 (subst (λ z. judged bytes z status text) whole.1 j))
-
-  pub files_answered : (status : ℕ) (text : List ℕ) → OfFiles judged holds first second before after status text → S status
-  files_answered status text (SpecUnread c rose s t) =
-      absurd (calm (failed_alone holds first second from before after spec (first_of_both holds first second from before after spec imp both) c rose))
-  files_answered status text (SpecLong long g l c s t) =
-      absurd (given_never_long from long spec (given_alone holds first second from before after spec long (first_of_both holds first second from before after spec imp both) g c) l spec_short)
-  files_answered status text (SpecRead bytes between g short c a) = after_answered between bytes status text g short c a
-
--- the same of a comparison
-module _ (once : WordsAskOnce) (P : TextsAsked → List ℕ → List ℕ → Type 0) (S : ℕ → Type 0) (answered : (asked : TextsAsked) (spec imp : List ℕ) (status : ℕ) (text : List ℕ) → Judges asked spec imp status text → P asked spec imp → S status)
-    (asked : TextsAsked) (spec imp : List ℕ) (spec_short : length spec < READ_LIMIT) (imp_short : length imp < READ_LIMIT) (is : P asked spec imp) where
-  words_answered : (words : List (List ℕ)) (from : Source) (holds : List ℕ → Option (List ℕ)) (before after : Reads) (status : ℕ) (text : List ℕ) → AreTexts words from holds before after asked spec imp → (MayHaveFailed from before after → ⊥)
-      → MayAnswer words holds before after status text → S status
-  words_answered words from holds before after status text (FileTexts q asks same both) calm (Usage none no_pair neither c s t) = absurd (asks_no_comparison q (question_of words) none asks)
-  words_answered words from holds before after status text (FileTexts q asks same both) calm (Asked known e files) =
-      files_answered (Judges q.asked) spec imp S (λ n line j. answered q.asked spec imp n line j (subst (λ z. P z spec imp) same is)) spec_short imp_short from holds q.spec q.imp before after both calm status text
-      (subst (λ (z : Question). OfFiles (Judges z.asked) holds z.spec z.imp before after status text) (same_question known q (sym e ∙ asks)) files)
-  words_answered words from holds before after status text (FileTexts q asks same both) calm (Making m e quiet judges) = absurd (never_files_and_made once words q m asks e)
-  words_answered words from holds before after status text (FileTexts q asks same both) calm (Refuting f e files) = absurd (never_both once words q f asks e)
-  words_answered words from holds before after status text (MadeTexts m makes a x y) calm (Usage none no_pair neither c s t) = absurd (asks_no_pair m (made_asked words) no_pair makes)
-  words_answered words from holds before after status text (MadeTexts m makes a x y) calm (Asked q e files) = absurd (never_files_and_made once words q m e makes)
-  words_answered words from holds before after status text (MadeTexts m makes a x y) calm (Making known e quiet judges) =
-      let of_m = subst (λ z. JudgesMade z status text) (same_pair known m (sym e ∙ makes)) judges in
-      answered (asked_of m.options) (made_spec m.n) (made_imp m.n) status of_m.0 of_m.1 (subst (λ z. P (asked_of m.options) (made_spec m.n) z) y (subst (λ z. P (asked_of m.options) z imp) x (subst (λ z. P z spec imp) a is)))
-  words_answered words from holds before after status text (MadeTexts m makes a x y) calm (Refuting f e files) = absurd (once.not_made_and_refuted words m f makes e)
-
-pub decided_sound : WordsAskOnce → DecidedAreAnswered → (asked : TextsAsked) (spec imp : List ℕ) → length spec < READ_LIMIT → length imp < READ_LIMIT → AreDecided asked spec imp
-    → (words : List (List ℕ)) (from : Source) (holds : List ℕ → Option (List ℕ)) (before after : Reads) (status : ℕ) (text : List ℕ) → AreTexts words from holds before after asked spec imp → (MayHaveFailed from before after → ⊥)
-    → MayAnswer words holds before after status text → (status ≡ 0) ⊎ (status ≡ 1)
-decided_sound once = words_answered once AreDecided (λ status. (status ≡ 0) ⊎ (status ≡ 1))
-
-pub open_complete : WordsAskOnce → StayingOpenAreAnswered → (asked : TextsAsked) (spec imp : List ℕ) → length spec < READ_LIMIT → length imp < READ_LIMIT → AreStayingOpen asked spec imp
-    → (words : List (List ℕ)) (from : Source) (holds : List ℕ → Option (List ℕ)) (before after : Reads) (status : ℕ) (text : List ℕ) → AreTexts words from holds before after asked spec imp → (MayHaveFailed from before after → ⊥)
-    → MayAnswer words holds before after status text → status ≡ 3
-open_complete once = words_answered once AreStayingOpen (λ status. status ≡ 3)
-
--- and of a refutation
-pub refuted_sound : WordsAskOnce → CheckLaws → (f : Refutation) (first second : List ℕ) (formula : Formula) (adds : List (List Lit)) → length first < READ_LIMIT → length second < READ_LIMIT → AreRead first second formula adds
-    → (words : List (List ℕ)) (from : Source) (holds : List ℕ → Option (List ℕ)) (before after : Reads) (status : ℕ) (text : List ℕ) → AreRefutationTexts words from holds before after f first second → (MayHaveFailed from before after → ⊥)
-    → MayAnswer words holds before after status text → SaysWhether formula adds status
-refuted_sound once laws f first second formula adds short also read words from holds before after status text texts calm (Usage none no_pair neither c s t) = absurd (asks_no_refutation f (rup_asked words) neither texts.asks)
-refuted_sound once laws f first second formula adds short also read words from holds before after status text texts calm (Asked q e files) = absurd (never_both once words q f e texts.asks)
-refuted_sound once laws f first second formula adds short also read words from holds before after status text texts calm (Making m e quiet judges) = absurd (once.not_made_and_refuted words m f e texts.asks)
-refuted_sound once laws f first second formula adds short also read words from holds before after status text texts calm (Refuting known e files) =
-    files_answered Checks first second (SaysWhether formula adds) (λ n line checks. laws.decided first second formula adds n line read checks) short also from holds f.cnf f.adds before after texts.bytes calm status text
-    (subst (λ (z : Refutation). OfFiles Checks holds z.cnf z.adds before after status text) (same_refutation known f (sym e ∙ texts.asks)) files)

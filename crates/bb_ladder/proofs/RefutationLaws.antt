@@ -1,9 +1,9 @@
 -- The answer to a formula and clause additions is one, and says what it is meant to say.
-use Rattle.std.proofs.Common.{◌≡◌, ◌⊎◌, ◌++◌, ℕ, List, arith, codes, inl, inr, refl, sym, ◌∙◌, ap, subst}
+use Rattle.std.proofs.Common.{◌≡◌, ◌⊎◌, ℕ, List, arith, codes, inl, inr, refl, sym, ◌∙◌, ap, subst}
 use Rattle.std.specs.Prelude.{Result, Ok, Err, IfOk}
 use Rattle.bb_cnf.specs.declared.clauses.Lit.{Lit}
 use Rattle.bb_cnf.specs.Clauses.{Formula}
-use Rattle.bb_rup.specs.Additions.{IsFirstWithout, Succeed}
+use Rattle.bb_rup.specs.Additions.{IsFirstWithout}
 use Rattle.bb_rup.specs.Dimacs.{additions_of, dimacs_of}
 use Rattle.bb_rup.specs.Laws.{AdditionsLaws}
 use Rattle.bb_rup.specs.declared.fault.RupFault.{RupFault}

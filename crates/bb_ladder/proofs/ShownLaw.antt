@@ -1,7 +1,7 @@
 -- What checks find at a vector is a mistake of the two designs, and its text is that of the vector.
 use Rattle.std.proofs.Common.{◌≡◌, ◌++◌, ℕ, Bool, false, List, [], map, Option, None, Some, sym, ap, ap₂, ◌∙◌, arith}
 use Rattle.std.specs.Prelude.{slice_get, slice_index_or}
-use Rattle.std.proofs.lemmas.List.{get_or-map}
+use Rattle.std.proofs.lemmas.List.{append-nil, get_or-map}
 use Rattle.std.proofs.lemmas.List.Elements.{All-weaker}
 use Rattle.std.proofs.lemmas.Option.{get_or_from_slice_get, slice_get_within}
 use Rattle.bb_agree.specs.DesignAgreement.{IsPairFor}
@@ -17,14 +17,16 @@ use Rattle.bb_net.specs.Pairs.{NetPair}
 use Rattle.bb_options.specs.declared.options.Options.{Options}
 use Rattle.bb_rungs.specs.declared.line.Evidence.TheVariants as evidence
 use Rattle.bb_rungs.specs.declared.line.Line.{Line}
+use Rattle.bb_rungs.specs.declared.verdict.Verdict.{Verdict}
+use Rattle.bb_rungs.specs.declared.verdict.Verdict.TheVariants as verdicts
 use Rattle.bb_rungs.specs.declared.line.Said.{Said}
 use Rattle.bb_rungs.specs.declared.line.Said.TheVariants.{Error, Nothing, Repair, Nodes, Clauses, Wide}
-use Rattle.bb_rungs.specs.Reports.{input_line, output_line, told_output}
+use Rattle.bb_rungs.specs.Reports.{input_line, output_line, report_text, status_of, told_output, verdict_of}
 use Rattle.bb_rungs.specs.Laws.ShownVectors.{FoundVectorsAreMistakes, IsWrongAt, SaidIsMistake}
-use Rattle.bb_ladder.specs.declared.asked.Asked.{Asked}
-use Rattle.bb_ladder.specs.ShownMistakes.{shown_text, SaidShows, ShowsMistake, AreShown, ErrorsAreShown, ShownMistakesRefute}
-use Rattle.bb_ladder.specs.TextAnswers.{Judges, Refused, Judged}
+use Rattle.bb_ladder.specs.ShownMistakes.{shown_text, SaidShows, ShowsMistake, ErrorsAreShown, ShownMistakesRefute}
+use Rattle.bb_ladder.specs.TextAnswers.{Refused, Judged}
 use Rattle.bb_ladder.specs.TextPairs.{DesignsAreAllowed}
+use Rattle.bb_ladder.proofs.FollowLaws.{nothing_follows}
 
 -- what counts as a name behind the last output
 abbrev no_name : OutName
@@ -60,9 +62,15 @@ module _ (at_outputs : WrongOutputsAreMistakes) (at_vectors : WrongVectorsAreMis
   said_shown Clauses mistake = tt
   said_shown Wide mistake = tt
 
+one_alone : (v : Verdict) → status_of v ≡ 1 → v ≡ verdicts.Repairable → ⊥
+one_alone v one repairable = zero_and_one (status_of v) (ap status_of repairable) one
+  where
+    zero_and_one : (n : ℕ) → n ≡ 0 → n ≡ 1 → ⊥
+    zero_and_one n zero also = omega (arith, zero, also)
+
 pub errors_are_shown : DesignsAreAllowed → FoundVectorsAreMistakes → WrongOutputsAreMistakes → WrongVectorsAreMistakes → PairsAreNamed → ErrorsAreShown
 errors_are_shown allowed found at_outputs at_vectors named asked spec imp status text (Refused r is two t) one = absurd (omega (arith, two, one))
-errors_are_shown allowed found at_outputs at_vectors named asked spec imp status text (Judged p lines (s, i, are, for) climb same t) one =
+errors_are_shown allowed found at_outputs at_vectors named asked spec imp status text (Judged p lines s i are for climb same rest follows t) one =
     let shown = said_shown at_outputs at_vectors named asked.care asked.options.shared s i p (allowed asked.spec_top spec s are.spec_design) (allowed asked.imp_top imp i are.imp_design) for asked.options in
     record {
       s = s;
@@ -72,7 +80,7 @@ errors_are_shown allowed found at_outputs at_vectors named asked spec imp status
       pair = for;
       lines = lines;
       climb = climb;
-      whole = t;
+      whole = t ∙ ap (λ z. report_text p asked.options lines ++ z) (nothing_follows follows (λ repairable. one_alone (verdict_of lines) (sym same ∙ one) repairable)) ∙ append-nil (report_text p asked.options lines);
       shown = All-weaker (λ (line : Line). SaidIsMistake p line.said) (ShowsMistake asked.care s i p asked.options) (λ (line : Line). shown line.said) lines (found p asked.options lines climb);
     }
 

@@ -1,5 +1,5 @@
 -- What the reads of a call gave is what the files hold, up to the limit, or what is told of the reads.
-use Rattle.std.proofs.Common.{◌≡◌, ◌<◌, ◌≤◌, ℕ, List, [], ◌∷◌, ◌++◌, length, take, Option, Some, None, option_map, IfSome, arith, refl, sym, ◌∙◌, ap, subst, append_assoc}
+use Rattle.std.proofs.Common.{◌≡◌, ◌<◌, ◌≤◌, ℕ, List, [], ◌∷◌, ◌++◌, length, take, Option, Some, None, option_map, arith, sym, ◌∙◌, ap, subst, append_assoc}
 use Rattle.std.proofs.lemmas.List.{append_cancel_left, length-take, take_all}
 use Rattle.bb_outside.specs.Counts.{FileRead, IsRead, Reads, Rose}
 use Rattle.bb_texts.specs.declared.limit.TheConstants.{READ_LIMIT}

@@ -10,8 +10,8 @@ use Rattle.bb_rungs.specs.Reports.{status_of, verdict_of}
 use Rattle.bb_ladder.specs.declared.asked.Asked.{Asked}
 use Rattle.bb_ladder.specs.TextAnswers.{Judges, Refused, Judged, ErrorsRefute, RepairsFinish, OpenAnswersLeaveOpen, StayingOpenAreAnswered, AnswersMayDependOnSearch, StatusesAreOne, StatusesNeverClash, ReportsAreOne, ReportsBeginAsOne}
 use Rattle.bb_texts.specs.TextDesigns.{TextDesignsAreOne}
-use Rattle.bb_ladder.specs.TextPairs.{AreFinished, AreRefuted, AreLeftOpen, AreStayingOpen, NotFinishedAndRefuted, NotPairAndRefusal, TextPairsAreAlike}
-use Rattle.bb_ladder.proofs.TextPairLaws.{is_pair}
+use Rattle.bb_ladder.specs.TextPairs.{AreLeftOpen, AreStayingOpen, NotFinishedAndRefuted, NotPairAndRefusal, TextPairsAreAlike}
+use Rattle.bb_ladder.proofs.AnswerLaws.{is_pair}
 
 -- no two texts are both finished and refuted
 pub not_finished_and_refuted : TextDesignsAreOne → NotFinishedAndRefuted
@@ -53,10 +53,10 @@ module _ (clash : StatusesNeverClash) (stay : LeftOpenStaysOpen) (leave : OpenAn
 
 pub statuses_are_one : NotPairAndRefusal → StatusesNeverClash → LeftOpenStaysOpen → OpenAnswersLeaveOpen → StayingOpenAreAnswered → StatusesAreOne
 statuses_are_one apart clash stay leave answered asked spec imp status other text told (Refused r is s t) (Refused q be u v) fixed = s ∙ sym u
-statuses_are_one apart clash stay leave answered asked spec imp status other text told (Refused r is s t) (Judged q others stands climb u v) fixed = absurd (apart asked spec imp q r stands is)
-statuses_are_one apart clash stay leave answered asked spec imp status other text told (Judged p lines stands climb s t) (Refused r is u v) fixed = absurd (apart asked spec imp p r stands is)
-statuses_are_one apart clash stay leave answered asked spec imp status other text told (Judged p lines stands climb s t) (Judged q others there up u v) fixed =
-    same clash stay leave answered asked spec imp status other text told (Judged p lines stands climb s t) (Judged q others there up u v) fixed (verdict_of lines) (verdict_of others) s u
+statuses_are_one apart clash stay leave answered asked spec imp status other text told (Refused r is s t) (Judged q others e j be also up u more behind v) fixed = absurd (apart asked spec imp q r (e, j, be, also) is)
+statuses_are_one apart clash stay leave answered asked spec imp status other text told (Judged p lines d i are for climb s rest follows t) (Refused r is u v) fixed = absurd (apart asked spec imp p r (d, i, are, for) is)
+statuses_are_one apart clash stay leave answered asked spec imp status other text told (Judged p lines d i are for climb s rest follows t) (Judged q others e j be also up u more behind v) fixed =
+    same clash stay leave answered asked spec imp status other text told (Judged p lines d i are for climb s rest follows t) (Judged q others e j be also up u more behind v) fixed (verdict_of lines) (verdict_of others) s u
 
 pub reports_are_one : TextPairsAreAlike → AlikeReportsAreOne → ReportsAreOne
 reports_are_one alike law asked spec imp p q lines others stands also climb up fixed =

@@ -1,8 +1,6 @@
--- Two texts have one first refusal at most, and none where a pair stands for them; and what an answer says of the texts.
-use Rattle.std.proofs.Common.{◌≡◌, ◌⊎◌, ℕ, Bool, true, false, if◌then◌else◌, List, map, refl, sym, ap, subst, ◌∙◌, arith, inl, inr}
-use Rattle.std.specs.List.{AllZip, list_any}
+-- Two texts have one first refusal at most, and none where a pair stands for them.
+use Rattle.std.proofs.Common.{◌≡◌, ◌⊎◌, ℕ, Bool, true, false, if◌then◌else◌, List, Option, Some, None, refl, sym, ap, subst, ◌∙◌, inl, inr}
 use Rattle.std.specs.Prelude.{Result, Ok, Err, IfOk, IfErr, MatchResult}
-use Rattle.std.proofs.lemmas.List.Elements.{All-weaker}
 use Rattle.std.proofs.lemmas.Result.{IfErr-weaker}
 use Rattle.bb_net.specs.Flats.{FlatNet}
 use Rattle.bb_design.specs.Hierarchy.{Design}
@@ -11,22 +9,13 @@ use Rattle.bb_cells.specs.Stands.{StandsFor}
 use Rattle.bb_match.specs.declared.fault.MatchFault.{MatchFault}
 use Rattle.bb_match.specs.declared.fault.MatchFault.TheVariants as pair
 use Rattle.bb_agree.specs.Laws.AlikePairs.{PairsForDesignsAreAlike}
-use Rattle.bb_agree.specs.DesignAgreement.{AreSpelled, FittingTablesAreOfBoxes, IsPairFor, IsTableOf, NoTablesNoContents, PairsHaveBoxOrders, SpelledContentsAgree, TablesSpellContents}
+use Rattle.bb_agree.specs.DesignAgreement.{IsPairFor}
 use Rattle.bb_agree.specs.DesignFit.{IsRefusalFor}
 use Rattle.bb_agree.specs.Laws.DesignRefusals.{DesignRefusalsAreOne, NetsAreTakenAsDesigns, NotFitAndRefused, PairsStandExactlyForFitting}
 use Rattle.bb_match.specs.Refusals.{IsFirstRefusal}
-use Rattle.bb_net.specs.Kinds.{AreKinds, shown}
-use Rattle.bb_net.specs.Pairs.{NetPair, IsPair, box_key}
+use Rattle.bb_net.specs.Pairs.{NetPair}
 use Rattle.bb_parse.specs.Laws.{SourcesAreFormed}
-use Rattle.bb_rungs.specs.Laws.AlikePairs.{AlikePairsAreLeftOpen, AlikePairsStayOpen, AlikePairsAreDecided}
 use Rattle.bb_rungs.specs.declared.line.Line.{Line}
-use Rattle.bb_rungs.specs.declared.verdict.Verdict.{Verdict}
-use Rattle.bb_rungs.specs.declared.verdict.Verdict.TheVariants as verdicts
-use Rattle.bb_rungs.specs.Laws.{ErrorsExcludeTables, RepairsAgree, ClimbsLeaveOpen, StayingOpenIsTold, DecidersDecide}
-use Rattle.bb_rungs.specs.LeftOpen.{LeavesOpen, StaysOpen}
-use Rattle.bb_rungs.specs.Reports.{EndsWithTables, report_text, status_of, verdict_of}
-use Rattle.bb_options.specs.Rungs.{asked_rungs}
-use Rattle.bb_rungs.specs.Rungs.{IsClimb, is_error, is_repair}
 use Rattle.bb_ladder.specs.declared.answer.Answer.{Answer}
 use Rattle.bb_ladder.specs.declared.asked.Asked.{Asked}
 use Rattle.bb_texts.specs.declared.refusal.Refusal.{Refusal}
@@ -34,7 +23,10 @@ use Rattle.bb_texts.specs.declared.refusal.Refusal.TheVariants.{Spec, Imp, Pair,
 use Rattle.bb_texts.specs.declared.side_fault.SideFault.{SideFault}
 use Rattle.bb_texts.specs.declared.side_fault.SideFault.TheVariants as side
 use Rattle.bb_texts.specs.RefusalLines.{refusal_line}
-use Rattle.bb_ladder.specs.TextAnswers.{Judges, Refused, Judged, ErrorsRefute, RepairsFinish, OpenAnswersLeaveOpen, DecidedAreAnswered, StayingOpenAreAnswered, RefusedAreAnsweredOnce}
+use Rattle.bb_ladder.specs.declared.pair_texts.Made.{Made}
+use Rattle.bb_ladder.specs.FilledTexts.{MayFollow, NotAsked}
+use Rattle.bb_ladder.specs.Inside.Made.{IsChecked, IsMade, KeptFollows}
+use Rattle.bb_ladder.specs.TextAnswers.{Judges, Refused, Judged}
 use Rattle.bb_texts.specs.TextDesigns.{IsDesignOf, IsSideFault, TextDesignsAreOne, SideFaultsAreOne, NotDesignAndFault}
 use Rattle.bb_ladder.specs.TextPairs.{AreDesignsOf, IsRefusal, StandsForTexts, DesignsAreAllowed, RefusalsAreOne, NotPairAndRefusal, TextPairsAreAlike}
 use Rattle.bb_texts.specs.Inside.TextRefusals.{of_spec, of_imp, of_pair}
@@ -148,127 +140,44 @@ module _ (one : RefusalsAreOne) (apart : NotPairAndRefusal) (asked : Asked) (spe
   abbrev MayRefuse : Refusal → Type 0
   MayRefuse r = (r ≡ NoMemory) ⊎ IsRefusal asked spec imp r
 
-  pub only_pair : (result : Result NetPair Refusal) → IfErr result MayRefuse → (p : NetPair) → StandsForTexts asked spec imp p → IfErr result (λ r. r ≡ NoMemory)
+  pub only_pair : {A : Type 0} (result : Result A Refusal) → IfErr result MayRefuse → (p : NetPair) → StandsForTexts asked spec imp p → IfErr result (λ r. r ≡ NoMemory)
   only_pair result fails p stands = IfErr-weaker result MayRefuse (λ r. r ≡ NoMemory) by fails
     where
       by : (r : Refusal) → MayRefuse r → r ≡ NoMemory
       by r (inl none) = none
       by r (inr is) = absurd (apart asked spec imp p r stands is)
 
-  pub only_refusal : (result : Result NetPair Refusal) → IfOk result (StandsForTexts asked spec imp) → IfErr result MayRefuse → (first : Refusal) → IsRefusal asked spec imp first
-      → MatchResult result (λ p. ⊥) (λ r. (r ≡ first) ⊎ (r ≡ NoMemory))
-  only_refusal (Ok p) ok fails first is = apart asked spec imp p first ok is
+  pub only_refusal : (result : Result Made Refusal) → IfOk result (IsMade asked spec imp) → IfErr result MayRefuse → (first : Refusal) → IsRefusal asked spec imp first
+      → MatchResult result (λ made. ⊥) (λ r. (r ≡ first) ⊎ (r ≡ NoMemory))
+  only_refusal (Ok made) ok fails first is = apart asked spec imp made.pair first (ok.s, ok.i, ok.designs, ok.pair) is
   only_refusal (Err r) ok (inl none) first is = inr none
   only_refusal (Err r) ok (inr told) first is = inl (one asked spec imp r first told is)
 
 -- the answer to two texts
 
-pub stands_for_texts : (asked : Asked) (spec imp : List ℕ) (s i : Design) → IsDesignOf asked.spec_top spec s → IsDesignOf asked.imp_top imp i → (p : NetPair) → IsPairFor asked.care asked.options.shared s i p → StandsForTexts asked spec imp p
-stands_for_texts asked spec imp s i x y p for = (s, i, record { spec_design = x; imp_design = y }, for)
+pub both_refused : (asked : Asked) (spec imp : List ℕ) (r : Refusal) (s i : Design) (f g : FlatNet) → IsDesignOf asked.spec_top spec s → IsDesignOf asked.imp_top imp i → StandsFor s f → StandsFor i g
+    → (r ≡ NoMemory) ⊎ ((spec imp : List ℕ) (s i : Design) → AreDesignsOf asked spec imp s i → StandsFor s f → StandsFor i g → IsRefusal asked spec imp r) → (r ≡ NoMemory) ⊎ IsRefusal asked spec imp r
+both_refused asked spec imp r s i f g x y stands also (inl none) = inl none
+both_refused asked spec imp r s i f g x y stands also (inr each) = inr (each spec imp s i (record { spec_design = x; imp_design = y }) stands also)
 
-pub judged : {E : Type 0} (asked : Asked) (spec imp : List ℕ) (p : NetPair) → StandsForTexts asked spec imp p → (result : Result Answer E)
-    → IfOk result (λ a. (lines : List Line) × IsClimb p asked.options lines × (a.status ≡ status_of (verdict_of lines)) × (a.report.items ≡ report_text p asked.options lines)) → IfOk result (λ a. Judges asked spec imp a.status a.report.items)
-judged asked spec imp p stands (Ok a) (lines, climb, s, t) = Judged p lines stands climb s t
-judged asked spec imp p stands (Err e) h = h
+-- what is made of them: the pair of the two netlists, and the second of these where it is kept
+pub is_made : (asked : Asked) (spec imp : List ℕ) (s i : Design) → IsDesignOf asked.spec_top spec s → IsDesignOf asked.imp_top imp i → (made : Made) (f : FlatNet)
+    → (pair : IsPairFor asked.care asked.options.shared s i made.pair) × (pair.imp_net ≡ f) → made.imp ≡ (if asked.fill then Some f else None) → IsMade asked spec imp made
+is_made asked spec imp s i x y made f (pair, same) keeps =
+    record { s = s; i = i; designs = record { spec_design = x; imp_design = y }; pair = pair; kept = keeps ∙ ap (λ g. if asked.fill then Some g else None) (sym same) }
+
+-- what follows is what may follow
+kept_follows : (fill : Bool) (imp : Option FlatNet) (f : FlatNet) (kinds : List ℕ) (lines : List Line) (rest : List ℕ) → imp ≡ (if fill then Some f else None) → KeptFollows imp kinds lines rest → MayFollow fill f kinds lines rest
+kept_follows true imp f kinds lines rest same follows = subst (λ z. KeptFollows z kinds lines rest) same follows
+kept_follows false imp f kinds lines rest same follows = NotAsked refl (subst (λ z. KeptFollows z kinds lines rest) same follows)
+
+pub judged : {E : Type 0} (asked : Asked) (spec imp : List ℕ) (made : Made) → IsMade asked spec imp made → (result : Result Answer E) → IfOk result (IsChecked made asked.options) → IfOk result (λ a. Judges asked spec imp a.status a.report.items)
+judged asked spec imp made is (Ok a) checked = Judged made.pair checked.lines is.s is.i is.designs is.pair checked.climb checked.status checked.rest
+    (kept_follows asked.fill made.imp is.pair.imp_net made.pair.kinds checked.lines checked.rest is.kept checked.follows) checked.report
+judged asked spec imp made is (Err e) h = h
 
 pub refuses : {E : Type 0} (asked : Asked) (spec imp : List ℕ) (r : Refusal) → (r ≡ NoMemory) ⊎ IsRefusal asked spec imp r → (result : Result Answer E)
     → IfOk result (λ a. a.status ≡ 2) → IfOk result (λ a. a.report.items ≡ refusal_line r) → IfOk result (λ a. r ≡ NoMemory → ⊥) → IfOk result (λ a. Judges asked spec imp a.status a.report.items)
 refuses asked spec imp r (inl none) (Ok a) s t never = absurd (never none)
 refuses asked spec imp r (inr is) (Ok a) s t never = Refused r is s t
 refuses asked spec imp r may (Err e) s t never = s
-
--- what an answer says
-
-no_fourth : (v : Verdict) → status_of v ≡ 4 → ⊥
-no_fourth verdicts.Error e = omega (arith, e)
-no_fourth verdicts.Repairable e = omega (arith, e)
-no_fourth verdicts.Open e = omega (arith, e)
-
-pub report_status : (lines : List Line) → status_of (verdict_of lines) ≡ 4 → ⊥
-report_status lines = no_fourth (verdict_of lines)
-
--- the verdict by its status
-is_repairable : (v : Verdict) → status_of v ≡ 0 → v ≡ verdicts.Repairable
-is_repairable verdicts.Error e = absurd (omega (arith, e))
-is_repairable verdicts.Repairable e = refl
-is_repairable verdicts.Open e = absurd (omega (arith, e))
-
-is_open : (v : Verdict) → status_of v ≡ 3 → v ≡ verdicts.Open
-is_open verdicts.Error e = absurd (omega (arith, e))
-is_open verdicts.Repairable e = absurd (omega (arith, e))
-is_open verdicts.Open e = refl
-
-status_error : (lines : List Line) → status_of (verdict_of lines) ≡ 1 → list_any is_error lines ≡ true
-status_error lines e = by (list_any is_error lines) (list_any is_repair lines) e
-  where
-    by : (a b : Bool) → status_of (if a then verdicts.Error else (if b then verdicts.Repairable else verdicts.Open)) ≡ 1 → a ≡ true
-    by true b e = refl
-    by false true e = absurd (omega (arith, e))
-    by false false e = absurd (omega (arith, e))
-
-pub repairs_finish : DesignsAreAllowed → RepairsAgree → TablesSpellContents → SpelledContentsAgree → PairsStandExactlyForFitting → PairsHaveBoxOrders → FittingTablesAreOfBoxes → RepairsFinish
-repairs_finish allowed repairs spell agree exactly have_orders of_boxes asked spec imp status text (Refused r is s t) zero = absurd (omega (arith, s, zero))
-repairs_finish allowed repairs spell agree exactly have_orders of_boxes asked spec imp status text (Judged p lines (s, i, are, for) climb same t) zero =
-    let (tables, complete, ends) = repairs p asked.options lines for.kept climb (is_repairable (verdict_of lines) (sym same ∙ zero)) in
-    let s_allowed = allowed asked.spec_top spec s are.spec_design in
-    let i_allowed = allowed asked.imp_top imp i are.imp_design in
-    let shared = asked.options.shared in
-    let boxes = have_orders asked.care shared s i p i_allowed for in
-    let spelled = spell asked.care shared s i p s_allowed i_allowed for tables complete.fit in
-    record {
-      s = s;
-      i = i;
-      designs = are;
-      fit = (exactly asked.care shared s i s_allowed i_allowed).fit p for;
-      order = boxes.0;
-      ordered = boxes.1;
-      kinds = p.kinds;
-      keyed = subst (λ l. AreKinds (map (box_key shared) l) p.kinds) boxes.2 boxes.3;
-      tables = tables;
-      shapes = subst (λ l. AllZip IsTableOf (shown p.kinds l) tables) boxes.2 (of_boxes p tables for.kept complete.fit);
-      lines = subst (λ l. EndsWithTables shared (shown p.kinds l) text tables) boxes.2 (subst (λ z. EndsWithTables shared (shown p.kinds p.boxes) z tables) (sym t) ends);
-      contents = (spelled.0, spelled.1, subst (λ l. AreSpelled l p.kinds tables spelled.0) boxes.2 spelled.2);
-      agree = λ contents fits spells. agree asked.care shared s i p s_allowed i_allowed for tables complete.fit complete.agree contents fits (subst (λ l. AreSpelled l p.kinds tables contents) (sym boxes.2) spells);
-    }
-
-pub errors_refute : DesignsAreAllowed → ErrorsExcludeTables → NoTablesNoContents → PairsStandExactlyForFitting → ErrorsRefute
-errors_refute allowed excludes exactly fitting asked spec imp status text (Refused r is s t) one = absurd (omega (arith, s, one))
-errors_refute allowed excludes exactly fitting asked spec imp status text (Judged p lines (s, i, are, for) climb same t) one =
-    let none = excludes p asked.options lines for.kept climb (status_error lines (sym same ∙ one)) in
-    let good = allowed asked.spec_top spec s are.spec_design in
-    let also = allowed asked.imp_top imp i are.imp_design in
-    (s, i, are, (fitting asked.care asked.options.shared s i good also).fit p for, (exactly asked.care asked.options.shared s i p good also for).0 none)
-
-pub is_pair : (asked : Asked) (spec imp : List ℕ) (p : NetPair) → StandsForTexts asked spec imp p → IsPair p
-is_pair asked spec imp p (s, i, are, for) = for.kept
-
-pub open_answers_leave_open : TextPairsAreAlike → AlikePairsAreLeftOpen → ClimbsLeaveOpen → OpenAnswersLeaveOpen
-open_answers_leave_open alike stays leave asked spec imp status text (Refused r is s t) three = absurd (omega (arith, s, three))
-open_answers_leave_open alike stays leave asked spec imp status text (Judged p lines stands climb same t) three =
-    let left = leave p asked.options lines climb (is_open (verdict_of lines) (sym same ∙ three)) in
-    record {
-      pair = (p, stands);
-      left = λ q also. All-weaker (LeavesOpen p asked.options) (LeavesOpen q asked.options) (λ r. stays p q asked.options r (is_pair asked spec imp p stands) (is_pair asked spec imp q also) (alike asked spec imp p q stands also)) (asked_rungs asked.options) left;
-    }
-
--- the verdict of a status that is not open
-decided_status : (v : Verdict) → (v ≡ verdicts.Open → ⊥) → (status_of v ≡ 0) ⊎ (status_of v ≡ 1)
-decided_status verdicts.Error not_open = inr refl
-decided_status verdicts.Repairable not_open = inl refl
-decided_status verdicts.Open not_open = absurd (not_open refl)
-
-pub decided_are_answered : NotPairAndRefusal → TextPairsAreAlike → AlikePairsAreDecided → DecidersDecide → DecidedAreAnswered
-decided_are_answered apart alike decided decide asked spec imp status text (Refused r is s t) (q, also, decides) = absurd (apart asked spec imp q r also is)
-decided_are_answered apart alike decided decide asked spec imp status text (Judged p lines stands climb same t) (q, also, decides) =
-    let so = decided q p asked.options decides.0 (is_pair asked spec imp q also) (is_pair asked spec imp p stands) (alike asked spec imp q p also stands) decides.2 in
-    subst (λ n. (n ≡ 0) ⊎ (n ≡ 1)) (sym same) (decided_status (verdict_of lines) (decide p asked.options lines climb (decides.0, decides.1, so)))
-
-pub staying_open_are_answered : NotPairAndRefusal → TextPairsAreAlike → AlikePairsStayOpen → StayingOpenIsTold → StayingOpenAreAnswered
-staying_open_are_answered apart alike stay told asked spec imp status text (Refused r is s t) (q, also, stays) = absurd (apart asked spec imp q r also is)
-staying_open_are_answered apart alike stay told asked spec imp status text (Judged p lines stands climb same t) (q, also, stays) =
-    let so = All-weaker (StaysOpen q asked.options) (StaysOpen p asked.options) (λ r. stay q p asked.options r (is_pair asked spec imp q also) (is_pair asked spec imp p stands) (alike asked spec imp q p also stands)) (asked_rungs asked.options) stays in
-    same ∙ ap status_of (told p asked.options lines climb so)
-
-pub refused_are_answered_once : RefusalsAreOne → NotPairAndRefusal → RefusedAreAnsweredOnce
-refused_are_answered_once one apart asked spec imp r status text is (Refused q also s t) = (s, t ∙ ap refusal_line (one asked spec imp q r also is))
-refused_are_answered_once one apart asked spec imp r status text is (Judged p lines stands climb s t) = absurd (apart asked spec imp p r stands is)

@@ -1,5 +1,5 @@
 -- What the program may answer: a status and a text, given the words, what the files hold, and the reads before and after.
-use Rattle.std.specs.Prelude.{◌≡◌, ℕ, ◌<◌, List, ◌++◌, length, take, Option, None, Some, option_map, codes, IfSome}
+use Rattle.std.specs.Prelude.{◌≡◌, ℕ, ◌<◌, true, List, ◌++◌, length, take, Option, None, Some, option_map, codes, IfSome}
 use Rattle.bb_outside.specs.Counts.{IsRead, Reads, Rose}
 use Rattle.bb_texts.specs.declared.limit.TheConstants.{READ_LIMIT}
 use Rattle.bb_ladder.specs.declared.asked.Asked.{Asked as TextsAsked}
@@ -7,7 +7,7 @@ use Rattle.bb_ladder.specs.Refutations.{Checks}
 use Rattle.bb_ladder.specs.ShownMistakes.{AreShown}
 use Rattle.bb_ladder.specs.Sources.{AreBytes, Source}
 use Rattle.bb_ladder.specs.TextAnswers.{Judges}
-use Rattle.bb_ladder.specs.TextPairs.{AreFinished, AreLeftOpen, AreRefuted}
+use Rattle.bb_ladder.specs.TextPairs.{AreFinished, AreLeftOpen, AreRefuted, IsFilled}
 use Rattle.bb_make.specs.Adders.{made_imp, made_spec}
 use Rattle.bb_ladder.specs.MadePairs.{JudgesMade, asked_of, head_of}
 use Rattle.bb_words.specs.Asked.{MadePair, Refutation, Request, asked, made_asked, rup_asked}
@@ -19,7 +19,7 @@ pub record Question : Type 0 where
   pub asked : TextsAsked
 
 abbrev pub question : Request → Question
-question r = record { spec = r.spec; imp = r.imp; asked = record { spec_top = r.top_spec; imp_top = r.top_imp; care = r.care; options = r.options } }
+question r = record { spec = r.spec; imp = r.imp; asked = record { spec_top = r.top_spec; imp_top = r.top_imp; care = r.care; fill = r.fill; options = r.options } }
 
 -- words that do not compare two files ask nothing of them
 abbrev pub question_of : List (List ℕ) → Option Question
@@ -51,7 +51,7 @@ pub data MayAnswer (words : List (List ℕ)) (holds : List ℕ → Option (List 
 -- the words ask this of two texts: those of the two files that they name, held or given, or those of a made pair
 pub data AreTexts (words : List (List ℕ)) (from : Source) (holds : List ℕ → Option (List ℕ)) (before after : Reads) (asked : TextsAsked) (spec imp : List ℕ) : Type 0 where
   FileTexts : (q : Question) → question_of words ≡ Some q → asked ≡ q.asked → AreBytes from holds before after q.spec q.imp spec imp → AreTexts words from holds before after asked spec imp
-  MadeTexts : (m : MadePair) → made_asked words ≡ Some m → asked ≡ asked_of m.options → spec ≡ made_spec m.n → imp ≡ made_imp m.n → AreTexts words from holds before after asked spec imp
+  MadeTexts : (m : MadePair) → made_asked words ≡ Some m → asked ≡ asked_of m.fill m.options → spec ≡ made_spec m.n → imp ≡ made_imp m.n → AreTexts words from holds before after asked spec imp
 
 -- the words ask for a refutation, and the two texts are those of its files, held or given
 pub record AreRefutationTexts (words : List (List ℕ)) (from : Source) (holds : List ℕ → Option (List ℕ)) (before after : Reads) (f : Refutation) (first second : List ℕ) : Type 0 where
@@ -66,4 +66,4 @@ IsReport Says words asked spec imp text = (report : List ℕ) × (text ≡ head_
 abbrev pub AnswersSpeakOfTexts : Type 0
 AnswersSpeakOfTexts = (words : List (List ℕ)) (from : Source) (holds : List ℕ → Option (List ℕ)) (before after : Reads) (status : ℕ) (text : List ℕ) (asked : TextsAsked) (spec imp : List ℕ)
     → MayAnswer words holds before after status text → AreTexts words from holds before after asked spec imp
-    → (status ≡ 0 → IsReport AreFinished words asked spec imp text) × (status ≡ 1 → AreRefuted asked spec imp × IsReport AreShown words asked spec imp text) × (status ≡ 3 → AreLeftOpen asked spec imp)
+    → (status ≡ 0 → IsReport AreFinished words asked spec imp text) × (status ≡ 0 → asked.fill ≡ true → IsReport IsFilled words asked spec imp text) × (status ≡ 1 → AreRefuted asked spec imp × IsReport AreShown words asked spec imp text) × (status ≡ 3 → AreLeftOpen asked spec imp)

@@ -32,7 +32,7 @@ IsPairRefusal asked spec imp line = (refusal : Refusal) × IsRefusal asked spec 
 pub data IsCallRefusal (words : List (List ℕ)) (from : Source) (holds : List ℕ → Option (List ℕ)) (before after : Reads) (line : List ℕ) : Type 0 where
   OfWords : question_of words ≡ None → made_asked words ≡ None → rup_asked words ≡ None → line ≡ codes "refused usage\n" → IsCallRefusal words from holds before after line
   OfComparison : (q : Question) → question_of words ≡ Some q → IsFilesRefusal (IsPairRefusal q.asked) from holds before after q.spec q.imp line → IsCallRefusal words from holds before after line
-  OfMadePair : (m : MadePair) → made_asked words ≡ Some m → IsPairRefusal (asked_of m.options) (made_spec m.n) (made_imp m.n) line → IsCallRefusal words from holds before after line
+  OfMadePair : (m : MadePair) → made_asked words ≡ Some m → IsPairRefusal (asked_of m.fill m.options) (made_spec m.n) (made_imp m.n) line → IsCallRefusal words from holds before after line
   OfRefutation : (f : Refutation) → rup_asked words ≡ Some f → IsFilesRefusal IsCheckRefusal from holds before after f.cnf f.adds line → IsCallRefusal words from holds before after line
 
 -- it is told what is read of two files: of the first, and of the second where the first is not too long

@@ -1,2 +1,3 @@
 -- What the code says to itself: no clause of the top call rests on it.
+pub mod Made
 pub mod Tasks

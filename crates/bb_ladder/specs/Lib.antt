@@ -1,4 +1,5 @@
 pub mod TextPairs
+pub mod FilledTexts
 pub mod TextAnswers
 pub mod ShownMistakes
 pub mod Refutations

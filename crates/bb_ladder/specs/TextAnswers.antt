@@ -1,6 +1,9 @@
--- What may be answered to two texts: the line of their first refusal, or the report of the checks of a pair that stands for them.
-use Rattle.std.specs.Prelude.{◌≡◌, ◌⊎◌, ℕ, List}
+-- What may be answered to two texts: the line of their first refusal, or the report of the checks of a pair that stands for them, and
+-- behind it what may follow.
+use Rattle.std.specs.Prelude.{◌≡◌, ◌⊎◌, ℕ, true, false, List, ◌++◌}
 use Rattle.std.specs.List.{AllZip}
+use Rattle.bb_agree.specs.DesignAgreement.{IsPairFor}
+use Rattle.bb_design.specs.Hierarchy.{Design}
 use Rattle.bb_net.specs.Pairs.{NetPair}
 use Rattle.bb_rungs.specs.Laws.AlikePairs.{AreToldAlike, AreToldAlikeBefore}
 use Rattle.bb_rungs.specs.Laws.Searches.{MayDependOnSearch}
@@ -10,11 +13,13 @@ use Rattle.bb_rungs.specs.Rungs.{IsClimb}
 use Rattle.bb_ladder.specs.declared.asked.Asked.{Asked}
 use Rattle.bb_texts.specs.declared.refusal.Refusal.{Refusal}
 use Rattle.bb_texts.specs.RefusalLines.{refusal_line}
-use Rattle.bb_ladder.specs.TextPairs.{IsRefusal, StandsForTexts, AreRefuted, AreFinished, AreLeftOpen, AreStayingOpen, AreDecided}
+use Rattle.bb_ladder.specs.FilledTexts.{MayFollow}
+use Rattle.bb_ladder.specs.TextPairs.{AreDesignsOf, IsRefusal, StandsForTexts, AreRefuted, AreFinished, AreLeftOpen, AreStayingOpen, AreDecided, IsFilled}
 
 pub data Judges (asked : Asked) (spec imp : List ℕ) (status : ℕ) (text : List ℕ) : Type 0 where
   Refused : (refusal : Refusal) → IsRefusal asked spec imp refusal → status ≡ 2 → text ≡ refusal_line refusal → Judges asked spec imp status text
-  Judged : (p : NetPair) (lines : List Line) → StandsForTexts asked spec imp p → IsClimb p asked.options lines → status ≡ status_of (verdict_of lines) → text ≡ report_text p asked.options lines → Judges asked spec imp status text
+  Judged : (p : NetPair) (lines : List Line) (s i : Design) → AreDesignsOf asked spec imp s i → (pair : IsPairFor asked.care asked.options.shared s i p) → IsClimb p asked.options lines → status ≡ status_of (verdict_of lines)
+      → (rest : List ℕ) → MayFollow asked.fill pair.imp_net p.kinds lines rest → text ≡ report_text p asked.options lines ++ rest → Judges asked spec imp status text
 
 -- laws that a reader expects
 
@@ -25,6 +30,18 @@ ErrorsRefute = (asked : Asked) (spec imp : List ℕ) (status : ℕ) (text : List
 -- a design is finished only with tables whose contents make the two agree
 abbrev pub RepairsFinish : Type 0
 RepairsFinish = (asked : Asked) (spec imp : List ℕ) (status : ℕ) (text : List ℕ) → Judges asked spec imp status text → status ≡ 0 → AreFinished asked spec imp text
+
+-- and where the filled implementation is asked for, behind the verdict stands a text that finishes the design, or why there is none
+abbrev pub RepairsFill : Type 0
+RepairsFill = (asked : Asked) (spec imp : List ℕ) (status : ℕ) (text : List ℕ) → Judges asked spec imp status text → status ≡ 0 → asked.fill ≡ true → IsFilled asked spec imp text
+
+-- the filled implementation only adds to an answer: up to the verdict each is one without it, and each without it is the front of one with it
+pub record AddsOnly (asked : Asked) (spec imp : List ℕ) (status : ℕ) : Type 0 where
+  pub front : (text : List ℕ) → Judges asked spec imp status text → (report : List ℕ) × (rest : List ℕ) × (text ≡ report ++ rest) × Judges (record asked { fill = false }) spec imp status report
+  pub further : (report : List ℕ) → Judges (record asked { fill = false }) spec imp status report → (rest : List ℕ) × Judges (record asked { fill = true }) spec imp status (report ++ rest)
+
+abbrev pub FillingOnlyAdds : Type 0
+FillingOnlyAdds = (asked : Asked) (spec imp : List ℕ) (status : ℕ) → AddsOnly asked spec imp status
 
 -- the question is left open only where each check that is asked for leaves it open
 abbrev pub OpenAnswersLeaveOpen : Type 0

@@ -1,7 +1,7 @@
 -- Two texts, that of a specification and that of an implementation with boxes, and what is asked of them: their designs, or the first
 -- thing for which they are refused; the pair that stands for them; and whether contents of the boxes agree. What is wrong with the
 -- specification comes before what is wrong with the implementation, and that before what is wrong with the two as a pair.
-use Rattle.std.specs.Prelude.{◌≡◌, ℕ, List, map, Option}
+use Rattle.std.specs.Prelude.{◌≡◌, ℕ, false, List, [], ◌++◌, map, Option, codes}
 use Rattle.std.specs.List.{AllZip}
 use Rattle.bb_alike.specs.Laws.Alike.{ArePairsAlike}
 use Rattle.bb_bits.specs.Contents.{Contents}
@@ -17,6 +17,7 @@ use Rattle.bb_net.specs.Kinds.{AreKinds, shown}
 use Rattle.bb_net.specs.Pairs.{NetPair, box_key}
 use Rattle.bb_rungs.specs.LeftOpen.{AllLeaveOpen, AllStayOpen, SomeDecides}
 use Rattle.bb_rungs.specs.Reports.{EndsWithTables}
+use Rattle.bb_ladder.specs.FilledTexts.{HasNoLine, StandsBehind}
 use Rattle.bb_ladder.specs.declared.asked.Asked.{Asked}
 use Rattle.bb_texts.specs.declared.refusal.Refusal.{Refusal}
 use Rattle.bb_texts.specs.declared.refusal.Refusal.TheVariants.{Spec, Imp, Pair, NoMemory}
@@ -48,9 +49,10 @@ pub record AreLeftOpen (asked : Asked) (spec imp : List ℕ) : Type 0 where
   pub pair : (p : NetPair) × StandsForTexts asked spec imp p
   pub left : (p : NetPair) → StandsForTexts asked spec imp p → AllLeaveOpen p asked.options
 
--- they fit, and the text ends with lines of tables that spell contents of the boxes, in the order of their dependence, each of which has
+-- they fit, and the text has lines of tables, the last before its verdict, that spell contents of the boxes, in the order of their dependence, each of which has
 -- the table of its kind: its own or, where boxes of one module share their contents, that of its module. There are such contents that may
--- fill the boxes, and with all that fit these and that the tables spell the two agree where agreement is asked
+-- fill the boxes, and with all that fit these and that the tables spell the two agree where agreement is asked. Behind the verdict no line is that of a table, and nothing stands there
+-- unless the filled implementation is asked for
 pub record AreFinished (asked : Asked) (spec imp text : List ℕ) : Type 0 where
   pub s : Design
   pub i : Design
@@ -62,9 +64,22 @@ pub record AreFinished (asked : Asked) (spec imp text : List ℕ) : Type 0 where
   pub keyed : AreKinds (map (box_key asked.options.shared) (map (box_texts i) order)) kinds
   pub tables : List TableBits
   pub shapes : AllZip IsTableOf (shown kinds (map (box_texts i) order)) tables
-  pub lines : EndsWithTables asked.options.shared (shown kinds (map (box_texts i) order)) text tables
+  pub report : List ℕ
+  pub rest : List ℕ
+  pub whole : text ≡ report ++ rest
+  pub lines : EndsWithTables asked.options.shared (shown kinds (map (box_texts i) order)) report tables
+  pub behind : HasNoLine (codes "table") rest
+  pub nothing : asked.fill ≡ false → rest ≡ []
   pub contents : (contents : Contents) × MayFill asked.options.shared i contents × AreSpelled (map (box_texts i) order) kinds tables contents
   pub agree : (contents : Contents) → FitDesign i contents → AreSpelled (map (box_texts i) order) kinds tables contents → ContentsAgree asked.care s i contents
+
+-- contents that fill the boxes as the tables spell
+abbrev pub Fills : {asked : Asked} {spec imp text : List ℕ} → AreFinished asked spec imp text → Contents → Type 0
+Fills finished contents = FitDesign finished.i contents × AreSpelled (map (box_texts finished.i) finished.order) finished.kinds finished.tables contents
+
+-- the text says that the two are finished, and behind its verdict stands the implementation with such contents as one module, or why it does not
+abbrev pub IsFilled : Asked → List ℕ → List ℕ → List ℕ → Type 0
+IsFilled asked spec imp text = (finished : AreFinished asked spec imp text) × StandsBehind asked spec finished.i (Fills finished) finished.rest
 
 -- a pair stands for the two for which a check that is asked for decides
 abbrev pub AreDecided : Asked → List ℕ → List ℕ → Type 0

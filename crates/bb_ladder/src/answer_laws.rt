@@ -4,6 +4,7 @@ ghost use Rattle.bb_ladder.specs.Laws.SomeAnswers.{TextsAreJudged};
 
 use crate::text_laws::designs_are_allowed;
 use bb_agree::laws::{fit_or_refused, fitting_designs_have_pairs};
+use bb_fill::answers_exist;
 use bb_rungs::climbs_exist;
 use bb_texts::texts_have_designs;
 
@@ -16,4 +17,5 @@ pub fn texts_are_judged()
     fit_or_refused();
     fitting_designs_have_pairs();
     climbs_exist();
+    answers_exist();
 }

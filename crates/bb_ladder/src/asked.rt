@@ -13,6 +13,8 @@ pub struct Asked {
     /// The text of the care output: a bit of an output port of the specification, which is not compared; the other outputs and the next
     /// states have to agree where it is 1. Without one they have to agree everywhere.
     pub care: Option<Name>,
+    /// Whether the filled implementation is to stand behind the verdict that the design can be finished.
+    pub fill: bool,
     /// The checks and their bounds.
     pub options: Options,
 }

@@ -1,24 +1,22 @@
 //! The verdict on two texts: they are made into a pair, and the checks that are asked for are run on it.
 
-ghost use Rattle.std.specs.Prelude.{◌≡◌, ◌<◌, ◌⊎◌, List, length, IfOk};
-ghost use Rattle.bb_rungs.specs.declared.line.Line.{Line};
-ghost use Rattle.bb_rungs.specs.Reports.{report_text, status_of, verdict_of};
+ghost use Rattle.std.specs.Prelude.{◌≡◌, ◌<◌, ◌⊎◌, true, length, IfOk, IfSome};
 ghost use Rattle.bb_options.specs.Rungs.{AreBounds};
-ghost use Rattle.bb_rungs.specs.Rungs.{IsClimb};
 ghost use Rattle.bb_texts.specs.declared.limit.TheConstants.{READ_LIMIT};
 ghost use Rattle.bb_texts.specs.declared.refusal.Refusal.{Refusal};
 ghost use Rattle.bb_texts.specs.RefusalLines.{refusal_line};
+ghost use Rattle.bb_ladder.specs.Inside.Made.{CanBeFilled, IsChecked};
 ghost use Rattle.bb_ladder.specs.ShownMistakes.{AreShown};
 ghost use Rattle.bb_ladder.specs.TextAnswers.{Judges};
-ghost use Rattle.bb_ladder.specs.TextPairs.{AreDecided, AreFinished, AreLeftOpen, AreRefuted, AreStayingOpen, IsRefusal};
+ghost use Rattle.bb_ladder.specs.TextPairs.{AreDecided, AreFinished, AreLeftOpen, AreRefuted, AreStayingOpen, IsFilled, IsRefusal};
 
 use crate::answer::Answer;
 use crate::asked::Asked;
-use crate::pair_texts::{keeps, pair_of};
-use crate::text_laws::answers_are_meant;
+use crate::filling::put_rest;
+use crate::pair_texts::{Made, keeps, pair_of};
+use crate::text_laws::{answers_are_meant, made_can_be_filled};
 use bb_bits::NoMemory;
-use bb_net::Pair;
-use bb_rungs::{Options, climb, climbs_are_told, report, verdict_of};
+use bb_rungs::{Options, climb, climbs_are_told, given_tables_agree, report, verdict_of};
 use bb_texts::{Refusal, push_refusal};
 use std::alloc::Global;
 
@@ -33,16 +31,20 @@ fn refuse(alloc: Global, refusal: &Refusal) -> Result<Answer, NoMemory>
     Ok(Answer { status: 2, report })
 }
 
-// The answer of the checks of a pair.
-fn check(alloc: Global, pair: &Pair, options: &Options) -> Result<Answer, NoMemory>
+// The answer of the checks of a pair, and what follows it.
+fn check(alloc: Global, made: &Made, options: &Options) -> Result<Answer, NoMemory>
     requires bounds { AreBounds options.now }
-    ensures answer { IfOk result (λ answer. (lines : List Line) × IsClimb pair.now options.now lines
-        × (answer.status ≡ status_of (verdict_of lines)) × (answer.report.items ≡ report_text pair.now options.now lines)) }
+    requires kept { IfSome made.now.imp (CanBeFilled made.now.pair) }
+    ensures answer { IfOk result (IsChecked made.now options.now) }
 {
     climbs_are_told();
-    keeps(pair);
-    let lines = climb(alloc, pair, options)?;
-    let text = report(alloc, pair, options, &lines)?;
+    given_tables_agree();
+    keeps(&made.pair);
+    let lines = climb(alloc, &made.pair, options)?;
+    let mut text = report(alloc, &made.pair, options, &lines)?;
+    if let Some(imp) = &made.imp {
+        put_rest(alloc, &mut text, imp, made.pair.kinds(), &lines)?;
+    }
     Ok(Answer {
         status: verdict_of(&lines).status(),
         report: text,
@@ -56,15 +58,17 @@ fn answer(alloc: Global, spec: &[u8], imp: &[u8], asked: &Asked) -> Result<Answe
     requires bounds { AreBounds asked.now.options }
     ensures answer { IfOk result (λ answer. Judges asked.now spec.now imp.now answer.status answer.report.items) }
 {
+    made_can_be_filled();
     match pair_of(alloc, spec, imp, asked) {
-        Ok(pair) => check(alloc, &pair, &asked.options),
+        Ok(made) => check(alloc, &made, &asked.options),
         Err(refusal) => refuse(alloc, &refusal),
     }
 }
 
 /// What is answered to the text of the specification and that of the implementation, whoever read them.
 ///
-/// Status 0 says that the tables at the end of the report make the two agree where that is asked, status 1 that no contents of the boxes
+/// Status 0 says that the tables at the end of the report make the two agree where that is asked, and so does the text behind the line `fill`, where
+/// the filled implementation is asked for and one is printed; status 1 that no contents of the boxes
 /// do and that the vectors of the report show mistakes, status 3 that each check that is asked for leaves the question open, and status 2 that
 /// the line is their first refusal. Where a check that is asked for decides, the status is 0 or 1, where the question stays open with
 /// each, it is 3, and where the two have a refusal, it is 2.
@@ -78,6 +82,7 @@ pub fn judge_pair(alloc: Global, spec: &[u8], imp: &[u8], asked: &Asked) -> Resu
     requires bounds { AreBounds asked.now.options }
     ensures answer { IfOk result (λ answer. Judges asked.now spec.now imp.now answer.status answer.report.items) }
     ensures repairable { IfOk result (λ answer. answer.status ≡ 0 → AreFinished asked.now spec.now imp.now answer.report.items) }
+    ensures filled { IfOk result (λ answer. answer.status ≡ 0 → asked.now.fill ≡ true → IsFilled asked.now spec.now imp.now answer.report.items) }
     ensures error { IfOk result (λ answer. answer.status ≡ 1 → AreRefuted asked.now spec.now imp.now) }
     ensures shown { IfOk result (λ answer. answer.status ≡ 1 → AreShown asked.now spec.now imp.now answer.report.items) }
     ensures left_open { IfOk result (λ answer. answer.status ≡ 3 → AreLeftOpen asked.now spec.now imp.now) }

@@ -4,6 +4,7 @@
 mod answer;
 pub mod answer_laws;
 mod asked;
+mod filling;
 mod judging;
 mod making;
 mod pair_texts;
@@ -20,7 +21,7 @@ pub use bb_texts::{
     texts_have_designs,
 };
 pub use judging::judge_pair;
-pub use pair_texts::pair_of;
+pub use pair_texts::{Made, pair_of};
 pub use quiet::run_quietly;
 pub use refuting::{judge_refutation, refutations_are_answered};
 pub use running::run;

@@ -15,13 +15,14 @@ use itoa::Buffer;
 use std::alloc::Global;
 
 // What is asked of the two texts.
-fn asked_of(alloc: Global, options: &Options) -> Result<Asked, NoMemory>
-    ensures asked { IfOk result (λ asked. asked ≡ asked_of options.now) }
+fn asked_of(alloc: Global, fill: bool, options: &Options) -> Result<Asked, NoMemory>
+    ensures asked { IfOk result (λ asked. asked ≡ asked_of fill options.now) }
 {
     Ok(Asked {
         spec_top: Some(Name::of(alloc, b"add")?),
         imp_top: Some(Name::of(alloc, b"add")?),
         care: None,
+        fill,
         options: *options,
     })
 }
@@ -62,13 +63,13 @@ fn headed(alloc: Global, n: u32, answer: Answer) -> Result<Answer, NoMemory>
 /// # Errors
 ///
 /// Want of memory alone.
-pub fn judge_made(alloc: Global, n: u32, options: &Options) -> Result<Answer, NoMemory>
+pub fn judge_made(alloc: Global, n: u32, fill: bool, options: &Options) -> Result<Answer, NoMemory>
     requires width { (1 ≤ n) × (n ≤ 256) }
     requires bounds { AreBounds options.now }
-    ensures answer { IfOk result (λ answer. JudgesMade (record { n = n; options = options.now }) answer.status answer.report.items) }
+    ensures answer { IfOk result (λ answer. JudgesMade (record { n = n; fill = fill; options = options.now }) answer.status answer.report.items) }
 {
     read_limit_is();
-    let asked = asked_of(alloc, options)?;
+    let asked = asked_of(alloc, fill, options)?;
     let (spec, imp) = texts(alloc, n)?;
     let answer = judge_pair(alloc, &spec, &imp, &asked)?;
     headed(alloc, n, answer)

@@ -1,5 +1,5 @@
 //! The top call: the words are read, then the two files, or two texts are made, and the report is made whole before its first byte is written.
-ghost use Rattle.std.specs.Prelude.{◌≡◌, ◌≤◌, ◌<◌, ◌⊎◌, ◌++◌, ℕ, List, None, Some, codes, length, map, take, string_bytes, IfOk};
+ghost use Rattle.std.specs.Prelude.{◌≡◌, ◌≤◌, ◌<◌, ◌⊎◌, ◌++◌, ℕ, true, List, None, Some, codes, length, map, take, string_bytes, IfOk};
 ghost use Rattle.std.specs.Io.KnownBytes.{Appends, Keeps};
 ghost use Rattle.bb_outside.specs.Counts.{FileRead, Rose};
 ghost use Rattle.bb_cnf.specs.Clauses.{Formula};
@@ -15,7 +15,7 @@ ghost use Rattle.bb_ladder.specs.Refutations.{AreRead, FailsAt, IsRefutation, Sa
 ghost use Rattle.bb_ladder.specs.ShownMistakes.{AreShown};
 ghost use Rattle.bb_ladder.specs.Sources.{MayHaveFailed, Source};
 ghost use Rattle.bb_ladder.specs.Inside.Tasks.{IsBounded, judged_by};
-ghost use Rattle.bb_ladder.specs.TextPairs.{AreDecided, AreFinished, AreLeftOpen, AreRefuted, AreStayingOpen};
+ghost use Rattle.bb_ladder.specs.TextPairs.{AreDecided, AreFinished, AreLeftOpen, AreRefuted, AreStayingOpen, IsFilled};
 
 use crate::answer::{Answer, say};
 use crate::judging::judge_pair;
@@ -95,7 +95,7 @@ fn answer<F: Files>(alloc: Global, words: &[String], files: &mut F) -> Result<An
     words_ask_once();
     match call_of(alloc, words) {
         Ok(Call::Files(question)) => read_spec(alloc, &question, files),
-        Ok(Call::Made { n, options }) => judge_made(alloc, n, &options),
+        Ok(Call::Made { n, fill, options }) => judge_made(alloc, n, fill, &options),
         Err(WordsFault::Usage) => say(alloc, 2, "refused usage\n"),
         Err(WordsFault::NoMemory) => Err(NoMemory),
     }
@@ -103,7 +103,8 @@ fn answer<F: Files>(alloc: Global, words: &[String], files: &mut F) -> Result<An
 
 /// Compares the implementation with the specification, or those of a made pair, or checks clause additions against a formula, and writes a report. It answers a status:
 ///
-/// - 0: the report is written and ends with tables and `verdict repairable`, or is `rup yes`;
+/// - 0: the report is written and ends with tables and `verdict repairable`, behind which the filled implementation stands where it is asked
+///   for, or is `rup yes`;
 /// - 1: the report is written and ends with `verdict error`, or is `rup no` and a number;
 /// - 2: the report is the line of a refusal;
 /// - 3: the report is written and ends with `verdict open`;
@@ -127,6 +128,12 @@ pub fn run<F: Files, K: Sink>(alloc: Global, words: &[String], files: &mut F, ou
     // where a care output is asked for at which it is 1.
     ensures repairable { result ≡ 0 → (from : Source) (asked : TextsAsked) (spec imp : List ℕ) → AreTexts (map string_bytes words.now) from (F.holds files.old) (F.reads files.old) (F.reads files.new) asked spec imp
         → (text : List ℕ) × Appends (K.written out.old) (K.written out.new) (head_of (map string_bytes words.now) ++ text) × AreFinished asked spec imp text }
+
+    // And where the filled implementation is asked for, behind the verdict stands a line that says why there is none, or `fill` and a text that
+    // finishes the design: whoever reads it finds a design without boxes that agrees with the specification on every such vector, and with the
+    // implementation, its boxes filled as the tables say, on every vector.
+    ensures filled { result ≡ 0 → (from : Source) (asked : TextsAsked) (spec imp : List ℕ) → AreTexts (map string_bytes words.now) from (F.holds files.old) (F.reads files.old) (F.reads files.new) asked spec imp → asked.fill ≡ true
+        → (text : List ℕ) × Appends (K.written out.old) (K.written out.new) (head_of (map string_bytes words.now) ++ text) × IsFilled asked spec imp text }
 
     // An error is reported only where no contents of the boxes make every output and every next state agree on every such vector.
     ensures error { result ≡ 1 → (from : Source) (asked : TextsAsked) (spec imp : List ℕ) → AreTexts (map string_bytes words.now) from (F.holds files.old) (F.reads files.old) (F.reads files.new) asked spec imp → AreRefuted asked spec imp }

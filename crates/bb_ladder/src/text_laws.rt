@@ -3,27 +3,41 @@
 
 ghost use Rattle.bb_ladder.specs.Answers.{AnswersSpeakOfTexts};
 ghost use Rattle.bb_ladder.specs.CallRefusals.{CallRefusalsAreOne, RefusalsAreTold, RefusedCallsAreTold};
+ghost use Rattle.bb_ladder.specs.FilledTexts.{FilledTextsFinish, NoTablesFollow};
 ghost use Rattle.bb_ladder.specs.GivenTexts.{AnsweredHaveGiven};
+ghost use Rattle.bb_ladder.specs.Inside.Made.{MadeCanBeFilled};
+ghost use Rattle.bb_ladder.specs.Laws.FilledNets.{FilledNetsStand};
 ghost use Rattle.bb_ladder.specs.ShownMistakes.{ErrorsAreShown, ShownMistakesRefute};
-ghost use Rattle.bb_ladder.specs.TextAnswers.{ErrorsRefute, RepairsFinish, OpenAnswersLeaveOpen, DecidedAreAnswered, StayingOpenAreAnswered, JudgedRefusalsAreFirst, RefusedAreAnsweredOnce, ReportsAreOne, ReportsBeginAsOne, StatusesAreOne, StatusesNeverClash};
+ghost use Rattle.bb_ladder.specs.TextAnswers.{ErrorsRefute, FillingOnlyAdds, RepairsFill, RepairsFinish, OpenAnswersLeaveOpen, DecidedAreAnswered, StayingOpenAreAnswered, JudgedRefusalsAreFirst, RefusedAreAnsweredOnce, ReportsAreOne, ReportsBeginAsOne, StatusesAreOne, StatusesNeverClash};
 ghost use Rattle.bb_ladder.specs.TextPairs.{DesignsAreAllowed, NotFinishedAndRefuted, NotPairAndRefusal, RefusalsAreOne, TextPairsAreAlike};
 
 use crate::refuting::refutations_are_answered;
 use bb_agree::laws::{
     design_refusals_are_one, fitting_tables_are_of_boxes, mistakes_refute, no_tables_no_contents,
     not_fit_and_refused, pairs_are_named, pairs_for_designs_are_alike, pairs_have_box_orders,
-    pairs_stand_exactly_for_fitting, spelled_contents_agree, tables_spell_contents,
-    wrong_outputs_are_mistakes, wrong_vectors_are_mistakes,
+    pairs_stand_exactly_for_fitting, spelled_contents_agree, spelled_contents_have_tables,
+    tables_agree_as_contents, tables_spell_contents, wrong_outputs_are_mistakes,
+    wrong_vectors_are_mistakes,
 };
+use bb_cells::list_laws::standing_nets_give_outputs;
+use bb_cells::naming_laws::followed_inputs_are_one;
+use bb_cells::table_laws::{tables_give_outputs, tables_have_contents};
 use bb_design::laws::sound_texts_are_allowed;
+use bb_fill::answers_exist;
+use bb_net::tables_are_spread;
 use bb_parse::laws::sources_are_formed;
+use bb_plain::{
+    filled_designs_are_called_alike, filled_designs_are_sound, filled_designs_have_bits,
+    filled_modules_are_sound, filled_modules_are_tops,
+};
 use bb_rungs::{
     alike_pairs_are_decided, alike_pairs_are_left_open, alike_reports_are_one, climbs_leave_open,
     deciders_decide, errors_exclude_tables, found_vectors_are_mistakes, left_open_stays_open,
-    repairs_agree, staying_open_is_told,
+    repairs_agree, staying_open_is_told, tables_are_given_once,
 };
 use bb_texts::texts_have_designs;
 use bb_words::words_ask_once;
+use bb_written::filled_texts_are_read;
 
 /// The design of a text is one of which the laws of designs speak.
 pub fn designs_are_allowed()
@@ -75,12 +89,72 @@ pub fn text_pairs_are_alike()
     pairs_for_designs_are_alike();
 }
 
+/// What is kept of two texts may be filled.
+pub(crate) fn made_can_be_filled()
+    ensures { MadeCanBeFilled }
+{
+    tables_are_spread();
+}
+
+/// The text of a netlist of the implementation that is filled with tables that agree finishes the design.
+pub fn filled_texts_finish()
+    ensures { FilledTextsFinish }
+{
+    designs_are_allowed();
+    filled_texts_are_read();
+    filled_modules_are_sound();
+    filled_modules_are_tops();
+    filled_designs_are_sound();
+    filled_designs_are_called_alike();
+    filled_designs_have_bits();
+    pairs_stand_exactly_for_fitting();
+    tables_agree_as_contents();
+    tables_have_contents();
+    tables_give_outputs();
+    standing_nets_give_outputs();
+    followed_inputs_are_one();
+    tables_are_spread();
+    spelled_contents_have_tables();
+}
+
+/// A flat netlist that stands for the filled design is called as the netlist that was filled, has no box, and has the bits that the
+/// other has with the tables in its boxes.
+pub fn filled_nets_stand()
+    ensures { FilledNetsStand }
+{
+    filled_texts_are_read();
+    sources_are_formed();
+    filled_modules_are_sound();
+    filled_modules_are_tops();
+    filled_designs_are_sound();
+    sound_texts_are_allowed();
+    filled_designs_are_called_alike();
+    filled_designs_have_bits();
+    tables_give_outputs();
+    standing_nets_give_outputs();
+    followed_inputs_are_one();
+}
+
+/// Behind the verdict no line begins as that of a table.
+pub fn no_tables_follow()
+    ensures { NoTablesFollow }
+{}
+
+/// Up to the verdict an answer is the one without the filled implementation.
+pub fn filling_only_adds()
+    ensures { FillingOnlyAdds }
+{
+    answers_exist();
+}
+
 /// What is answered to two texts is meant so, and comes where it is due.
 pub fn answers_are_meant()
     // An error is told only where no contents agree, and its vectors show mistakes; tables only where all that they spell agree.
     ensures errors { ErrorsRefute }
     ensures shown { ErrorsAreShown }
     ensures repairs { RepairsFinish }
+    // Where it is asked for, the filled implementation follows, or why there is none.
+    ensures fills { RepairsFill }
     // The question is left open only where each check that is asked for leaves it open; where it stays open with each, it is, and where
     // one decides, it is not.
     ensures opens { OpenAnswersLeaveOpen }
@@ -101,6 +175,9 @@ pub fn answers_are_meant()
     wrong_vectors_are_mistakes();
     pairs_are_named();
     repairs_agree();
+    tables_are_given_once();
+    no_tables_follow();
+    filled_texts_finish();
     tables_spell_contents();
     spelled_contents_agree();
     pairs_stand_exactly_for_fitting();

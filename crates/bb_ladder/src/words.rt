@@ -34,7 +34,11 @@ pub enum Call<'a> {
     /// Two files are read, and their texts are compared or checked.
     Files(Question<'a>),
     /// A pair is made, of adders of `n` bits, and its texts are compared.
-    Made { n: u32, options: Options },
+    Made {
+        n: u32,
+        fill: bool,
+        options: Options,
+    },
 }
 
 // A name, if one is given.
@@ -55,6 +59,7 @@ fn texts_asked(alloc: Global, asked: &WordsAsked<'_>) -> Result<Asked, NoMemory>
         spec_top: given_name(alloc, asked.top_spec)?,
         imp_top: given_name(alloc, asked.top_imp)?,
         care: given_name(alloc, asked.care)?,
+        fill: asked.fill,
         options: asked.options,
     })
 }
@@ -86,7 +91,7 @@ pub fn call_of<'a>(alloc: Global, words: &'a [String]) -> Result<Call<'a>, Words
 {
     match read_words(alloc, words)? {
         Wanted::Comparison(asked) => Ok(Call::Files(comparison(alloc, &asked)?)),
-        Wanted::MadePair { n, options } => Ok(Call::Made { n, options }),
+        Wanted::MadePair { n, fill, options } => Ok(Call::Made { n, fill, options }),
         Wanted::Refutation { cnf, adds } => Ok(Call::Files(Question {
             spec: cnf,
             imp: adds,

@@ -28,9 +28,9 @@ IsBounded Refutation = Unit {0}
 -- the words ask for this call
 abbrev pub AskCall : List (List ℕ) → Call → Type 0
 AskCall words (Files question) = AskTask words question.spec.now question.imp.now question.task
-AskCall words (Made n options) = made_asked words ≡ Some (record { n = n; options = options })
+AskCall words (Made n fill options) = made_asked words ≡ Some (record { n = n; fill = fill; options = options })
 
 -- its numbers are within their bounds
 abbrev pub HasBounds : Call → Type 0
 HasBounds (Files question) = IsBounded question.task
-HasBounds (Made n options) = (1 ≤ n) × (n ≤ 256) × AreBounds options
+HasBounds (Made n fill options) = (1 ≤ n) × (n ≤ 256) × AreBounds options

@@ -1,17 +1,23 @@
-use Rattle.std.proofs.Common.{◌≡◌, ◌⊎◌}
+use Rattle.std.proofs.Common.{◌≡◌, ◌⊎◌, true}
 use Rattle.std.proofs.lemmas.Result.{IfOk-weaker}
 use Rattle.bb_ladder.specs.declared.answer.Answer.{Answer}
 use Rattle.bb_texts.specs.declared.refusal.Refusal.{Refusal}
 use Rattle.bb_texts.specs.RefusalLines.{refusal_line}
 use Rattle.bb_ladder.specs.ShownMistakes.{AreShown}
 use Rattle.bb_ladder.specs.TextAnswers.{Judges}
-use Rattle.bb_ladder.specs.TextPairs.{AreDecided, AreFinished, AreLeftOpen, AreRefuted, AreStayingOpen, IsRefusal}
+use Rattle.bb_ladder.specs.TextPairs.{AreDecided, AreFinished, AreLeftOpen, AreRefuted, AreStayingOpen, IsFilled, IsRefusal}
 use Rattle.bb_ladder.proofs.judging.judge_pair.Goals as goal
 
 pub returns-clause-repairable : goal.returns-clause-repairable
 returns-clause-repairable c =
     let so : (a : Answer) → Judges c.args.asked.now c.args.spec.now c.args.imp.now a.status a.report.items → a.status ≡ 0 → AreFinished c.args.asked.now c.args.spec.now c.args.imp.now a.report.items =
     λ a judged zero. c.answers_are_meant.ensures.repairs c.args.asked.now c.args.spec.now c.args.imp.now a.status a.report.items judged zero in
+    IfOk-weaker _ _ _ so c.answer.ensures.answer
+
+pub returns-clause-filled : goal.returns-clause-filled
+returns-clause-filled c =
+    let so : (a : Answer) → Judges c.args.asked.now c.args.spec.now c.args.imp.now a.status a.report.items → a.status ≡ 0 → c.args.asked.now.fill ≡ true → IsFilled c.args.asked.now c.args.spec.now c.args.imp.now a.report.items =
+    λ a judged zero filled. c.answers_are_meant.ensures.fills c.args.asked.now c.args.spec.now c.args.imp.now a.status a.report.items judged zero filled in
     IfOk-weaker _ _ _ so c.answer.ensures.answer
 
 pub returns-clause-error : goal.returns-clause-error

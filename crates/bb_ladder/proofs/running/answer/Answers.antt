@@ -18,4 +18,4 @@ returns-in-Ok-Files-clause-reads_nothing g c = λ m makes.
 pub returns-in-Ok-Made-clause-answer : goal.returns-in-Ok-Made-clause-answer
 returns-in-Ok-Made-clause-answer g c =
     let asks = rw c.in-Ok-Made.field-0-is at c.in-Ok-Made.ensures.call in
-    IfOk-weaker _ _ _ (λ (a : Answer) e. Making (record { n = c.in-Ok-Made.n; options = c.in-Ok-Made.options }) asks refl e) c.judge_made.ensures.answer
+    IfOk-weaker _ _ _ (λ (a : Answer) e. Making (record { n = c.in-Ok-Made.n; fill = c.in-Ok-Made.fill; options = c.in-Ok-Made.options }) asks refl e) c.judge_made.ensures.answer

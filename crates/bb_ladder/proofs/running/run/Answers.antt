@@ -1,6 +1,7 @@
 use Rattle.std.proofs.Common.{inl}
 use Rattle.bb_ladder.proofs.CallRefusalLaws.{told_at_two}
-use Rattle.bb_ladder.proofs.HeadlineLemmas.{decided_sound, error_sound, made_is_read, no_sound, open_compares, open_complete, open_sound, refuted_sound, repair_sound, shown_sound, unread_rose, yes_sound}
+use Rattle.bb_ladder.proofs.CalmLemmas.{decided_sound, open_complete, refuted_sound}
+use Rattle.bb_ladder.proofs.HeadlineLemmas.{error_sound, filled_sound, made_is_read, no_sound, open_compares, open_sound, repair_sound, shown_sound, unread_rose, yes_sound}
 use Rattle.bb_ladder.proofs.running.run.Goals as goal
 
 pub returns-in-Ok-put_all-clause-whole : goal.returns-in-Ok-put_all-clause-whole
@@ -15,6 +16,12 @@ pub returns-in-Ok-put_all-clause-repairable : goal.returns-in-Ok-put_all-clause-
 returns-in-Ok-put_all-clause-repairable g c = λ zero from asked spec imp texts.
     let written = rw c.deref.ensures.value at c.in-Ok-put_all.ensures.ok in
     let found = repair_sound c.words_ask_once.ensures c.answers_are_meant.ensures.repairs _ from _ _ _ c.in-Ok.answer.status c.in-Ok.answer.report.items asked spec imp c.in-Ok.ensures.answer zero texts in
+    (found.0, rw found.1 at written, found.2)
+
+pub returns-in-Ok-put_all-clause-filled : goal.returns-in-Ok-put_all-clause-filled
+returns-in-Ok-put_all-clause-filled g c = λ zero from asked spec imp texts filled.
+    let written = rw c.deref.ensures.value at c.in-Ok-put_all.ensures.ok in
+    let found = filled_sound c.words_ask_once.ensures c.answers_are_meant.ensures.fills _ from _ _ _ c.in-Ok.answer.status c.in-Ok.answer.report.items asked spec imp c.in-Ok.ensures.answer zero texts filled in
     (found.0, rw found.1 at written, found.2)
 
 pub returns-in-Ok-put_all-clause-error : goal.returns-in-Ok-put_all-clause-error

@@ -1,0 +1,105 @@
+-- Where the filled implementation is asked for, behind the verdict stands a text that finishes the design, or why there is none; and it only adds
+-- to an answer.
+use Rattle.std.proofs.Common.{◌≡◌, ◌∙◌, ℕ, Bool, true, false, List, [], ◌++◌, map, refl, sym, ap, subst, arith, true≢false}
+use Rattle.std.proofs.lemmas.List.{append-nil}
+use Rattle.bb_agree.specs.DesignAgreement.{AreSpelled, FittingTablesAreOfBoxes, PairsHaveBoxOrders, SpelledContentsAgree, TablesSpellContents}
+use Rattle.bb_agree.specs.Laws.DesignRefusals.{PairsStandExactlyForFitting}
+use Rattle.bb_bits.specs.Contents.{Contents}
+use Rattle.bb_bits.specs.Tables.{TableBits}
+use Rattle.bb_cells.specs.Stands.{box_texts}
+use Rattle.bb_design.specs.Hierarchy.{Design}
+use Rattle.bb_design.specs.Worlds.{FitDesign}
+use Rattle.bb_fill.specs.Answers.{Answer, Clash, TooLarge, Text, MayFill}
+use Rattle.bb_fill.specs.Answers as fill
+use Rattle.bb_fill.specs.Clashes.{IsClash}
+use Rattle.bb_fill.specs.Filled.{filled_text}
+use Rattle.bb_fill.specs.Laws.{AnswersExist}
+use Rattle.bb_net.specs.Flats.{FlatNet}
+use Rattle.bb_net.specs.Kinds.{spread}
+use Rattle.bb_net.specs.Pairs.{NetPair}
+use Rattle.bb_rungs.specs.declared.line.Line.{Line}
+use Rattle.bb_rungs.specs.declared.verdict.Verdict.TheVariants as verdicts
+use Rattle.bb_rungs.specs.Laws.{RepairsAgree, TablesAreGivenOnce}
+use Rattle.bb_rungs.specs.Reports.{GivesTables, report_text, verdict_of}
+use Rattle.bb_texts.specs.declared.refusal.Refusal.{Refusal}
+use Rattle.bb_texts.specs.declared.refusal.Refusal.TheVariants.{Spec, Imp, Pair, NoMemory}
+use Rattle.bb_ladder.specs.declared.asked.Asked.{Asked}
+use Rattle.bb_ladder.specs.FilledTexts.{Clashes, FilledTextsFinish, Finished, Follows, IsFinishedText, IsLarge, IsTwice, MayFollow, NoTablesFollow, NotAsked, NotFinished, StandsBehind, answer_text}
+use Rattle.bb_ladder.specs.TextAnswers.{FillingOnlyAdds, Judged, Judges, Refused, RepairsFill}
+use Rattle.bb_ladder.specs.TextPairs.{DesignsAreAllowed, IsRefusal}
+use Rattle.bb_ladder.proofs.AnswerLaws.{finished, is_repairable, order}
+use Rattle.bb_ladder.proofs.FilledNames.{clash_is_twice}
+use Rattle.bb_ladder.proofs.FollowLaws.{something_follows}
+
+module _ (asked : Asked) (spec : List ℕ) (i : Design) (Fills : Contents → Type 0) (p : NetPair) (f : FlatNet) (lines : List Line) (rest : List ℕ) (repairable : verdict_of lines ≡ verdicts.Repairable)
+    (tables : List TableBits) (only : (others : List TableBits) → GivesTables lines others → others ≡ tables)
+    (finish : (filled : List ℕ) → MayFill f (spread p.kinds tables) (Text filled) → IsFinishedText asked spec i Fills filled) (twice : (name : List ℕ) → MayFill f (spread p.kinds tables) (Clash name) → IsTwice i name) where
+  answer_stands : (answer : Answer) → MayFill f (spread p.kinds tables) answer → rest ≡ answer_text answer → StandsBehind asked spec i Fills rest
+  answer_stands (Clash name) may e = Clashes name e (twice name may)
+  answer_stands TooLarge may e = IsLarge e
+  answer_stands (Text filled) may e = Finished filled e (finish filled may)
+
+  rest_stands : asked.fill ≡ true → MayFollow asked.fill f p.kinds lines rest → StandsBehind asked spec i Fills rest
+  rest_stands on (NotAsked off none) = absurd (true≢false (sym on ∙ off))
+  rest_stands on (NotFinished other none) = absurd (other repairable)
+  rest_stands on (Follows also verdict others gives answer may e) = answer_stands answer (subst (λ (z : List TableBits). MayFill f (spread p.kinds z) answer) (only others gives) may) e
+
+-- a name is told where it clashes
+told_clash : (f : FlatNet) (tables : List TableBits) (name : List ℕ) → MayFill f tables (Clash name) → IsClash f name
+told_clash f tables name (fill.Clashes other clash is) = subst (IsClash f) (sym (same name other is)) clash
+  where
+    same : (a b : List ℕ) → Clash a ≡ Clash b → a ≡ b
+    same a b e = cc e
+told_clash f tables name (fill.IsLarge apart large is) = let no : Clash name ≡ TooLarge = is in absurd (cc no)
+told_clash f tables name (fill.IsFilled apart small is) = let no : Clash name ≡ Text (filled_text f tables) = is in absurd (cc no)
+
+module _ (allowed : DesignsAreAllowed) (none_behind : NoTablesFollow) (spell : TablesSpellContents) (agree : SpelledContentsAgree) (exactly : PairsStandExactlyForFitting)
+    (have_orders : PairsHaveBoxOrders) (of_boxes : FittingTablesAreOfBoxes) where
+  pub repairs_fill : RepairsAgree → TablesAreGivenOnce → FilledTextsFinish → RepairsFill
+  repairs_fill repairs once finish asked spec imp status text (Refused r is s t) zero on = absurd (omega (arith, s, zero))
+  repairs_fill repairs once finish asked spec imp status text (Judged p lines s i are for climb same rest follows t) zero on =
+      let repairable = is_repairable (verdict_of lines) (sym same ∙ zero) in
+      let (tables, given, complete, ends) = repairs p asked.options lines for.kept climb repairable in
+      let boxes = order allowed none_behind spell agree exactly have_orders of_boxes asked spec imp text p lines s i are for rest follows t tables complete ends in
+      let named = λ (filled : List ℕ) (may : MayFill for.imp_net (spread p.kinds tables) (Text filled)).
+      subst (λ l. IsFinishedText asked spec i (λ contents. FitDesign i contents × AreSpelled l p.kinds tables contents) filled) boxes.2
+      (finish asked spec imp s i are.spec_design are.imp_design p for tables complete filled may) in (
+        finished allowed none_behind spell agree exactly have_orders of_boxes asked spec imp text p lines s i are for rest follows t tables complete ends,
+        rest_stands asked spec i (λ contents. FitDesign i contents × AreSpelled (map (box_texts i) boxes.0) p.kinds tables contents) p for.imp_net lines rest repairable tables
+            (λ others gives. once p asked.options lines others tables climb gives given) named
+            (λ name may. clash_is_twice i for.imp_net for.imp_stands name (told_clash for.imp_net (spread p.kinds tables) name may)) on follows,
+      )
+
+-- a refusal is one whether the filled implementation is asked for or not
+refused_alike : (on : Bool) (asked : Asked) (spec imp : List ℕ) (r : Refusal) → IsRefusal asked spec imp r → IsRefusal (record asked { fill = on }) spec imp r
+refused_alike on asked spec imp (Spec fault) is = is
+refused_alike on asked spec imp (Imp fault) is = is
+refused_alike on asked spec imp (Pair fault) (s, i, are, is) = (s, i, record { spec_design = are.spec_design; imp_design = are.imp_design }, is)
+refused_alike on asked spec imp NoMemory is = is
+
+module _ (exist : AnswersExist) (asked : Asked) (spec imp : List ℕ) (status : ℕ) where
+  front : (text : List ℕ) → Judges asked spec imp status text → (report : List ℕ) × (rest : List ℕ) × (text ≡ report ++ rest) × Judges (record asked { fill = false }) spec imp status report
+  front text (Refused r is s t) = (text, [], sym (append-nil text), Refused r (refused_alike false asked spec imp r is) s t)
+  front text (Judged p lines s i are for climb same rest follows t) = (
+    report_text p asked.options lines,
+    rest,
+    t,
+    Judged p lines s i (record { spec_design = are.spec_design; imp_design = are.imp_design }) for climb same [] (NotAsked refl refl) (sym (append-nil (report_text p asked.options lines))),
+  )
+
+  further : (report : List ℕ) → Judges (record asked { fill = false }) spec imp status report → (rest : List ℕ) × Judges (record asked { fill = true }) spec imp status (report ++ rest)
+  further report (Refused r is s t) = ([], Refused r (refused_alike true (record asked { fill = false }) spec imp r is) s (append-nil report ∙ t))
+  further report (Judged p lines s i are for climb same rest follows t) =
+      let more = something_follows exist true for.imp_net p.kinds lines in (
+        more.0,
+        Judged p lines s i (record { spec_design = are.spec_design; imp_design = are.imp_design }) for climb same more.0 more.1
+            (ap (λ z. z ++ more.0) (t ∙ ap (λ z. report_text p asked.options lines ++ z) (none follows) ∙ append-nil (report_text p asked.options lines))),
+      )
+    where
+      none : MayFollow false for.imp_net p.kinds lines rest → rest ≡ []
+      none (NotAsked off is) = is
+      none (NotFinished other is) = is
+      none (Follows on verdict tables gives answer may e) = absurd (true≢false (sym on))
+
+pub filling_only_adds : AnswersExist → FillingOnlyAdds
+filling_only_adds exist asked spec imp status = record { front = front exist asked spec imp status; further = further exist asked spec imp status }
