@@ -9,6 +9,8 @@ mod example_tests;
 mod expansion_tests;
 pub mod expecting;
 #[cfg(test)]
+mod filling_tests;
+#[cfg(test)]
 mod finish_tests;
 #[cfg(test)]
 mod making_tests;

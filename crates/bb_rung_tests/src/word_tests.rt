@@ -35,6 +35,11 @@ fn tell_bounds(out: &mut String, options: &Options) -> Result<(), AllocError> {
     out.push_str(if options.shared { " shared" } else { "" })
 }
 
+// That the filled implementation is asked for, if it is.
+fn tell_filling(out: &mut String, fill: bool) -> Result<(), AllocError> {
+    out.push_str(if fill { " fill" } else { "" })
+}
+
 // The two files and their tops.
 fn tell_files(out: &mut String, asked: &Asked<'_>) -> Result<(), AllocError> {
     write!(out, "{} {}", asked.spec, asked.imp)?;
@@ -47,6 +52,7 @@ fn tell(out: &mut String, asked: &Asked<'_>) -> Result<(), AllocError> {
     tell_files(out, asked)?;
     tell_checks(out, &asked.options)?;
     tell_bounds(out, &asked.options)?;
+    tell_filling(out, asked.fill)?;
     match asked.care {
         Some(text) => write!(out, " care {text}"),
         None => Ok(()),
@@ -54,10 +60,11 @@ fn tell(out: &mut String, asked: &Asked<'_>) -> Result<(), AllocError> {
 }
 
 // The width of a made pair, and the checks.
-fn tell_pair(out: &mut String, n: u32, options: &Options) -> Result<(), AllocError> {
+fn tell_pair(out: &mut String, n: u32, fill: bool, options: &Options) -> Result<(), AllocError> {
     write!(out, "make {n} ")?;
     tell_checks(out, options)?;
-    tell_bounds(out, options)
+    tell_bounds(out, options)?;
+    tell_filling(out, fill)
 }
 
 // What is told of words.
@@ -65,7 +72,7 @@ fn told(alloc: Global, words: &[String]) -> Result<String, AllocError> {
     let mut out = String::new(alloc);
     match read_words(alloc, words) {
         Ok(Wanted::Comparison(asked)) => tell(&mut out, &asked)?,
-        Ok(Wanted::MadePair { n, options }) => tell_pair(&mut out, n, &options)?,
+        Ok(Wanted::MadePair { n, fill, options }) => tell_pair(&mut out, n, fill, &options)?,
         Ok(Wanted::Refutation { cnf, adds }) => write!(out, "rup {cnf} {adds}")?,
         Err(WordsFault::Usage) => out.push_str("refused")?,
         Err(WordsFault::NoMemory) => out.push_str("no memory")?,
@@ -111,6 +118,7 @@ bbeq -- a b c => refused
 bbeq a b --all --all => refused
 bbeq a b --proof --all --proof => refused
 bbeq --shared a b --shared => refused
+bbeq --fill a b --fill => refused
 bbeq a b --seed 1 --seed=2 => refused
 bbeq a b --care k --care k => refused
 bbeq a b --top-spec m --top-spec m => refused
@@ -134,6 +142,7 @@ bbeq a b --from= => refused
 bbeq a b --all=1 => refused
 bbeq a b --proof= => refused
 bbeq a b --shared=bx => refused
+bbeq a b --fill=x => refused
 bbeq a b --care => refused
 bbeq a b --care= => refused
 bbeq a b --care  => refused
@@ -177,6 +186,7 @@ bbeq a b => a b none none ternary expand false 32 1 1000000 2000000 65536 false
 bbeq a b --all => a b none none ternary expand true 32 1 1000000 2000000 65536 false
 bbeq a b --proof => a b none none ternary expand false 32 1 1000000 2000000 65536 true
 bbeq a b --shared => a b none none ternary expand false 32 1 1000000 2000000 65536 false shared
+bbeq a b --fill => a b none none ternary expand false 32 1 1000000 2000000 65536 false fill
 bbeq a b --top-spec m => a b m none ternary expand false 32 1 1000000 2000000 65536 false
 bbeq a b --top-spec=m => a b m none ternary expand false 32 1 1000000 2000000 65536 false
 bbeq a b --top-impl m => a b none m ternary expand false 32 1 1000000 2000000 65536 false
@@ -245,6 +255,7 @@ bbeq a b --rup= => refused
 bbeq a b --rup --all => refused
 bbeq a b --proof --rup => refused
 bbeq a b --rup --shared => refused
+bbeq a b --fill --rup => refused
 bbeq a b --rup --top-spec m => refused
 bbeq a b --rup --top-impl=m => refused
 bbeq a b --rup --from ternary => refused
@@ -274,6 +285,7 @@ bbeq --from expand --make 4 --proof => make 4 expand expand false 32 1 1000000 2
 bbeq --all --make 4 --to output --patterns 0 --seed 2 => make 4 ternary output true 0 2 1000000 2000000 65536 false
 bbeq --nodes 5 --clauses 6 --cache 7 --make 4 => make 4 ternary expand false 32 1 5 6 7 false
 // a made pair has one box
+bbeq --make 4 --fill => make 4 ternary expand false 32 1 1000000 2000000 65536 false fill
 bbeq --make 4 --shared => refused
 bbeq --make 4 --care k => refused
 // no number, or none within the bounds
