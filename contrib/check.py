@@ -8,6 +8,7 @@ from check_async import async_part  # noqa: E402
 from check_bad import bad_part  # noqa: E402
 from check_documents import documents_part  # noqa: E402
 from check_ended import ended_part  # noqa: E402
+from check_filled import filled_part  # noqa: E402
 from check_gates import cells_part, gates_part  # noqa: E402
 from check_hostile import hostile_part  # noqa: E402
 from check_install import install_part, manual_part  # noqa: E402
@@ -27,7 +28,7 @@ from check_unfinished import unfinished_part  # noqa: E402
 from check_unused import unused_part  # noqa: E402
 from tries import Tally  # noqa: E402
 
-PARTS = {"gates": gates_part, "cells": cells_part, "async": async_part, "messages": messages_part, "fill": fill_part, "wave": wave_part,
+PARTS = {"gates": gates_part, "cells": cells_part, "async": async_part, "messages": messages_part, "fill": fill_part, "filled": filled_part, "wave": wave_part,
          "order": order_part, "ordered": ordered_part, "drat": drat_part, "ladder": ladder_part, "names": names_part, "why": why_part,
          "refutations": refutations_part, "made": made_part, "refuse": refuse_part, "limits": limits_part, "reports": reports_part, "bad": bad_part,
          "hostile": hostile_part, "ended": ended_part, "program": program_part, "manual": manual_part, "install": install_part, "documents": documents_part,

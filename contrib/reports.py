@@ -1,4 +1,5 @@
-"""What the scripts of this folder read from a report of bbeq (docs/REPORT.md): its lines, its tables and its vectors."""
+"""What the scripts of this folder read from a report of bbeq (docs/REPORT.md): its lines, its tables, its vectors, and the filled
+implementation behind its verdict."""
 import sys
 from scripts import Fault
 
@@ -6,8 +7,12 @@ from scripts import Fault
 OTHER = "the report is of other texts: run bbeq on these and give its report"
 
 
-def read_report(path):
-    """The lines of a report; `-` is standard input. A report that is empty, cut or refused is a fault."""
+def is_verdict(line):
+    return line in ("verdict error", "verdict open", "verdict repairable")
+
+
+def all_lines(path):
+    """All lines of a report, and whether its last one is whole; `-` is standard input. A report that is empty, cut or refused is a fault."""
     try:
         if path == "-":
             text = sys.stdin.read()
@@ -21,9 +26,39 @@ def read_report(path):
         raise Fault(f"{path}: the report is empty")
     if lines[0].startswith(("refused ", "unread ")):
         raise Fault(f"{path}: the run was refused, so there is nothing to show: {lines[0]}")
-    if not any(len(line.split()) == 2 and line.startswith("verdict ") for line in lines):
+    if not any(is_verdict(line) for line in lines):
         raise Fault(f"{path}: the report has no verdict: give what bbeq printed, the whole of it")
-    return lines
+    return lines, text.endswith("\n")
+
+
+def verdict_place(lines):
+    return next(place for place, line in enumerate(lines) if is_verdict(line))
+
+
+def read_report(path):
+    """The lines of a report up to its verdict."""
+    lines, _ = all_lines(path)
+    return lines[:verdict_place(lines) + 1]
+
+
+def read_filled(path):
+    """The filled implementation that stands behind the verdict of a report."""
+    lines, is_whole = all_lines(path)
+    place = verdict_place(lines)
+    behind = lines[place + 1:]
+    if verdict(lines) != "repairable":
+        raise Fault(f"{path}: no filled implementation, since the verdict is {verdict(lines)}")
+    if not behind:
+        raise Fault(f"{path}: the report has no filled implementation: run bbeq with --fill")
+    if not is_whole:
+        raise Fault(f"{path}: the filled implementation is cut: give what bbeq printed, the whole of it")
+    if behind[0] == "fill toolarge":
+        raise Fault(f"{path}: the filled implementation would be too large; `fill REPORT IMPL` has no such bound")
+    if behind[0].startswith("fill clash "):
+        raise Fault(f"{path}: two nets of the filled implementation would be called {behind[0][11:]}: rename a port or a register")
+    if behind[0] != "fill" or behind[-1] != "endmodule":
+        raise Fault(f"{path}: the filled implementation is cut: give what bbeq printed, the whole of it")
+    return "\n".join(behind[1:]) + "\n"
 
 
 def other_texts(lines):
@@ -34,7 +69,7 @@ def other_texts(lines):
 
 
 def verdict(lines):
-    return next(line.split()[1] for line in lines if line.startswith("verdict ") and len(line.split()) == 2)
+    return lines[verdict_place(lines)].split()[1]
 
 
 def tables(lines):
