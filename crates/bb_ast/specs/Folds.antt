@@ -2,7 +2,9 @@
 -- for each form, in which what the operands gave stands as plain lists, in text order.
 use Rattle.std.specs.Prelude.{ℕ, List, [], ◌∷◌, Bool}
 use Rattle.bb_ast.specs.declared.expr.Op.{Op}
-use Rattle.bb_ast.specs.Syntax.{Expression, Net, Bit, Part, Sized, Plain, Not, Chain, Cond, Concat, Repeat, Operands, no_operand, operand, Arms, no_arm, arm, Parts, no_part, part}
+use Rattle.bb_ast.specs.declared.operators.WordOp.{WordOp}
+use Rattle.bb_ast.specs.declared.operators.FoldOp.{FoldOp}
+use Rattle.bb_ast.specs.Syntax.{Expression, Net, Bit, Part, Sized, Plain, Not, Fold, Chain, Words, Cond, Concat, Repeat, Operands, no_operand, operand, WordOperands, no_word, word, Arms, no_arm, arm, Parts, no_part, part}
 
 -- what an expression of each form gives, where each operand gave a C
 pub record Cases (C A : Type 0) : Type 0 where
@@ -12,7 +14,9 @@ pub record Cases (C A : Type 0) : Type 0 where
   pub sized : List Bool → A
   pub plain : ℕ → A
   pub not : ℕ → C → A
+  pub reduce : FoldOp → C → A
   pub chain : C → List (Op × C) → A
+  pub words : C → List (WordOp × C) → A
   pub cond : List (C × C) → C → A
   pub concat : List C → A
   pub repeat : ℕ → List C → A
@@ -26,7 +30,9 @@ abbrev mutual
   fold_by seen cases (Sized bits) = cases.sized bits
   fold_by seen cases (Plain n) = cases.plain n
   fold_by seen cases (Not k e) = cases.not k (seen e (fold_by seen cases e))
+  fold_by seen cases (Fold op e) = cases.reduce op (seen e (fold_by seen cases e))
   fold_by seen cases (Chain e rest) = cases.chain (seen e (fold_by seen cases e)) (of_operands seen cases rest)
+  fold_by seen cases (Words e rest) = cases.words (seen e (fold_by seen cases e)) (of_words seen cases rest)
   fold_by seen cases (Cond all last) = cases.cond (of_arms seen cases all) (seen last (fold_by seen cases last))
   fold_by seen cases (Concat all) = cases.concat (of_parts seen cases all)
   fold_by seen cases (Repeat k all) = cases.repeat k (of_parts seen cases all)
@@ -34,6 +40,10 @@ abbrev mutual
   pub of_operands : {C A : Type 0} → (Expression → A → C) → Cases C A → Operands → List (Op × C)
   of_operands seen cases no_operand = []
   of_operands seen cases (operand op e rest) = (op, seen e (fold_by seen cases e)) ∷ of_operands seen cases rest
+
+  pub of_words : {C A : Type 0} → (Expression → A → C) → Cases C A → WordOperands → List (WordOp × C)
+  of_words seen cases no_word = []
+  of_words seen cases (word op e rest) = (op, seen e (fold_by seen cases e)) ∷ of_words seen cases rest
 
   pub of_arms : {C A : Type 0} → (Expression → A → C) → Cases C A → Arms → List (C × C)
   of_arms seen cases no_arm = []

@@ -4,6 +4,8 @@
 -- and 7).
 use Rattle.std.specs.Prelude.{ℕ, List, [], ◌∷◌, Option, Bool}
 use Rattle.bb_ast.specs.declared.expr.Op.{Op}
+use Rattle.bb_ast.specs.declared.operators.WordOp.{WordOp}
+use Rattle.bb_ast.specs.declared.operators.FoldOp.{FoldOp}
 use Rattle.bb_ast.specs.declared.module.Gate.{Gate}
 use Rattle.bb_ast.specs.declared.module.Port.{Port}
 use Rattle.bb_ast.specs.declared.module.Range.{Range}
@@ -17,7 +19,9 @@ mutual
     Sized : List Bool → Expression
     Plain : ℕ → Expression
     Not : ℕ → Expression → Expression
+    Fold : FoldOp → Expression → Expression
     Chain : Expression → Operands → Expression
+    Words : Expression → WordOperands → Expression
     Cond : Arms → Expression → Expression
     Concat : Parts → Expression
     Repeat : ℕ → Parts → Expression
@@ -26,6 +30,11 @@ mutual
   pub data Operands : Type 0 where
     no_operand : Operands
     operand : Op → Expression → Operands → Operands
+
+  -- the operators on words of one level, each with the operand on its right
+  pub data WordOperands : Type 0 where
+    no_word : WordOperands
+    word : WordOp → Expression → WordOperands → WordOperands
 
   -- the conditions of a conditional, each with its value
   pub data Arms : Type 0 where
@@ -40,6 +49,10 @@ mutual
 abbrev pub operands : List (Op × Expression) → Operands
 operands [] = no_operand
 operands (x ∷ xs) = operand x.0 x.1 (operands xs)
+
+abbrev pub word_operands : List (WordOp × Expression) → WordOperands
+word_operands [] = no_word
+word_operands (x ∷ xs) = word x.0 x.1 (word_operands xs)
 
 abbrev pub arms : List (Expression × Expression) → Arms
 arms [] = no_arm

@@ -1,3 +1,4 @@
+use crate::operators::{FoldOp, WordOp};
 use bb_bits::Name;
 
 /// An operator on the bits of two operands.
@@ -24,8 +25,12 @@ pub enum Expr {
     Plain(u32),
     /// A run of that many signs `~` before an operand; the run has at least one.
     Not(u32, Box<Expr>),
-    /// Operands of one level of precedence, grouped to the left; at least one operator.
+    /// An operator on all bits of an operand.
+    Fold(FoldOp, Box<Expr>),
+    /// Operands of one level of precedence, bit by bit, grouped to the left; at least one operator.
     Chain(Box<Expr>, Vec<(Op, Expr)>),
+    /// Operands of one level of precedence, as words, grouped to the left; at least one operator.
+    Words(Box<Expr>, Vec<(WordOp, Expr)>),
     /// Conditions, each with its value, tried from left to right, and the value where none holds.
     Cond(Vec<(Expr, Expr)>, Box<Expr>),
     /// Parts side by side, the most significant first.

@@ -5,9 +5,11 @@
 mod expr;
 pub mod laws;
 mod module;
+mod operators;
 
 pub use expr::{Expr, Op};
 pub use module::{
     Always, Body, Call, Conns, Dir, Gate, GateCall, Head, Item, Module, Port, PortKind, Range,
     Source,
 };
+pub use operators::{FoldOp, WordOp};

@@ -1,4 +1,5 @@
--- Well-formed syntax. Names are printable, nothing is a run, a chain or a list of no parts, sized numbers have 1 to 128 bits,
+-- Well-formed syntax. Names are printable, nothing is a run, a level or a list of no parts, operators on words stand together where
+-- they are of one level of precedence, sized numbers have 1 to 128 bits,
 -- other numbers are below 2 ^ 31, left sides are what may be assigned, and a clock is a net or one bit of a net. What a text
 -- reads as is well formed; how deep it nests, and which names of a header are declared there, is not said here.
 use Rattle.std.specs.Prelude.{◌≡◌, true, ℕ, ◌<◌, ◌≤◌, ◌^◌, List, [], ◌∷◌, Option, None, length, IfSome}
@@ -7,7 +8,8 @@ use Rattle.bb_bits.specs.Names.{IsPrintable}
 use Rattle.bb_ast.specs.declared.module.Port.{Port}
 use Rattle.bb_ast.specs.declared.module.Range.{Range}
 use Rattle.bb_ast.specs.Assignable.{is_assignable}
-use Rattle.bb_ast.specs.Syntax.{Expression, Net, Bit, Part, Sized, Plain, Not, Chain, Cond, Concat, Repeat, Operands, no_operand, operand, Arms, no_arm, arm, Parts, no_part, part}
+use Rattle.bb_ast.specs.Levels.{level_of}
+use Rattle.bb_ast.specs.Syntax.{Expression, Net, Bit, Part, Sized, Plain, Not, Fold, Chain, Words, Cond, Concat, Repeat, Operands, no_operand, operand, WordOperands, no_word, word, Arms, no_arm, arm, Parts, no_part, part}
 use Rattle.bb_ast.specs.Syntax.{PlainConns, Order, Named, PlainBody, Ports, Nets, Regs, Supply, Assign, Gates, Calls, Always, PlainHead, PlainModule}
 
 -- what a plain number says, also as an index or a count
@@ -23,8 +25,11 @@ abbrev mutual
   IsFormedExpression (Sized bits) = (1 ≤ length bits) × (length bits ≤ 128)
   IsFormedExpression (Plain n) = IsSmall n
   IsFormedExpression (Not k e) = (1 ≤ k) × IsFormedExpression e
+  IsFormedExpression (Fold op e) = IsFormedExpression e
   IsFormedExpression (Chain e no_operand) = ⊥
   IsFormedExpression (Chain e (operand op x rest)) = IsFormedExpression e × IsFormedExpression x × AreFormedOperands rest
+  IsFormedExpression (Words e no_word) = ⊥
+  IsFormedExpression (Words e (word op x rest)) = IsFormedExpression e × IsFormedExpression x × AreFormedWords (level_of op) rest
   IsFormedExpression (Cond no_arm last) = ⊥
   IsFormedExpression (Cond (arm c v rest) last) = IsFormedExpression c × IsFormedExpression v × AreFormedArms rest × IsFormedExpression last
   IsFormedExpression (Concat no_part) = ⊥
@@ -35,6 +40,11 @@ abbrev mutual
   pub AreFormedOperands : Operands → Type 0
   AreFormedOperands no_operand = Unit {0}
   AreFormedOperands (operand op e rest) = IsFormedExpression e × AreFormedOperands rest
+
+  -- operators of one level of precedence
+  pub AreFormedWords : ℕ → WordOperands → Type 0
+  AreFormedWords level no_word = Unit {0}
+  AreFormedWords level (word op e rest) = (level_of op ≡ level) × IsFormedExpression e × AreFormedWords level rest
 
   pub AreFormedArms : Arms → Type 0
   AreFormedArms no_arm = Unit {0}

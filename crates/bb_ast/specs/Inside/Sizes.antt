@@ -2,7 +2,7 @@
 -- module each declared name, gate, instance, terminal and place, with the expressions beside them. Names of gates, ranges and
 -- the words of items count nothing.
 use Rattle.std.specs.Prelude.{ℕ, ◌+◌, List, Option, Some, None, length, sum_by}
-use Rattle.bb_ast.specs.Syntax.{Expression, Net, Bit, Part, Sized, Plain, Not, Chain, Cond, Concat, Repeat, Operands, no_operand, operand, Arms, no_arm, arm, Parts, no_part, part}
+use Rattle.bb_ast.specs.Syntax.{Expression, Net, Bit, Part, Sized, Plain, Not, Fold, Chain, Words, Cond, Concat, Repeat, Operands, no_operand, operand, WordOperands, no_word, word, Arms, no_arm, arm, Parts, no_part, part}
 use Rattle.bb_ast.specs.Syntax.{PlainConns, Order, Named, PlainBody, Ports, Nets, Regs, Supply, Assign, Gates, Calls, Always, PlainModule}
 
 abbrev mutual
@@ -13,7 +13,9 @@ abbrev mutual
   expression_size (Sized bits) = 1
   expression_size (Plain n) = 1
   expression_size (Not k e) = 1 + expression_size e
+  expression_size (Fold op e) = 1 + expression_size e
   expression_size (Chain e rest) = expression_size e + operands_size rest
+  expression_size (Words e rest) = expression_size e + words_size rest
   expression_size (Cond all last) = arms_size all + expression_size last
   expression_size (Concat all) = 1 + parts_size all
   expression_size (Repeat k all) = 1 + parts_size all
@@ -21,6 +23,10 @@ abbrev mutual
   pub operands_size : Operands → ℕ
   operands_size no_operand = 0
   operands_size (operand op e rest) = 1 + expression_size e + operands_size rest
+
+  pub words_size : WordOperands → ℕ
+  words_size no_word = 0
+  words_size (word op e rest) = 1 + expression_size e + words_size rest
 
   pub arms_size : Arms → ℕ
   arms_size no_arm = 0

@@ -1,7 +1,6 @@
 -- What the types of the code say, as plain syntax.
 use Rattle.std.specs.Prelude.{ℕ, List, Option, map, option_map}
 use Rattle.bb_ast.specs.declared.expr.Expr.{Expr}
-use Rattle.bb_ast.specs.declared.expr.Op.{Op}
 use Rattle.bb_ast.specs.declared.expr.Expr.TheOpen.{Expr-F}
 use Rattle.bb_ast.specs.declared.expr.Expr.TheOpen as of
 use Rattle.bb_ast.specs.declared.expr.Expr.TheFolds.{fold-Expr}
@@ -17,7 +16,7 @@ use Rattle.bb_ast.specs.declared.module.Item.{Item}
 use Rattle.bb_ast.specs.declared.module.Module.{Module}
 use Rattle.bb_ast.specs.declared.module.Source.{Source}
 use Rattle.bb_ast.specs.Syntax.{PlainConns, Order, Named, PlainAlways, PlainBody, Ports, Nets, Regs, Supply, Assign, Gates, Calls, Always as AlwaysBody, PlainItem, PlainHead, PlainModule}
-use Rattle.bb_ast.specs.Syntax.{Expression, Net, Bit, Part, Sized, Plain, Not, Chain, Cond, Concat, Repeat, operands, arms, listed_parts}
+use Rattle.bb_ast.specs.Syntax.{Expression, Net, Bit, Part, Sized, Plain, Not, Fold, Chain, Words, Cond, Concat, Repeat, operands, word_operands, arms, listed_parts}
 
 -- one layer, with what is below it seen already
 abbrev pub layer : Expr-F Expression → Expression
@@ -27,7 +26,9 @@ layer (of.Part n i j) = Part n i j
 layer (of.Sized bits) = Sized bits.items
 layer (of.Plain n) = Plain n
 layer (of.Not k e) = Not k e.value
+layer (of.Fold op e) = Fold op e.value
 layer (of.Chain e rest) = Chain e.value (operands rest.items)
+layer (of.Words e rest) = Words e.value (word_operands rest.items)
 layer (of.Cond all last) = Cond (arms all.items) last.value
 layer (of.Concat all) = Concat (listed_parts all.items)
 layer (of.Repeat k all) = Repeat k (listed_parts all.items)
@@ -36,7 +37,7 @@ abbrev pub expression : Expr → Expression
 expression = fold-Expr Expression layer
 
 -- an operator with its right operand
-abbrev pub operand_view : Op × Expr → Op × Expression
+abbrev pub operand_view : {O : Type 0} → O × Expr → O × Expression
 operand_view x = (x.0, expression x.1)
 
 -- a condition with its value

@@ -1,15 +1,20 @@
--- The cases of a recursion see the operands of a chain, the arms of a conditional and the parts of a concatenation one by
+-- The cases of a recursion see the operands of a level of operators, the arms of a conditional and the parts of a concatenation one by
 -- one, as they stand. The laws hold at every type of result, also at functions, which no type of the code stands for: so they
 -- are proved here, and the functions of the crate have them as contracts for every two types of the code.
 use Rattle.std.specs.Prelude.{◌≡◌, List, [], ◌∷◌, map}
 use Rattle.std.proofs.Common.{refl, ap}
 use Rattle.bb_ast.specs.declared.expr.Op.{Op}
-use Rattle.bb_ast.specs.Syntax.{Expression, operands, arms, listed_parts}
-use Rattle.bb_ast.specs.Folds.{Cases, of_operands, of_arms, of_parts, operand_by}
+use Rattle.bb_ast.specs.declared.operators.WordOp.{WordOp}
+use Rattle.bb_ast.specs.Syntax.{Expression, operands, word_operands, arms, listed_parts}
+use Rattle.bb_ast.specs.Folds.{Cases, of_operands, of_words, of_arms, of_parts, operand_by}
 
 abbrev pub SeesOperands : Type 0 → Type 0 → Type 0
 SeesOperands C A = (seen : Expression → A → C) (cases : Cases C A) (xs : List (Op × Expression))
     → of_operands seen cases (operands xs) ≡ map (λ x. (x.0, operand_by seen cases x.1)) xs
+
+abbrev pub SeesWords : Type 0 → Type 0 → Type 0
+SeesWords C A = (seen : Expression → A → C) (cases : Cases C A) (xs : List (WordOp × Expression))
+    → of_words seen cases (word_operands xs) ≡ map (λ x. (x.0, operand_by seen cases x.1)) xs
 
 abbrev pub SeesArms : Type 0 → Type 0 → Type 0
 SeesArms C A = (seen : Expression → A → C) (cases : Cases C A) (xs : List (Expression × Expression))
@@ -22,6 +27,10 @@ SeesParts C A = (seen : Expression → A → C) (cases : Cases C A) (xs : List E
 pub sees_operands : {C A : Type 0} → SeesOperands C A
 sees_operands seen cases [] = refl
 sees_operands seen cases (x ∷ xs) = ap (λ r. (x.0, operand_by seen cases x.1) ∷ r) (sees_operands seen cases xs)
+
+pub sees_words : {C A : Type 0} → SeesWords C A
+sees_words seen cases [] = refl
+sees_words seen cases (x ∷ xs) = ap (λ r. (x.0, operand_by seen cases x.1) ∷ r) (sees_words seen cases xs)
 
 pub sees_arms : {C A : Type 0} → SeesArms C A
 sees_arms seen cases [] = refl
