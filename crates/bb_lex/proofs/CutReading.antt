@@ -3,7 +3,7 @@ use Rattle.std.proofs.Common.{◌≡◌, ℕ, zero, suc, ◌<◌, ◌≤◌, Opt
 use Rattle.std.proofs.lemmas.List.{append_cancel_right, nil_from_length}
 use Rattle.bb_lex.specs.declared.token.Kind.{Kind}
 use Rattle.bb_lex.specs.declared.mark.Mark.{Mark}
-use Rattle.bb_lex.specs.declared.mark.Mark.TheVariants.{LeftRound, RightRound, LeftSquare, RightSquare, LeftBrace, RightBrace, Comma, Semicolon, Colon, Dot, Equals, At, Amp, Bar, Caret, Tilde, Query, LessEqual, TildeCaret, CaretTilde}
+use Rattle.bb_lex.specs.declared.mark.Mark.TheVariants.{LeftRound}
 use Rattle.bb_lex.specs.Skips.{IsSkip}
 use Rattle.bb_lex.specs.Skips.IsSkip.{White, LineComment, BlockComment, Attribute, Directive}
 use Rattle.bb_lex.specs.Pieces.{written, IsIdentifier, IsDecimalRun, IsToken, Piece, IsPiece}
@@ -34,25 +34,7 @@ length-identifier (b ∷ bytes) is = omega arith
 
 length-written : (mark : Mark) → 0 < length (written mark)
 length-written LeftRound = omega arith
-length-written RightRound = omega arith
-length-written LeftSquare = omega arith
-length-written RightSquare = omega arith
-length-written LeftBrace = omega arith
-length-written RightBrace = omega arith
-length-written Comma = omega arith
-length-written Semicolon = omega arith
-length-written Colon = omega arith
-length-written Dot = omega arith
-length-written Equals = omega arith
-length-written At = omega arith
-length-written Amp = omega arith
-length-written Bar = omega arith
-length-written Caret = omega arith
-length-written Tilde = omega arith
-length-written Query = omega arith
-length-written LessEqual = omega arith
-length-written TildeCaret = omega arith
-length-written CaretTilde = omega arith
+length-written m = omega arith
 
 length-token : (kind : Kind) (bytes after : List ℕ) → IsToken kind bytes after → 0 < length bytes
 length-token kind bytes after (Identifier is k) = length-identifier bytes is

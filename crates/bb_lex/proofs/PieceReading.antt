@@ -1,12 +1,12 @@
 -- The piece that is read at a place is a piece by the rules, and no longer one begins there.
-use Rattle.std.proofs.Common.{◌≡◌, ℕ, true, false, cond, Option, Some, None, List, [], ◌∷◌, ◌++◌, sym, refl, ap, ◌∙◌, subst, arith, ⊎_elim, append_assoc, append-nil, eqb-true}
+use Rattle.std.proofs.Common.{◌≡◌, ◌≢◌, ℕ, true, false, cond, Option, Some, None, List, [], ◌∷◌, ◌++◌, sym, refl, ap, ◌∙◌, subst, arith, ⊎_elim, append_assoc, append-nil, eqb-true}
 use Rattle.std.specs.Prelude.{◌==◌}
 use Rattle.std.specs.Char.{is_ascii_digit}
 use Rattle.std.proofs.lemmas.Bool.Decides.{nat_tests}
 use Rattle.bb_lex.specs.declared.token.Kind.{Kind}
 use Rattle.bb_lex.specs.declared.token.Kind.TheVariants.{Name, Sized, Plain, Mark as MarkKind}
 use Rattle.bb_lex.specs.declared.mark.Mark.{Mark}
-use Rattle.bb_lex.specs.declared.mark.Mark.TheVariants.{LeftRound, RightRound, LeftSquare, RightSquare, LeftBrace, RightBrace, Comma, Semicolon, Colon, Dot, Equals, At, Amp, Bar, Caret, Tilde, Query, LessEqual, TildeCaret, CaretTilde}
+use Rattle.bb_lex.specs.declared.mark.Mark.TheVariants.{LeftRound}
 use Rattle.bb_lex.specs.declared.class.Opening.TheVariants as opening
 use Rattle.bb_lex.specs.Bytes.{is_white, is_in_line, begins_identifier, is_identifier_byte, Each, BeginsNot, past}
 use Rattle.bb_lex.specs.Words.{keyword_of}
@@ -18,7 +18,7 @@ use Rattle.bb_lex.specs.Inside.Runs.{run_of}
 use Rattle.bb_lex.specs.Inside.Found.{skipped, token_of}
 use Rattle.bb_lex.specs.Inside.Numbers.{number_at}
 use Rattle.bb_lex.specs.Inside.Skips.{behind_pair, behind_comment, behind_attribute, behind_directive, behind_escaped}
-use Rattle.bb_lex.specs.Inside.Marks.{round_at, longer_mark}
+use Rattle.bb_lex.specs.Inside.Marks.{round_at, short_mark, long_mark, mark_before, longer_mark}
 use Rattle.bb_lex.specs.Inside.Pieces.{opening_of, opened_by, piece_at}
 use Rattle.bb_lex.proofs.Choices.{cases_of, chosen, cond_true, cond_false, some_pair}
 use Rattle.bb_lex.proofs.Runs.{run-past, each_of_run, past-each, run-each}
@@ -250,67 +250,50 @@ sized_read bytes after is =
     let made : bytes ++ after ≡ is.size ++ (behind ++ after) = ap (λ l. l ++ after) is.made_of ∙ append_assoc is.size behind after in
     ap piece_at made ∙ read_number is.size (behind ++ after) is.size_run ∙ ap number_at (sym made) ∙ sized_complete bytes after is
 
--- a mark of one byte before what does not make it longer
-caret_complete : (after : List ℕ) → Reaches (Some (MarkKind Caret)) (94 ∷ []) after
-caret_complete [] = exactly (Some (MarkKind Caret)) (94 ∷ []) [] refl
-caret_complete (c ∷ after) =
-    ⊎_elim
-    (λ tilde. record {
-      found = Some (MarkKind CaretTilde);
-      more = c ∷ [];
-      rest = after;
-      splits = refl;
-      read = ap (λ n. piece_at (94 ∷ n ∷ after)) (eqb-true c 126 tilde);
-      same = λ e. absurd (cc);
-    })
-    (λ other. exactly (Some (MarkKind Caret)) (94 ∷ []) (c ∷ after) (ap (λ t. longer_mark (cond t (Some CaretTilde) None) after (Some Caret) (c ∷ after)) other))
-    (cases_of (c == 126))
-
-tilde_complete : (after : List ℕ) → Reaches (Some (MarkKind Tilde)) (126 ∷ []) after
-tilde_complete [] = exactly (Some (MarkKind Tilde)) (126 ∷ []) [] refl
-tilde_complete (c ∷ after) =
-    ⊎_elim
-    (λ caret. record {
-      found = Some (MarkKind TildeCaret);
-      more = c ∷ [];
-      rest = after;
-      splits = refl;
-      read = ap (λ n. piece_at (126 ∷ n ∷ after)) (eqb-true c 94 caret);
-      same = λ e. absurd (cc);
-    })
-    (λ other. exactly (Some (MarkKind Tilde)) (126 ∷ []) (c ∷ after) (ap (λ t. longer_mark (cond t (Some TildeCaret) None) after (Some Tilde) (c ∷ after)) other))
-    (cases_of (c == 94))
-
 round_complete : (after : List ℕ) → BeginsNot (λ b. b == 42) after → Reaches (Some (MarkKind LeftRound)) (40 ∷ []) after
 round_complete [] not = exactly (Some (MarkKind LeftRound)) (40 ∷ []) [] refl
 round_complete (b ∷ after) not = exactly (Some (MarkKind LeftRound)) (40 ∷ []) (b ∷ after) (cond_false (b == 42) (skipped (behind_attribute after)) (Some (Some (MarkKind LeftRound), b ∷ after)) not)
 
--- the other marks of one byte make no longer one
-plain_mark : (mark : Mark) (b : ℕ) (after : List ℕ) → piece_at (b ∷ []) ≡ Some (Some (MarkKind mark), []) → ((c : ℕ) (t : List ℕ) → piece_at (b ∷ c ∷ t) ≡ Some (Some (MarkKind mark), c ∷ t)) → Reaches (Some (MarkKind mark)) (b ∷ []) after
-plain_mark mark b [] last more = exactly (Some (MarkKind mark)) (b ∷ []) [] last
-plain_mark mark b (c ∷ after) last more = exactly (Some (MarkKind mark)) (b ∷ []) (c ∷ after) (more c after)
+-- a byte, or two bytes, and the mark that they are read as
+ReadsMark : Mark → List ℕ → Type 0
+ReadsMark mark [] = ⊥
+ReadsMark mark (b ∷ []) = (opening_of b ≡ opening.Mark) × (short_mark b ≡ Some mark)
+ReadsMark mark (b ∷ c ∷ []) = (opening_of b ≡ opening.Mark) × (long_mark b c ≡ Some mark)
+ReadsMark mark (b ∷ c ∷ d ∷ bytes) = ⊥
+
+reads_mark : (mark : Mark) → mark ≢ LeftRound → ReadsMark mark (written mark)
+unfolding ReadsMark
+reads_mark LeftRound other = absurd (other refl)
+reads_mark mark other = (refl, refl)
+
+-- a byte is read with the one behind it where both are a mark, and else alone
+longer_reads : (mark : Mark) (b c : ℕ) (after : List ℕ) (longer : Option Mark) → opening_of b ≡ opening.Mark → short_mark b ≡ Some mark → long_mark b c ≡ longer
+    → Reaches (Some (MarkKind mark)) (b ∷ []) (c ∷ after)
+longer_reads mark b c after None o short long =
+    exactly (Some (MarkKind mark)) (b ∷ []) (c ∷ after)
+    (ap (λ p. opened_by p b (c ∷ after)) o ∙ ap (λ l. longer_mark l after (short_mark b) (c ∷ after)) long ∙ ap (λ m. mark_before m (c ∷ after)) short)
+longer_reads mark b c after (Some longer) o short long = record {
+  found = Some (MarkKind longer);
+  more = c ∷ [];
+  rest = after;
+  splits = refl;
+  read = ap (λ p. opened_by p b (c ∷ after)) o ∙ ap (λ l. longer_mark l after (short_mark b) (c ∷ after)) long;
+  same = λ e. absurd (cc);
+}
+
+bytes_read : (mark : Mark) (bytes after : List ℕ) → ReadsMark mark bytes → Reaches (Some (MarkKind mark)) bytes after
+unfolding ReadsMark
+bytes_read mark [] after is = elim is [ ]
+bytes_read mark (b ∷ []) [] is = exactly (Some (MarkKind mark)) (b ∷ []) [] (ap (λ p. opened_by p b []) is.0 ∙ ap (λ m. mark_before m []) is.1)
+bytes_read mark (b ∷ []) (c ∷ after) is = longer_reads mark b c after (long_mark b c) is.0 is.1 refl
+bytes_read mark (b ∷ c ∷ []) after is =
+    exactly (Some (MarkKind mark)) (b ∷ c ∷ []) after
+    (ap (λ p. opened_by p b (c ∷ after)) is.0 ∙ ap (λ l. longer_mark l after (short_mark b) (c ∷ after)) is.1)
+bytes_read mark (b ∷ c ∷ d ∷ bytes) after is = elim is [ ]
 
 mark_complete : (mark : Mark) (after : List ℕ) → (mark ≡ LeftRound → BeginsNot (λ b. b == 42) after) → Reaches (Some (MarkKind mark)) (written mark) after
 mark_complete LeftRound after open_ = round_complete after (open_ refl)
-mark_complete Caret after open_ = caret_complete after
-mark_complete Tilde after open_ = tilde_complete after
-mark_complete LessEqual after open_ = exactly (Some (MarkKind LessEqual)) (60 ∷ 61 ∷ []) after refl
-mark_complete TildeCaret after open_ = exactly (Some (MarkKind TildeCaret)) (126 ∷ 94 ∷ []) after refl
-mark_complete CaretTilde after open_ = exactly (Some (MarkKind CaretTilde)) (94 ∷ 126 ∷ []) after refl
-mark_complete RightRound after open_ = plain_mark RightRound 41 after refl (λ c t. refl)
-mark_complete LeftSquare after open_ = plain_mark LeftSquare 91 after refl (λ c t. refl)
-mark_complete RightSquare after open_ = plain_mark RightSquare 93 after refl (λ c t. refl)
-mark_complete LeftBrace after open_ = plain_mark LeftBrace 123 after refl (λ c t. refl)
-mark_complete RightBrace after open_ = plain_mark RightBrace 125 after refl (λ c t. refl)
-mark_complete Comma after open_ = plain_mark Comma 44 after refl (λ c t. refl)
-mark_complete Semicolon after open_ = plain_mark Semicolon 59 after refl (λ c t. refl)
-mark_complete Colon after open_ = plain_mark Colon 58 after refl (λ c t. refl)
-mark_complete Dot after open_ = plain_mark Dot 46 after refl (λ c t. refl)
-mark_complete Equals after open_ = plain_mark Equals 61 after refl (λ c t. refl)
-mark_complete At after open_ = plain_mark At 64 after refl (λ c t. refl)
-mark_complete Amp after open_ = plain_mark Amp 38 after refl (λ c t. refl)
-mark_complete Bar after open_ = plain_mark Bar 124 after refl (λ c t. refl)
-mark_complete Query after open_ = plain_mark Query 63 after refl (λ c t. refl)
+mark_complete mark after open_ = bytes_read mark (written mark) after (reads_mark mark (λ e. cc))
 
 token_complete : (kind : Kind) (bytes after : List ℕ) → IsToken kind bytes after → Reaches (Some kind) bytes after
 token_complete kind bytes after (Identifier is k) = identifier_complete bytes after kind is k

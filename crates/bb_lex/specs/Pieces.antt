@@ -4,7 +4,7 @@ use Rattle.std.specs.Char.{is_ascii_digit, is_digit}
 use Rattle.bb_lex.specs.declared.token.Kind.{Kind}
 use Rattle.bb_lex.specs.declared.token.Kind.TheVariants.{Name, Word, Sized, Plain, Mark as MarkKind}
 use Rattle.bb_lex.specs.declared.mark.Mark.{Mark}
-use Rattle.bb_lex.specs.declared.mark.Mark.TheVariants.{LeftRound, RightRound, LeftSquare, RightSquare, LeftBrace, RightBrace, Comma, Semicolon, Colon, Dot, Equals, At, Amp, Bar, Caret, Tilde, Query, LessEqual, TildeCaret, CaretTilde}
+use Rattle.bb_lex.specs.declared.mark.Mark.TheVariants.{LeftRound, RightRound, LeftSquare, RightSquare, LeftBrace, RightBrace, Comma, Semicolon, Colon, Dot, Equals, At, Amp, Bar, Caret, Tilde, Query, Plus, Minus, Less, Greater, Bang, LessEqual, GreaterEqual, EqualEqual, BangEqual, LessLess, GreaterGreater, AmpAmp, BarBar, TildeAmp, TildeBar, TildeCaret, CaretTilde}
 use Rattle.bb_lex.specs.Bytes.{apostrophe, star, backslash, underscore, is_apostrophe, is_white, begins_identifier, is_identifier_byte, is_word_byte, is_decimal_byte, is_graphic, Each, BeginsNot, EndsBefore, past}
 use Rattle.bb_lex.specs.Numbers.{number, radix_of}
 use Rattle.bb_lex.specs.Skips.{IsSkip}
@@ -30,7 +30,21 @@ written Bar = codes "|"
 written Caret = codes "^"
 written Tilde = codes "~"
 written Query = codes "?"
+written Plus = codes "+"
+written Minus = codes "-"
+written Less = codes "<"
+written Greater = codes ">"
+written Bang = codes "!"
 written LessEqual = codes "<="
+written GreaterEqual = codes ">="
+written EqualEqual = codes "=="
+written BangEqual = codes "!="
+written LessLess = codes "<<"
+written GreaterGreater = codes ">>"
+written AmpAmp = codes "&&"
+written BarBar = codes "||"
+written TildeAmp = codes "~&"
+written TildeBar = codes "~|"
 written TildeCaret = codes "~^"
 written CaretTilde = codes "^~"
 

@@ -35,8 +35,36 @@ pub enum Mark {
     Tilde,
     /// `?`
     Query,
+    /// `+`
+    Plus,
+    /// `-`
+    Minus,
+    /// `<`
+    Less,
+    /// `>`
+    Greater,
+    /// `!`
+    Bang,
     /// `<=`
     LessEqual,
+    /// `>=`
+    GreaterEqual,
+    /// `==`
+    EqualEqual,
+    /// `!=`
+    BangEqual,
+    /// `<<`
+    LessLess,
+    /// `>>`
+    GreaterGreater,
+    /// `&&`
+    AmpAmp,
+    /// `||`
+    BarBar,
+    /// `~&`
+    TildeAmp,
+    /// `~|`
+    TildeBar,
     /// `~^`
     TildeCaret,
     /// `^~`

@@ -27,6 +27,11 @@ fn short_mark(b: u8) -> Option<Mark>
         b'^' => Some(Mark::Caret),
         b'~' => Some(Mark::Tilde),
         b'?' => Some(Mark::Query),
+        b'+' => Some(Mark::Plus),
+        b'-' => Some(Mark::Minus),
+        b'<' => Some(Mark::Less),
+        b'>' => Some(Mark::Greater),
+        b'!' => Some(Mark::Bang),
         _ => None,
     }
 }
@@ -35,14 +40,20 @@ fn short_mark(b: u8) -> Option<Mark>
 fn long_mark(b: u8, c: u8) -> Option<Mark>
     ensures { result ≡ long_mark b c }
 {
-    if b == b'<' && c == b'=' {
-        Some(Mark::LessEqual)
-    } else if b == b'~' && c == b'^' {
-        Some(Mark::TildeCaret)
-    } else if b == b'^' && c == b'~' {
-        Some(Mark::CaretTilde)
-    } else {
-        None
+    match (b, c) {
+        (b'<', b'=') => Some(Mark::LessEqual),
+        (b'>', b'=') => Some(Mark::GreaterEqual),
+        (b'=', b'=') => Some(Mark::EqualEqual),
+        (b'!', b'=') => Some(Mark::BangEqual),
+        (b'<', b'<') => Some(Mark::LessLess),
+        (b'>', b'>') => Some(Mark::GreaterGreater),
+        (b'&', b'&') => Some(Mark::AmpAmp),
+        (b'|', b'|') => Some(Mark::BarBar),
+        (b'~', b'&') => Some(Mark::TildeAmp),
+        (b'~', b'|') => Some(Mark::TildeBar),
+        (b'~', b'^') => Some(Mark::TildeCaret),
+        (b'^', b'~') => Some(Mark::CaretTilde),
+        _ => None,
     }
 }
 

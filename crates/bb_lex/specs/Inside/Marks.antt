@@ -3,7 +3,7 @@ use Rattle.std.specs.Prelude.{ℕ, Option, Some, None, List, [], ◌∷◌, ◌&
 use Rattle.bb_lex.specs.declared.token.Kind.{Kind}
 use Rattle.bb_lex.specs.declared.token.Kind.TheVariants.{Mark as MarkKind}
 use Rattle.bb_lex.specs.declared.mark.Mark.{Mark}
-use Rattle.bb_lex.specs.declared.mark.Mark.TheVariants.{LeftRound, RightRound, LeftSquare, RightSquare, LeftBrace, RightBrace, Comma, Semicolon, Colon, Dot, Equals, At, Amp, Bar, Caret, Tilde, Query, LessEqual, TildeCaret, CaretTilde}
+use Rattle.bb_lex.specs.declared.mark.Mark.TheVariants.{LeftRound, RightRound, LeftSquare, RightSquare, LeftBrace, RightBrace, Comma, Semicolon, Colon, Dot, Equals, At, Amp, Bar, Caret, Tilde, Query, Plus, Minus, Less, Greater, Bang, LessEqual, GreaterEqual, EqualEqual, BangEqual, LessLess, GreaterGreater, AmpAmp, BarBar, TildeAmp, TildeBar, TildeCaret, CaretTilde}
 use Rattle.bb_lex.specs.Inside.Found.{skipped}
 use Rattle.bb_lex.specs.Inside.Skips.{behind_attribute}
 
@@ -12,34 +12,33 @@ abbrev pub round_at : List ℕ → Option (Option Kind × List ℕ)
 round_at [] = Some (Some (MarkKind LeftRound), [])
 round_at (b ∷ bytes) = if b == 42 then skipped (behind_attribute bytes) else Some (Some (MarkKind LeftRound), b ∷ bytes)
 
--- the mark of one byte, but for (
-abbrev pub short_mark : ℕ → Option Mark
-short_mark b =
-    if b == 41 then Some RightRound
-    else (if b == 91 then Some LeftSquare
-    else (if b == 93 then Some RightSquare
-    else (if b == 123 then Some LeftBrace
-    else (if b == 125 then Some RightBrace
-    else (if b == 44 then Some Comma
-    else (if b == 59 then Some Semicolon
-    else (if b == 58 then Some Colon
-    else (if b == 46 then Some Dot
-    else (if b == 61 then Some Equals
-    else (if b == 64 then Some At
-    else (if b == 38 then Some Amp
-    else (if b == 124 then Some Bar
-    else (if b == 94 then Some Caret
-    else (if b == 126 then Some Tilde
-    else (if b == 63 then Some Query
-    else None)))))))))))))))
+-- the marks of one byte, but for (
+abbrev pub short_marks : List (ℕ × Mark)
+short_marks =
+    (41, RightRound) ∷ (91, LeftSquare) ∷ (93, RightSquare) ∷ (123, LeftBrace) ∷ (125, RightBrace) ∷ (44, Comma) ∷ (59, Semicolon) ∷
+    (58, Colon) ∷ (46, Dot) ∷ (61, Equals) ∷ (64, At) ∷ (38, Amp) ∷ (124, Bar) ∷ (94, Caret) ∷ (126, Tilde) ∷ (63, Query) ∷ (43, Plus) ∷
+    (45, Minus) ∷ (60, Less) ∷ (62, Greater) ∷ (33, Bang) ∷ []
 
--- the mark of two bytes
+-- the marks of two bytes
+abbrev pub long_marks : List (ℕ × ℕ × Mark)
+long_marks =
+    (60, 61, LessEqual) ∷ (62, 61, GreaterEqual) ∷ (61, 61, EqualEqual) ∷ (33, 61, BangEqual) ∷ (60, 60, LessLess) ∷ (62, 62, GreaterGreater) ∷
+    (38, 38, AmpAmp) ∷ (124, 124, BarBar) ∷ (126, 38, TildeAmp) ∷ (126, 124, TildeBar) ∷ (126, 94, TildeCaret) ∷ (94, 126, CaretTilde) ∷ []
+
+-- the first of these that is a byte, or two bytes
+abbrev pub short_among : List (ℕ × Mark) → ℕ → Option Mark
+short_among [] b = None
+short_among ((x, mark) ∷ marks) b = if b == x then Some mark else short_among marks b
+
+abbrev pub long_among : List (ℕ × ℕ × Mark) → ℕ → ℕ → Option Mark
+long_among [] b c = None
+long_among ((x, y, mark) ∷ marks) b c = if b == x && c == y then Some mark else long_among marks b c
+
+abbrev pub short_mark : ℕ → Option Mark
+short_mark b = short_among short_marks b
+
 abbrev pub long_mark : ℕ → ℕ → Option Mark
-long_mark b c =
-    if b == 60 && c == 61 then Some LessEqual
-    else (if b == 126 && c == 94 then Some TildeCaret
-    else (if b == 94 && c == 126 then Some CaretTilde
-    else None))
+long_mark b c = long_among long_marks b c
 
 -- a mark, if there is one, before what follows
 abbrev pub mark_before : Option Mark → List ℕ → Option (Option Kind × List ℕ)

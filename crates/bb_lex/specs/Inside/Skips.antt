@@ -1,5 +1,5 @@
 -- What is left behind comments, attributes, directives, escaped names.
-use Rattle.std.specs.Prelude.{ℕ, zero, suc, ◌*◌, Bool, Option, Some, None, List, [], ◌∷◌, length, ◌&&◌, ◌||◌, ◌==◌, if◌then◌else◌, codes, bytes_eq}
+use Rattle.std.specs.Prelude.{ℕ, zero, suc, Bool, Option, Some, None, List, [], ◌∷◌, length, ◌&&◌, ◌||◌, ◌==◌, if◌then◌else◌, codes, bytes_eq}
 use Rattle.bb_lex.specs.Bytes.{is_white, is_in_line, is_identifier_byte, is_graphic, past}
 use Rattle.bb_lex.specs.Inside.Runs.{run_of}
 
