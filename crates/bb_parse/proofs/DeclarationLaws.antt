@@ -174,7 +174,7 @@ port_complete ts port n rest p =
     let k = kind_complete p.0 port.kind p.1 p.3 r.1 in
     (rw (p.2, direction_is port.dir, k.0, r.0) refl, rw p.2 (direction_is port.dir), omega (arith, ap length p.2, k.1, r.2))
 
-head_complete : Complete 5 IsPlainHead read_head
+head_complete : Complete 11 IsPlainHead read_head
 unfolding read_head
 head_complete ts head rest p h = (rw (p.0, ← p.1) refl, omega (arith, ap length p.0))
 
@@ -186,7 +186,7 @@ next_port_complete before ts port n rest (inl p) =
     (rw (one.1) one.0, one.2)
 next_port_complete before ts port n rest (inr p) = (rw (p.1, p.0) refl, omega (arith, ap length p.1))
 
-more_declared_complete : (before : Port) (ts : List Symbol) (heads : List PlainHead) (rest : List Symbol) (n : ℕ) → IsMoreDeclared before ts heads rest → 6 < rank_next rest → length ts ≤ n
+more_declared_complete : (before : Port) (ts : List Symbol) (heads : List PlainHead) (rest : List Symbol) (n : ℕ) → IsMoreDeclared before ts heads rest → 12 < rank_next rest → length ts ≤ n
     → (read_ansi_more before n ts ≡ Some (heads, rest)) × (length rest ≤ length ts)
 unfolding read_ansi
 more_declared_complete before ts [] rest zero p h le = (ap (λ z. Some ([], z)) p, omega (arith, ap length p))
@@ -198,7 +198,7 @@ more_declared_complete before ts (head ∷ heads) rest (suc n) p h le =
     let others = more_declared_complete p.0 p.2 heads rest n p.6 h le' in
     (rw (p.3, one.0, others.0, ← p.5) refl, omega (arith, ap length p.3, one.1, others.1))
 
-ansi_heads_complete : (ts : List Symbol) (heads : List PlainHead) (rest : List Symbol) → AreDeclared ts heads rest → 6 < rank_next rest
+ansi_heads_complete : (ts : List Symbol) (heads : List PlainHead) (rest : List Symbol) → AreDeclared ts heads rest → 12 < rank_next rest
     → (read_ansi_heads ts ≡ Some (heads, rest)) × (is_some (direction_of (next_kind ts)) ≡ true) × (is_next RightRound ts ≡ false)
 unfolding read_ansi_heads
 ansi_heads_complete ts [] rest p h = elim p [ ]

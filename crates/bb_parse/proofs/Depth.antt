@@ -1,18 +1,17 @@
 -- Where the counter of nesting stays within 200, 201 levels are enough: what is of a rule at any depth is of it at that one.
-use Rattle.std.proofs.Common.{◌≡◌, inl, inr, ℕ, zero, suc, ◌+◌, ◌-◌, ◌≤◌, List, [], ◌∷◌, Option, Some, None, refl, subst, arith}
-use Rattle.bb_ast.specs.declared.expr.Op.{Op}
+use Rattle.std.proofs.Common.{◌≡◌, inl, inr, ℕ, zero, suc, ◌+◌, ◌-◌, ◌≤◌, List, [], ◌∷◌, Option, Some, None, subst, arith}
 use Rattle.bb_ast.specs.declared.module.Range.{Range}
-use Rattle.bb_ast.specs.Syntax.{Expression, Net, Bit, Part, Sized, Plain, Not, Chain, Cond, Concat, Repeat, Order, Named, PlainBody, Ports, Nets, Regs, Supply, Assign, Gates, Calls, Always}
+use Rattle.bb_ast.specs.Syntax.{Expression, Net, Bit, Part, Order, Named, PlainBody, Ports, Nets, Regs, Supply, Assign, Gates, Calls, Always}
 use Rattle.bb_lex.specs.declared.mark.Mark.{Mark}
-use Rattle.bb_lex.specs.declared.mark.Mark.TheVariants.{LeftRound, RightRound, LeftSquare, RightSquare, LeftBrace, RightBrace, Comma, Semicolon, Colon, Dot, Equals, Amp, Bar, Caret, Tilde, Query, LessEqual, TildeCaret, CaretTilde}
-use Rattle.bb_parse.specs.declared.level.Level.{Level}
-use Rattle.bb_parse.specs.declared.level.Level.TheVariants as levels
+use Rattle.bb_lex.specs.declared.mark.Mark.TheVariants.{LeftRound, RightRound, LeftSquare, RightSquare, LeftBrace, RightBrace, Comma, Semicolon, Colon, Dot, Equals, Tilde, Query, LessEqual}
 use Rattle.bb_parse.specs.Symbols.{Symbol, Identifier, SizedNumber, PlainNumber, Sign}
 use Rattle.bb_parse.specs.Lists.{Rule, IsName, IsOptional, IsMore, IsList}
-use Rattle.bb_parse.specs.Expressions.{IsSelect, IsPrimary, select, sized, plain, round, concat, repeat, IsSigns, IsUnary, level_operator, IsOperands, IsChain, IsAndx, IsXorx, IsOrx, IsArms, IsExpr, IsLval}
+use Rattle.bb_parse.specs.Expressions.{IsSelect, IsPrimary, select, sized, plain, round, concat, repeat, IsSigns, IsNegated, IsFold, IsUnary, bit_operator, word_operator, chained, worded, IsOperands, IsChain, is_bitwise, IsLevel, IsArms, IsExpr, IsLval}
 use Rattle.bb_parse.specs.Declarations.{IsRange}
 use Rattle.bb_parse.specs.Items.{IsAssigned, IsNet, IsAssignment, AreTerminals, IsGate, IsPlace, IsNamed, AreConns, IsCall, IsClock, IsItem}
 use Rattle.bb_parse.specs.Nesting.{mark_count, mark_square, greatest_from, nesting}
+use Rattle.bb_parse.proofs.OperatorMarks.{KeepsCount, KeepCounts, one_keeps_counts, bits_keep_counts, words_keep_counts}
+use Rattle.bb_parse.proofs.Parts.{to_either}
 use Rattle.bb_parse.proofs.Statements.{greatest_least}
 
 -- from a count on, the counter stays within 200
@@ -58,24 +57,13 @@ select_within c ts (Net name) rest p w = let w' = along c ts (Identifier name �
 select_within c ts (Bit name i) rest p w = let w' = along c ts (Identifier name ∷ Sign LeftSquare ∷ PlainNumber i ∷ Sign RightSquare ∷ rest) p w in omega (arith, w')
 select_within c ts (Part name i j) rest p w =
     let w' = along c ts (Identifier name ∷ Sign LeftSquare ∷ PlainNumber i ∷ Sign Colon ∷ PlainNumber j ∷ Sign RightSquare ∷ rest) p w in omega (arith, w')
-select_within c ts (Sized bits) rest p w = elim p [ ]
-select_within c ts (Plain n) rest p w = elim p [ ]
-select_within c ts (Not k e) rest p w = elim p [ ]
-select_within c ts (Chain e rest') rest p w = elim p [ ]
-select_within c ts (Cond all last) rest p w = elim p [ ]
-select_within c ts (Concat all) rest p w = elim p [ ]
-select_within c ts (Repeat k all) rest p w = elim p [ ]
+select_within c ts e rest p w = elim p [ ]
 
-none_not_some : (op : Op) → None ≡ Some op → ⊥
-none_not_some op h = cc
-
-operator_counts : (level : Level) (m : Mark) (op : Op) (c : ℕ) → level_operator level m ≡ Some op → (mark_count m 0 c ≡ c) × (mark_square m 0 ≡ 0)
-operator_counts levels.And Amp op c h = (refl, refl)
-operator_counts levels.Xor Caret op c h = (refl, refl)
-operator_counts levels.Xor TildeCaret op c h = (refl, refl)
-operator_counts levels.Xor CaretTilde op c h = (refl, refl)
-operator_counts levels.Or Bar op c h = (refl, refl)
-operator_counts level m op c h = absurd (none_not_some op h)
+-- behind a mark that opens and closes nothing
+behind_operator : (c : ℕ) (m : Mark) (a : List Symbol) → KeepsCount m c → Within c (Sign m ∷ a) → Within c a
+behind_operator c m a keeps w =
+    let w1 : greatest_from (mark_square m 0) (mark_count m 0 c) a ≤ 200 = omega (arith, w) in
+    rw (keeps.0, keeps.1) at w1
 
 module _ (c : ℕ) (inner inner' : Rule Expression) (n : (d : ℕ) → c + 1 ≤ d → Narrows d inner inner') where
   primary_narrows : Narrows c (IsPrimary inner) (IsPrimary inner')
@@ -104,41 +92,50 @@ module _ (c : ℕ) (inner inner' : Rule Expression) (n : (d : ℕ) → c + 1 ≤
   signs_within zero ts a p w = along c ts a p w
   signs_within (suc k) ts a p w = let w' = along c ts (Sign Tilde ∷ p.0) p.1 w in signs_within k p.0 a p.2 (omega (arith, w'))
 
-  unary_narrows : Narrows c (IsUnary inner) (IsUnary inner')
-  unary_narrows ts e rest p w =
-      let one = primary_narrows p.1 p.2 rest p.4 (signs_within p.0 ts p.1 p.3 w) in
+  negated_narrows : (is is' : Rule Expression) → Narrows c is is' → Narrows c (IsNegated is) (IsNegated is')
+  negated_narrows is is' narrows ts e rest p w =
+      let one = narrows p.1 p.2 rest p.4 (signs_within p.0 ts p.1 p.3 w) in
       ((p.0, p.1, p.2, p.3, one.0, p.5), one.1)
 
-module _ (c : ℕ) (level : Level) (is is' : Rule Expression) (n : Narrows c is is') where
-  operands_narrow : Narrows c (IsOperands level is) (IsOperands level is')
+  fold_narrows : Narrows c (IsFold inner) (IsFold inner')
+  fold_narrows ts e rest (inl p) w = let one = primary_narrows ts e rest p w in (inl one.0, one.1)
+  fold_narrows ts e rest (inr p) w =
+      let w' = behind_operator c p.0 p.2 (one_keeps_counts p.0 p.1 c p.5) (along c ts (Sign p.0 ∷ p.2) p.4 w) in
+      let one = negated_narrows (IsPrimary inner) (IsPrimary inner') primary_narrows p.2 p.3 rest p.6 w' in
+      (inr (p.0, p.1, p.2, p.3, p.4, p.5, one.0, p.7), one.1)
+
+  unary_narrows : Narrows c (IsUnary inner) (IsUnary inner')
+  unary_narrows = negated_narrows (IsFold inner) (IsFold inner') fold_narrows
+
+module _ {O : Type 0} (c : ℕ) (operator : Mark → Option O) (keeps : KeepCounts operator) (is is' : Rule Expression) (n : Narrows c is is') where
+  operands_narrow : Narrows c (IsOperands operator is) (IsOperands operator is')
   operands_narrow ts [] rest p w = (p, along c ts rest p w)
   operands_narrow ts (x ∷ xs) rest p w =
-      let w' = along c ts (Sign p.0 ∷ p.1) p.3 w in
-      let counts = operator_counts level p.0 x.0 c p.4 in
-      let w1 : greatest_from (mark_square p.0 0) (mark_count p.0 0 c) p.1 ≤ 200 = omega (arith, w') in
-      let w2 : greatest_from 0 c p.1 ≤ 200 = rw (counts.0, counts.1) at w1 in
-      let one = n p.1 x.1 p.2 p.5 w2 in
+      let w' = behind_operator c p.0 p.1 (keeps p.0 x.0 c p.4) (along c ts (Sign p.0 ∷ p.1) p.3 w) in
+      let one = n p.1 x.1 p.2 p.5 w' in
       let others = operands_narrow p.2 xs rest p.6 one.1 in
       ((p.0, p.1, p.2, p.3, p.4, one.0, others.0), others.1)
 
-  chain_narrows : Narrows c (IsChain level is) (IsChain level is')
-  chain_narrows ts e rest p w =
+  chain_narrows : (made : Expression → List (O × Expression) → Expression) → Narrows c (IsChain operator made is) (IsChain operator made is')
+  chain_narrows made ts e rest p w =
       let one = n ts p.0 p.2 p.3 w in
       let others = operands_narrow p.2 p.1 rest p.4 one.1 in
       ((p.0, p.1, p.2, one.0, others.0, p.5), others.1)
 
 module _ (c : ℕ) (inner inner' : Rule Expression) (n : (d : ℕ) → c + 1 ≤ d → Narrows d inner inner') where
-  orx_narrows : Narrows c (IsOrx inner) (IsOrx inner')
-  orx_narrows =
-      chain_narrows c levels.Or (IsXorx inner) (IsXorx inner')
-      (chain_narrows c levels.Xor (IsAndx inner) (IsAndx inner')
-      (chain_narrows c levels.And (IsUnary inner) (IsUnary inner') (unary_narrows c inner inner' n)))
+  level_narrows : (k : ℕ) → Narrows c (IsLevel k inner) (IsLevel k inner')
+  level_narrows zero ts e rest p w = unary_narrows c inner inner' n ts e rest p w
+  level_narrows (suc k) ts e rest p w =
+      to_either (is_bitwise k) _ _ _ _ (Within c rest)
+      (λ q. chain_narrows c (bit_operator k) (bits_keep_counts k) (IsLevel k inner) (IsLevel k inner') (level_narrows k) chained ts e rest q w)
+      (λ q. chain_narrows c (word_operator k) (words_keep_counts k) (IsLevel k inner) (IsLevel k inner') (level_narrows k) worded ts e rest q w)
+      p
 
   arms_narrow : (ts : List Symbol) (xs : List (Expression × Expression)) (last : Expression) (rest : List Symbol) → IsArms inner ts xs last rest → Within c ts
       → IsArms inner' ts xs last rest × Within c rest
-  arms_narrow ts [] last rest p w = orx_narrows ts last rest p w
+  arms_narrow ts [] last rest p w = level_narrows 9 ts last rest p w
   arms_narrow ts (x ∷ xs) last rest p w =
-      let one = orx_narrows ts x.0 (Sign Query ∷ p.0) p.2 w in
+      let one = level_narrows 9 ts x.0 (Sign Query ∷ p.0) p.2 w in
       let two = n (c + 1) (omega arith) p.0 x.1 (Sign Colon ∷ p.1) p.3 (omega (arith, one.1)) in
       let w1 : greatest_from 0 (c + 1 - 1) p.1 ≤ 200 = omega (arith, two.1) in
       let others = arms_narrow p.1 xs last rest p.4 (back c p.1 w1) in
@@ -237,14 +234,7 @@ call_narrows n ts x rest p w =
 clock_within : (c : ℕ) (ts : List Symbol) (e : Expression) (rest : List Symbol) → IsClock ts e rest → Within c ts → Within c rest
 clock_within c ts (Net name) rest p w = let w' = along c ts (Identifier name ∷ rest) p w in omega (arith, w')
 clock_within c ts (Bit name i) rest p w = let w' = along c ts (Identifier name ∷ Sign LeftSquare ∷ PlainNumber i ∷ Sign RightSquare ∷ rest) p w in omega (arith, w')
-clock_within c ts (Part name i j) rest p w = elim p [ ]
-clock_within c ts (Sized bits) rest p w = elim p [ ]
-clock_within c ts (Plain n) rest p w = elim p [ ]
-clock_within c ts (Not k e) rest p w = elim p [ ]
-clock_within c ts (Chain e rest') rest p w = elim p [ ]
-clock_within c ts (Cond all last) rest p w = elim p [ ]
-clock_within c ts (Concat all) rest p w = elim p [ ]
-clock_within c ts (Repeat k all) rest p w = elim p [ ]
+clock_within c ts e rest p w = elim p [ ]
 
 pub item_narrows : (n : ℕ) (ts : List Symbol) (body : PlainBody) (rest : List Symbol) → IsItem n ts body rest → nesting ts ≤ 200 → IsItem 201 ts body rest
 item_narrows n ts (Ports port names) rest p w = p

@@ -1,19 +1,18 @@
 -- What is read as an expression is one, and what is an expression is read as it.
 use Rattle.std.proofs.Common.{◌≡◌, inl, inr, ℕ, zero, suc, List, [], ◌∷◌, Option, Some, None, Bool, true, false, refl, ap, sym, ◌∙◌, subst, arith, length, IfSome, if◌then◌else◌}
-use Rattle.bb_ast.specs.declared.expr.Op.{Op}
-use Rattle.bb_ast.specs.Syntax.{Expression, Net, Bit, Part, Sized, Plain, Not, Chain, Cond, Concat, Repeat}
+use Rattle.bb_ast.specs.declared.operators.FoldOp.{FoldOp}
+use Rattle.bb_ast.specs.Syntax.{Expression, Net, Bit, Part}
 use Rattle.bb_lex.specs.declared.mark.Mark.{Mark}
 use Rattle.bb_lex.specs.declared.mark.Mark.TheVariants.{LeftRound, RightRound, LeftSquare, RightSquare, LeftBrace, RightBrace, Colon, Tilde, Query}
-use Rattle.bb_parse.specs.declared.level.Level.{Level}
-use Rattle.bb_parse.specs.declared.level.Level.TheVariants as levels
 use Rattle.bb_parse.specs.Symbols.{Symbol, Identifier, Reserved, SizedNumber, PlainNumber, Sign}
 use Rattle.bb_parse.specs.Lists.{Rule, IsList}
-use Rattle.bb_parse.specs.Expressions.{IsSelect, IsPrimary, select, sized, plain, round, concat, repeat, IsSigns, IsUnary, IsOperands, IsChain, IsAndx, IsXorx, IsOrx, IsArms, conditional, IsExpr, IsLval}
+use Rattle.bb_parse.specs.Expressions.{IsSelect, IsPrimary, select, sized, plain, round, concat, repeat, IsSigns, IsNegated, on_one, IsFold, IsUnary, bit_operator, chained, word_operator, worded, IsOperands, IsChain, is_bitwise, IsLevel, IsLor, IsArms, conditional, IsExpr, IsLval}
 use Rattle.bb_parse.specs.Inside.Symbols.{is_next, behind}
 use Rattle.bb_parse.specs.Inside.Steps.{Read, read_mark, read_name, read_plain, read_list}
-use Rattle.bb_parse.specs.Inside.Expressions.{read_index, read_select, begins_repeat, read_braces, read_round, bracket_at, read_primary, read_signs, read_unary, next_operator, operands_at, read_operands, read_chain, read_operand, read_level, with_arms, read_arm, read_arms, read_conditional, read_expr, read_lvals, read_lval}
-use Rattle.bb_parse.proofs.Marks.{next_is, no_square, operator_is}
-use Rattle.bb_parse.proofs.Parts.{and_then, and_so, either_way, behind_front, mark_sound, name_sound, plain_sound}
+use Rattle.bb_parse.specs.Inside.Expressions.{read_index, read_select, begins_repeat, read_braces, read_round, bracket_at, read_primary, read_signs, read_negated, next_operator, fold_at, read_fold, read_unary, operands_at, read_operands, chain_from, read_row, read_level, with_arms, read_arm, read_arms, read_conditional, read_expr, read_lvals, read_lval}
+use Rattle.bb_parse.proofs.Marks.{next_is, no_square}
+use Rattle.bb_parse.proofs.OperatorMarks.{operator_is}
+use Rattle.bb_parse.proofs.Parts.{and_then, and_so, either_way, either_sound, behind_front, mark_sound, name_sound, plain_sound}
 use Rattle.bb_parse.proofs.ListLaws.{Sound, Complete, list_sound}
 
 -- selects
@@ -42,13 +41,7 @@ unfolding read_select read_index
 select_complete ts (Net name) rest p h = (rw (p, no_square rest h) refl, omega (arith, ap length p))
 select_complete ts (Bit name i) rest p h = (rw p refl, omega (arith, ap length p))
 select_complete ts (Part name i j) rest p h = (rw p refl, omega (arith, ap length p))
-select_complete ts (Sized bits) rest p h = elim p [ ]
-select_complete ts (Plain n) rest p h = elim p [ ]
-select_complete ts (Not k e) rest p h = elim p [ ]
-select_complete ts (Chain e rest') rest p h = elim p [ ]
-select_complete ts (Cond all last) rest p h = elim p [ ]
-select_complete ts (Concat all) rest p h = elim p [ ]
-select_complete ts (Repeat k all) rest p h = elim p [ ]
+select_complete ts e rest p h = elim p [ ]
 
 -- primaries
 
@@ -105,44 +98,62 @@ module _ (inner : Rule Expression) (read : List Symbol → Read Expression) (s :
   signs_sound zero ts = refl
   signs_sound (suc n) ts = signs_by (is_next Tilde ts) (read_signs n (behind ts)) ts (λ h. (behind ts, next_is Tilde ts h, signs_sound n (behind ts)))
 
-  unary_sound : Sound (IsUnary inner) (read_unary read)
-  unfolding read_unary
-  unary_sound ts =
-      and_then (read_primary read (read_signs (length ts) ts).1) _ (λ e. IsPrimary inner (read_signs (length ts) ts).1 e.0 e.1) _ (primary_sound (read_signs (length ts) ts).1) (λ e p.
+  negated_sound : (is : Rule Expression) (read_one : List Symbol → Read Expression) → Sound is read_one → Sound (IsNegated is) (read_negated read_one)
+  unfolding read_negated
+  negated_sound is read_one one ts =
+      and_then (read_one (read_signs (length ts) ts).1) _ (λ e. is (read_signs (length ts) ts).1 e.0 e.1) _ (one (read_signs (length ts) ts).1) (λ e p.
       ((read_signs (length ts) ts).0, (read_signs (length ts) ts).1, e.0, signs_sound (length ts) ts, p, refl))
+
+  fold_sound_by : (ts : List Symbol) (o : Option FoldOp) → next_operator on_one ts ≡ o → IfSome (fold_at o read ts) (λ x. IsFold inner ts x.0 x.1)
+  fold_sound_by ts None e = and_so (read_primary read ts) (λ x. IsPrimary inner ts x.0 x.1) _ (primary_sound ts) (λ x p. inl p)
+  fold_sound_by ts (Some op) e =
+      let m = operator_is on_one ts op e in
+      and_then (read_negated (read_primary read) (behind ts)) _ (λ x. IsNegated (IsPrimary inner) (behind ts) x.0 x.1) _
+      (negated_sound (IsPrimary inner) (read_primary read) primary_sound (behind ts)) (λ x p.
+      inr (m.0, op, behind ts, x.0, m.1, m.2, p, refl))
+
+  fold_sound : Sound (IsFold inner) (read_fold read)
+  unfolding read_fold
+  fold_sound ts = fold_sound_by ts (next_operator on_one ts) refl
+
+  unary_sound : Sound (IsUnary inner) (read_unary read)
+  unary_sound = negated_sound (IsFold inner) (read_fold read) fold_sound
 
 -- chains
 
-operands_either : (o : Option Op) (ts : List Symbol) (more : Op → Read (List (Op × Expression))) (P : List (Op × Expression) × List Symbol → Type 0)
-    → (o ≡ None → P ([], ts)) → ((op : Op) → o ≡ Some op → IfSome (more op) P) → IfSome (operands_at o ts more) P
-operands_either None ts more P h k = h refl
-operands_either (Some op) ts more P h k = k op refl
+module _ {O : Type 0} where
+  operands_either : (o : Option O) (ts : List Symbol) (more : O → Read (List (O × Expression))) (P : List (O × Expression) × List Symbol → Type 0)
+      → (o ≡ None → P ([], ts)) → ((op : O) → o ≡ Some op → IfSome (more op) P) → IfSome (operands_at o ts more) P
+  operands_either None ts more P h k = h refl
+  operands_either (Some op) ts more P h k = k op refl
 
-module _ (level : Level) (is : Rule Expression) (operand : List Symbol → Read Expression) where
-  operands_sound : Sound is operand → (n : ℕ) → Sound (IsOperands level is) (read_operands level operand n)
-  operands_sound s zero ts = refl
-  operands_sound s (suc n) ts =
-      let P : List (Op × Expression) × List Symbol → Type 0 = λ xs. IsOperands level is ts xs.0 xs.1 in
-      operands_either (next_operator level ts) ts _ P (λ h. refl) (λ op h.
-      let m = operator_is level ts op h in
-      and_then (operand (behind ts)) _ (λ x. is (behind ts) x.0 x.1) P (s (behind ts)) (λ x p.
-      let y : Op × Expression = (op, x.0) in
-      behind_front y (read_operands level operand n x.1) P (and_so (read_operands level operand n x.1) (λ xs. IsOperands level is x.1 xs.0 xs.1) (λ xs. IsOperands level is ts (y ∷ xs.0) xs.1) (operands_sound s n x.1) (λ xs q.
-      (m.0, behind ts, x.1, m.1, m.2, p, q)))))
+  module _ (operator : Mark → Option O) (is : Rule Expression) (operand : List Symbol → Read Expression) (s : Sound is operand) where
+    operands_sound : (n : ℕ) → Sound (IsOperands operator is) (read_operands operator operand n)
+    operands_sound zero ts = refl
+    operands_sound (suc n) ts =
+        let P : List (O × Expression) × List Symbol → Type 0 = λ xs. IsOperands operator is ts xs.0 xs.1 in
+        operands_either (next_operator operator ts) ts _ P (λ h. refl) (λ op h.
+        let m = operator_is operator ts op h in
+        and_then (operand (behind ts)) _ (λ x. is (behind ts) x.0 x.1) P (s (behind ts)) (λ x p.
+        let y : O × Expression = (op, x.0) in
+        behind_front y (read_operands operator operand n x.1) P (and_so (read_operands operator operand n x.1) (λ xs. IsOperands operator is x.1 xs.0 xs.1) (λ xs. IsOperands operator is ts (y ∷ xs.0) xs.1) (operands_sound n x.1) (λ xs q.
+        (m.0, behind ts, x.1, m.1, m.2, p, q)))))
 
-  chain_sound : Sound is operand → Sound (IsChain level is) (read_chain level operand)
-  unfolding read_chain
-  chain_sound s ts =
-      and_then (operand ts) _ (λ x. is ts x.0 x.1) _ (s ts) (λ x p.
-      and_then (read_operands level operand (length x.1) x.1) _ (λ xs. IsOperands level is x.1 xs.0 xs.1) _ (operands_sound s (length x.1) x.1) (λ xs q.
-      (x.0, xs.0, x.1, p, q, refl)))
+    chain_sound : (made : Expression → List (O × Expression) → Expression) (ts : List Symbol) (x : Expression) (a : List Symbol) → is ts x a
+        → IfSome (chain_from made x (read_operands operator operand (length a) a)) (λ y. IsChain operator made is ts y.0 y.1)
+    chain_sound made ts x a p =
+        and_then (read_operands operator operand (length a) a) _ (λ xs. IsOperands operator is a xs.0 xs.1) _ (operands_sound (length a) a) (λ xs q.
+        (x, xs.0, a, p, q, refl))
 
 module _ (inner : Rule Expression) (read : List Symbol → Read Expression) (s : Sound inner read) where
-  orx_sound : Sound (IsOrx inner) (read_level levels.Or read)
-  orx_sound =
-      chain_sound levels.Or (IsXorx inner) (read_operand levels.Or read)
-      (chain_sound levels.Xor (IsAndx inner) (read_operand levels.Xor read)
-      (chain_sound levels.And (IsUnary inner) (read_operand levels.And read) (unary_sound inner read s)))
+  level_sound : (n : ℕ) → Sound (IsLevel n inner) (read_level n read)
+  unfolding read_level read_row
+  level_sound zero ts = unary_sound inner read s ts
+  level_sound (suc n) ts =
+      and_then (read_level n read ts) _ (λ x. IsLevel n inner ts x.0 x.1) _ (level_sound n ts) (λ x p.
+      either_sound (is_bitwise n) _ _ _ _
+      (chain_sound (bit_operator n) (IsLevel n inner) (read_level n read) (level_sound n) chained ts x.0 x.1 p)
+      (chain_sound (word_operator n) (IsLevel n inner) (read_level n read) (level_sound n) worded ts x.0 x.1 p))
 
   arms_front : (x : Expression × Expression) (r : Read (List (Expression × Expression) × Expression)) (P : (List (Expression × Expression) × Expression) × List Symbol → Type 0)
       → IfSome r (λ y. P ((x ∷ y.0.0, y.0.1), y.1)) → IfSome (with_arms (x ∷ []) r) P
@@ -160,11 +171,11 @@ module _ (inner : Rule Expression) (read : List Symbol → Read Expression) (s :
   arms_sound zero ts = tt
   arms_sound (suc n) ts =
       let P : (List (Expression × Expression) × Expression) × List Symbol → Type 0 = λ x. IsArms inner ts x.0.0 x.0.1 x.1 in
-      and_then (read_level levels.Or read ts) _ (λ c. IsOrx inner ts c.0 c.1) P (orx_sound ts) (λ c p.
+      and_then (read_level 9 read ts) _ (λ c. IsLor inner ts c.0 c.1) P (level_sound 9 ts) (λ c p.
       either_way (is_next Query c.1) _ _ P
       (λ h. and_then (read_arm c.0 read (behind c.1)) _ (λ a. (a.0.0 ≡ c.0) × inner (behind c.1) a.0.1 (Sign Colon ∷ a.1)) P (arm_sound c.0 (behind c.1)) (λ a q.
       arms_front a.0 (read_arms read n a.1) P (and_so (read_arms read n a.1) (λ x. IsArms inner a.1 x.0.0 x.0.1 x.1) (λ x. IsArms inner ts (a.0 ∷ x.0.0) x.0.1 x.1) (arms_sound n a.1) (λ x t.
-      (behind c.1, a.1, subst (λ z. IsOrx inner ts z (Sign Query ∷ behind c.1)) (sym q.0) (subst (λ z. IsOrx inner ts c.0 z) (next_is Query c.1 h) p), q.1, t)))))
+      (behind c.1, a.1, subst (λ z. IsLor inner ts z (Sign Query ∷ behind c.1)) (sym q.0) (subst (λ z. IsLor inner ts c.0 z) (next_is Query c.1 h) p), q.1, t)))))
       (λ h. p))
 
   conditional_sound : (ts : List Symbol) → IfSome (read_conditional read ts)

@@ -1,30 +1,32 @@
 -- What the tokens of a text mean is well formed: each rule of the grammar takes well-formed symbols to well-formed syntax.
 use Rattle.std.proofs.Common.{◌≡◌, refl, ℕ, zero, suc, ◌≤◌, List, [], ◌∷◌, Option, Some, None, true, sym, subst, arith, length, inl, inr, IfSome}
-use Rattle.std.specs.List.{AllByRecursion, list_all}
+use Rattle.std.specs.List.{AllByRecursion}
 use Rattle.std.proofs.lemmas.Bool.Decides.{nat_tests}
 use Rattle.bb_ast.specs.declared.expr.Op.{Op}
+use Rattle.bb_ast.specs.declared.operators.WordOp.{WordOp}
+use Rattle.bb_ast.specs.Levels.{level_of}
 use Rattle.bb_ast.specs.declared.module.Port.{Port}
 use Rattle.bb_ast.specs.declared.module.PortKind.{PortKind}
-use Rattle.bb_ast.specs.Syntax.{Expression, Net, Bit, Part, Concat, Repeat, operands, arms, listed_parts, Order, Named, PlainBody, Ports, Nets, Regs, Supply, Assign, Gates, Calls, Always, PlainItem, PlainHead, PlainModule}
-use Rattle.bb_ast.specs.Inside.Formed.{IsSmall, IsFormedExpression, AreFormedOperands, AreFormedArms, AreFormedParts, SomeEach, IsFormedRange, IsFormedPort, IsFormedPair, IsFormedAssignment, IsFormedGate, IsFormedConns, IsFormedCall, IsFormedBody, IsFormedHead, IsFormed, IsNetOrBit}
+use Rattle.bb_ast.specs.Syntax.{Expression, Net, Bit, Part, Concat, Repeat, operands, word_operands, arms, listed_parts, Order, Named, PlainBody, Ports, Nets, Regs, Supply, Assign, Gates, Calls, Always, PlainItem, PlainHead, PlainModule}
+use Rattle.bb_ast.specs.Inside.Formed.{IsSmall, IsFormedExpression, AreFormedOperands, AreFormedWords, AreFormedArms, AreFormedParts, SomeEach, IsFormedRange, IsFormedPort, IsFormedPair, IsFormedAssignment, IsFormedGate, IsFormedConns, IsFormedCall, IsFormedBody, IsFormedHead, IsFormed, IsNetOrBit}
 use Rattle.bb_ast.specs.Assignable.{is_assignable}
 use Rattle.bb_bits.specs.Names.{IsPrintable}
+use Rattle.bb_lex.specs.declared.mark.Mark.{Mark}
 use Rattle.bb_lex.specs.declared.mark.Mark.TheVariants.{Comma, Query, Colon, RightRound, Equals, LessEqual, Semicolon}
-use Rattle.bb_lex.specs.declared.token.Kind.TheVariants as kinds
 use Rattle.bb_lex.specs.declared.token.Token.{Token}
 use Rattle.bb_lex.specs.Bytes.{is_graphic, Each}
 use Rattle.bb_lex.specs.Cut.{IsTokenOf}
 use Rattle.bb_lex.specs.Laws.{TokensStandInText, NamesArePrintable, SizedBitsFit, PlainValuesFit}
 use Rattle.bb_lex.specs.Meaning.{name_of, IsNameOrWord}
-use Rattle.bb_parse.specs.declared.level.Level.{Level}
-use Rattle.bb_parse.specs.declared.level.Level.TheVariants as levels
 use Rattle.bb_parse.specs.Symbols.{Symbol, Identifier, Reserved, SizedNumber, PlainNumber, Sign, IsSymbol, AreSymbols}
 use Rattle.bb_parse.specs.Lists.{Rule, IsName, IsOptional, IsMore, IsList}
-use Rattle.bb_parse.specs.Expressions.{IsSelect, IsPrimary, select, sized, plain, round, concat, repeat, IsSigns, negated, IsUnary, IsOperands, chained, IsChain, IsAndx, IsXorx, IsOrx, IsArms, conditional, IsExpr, IsLval}
+use Rattle.bb_parse.specs.Expressions.{IsSelect, IsPrimary, select, sized, plain, round, concat, repeat, IsSigns, negated, IsNegated, IsFold, IsUnary, on_words, bit_operator, word_operator, IsOperands, chained, worded, IsChain, is_bitwise, IsLevel, IsArms, conditional, IsExpr, IsLval}
 use Rattle.bb_parse.specs.Declarations.{IsRange, IsPortKind, IsPort, IsPlainHead, IsNextPort, IsMoreDeclared, AreDeclared, AreHeads, absent, empty, named, declared, IsHeader}
 use Rattle.bb_parse.specs.Items.{IsAssigned, IsNet, IsAssignment, AreTerminals, IsGate, IsPlace, IsNamed, AreConns, IsCall, IsClock, IsItem}
 use Rattle.bb_parse.specs.Sources.{IsFirst, AreItems, IsSource}
 use Rattle.bb_parse.specs.Laws.{SourcesAreFormed}
+use Rattle.bb_parse.proofs.OperatorMarks.{of_row-some}
+use Rattle.bb_parse.proofs.Parts.{by_either}
 use Rattle.bb_parse.proofs.ReadLaws.{all_of_text}
 use Rattle.bb_parse.proofs.SourceLoop.{all_parts}
 
@@ -112,32 +114,57 @@ module _ (inner : Rule Expression) (f : Forms IsFormedExpression inner) where
   negated_formed zero e h = h
   negated_formed (suc k) e h = (omega arith, h)
 
-  unary_forms : Forms IsFormedExpression (IsUnary inner)
-  unary_forms ts e rest p h =
-      let w = primary_forms p.1 p.2 rest p.4 (signs_form p.0 ts p.1 p.3 h) in
+  negated_forms : (is : Rule Expression) → Forms IsFormedExpression is → Forms IsFormedExpression (IsNegated is)
+  negated_forms is one ts e rest p h =
+      let w = one p.1 p.2 rest p.4 (signs_form p.0 ts p.1 p.3 h) in
       (subst IsFormedExpression (sym p.5) (negated_formed p.0 p.2 w.0), w.1)
 
-operands_formed : (xs : List (Op × Expression)) → AllByRecursion (λ x. IsFormedExpression x.1) xs → AreFormedOperands (operands xs)
+  fold_forms : Forms IsFormedExpression (IsFold inner)
+  fold_forms ts e rest (inl p) h = primary_forms ts e rest p h
+  fold_forms ts e rest (inr p) h =
+      let w = negated_forms (IsPrimary inner) primary_forms p.2 p.3 rest p.6 (by ts _ p.4 h).1 in
+      (subst IsFormedExpression (sym p.7) w.0, w.1)
+
+  unary_forms : Forms IsFormedExpression (IsUnary inner)
+  unary_forms = negated_forms (IsFold inner) fold_forms
+
+-- a formed operand, behind an operator of a kind
+abbrev IsFormedOperand : {O : Type 0} → (O → Type 0) → O × Expression → Type 0
+IsFormedOperand is x = is x.0 × IsFormedExpression x.1
+
+operands_formed : (xs : List (Op × Expression)) → AllByRecursion (IsFormedOperand (λ op. Unit {0})) xs → AreFormedOperands (operands xs)
 operands_formed [] h = tt
-operands_formed (x ∷ xs) h = (h.0, operands_formed xs h.1)
+operands_formed (x ∷ xs) h = (h.0.1, operands_formed xs h.1)
 
-chained_formed : (e : Expression) (xs : List (Op × Expression)) → IsFormedExpression e → AllByRecursion (λ x. IsFormedExpression x.1) xs → IsFormedExpression (chained e xs)
+words_formed : (n : ℕ) (xs : List (WordOp × Expression)) → AllByRecursion (IsFormedOperand (λ op. level_of op ≡ n)) xs → AreFormedWords n (word_operands xs)
+words_formed n [] h = tt
+words_formed n (x ∷ xs) h = (h.0.0, h.0.1, words_formed n xs h.1)
+
+-- what is made of a first operand and others is formed
+abbrev MakesFormed : {O : Type 0} → (O → Type 0) → (Expression → List (O × Expression) → Expression) → Type 0
+MakesFormed {O} is made = (e : Expression) (xs : List (O × Expression)) → IsFormedExpression e → AllByRecursion (IsFormedOperand is) xs → IsFormedExpression (made e xs)
+
+chained_formed : MakesFormed (λ op. Unit {0}) chained
 chained_formed e [] f h = f
-chained_formed e (x ∷ xs) f h = (f, h.0, operands_formed xs h.1)
+chained_formed e (x ∷ xs) f h = (f, h.0.1, operands_formed xs h.1)
 
-module _ (level : Level) (is : Rule Expression) (f : Forms IsFormedExpression is) where
-  operands_form : Forms (AllByRecursion (λ x. IsFormedExpression x.1)) (IsOperands level is)
+worded_formed : (n : ℕ) → MakesFormed (λ op. level_of op ≡ n) worded
+worded_formed n e [] f h = f
+worded_formed n e (x ∷ xs) f h = (f, h.0.1, subst (λ (m : ℕ). AreFormedWords m (word_operands xs)) (sym h.0.0) (words_formed n xs h.1))
+
+module _ {O : Type 0} (operator : Mark → Option O) (kind : O → Type 0) (k : (m : Mark) (op : O) → operator m ≡ Some op → kind op) (is : Rule Expression) (f : Forms IsFormedExpression is) where
+  operands_form : Forms (AllByRecursion (IsFormedOperand kind)) (IsOperands operator is)
   operands_form ts [] rest p h = (tt, by ts rest p h)
   operands_form ts (x ∷ xs) rest p h =
       let w = f p.1 x.1 p.2 p.5 (by ts _ p.3 h).1 in
       let v = operands_form p.2 xs rest p.6 w.1 in
-      ((w.0, v.0), v.1)
+      (((k p.0 x.0 p.4, w.0), v.0), v.1)
 
-  chain_forms : Forms IsFormedExpression (IsChain level is)
-  chain_forms ts e rest p h =
+  chain_forms : (made : Expression → List (O × Expression) → Expression) → MakesFormed kind made → Forms IsFormedExpression (IsChain operator made is)
+  chain_forms made m ts e rest p h =
       let w = f ts p.0 p.2 p.3 h in
       let v = operands_form p.2 p.1 rest p.4 w.1 in
-      (subst IsFormedExpression (sym p.5) (chained_formed p.0 p.1 w.0 v.0), v.1)
+      (subst IsFormedExpression (sym p.5) (m p.0 p.1 w.0 v.0), v.1)
 
 -- a condition with its value
 abbrev IsFormedArm : Expression × Expression → Type 0
@@ -152,15 +179,19 @@ conditional_formed [] last h f = f
 conditional_formed (x ∷ xs) last h f = (h.0.0, h.0.1, arms_formed xs h.1, f)
 
 module _ (inner : Rule Expression) (f : Forms IsFormedExpression inner) where
-  orx_forms : Forms IsFormedExpression (IsOrx inner)
-  orx_forms =
-      chain_forms levels.Or (IsXorx inner) (chain_forms levels.Xor (IsAndx inner) (chain_forms levels.And (IsUnary inner) (unary_forms inner f)))
+  level_forms : (n : ℕ) → Forms IsFormedExpression (IsLevel n inner)
+  level_forms zero ts e rest p h = unary_forms inner f ts e rest p h
+  level_forms (suc n) ts e rest p h =
+      by_either (is_bitwise n) _ _ _
+      (λ q. chain_forms (bit_operator n) (λ op. Unit {0}) (λ m op is. tt) (IsLevel n inner) (level_forms n) chained chained_formed ts e rest q h)
+      (λ q. chain_forms (word_operator n) (λ op. level_of op ≡ n) (λ m op is. (of_row-some level_of n (on_words m) op is).1) (IsLevel n inner) (level_forms n) worded (worded_formed n) ts e rest q h)
+      p
 
   arms_form : (ts : List Symbol) (xs : List (Expression × Expression)) (last : Expression) (rest : List Symbol) → IsArms inner ts xs last rest → AreSound ts
       → (AllByRecursion IsFormedArm xs × IsFormedExpression last) × AreSound rest
-  arms_form ts [] last rest p h = let w = orx_forms ts last rest p h in ((tt, w.0), w.1)
+  arms_form ts [] last rest p h = let w = level_forms 9 ts last rest p h in ((tt, w.0), w.1)
   arms_form ts (x ∷ xs) last rest p h =
-      let u = orx_forms ts x.0 (Sign Query ∷ p.0) p.2 h in
+      let u = level_forms 9 ts x.0 (Sign Query ∷ p.0) p.2 h in
       let v = f p.0 x.1 (Sign Colon ∷ p.1) p.3 u.1.1 in
       let w = arms_form p.1 xs last rest p.4 v.1.1 in
       ((((u.0, v.0), w.0.0), w.0.1), w.1)

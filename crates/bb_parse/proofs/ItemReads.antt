@@ -6,7 +6,7 @@ use Rattle.bb_ast.specs.declared.module.Dir.{Dir}
 use Rattle.bb_ast.specs.declared.module.Dir.TheVariants as dirs
 use Rattle.bb_ast.specs.declared.module.Port.{Port}
 use Rattle.bb_ast.specs.declared.module.Range.{Range}
-use Rattle.bb_ast.specs.Syntax.{Expression, Net, Bit, Part, Sized, Plain, Not, Chain, Cond, Concat, Repeat, PlainConns, Order, Named, PlainBody, PlainAlways, Ports, Nets, Regs, Supply, Assign, Gates, Calls, Always}
+use Rattle.bb_ast.specs.Syntax.{Expression, Net, Bit, PlainConns, Order, Named, PlainBody, PlainAlways, Ports, Nets, Regs, Supply, Assign, Gates, Calls, Always}
 use Rattle.bb_lex.specs.declared.keyword.Keyword.{Keyword}
 use Rattle.bb_lex.specs.declared.keyword.Keyword.TheVariants as words
 use Rattle.bb_lex.specs.declared.mark.Mark.TheVariants.{LeftRound, RightRound, Comma, Semicolon, Dot, Equals, At, LessEqual}
@@ -26,7 +26,7 @@ use Rattle.bb_parse.proofs.ListLaws.{Complete, list_complete}
 use Rattle.bb_parse.proofs.ExpressionReads.{expr_complete, lval_complete, expr_begins}
 use Rattle.bb_parse.proofs.DeclarationLaws.{optional_range_complete, port_complete}
 
-name_complete : Complete 5 IsName read_name
+name_complete : Complete 11 IsName read_name
 name_complete ts n rest p h = (rw p refl, omega (arith, ap length p))
 
 names_complete : (ts : List Symbol) (names : List (List ℕ)) (rest : List Symbol) → IsList IsName ts names (Sign Semicolon ∷ rest) → read_list read_name ts ≡ Some (names, Sign Semicolon ∷ rest)
@@ -52,7 +52,7 @@ ranged ts range n a z p e =
     let p' : IsOptional IsRange ts range (Identifier n ∷ z) = rw e at p in
     (optional_range_complete ts range n z p').0 ∙ ap (λ y. Some (range, y)) (sym e)
 
-net_complete : (depth : ℕ) → Complete 5 (IsNet depth) (read_net depth)
+net_complete : (depth : ℕ) → Complete 11 (IsNet depth) (read_net depth)
 unfolding read_net
 net_complete depth ts (n, None) rest p h = (rw (p.1, p.2, no_equals rest h) refl, omega (arith, ap length p.1, ap length p.2))
 net_complete depth ts (n, Some e) rest p h =
@@ -63,7 +63,7 @@ nets_begin : (depth : ℕ) (ts : List Symbol) (nets : List (List ℕ × Option E
 nets_begin depth ts [] rest p = elim p [ ]
 nets_begin depth ts (x ∷ nets) rest p = (x.0, p.1.0, p.1.1)
 
-assignment_complete : (depth : ℕ) → Complete 5 (IsAssignment depth) (read_assignment depth)
+assignment_complete : (depth : ℕ) → Complete 11 (IsAssignment depth) (read_assignment depth)
 unfolding read_sides
 assignment_complete depth ts x rest p h =
     let left = lval_complete depth ts x.0 (Sign Equals ∷ p.0) p.1 (omega arith) in
@@ -79,7 +79,7 @@ terms_complete depth ts (x ∷ xs) rest p =
     let others = list_complete (IsExpr depth) (read_expr depth) (expr_complete depth) p.0 xs (Sign RightRound ∷ rest) p.2 (omega arith) in
     (rw (one.0, others.0) refl, omega (arith, one.1, others.1))
 
-gate_complete : (depth : ℕ) → Complete 5 (IsGate depth) (read_gate depth)
+gate_complete : (depth : ℕ) → Complete 11 (IsGate depth) (read_gate depth)
 unfolding read_gate
 gate_complete depth ts (None, es) rest p h =
     let all = terms_complete depth p.0 es rest p.2 in
@@ -92,7 +92,7 @@ gate_complete depth ts (Some n, es) rest p h =
 EndsPlace : List Symbol → Type 0
 EndsPlace ts = (is_next Comma ts || is_next RightRound ts) ≡ true
 
-place_complete : (depth : ℕ) (ts : List Symbol) (x : Option Expression) (rest : List Symbol) → IsPlace depth ts x rest → EndsPlace rest → 5 < rank_next rest
+place_complete : (depth : ℕ) (ts : List Symbol) (x : Option Expression) (rest : List Symbol) → IsPlace depth ts x rest → EndsPlace rest → 11 < rank_next rest
     → (read_place depth ts ≡ Some (x, rest)) × (length rest ≤ length ts)
 unfolding read_place EndsPlace
 place_complete depth ts None rest p h k = (rw (p, h) refl, omega (arith, ap length p))
@@ -101,7 +101,7 @@ place_complete depth ts (Some e) rest p h k =
     let begins = expr_begins depth ts (e, rest) one.0 in
     (rw (begins.0, begins.1, one.0) refl, omega (arith, one.1))
 
-places_stop : (depth : ℕ) (ts : List Symbol) (xs : List (Option Expression)) (rest : List Symbol) → IsMore (IsPlace depth) ts xs (Sign RightRound ∷ rest) → EndsPlace ts × (5 < rank_next ts)
+places_stop : (depth : ℕ) (ts : List Symbol) (xs : List (Option Expression)) (rest : List Symbol) → IsMore (IsPlace depth) ts xs (Sign RightRound ∷ rest) → EndsPlace ts × (11 < rank_next ts)
 unfolding EndsPlace
 places_stop depth ts [] rest p = (rw p refl, rw p (omega arith))
 places_stop depth ts (x ∷ xs) rest p = (rw p.2 refl, rw p.2 (omega arith))
@@ -126,7 +126,7 @@ places_complete depth ts x xs rest p =
     let others = more_places depth p.0 xs rest (length p.0) p.2 (omega arith) in
     (rw (one.0, others.0) refl, omega (arith, one.1, others.1))
 
-named_complete : (depth : ℕ) → Complete 5 (IsNamed depth) (read_named depth)
+named_complete : (depth : ℕ) → Complete 11 (IsNamed depth) (read_named depth)
 unfolding read_named EndsPlace
 named_complete depth ts x rest p h =
     let one = place_complete depth p.0 x.1 (Sign RightRound ∷ rest) p.2 refl (omega arith) in
@@ -156,7 +156,7 @@ conns_complete depth ts (Named (x ∷ xs)) rest p =
     let dot : is_next Dot ts ≡ true = ap (is_next Dot) p.1.1 in
     (rw (round, dot, all.0) refl, omega (arith, all.1))
 
-call_complete : (depth : ℕ) → Complete 5 (IsCall depth) (read_call depth)
+call_complete : (depth : ℕ) → Complete 11 (IsCall depth) (read_call depth)
 unfolding read_call
 call_complete depth ts x rest p h =
     let all = conns_complete depth p.0 x.1 rest p.2 in
@@ -166,14 +166,7 @@ clock_complete : (ts : List Symbol) (e : Expression) (rest : List Symbol) → Is
 unfolding read_clock
 clock_complete ts (Net name) rest p = rw p refl
 clock_complete ts (Bit name i) rest p = rw p refl
-clock_complete ts (Part name i j) rest p = elim p [ ]
-clock_complete ts (Sized bits) rest p = elim p [ ]
-clock_complete ts (Plain n) rest p = elim p [ ]
-clock_complete ts (Not k e) rest p = elim p [ ]
-clock_complete ts (Chain e rest') rest p = elim p [ ]
-clock_complete ts (Cond all last) rest p = elim p [ ]
-clock_complete ts (Concat all) rest p = elim p [ ]
-clock_complete ts (Repeat k all) rest p = elim p [ ]
+clock_complete ts e rest p = elim p [ ]
 
 edge_is : (falling : Bool) → edge_of (Some (kinds.Word (edge_word falling))) ≡ Some falling
 edge_is false = refl

@@ -5,10 +5,11 @@ pub mod ExpressionReads
 pub mod FormedLaws
 pub mod ItemLaws
 pub mod ItemReads
+pub mod Levels
 pub mod ListLaws
 pub mod Loops
 pub mod Marks
-pub mod Measures
+pub mod OperatorMarks
 pub mod Parts
 pub mod ReadLaws
 pub mod Sizes

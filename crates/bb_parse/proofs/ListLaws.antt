@@ -35,11 +35,11 @@ module _ {A : Type 0} (is : Rule A) (read : List Symbol → Read A) where
       (λ xs q. (x.1, p, q))))
 
   -- a comma or the end of the list comes behind a member
-  pub more_stops : (ts : List Symbol) (xs : List A) (rest : List Symbol) → IsMore is ts xs rest → 6 < rank_next rest → 5 < rank_next ts
+  pub more_stops : (ts : List Symbol) (xs : List A) (rest : List Symbol) → IsMore is ts xs rest → 12 < rank_next rest → 11 < rank_next ts
   more_stops ts [] rest p h = rw p (omega arith)
   more_stops ts (x ∷ xs) rest p h = rw p.2 (omega arith)
 
-  pub more_complete : Complete 5 is read → (ts : List Symbol) (xs : List A) (rest : List Symbol) (n : ℕ) → IsMore is ts xs rest → 6 < rank_next rest → length ts ≤ n
+  pub more_complete : Complete 11 is read → (ts : List Symbol) (xs : List A) (rest : List Symbol) (n : ℕ) → IsMore is ts xs rest → 12 < rank_next rest → length ts ≤ n
       → (read_more read n ts ≡ Some (xs, rest)) × (length rest ≤ length ts)
   more_complete c ts [] rest zero p h le = (ap (λ z. Some ([], z)) p, omega (arith, ap length p))
   more_complete c ts [] rest (suc n) p h le = (rw (p, no_comma rest h) refl, omega (arith, ap length p))
@@ -50,7 +50,7 @@ module _ {A : Type 0} (is : Rule A) (read : List Symbol → Read A) where
       let others = more_complete c p.1 xs rest n p.4 h le' in
       (rw (p.2, one.0, others.0) refl, omega (arith, ap length p.2, one.1, others.1))
 
-  pub list_complete : Complete 5 is read → Complete 6 (IsList is) (read_list read)
+  pub list_complete : Complete 11 is read → Complete 12 (IsList is) (read_list read)
   list_complete c ts [] rest p h = elim p [ ]
   list_complete c ts (x ∷ xs) rest p h =
       let one = c ts x p.0 p.1 (more_stops p.0 xs rest p.2 h) in

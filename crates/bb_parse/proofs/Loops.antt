@@ -1,17 +1,15 @@
 -- A loop over a comma and what follows it, over operators and operands, over conditions and over signs reads what the
 -- functions on lists read.
-use Rattle.std.proofs.Common.{◌≡◌, ℕ, zero, suc, ◌+◌, ◌-◌, ◌<◌, ◌≤◌, List, [], ◌∷◌, ◌++◌, Some, None, Result, Ok, Err, true, false, refl, ap, sym, ◌∙◌, subst, arith, append_assoc, length, map}
+use Rattle.std.proofs.Common.{◌≡◌, ℕ, zero, suc, ◌+◌, ◌-◌, ◌<◌, ◌≤◌, List, [], ◌∷◌, ◌++◌, Option, Some, None, Result, Ok, Err, true, false, refl, ap, sym, ◌∙◌, subst, arith, append_assoc, length, map}
 use Rattle.std.specs.Result.{IsErr, IsErrAnd}
 use Rattle.std.proofs.lemmas.List.{append-nil, map-append}
-use Rattle.bb_ast.specs.declared.expr.Op.{Op}
 use Rattle.bb_ast.specs.declared.expr.Expr.{Expr}
 use Rattle.bb_ast.specs.declared.module.Head.{Head}
 use Rattle.bb_ast.specs.declared.module.Port.{Port}
 use Rattle.bb_ast.specs.Syntax.{Expression, PlainHead}
 use Rattle.bb_ast.specs.Inside.Views.{expression, operand_view, arm_view, head_view}
 use Rattle.bb_lex.specs.declared.mark.Mark.TheVariants.{Comma, Tilde, Query}
-use Rattle.bb_parse.specs.declared.level.Level.{Level}
-use Rattle.bb_parse.specs.declared.level.Level.TheVariants as levels
+use Rattle.bb_lex.specs.declared.mark.Mark.{Mark}
 use Rattle.bb_parse.specs.declared.stop.Stop.{Stop}
 use Rattle.bb_parse.specs.declared.stop.Stop.TheVariants.{Amiss, NoMemory}
 use Rattle.bb_parse.specs.Symbols.{Symbol}
@@ -99,33 +97,33 @@ pub one_more : {X A : Type 0} (view : X → A) (xs ys : List X) (x : X) → ys �
 one_more view xs ys x e = ap (map view) e ∙ map-append view xs (x ∷ [])
 
 -- The turns of a loop over operators with their operands.
-module _ (level : Level) (operand : List Symbol → Read Expression) where
-  pub operands_begin : (ts : List Symbol) (m : ℕ) → m ≡ length ts → read_operands level operand (length ts) ts ≡ with_front [] (read_operands level operand (m - 0) ts)
-  operands_begin ts m n = let z : m - 0 ≡ length ts = omega (arith, n) in rw z (sym (with_front-nil (read_operands level operand (length ts) ts)))
+module _ {O : Type 0} (operator : Mark → Option O) (operand : List Symbol → Read Expression) where
+  pub operands_begin : (ts : List Symbol) (m : ℕ) → m ≡ length ts → read_operands operator operand (length ts) ts ≡ with_front [] (read_operands operator operand (m - 0) ts)
+  operands_begin ts m n = let z : m - 0 ≡ length ts = omega (arith, n) in rw z (sym (with_front-nil (read_operands operator operand (length ts) ts)))
 
-  operands_done : (n : ℕ) (ts : List Symbol) (xs : List (Op × Expression)) → next_operator level ts ≡ None → with_front xs (read_operands level operand n ts) ≡ Some (xs, ts)
+  operands_done : (n : ℕ) (ts : List Symbol) (xs : List (O × Expression)) → next_operator operator ts ≡ None → with_front xs (read_operands operator operand n ts) ≡ Some (xs, ts)
   operands_done zero ts xs h = ap (λ zs. Some (zs, ts)) (append-nil xs)
   operands_done (suc n) ts xs h = rw h (ap (λ zs. Some (zs, ts)) (append-nil xs))
 
-  module _ (whole : Read (List (Op × Expression))) (xs : List (Op × Expr)) (m k : ℕ) (ts : List Symbol)
-      (so : whole ≡ with_front (map operand_view xs) (read_operands level operand (m - k) ts)) where
-    pub operands_stop : None ≡ next_operator level ts → whole ≡ Some (map operand_view xs, ts)
+  module _ (whole : Read (List (O × Expression))) (xs : List (O × Expr)) (m k : ℕ) (ts : List Symbol)
+      (so : whole ≡ with_front (map operand_view xs) (read_operands operator operand (m - k) ts)) where
+    pub operands_stop : None ≡ next_operator operator ts → whole ≡ Some (map operand_view xs, ts)
     operands_stop h = so ∙ operands_done (m - k) ts (map operand_view xs) (sym h)
 
     pub operands_end : m ≤ k → whole ≡ Some (map operand_view xs, ts)
     operands_end h =
         let z : m - k ≡ 0 = omega (arith, h) in
-        so ∙ ap (λ n. with_front (map operand_view xs) (read_operands level operand n ts)) z ∙ ap (λ zs. Some (zs, ts)) (append-nil (map operand_view xs))
+        so ∙ ap (λ n. with_front (map operand_view xs) (read_operands operator operand n ts)) z ∙ ap (λ zs. Some (zs, ts)) (append-nil (map operand_view xs))
 
-    module _ (here : k < m) (op : Op) (comes : Some op ≡ next_operator level ts) where
+    module _ (here : k < m) (op : O) (comes : Some op ≡ next_operator operator ts) where
       pub operands_fail : operand (behind ts) ≡ None → whole ≡ None
       operands_fail h = so ∙ rw (next_distance m k here) (rw (sym comes, h) refl)
 
-      pub operands_go_on : (x : Expr) (rest : List Symbol) (longer : List (Op × Expr)) → operand (behind ts) ≡ Some (expression x, rest) → longer ≡ xs ++ (op, x) ∷ []
-          → whole ≡ with_front (map operand_view longer) (read_operands level operand (m - (k + 1)) rest)
+      pub operands_go_on : (x : Expr) (rest : List Symbol) (longer : List (O × Expr)) → operand (behind ts) ≡ Some (expression x, rest) → longer ≡ xs ++ (op, x) ∷ []
+          → whole ≡ with_front (map operand_view longer) (read_operands operator operand (m - (k + 1)) rest)
       operands_go_on x rest longer h e =
           so ∙ rw (next_distance m k here) (rw (sym comes, h) (with_front-with_front (map operand_view xs) ((op, expression x) ∷ []) _))
-          ∙ ap (λ zs. with_front zs (read_operands level operand (m - (k + 1)) rest)) (sym (one_more operand_view xs longer (op, x) e))
+          ∙ ap (λ zs. with_front zs (read_operands operator operand (m - (k + 1)) rest)) (sym (one_more operand_view xs longer (op, x) e))
 
 pub with_arms-nil : (r : Read (List (Expression × Expression) × Expression)) → with_arms [] r ≡ r
 with_arms-nil None = refl
@@ -147,10 +145,10 @@ module _ (inner : List Symbol → Read Expression) (whole : Read Expression) (xs
   arms_end h = let z : m - k ≡ 0 = omega (arith, h) in so ∙ ap (λ n. conditional_from (with_arms (map arm_view xs) (read_arms inner n ts))) z
 
   module _ (here : k < m) where
-    pub arms_none : read_level levels.Or inner ts ≡ None → whole ≡ None
+    pub arms_none : read_level 9 inner ts ≡ None → whole ≡ None
     arms_none h = so ∙ rw (next_distance m k here) (rw h refl)
 
-    module _ (x : Expression) (rest left : List Symbol) (value : read_level levels.Or inner ts ≡ Some (x, rest)) where
+    module _ (x : Expression) (rest left : List Symbol) (value : read_level 9 inner ts ≡ Some (x, rest)) where
       pub arms_stop : false ≡ is_next Query rest → left ≡ rest → whole ≡ Some (conditional (map arm_view xs) x, left)
       arms_stop h l = so ∙ rw (next_distance m k here) (rw (value, sym h, l) (ap (λ zs. Some (conditional zs x, rest)) (append-nil (map arm_view xs))))
 

@@ -1,30 +1,26 @@
--- Marks: what it means that one is next, and after which symbols the reading of an expression stops.
-use Rattle.std.proofs.Common.{◌≡◌, ℕ, ◌<◌, List, [], ◌∷◌, Some, None, true, false, refl, ap, sym, ◌∙◌, arith, if◌then◌else◌, ◌==◌}
+-- Marks: what it means that one is next, and how loosely one goes on with what stands before it.
+use Rattle.std.proofs.Common.{◌≡◌, ℕ, ◌<◌, List, [], ◌∷◌, Some, true, false, refl, ap, sym, ◌∙◌, arith, get_or, ◌==◌}
 use Rattle.std.proofs.lemmas.Bool.{eqb-true}
 use denote.Enum.Declared.{tag_of}
 use denote.Enum.Bare.{sameb}
 use Rattle.bb_lex.specs.contracts.mark.Mark.{the_type}
-use Rattle.bb_ast.specs.declared.expr.Op.{Op}
 use Rattle.bb_lex.specs.declared.mark.Mark.{Mark}
-use Rattle.bb_lex.specs.declared.mark.Mark.TheVariants.{LeftRound, RightRound, LeftSquare, RightSquare, LeftBrace, RightBrace, Comma, Semicolon, Colon, Dot, Equals, At, Amp, Bar, Caret, Tilde, Query, LessEqual, TildeCaret, CaretTilde}
+use Rattle.bb_lex.specs.declared.mark.Mark.TheVariants.{LeftRound, RightRound, LeftSquare, RightSquare, LeftBrace, RightBrace, Comma, Semicolon, Colon, Dot, Equals, At, Amp, Bar, Caret, Tilde, Query, Plus, Minus, Less, Greater, Bang, LessEqual, GreaterEqual, EqualEqual, BangEqual, LessLess, GreaterGreater, AmpAmp, BarBar, TildeAmp, TildeBar, TildeCaret, CaretTilde}
 use Rattle.bb_lex.specs.declared.token.Kind.TheVariants as kinds
-use Rattle.bb_parse.specs.declared.level.Level.{Level}
-use Rattle.bb_parse.specs.declared.level.Level.TheVariants as levels
 use Rattle.bb_parse.specs.Symbols.{Symbol, Identifier, Reserved, SizedNumber, PlainNumber, Sign}
-use Rattle.bb_parse.specs.Expressions.{level_operator}
 use Rattle.bb_parse.specs.Inside.Symbols.{mark_number, is_next, behind, next_kind}
-use Rattle.bb_parse.specs.Inside.Expressions.{next_operator}
+
+all_marks : List Mark
+all_marks =
+    LeftRound ∷ RightRound ∷ LeftSquare ∷ RightSquare ∷ LeftBrace ∷ RightBrace ∷ Comma ∷ Semicolon ∷ Colon ∷ Dot ∷ Equals ∷ At ∷ Amp ∷ Bar ∷
+    Caret ∷ Tilde ∷ Query ∷ Plus ∷ Minus ∷ Less ∷ Greater ∷ Bang ∷ LessEqual ∷ GreaterEqual ∷ EqualEqual ∷ BangEqual ∷ LessLess ∷
+    GreaterGreater ∷ AmpAmp ∷ BarBar ∷ TildeAmp ∷ TildeBar ∷ TildeCaret ∷ CaretTilde ∷ []
 
 mark_numbered : ℕ → Mark
-mark_numbered n =
-    if n == 0 then LeftRound else (if n == 1 then RightRound else (if n == 2 then LeftSquare else (if n == 3 then RightSquare else
-    (if n == 4 then LeftBrace else (if n == 5 then RightBrace else (if n == 6 then Comma else (if n == 7 then Semicolon else
-    (if n == 8 then Colon else (if n == 9 then Dot else (if n == 10 then Equals else (if n == 11 then At else
-    (if n == 12 then Amp else (if n == 13 then Bar else (if n == 14 then Caret else (if n == 15 then Tilde else
-    (if n == 16 then Query else (if n == 17 then LessEqual else (if n == 18 then TildeCaret else CaretTilde))))))))))))))))))
+mark_numbered n = get_or all_marks n LeftRound
 
 mark_numbered-mark_number : (m : Mark) → mark_numbered (mark_number m) ≡ m
-unfolding mark_numbered
+unfolding mark_numbered all_marks
 mark_numbered-mark_number LeftRound = refl
 mark_numbered-mark_number m = refl
 
@@ -56,32 +52,40 @@ mark_next m wanted (SizedNumber b ∷ ts) h = cc
 mark_next m wanted (PlainNumber n ∷ ts) h = cc
 mark_next m wanted (Sign n ∷ ts) h = let e : m ≡ n = cc in rw e refl
 
--- [ goes on with a name, an operator with an operand, ? and = with a condition and a net, and a comma with a list
+-- [ goes on with a name, an operator with an operand, ? and = with a condition and a net, and a comma with a list. The operators of a
+-- row go on with what stands before them as an operand of it
 abbrev pub rank : Mark → ℕ
 rank LeftSquare = 1
-rank Amp = 2
-rank Caret = 3
-rank TildeCaret = 3
-rank CaretTilde = 3
-rank Bar = 4
-rank Query = 5
-rank Equals = 5
-rank Comma = 6
-rank _ = 9
+rank Plus = 2
+rank Minus = 2
+rank LessLess = 3
+rank GreaterGreater = 3
+rank Less = 4
+rank LessEqual = 4
+rank Greater = 4
+rank GreaterEqual = 4
+rank EqualEqual = 5
+rank BangEqual = 5
+rank Amp = 6
+rank Caret = 7
+rank TildeCaret = 7
+rank CaretTilde = 7
+rank Bar = 8
+rank AmpAmp = 9
+rank BarBar = 10
+rank Query = 11
+rank Equals = 11
+rank Comma = 12
+rank _ = 15
 
 -- how loosely what comes next goes on with what stands before it
 abbrev pub rank_next : List Symbol → ℕ
-rank_next [] = 9
-rank_next (Identifier n ∷ ts) = 9
-rank_next (Reserved w ∷ ts) = 9
-rank_next (SizedNumber b ∷ ts) = 9
-rank_next (PlainNumber n ∷ ts) = 9
+rank_next [] = 15
+rank_next (Identifier n ∷ ts) = 15
+rank_next (Reserved w ∷ ts) = 15
+rank_next (SizedNumber b ∷ ts) = 15
+rank_next (PlainNumber n ∷ ts) = 15
 rank_next (Sign m ∷ ts) = rank m
-
-abbrev pub level_rank : Level → ℕ
-level_rank levels.And = 2
-level_rank levels.Xor = 3
-level_rank levels.Or = 4
 
 pub no_square : (ts : List Symbol) → 1 < rank_next ts → is_next LeftSquare ts ≡ false
 no_square [] h = refl
@@ -92,7 +96,7 @@ no_square (PlainNumber n ∷ ts) h = refl
 no_square (Sign LeftSquare ∷ ts) h = absurd (omega arith)
 no_square (Sign m ∷ ts) h = refl
 
-pub no_query : (ts : List Symbol) → 5 < rank_next ts → is_next Query ts ≡ false
+pub no_query : (ts : List Symbol) → 11 < rank_next ts → is_next Query ts ≡ false
 no_query [] h = refl
 no_query (Identifier n ∷ ts) h = refl
 no_query (Reserved w ∷ ts) h = refl
@@ -101,7 +105,7 @@ no_query (PlainNumber n ∷ ts) h = refl
 no_query (Sign Query ∷ ts) h = absurd (omega arith)
 no_query (Sign m ∷ ts) h = refl
 
-pub no_comma : (ts : List Symbol) → 6 < rank_next ts → is_next Comma ts ≡ false
+pub no_comma : (ts : List Symbol) → 12 < rank_next ts → is_next Comma ts ≡ false
 no_comma [] h = refl
 no_comma (Identifier n ∷ ts) h = refl
 no_comma (Reserved w ∷ ts) h = refl
@@ -110,7 +114,7 @@ no_comma (PlainNumber n ∷ ts) h = refl
 no_comma (Sign Comma ∷ ts) h = absurd (omega arith)
 no_comma (Sign m ∷ ts) h = refl
 
-pub no_equals : (ts : List Symbol) → 5 < rank_next ts → is_next Equals ts ≡ false
+pub no_equals : (ts : List Symbol) → 11 < rank_next ts → is_next Equals ts ≡ false
 no_equals [] h = refl
 no_equals (Identifier n ∷ ts) h = refl
 no_equals (Reserved w ∷ ts) h = refl
@@ -118,36 +122,3 @@ no_equals (SizedNumber b ∷ ts) h = refl
 no_equals (PlainNumber n ∷ ts) h = refl
 no_equals (Sign Equals ∷ ts) h = absurd (omega arith)
 no_equals (Sign m ∷ ts) h = refl
-
-no_level_operator : (level : Level) (m : Mark) → level_rank level < rank m → level_operator level m ≡ None
-no_level_operator levels.And Amp h = absurd (omega arith)
-no_level_operator levels.Xor Caret h = absurd (omega arith)
-no_level_operator levels.Xor TildeCaret h = absurd (omega arith)
-no_level_operator levels.Xor CaretTilde h = absurd (omega arith)
-no_level_operator levels.Or Bar h = absurd (omega arith)
-no_level_operator level m h = refl
-
-pub no_operator : (level : Level) (ts : List Symbol) → level_rank level < rank_next ts → next_operator level ts ≡ None
-no_operator level [] h = refl
-no_operator level (Identifier n ∷ ts) h = refl
-no_operator level (Reserved w ∷ ts) h = refl
-no_operator level (SizedNumber b ∷ ts) h = refl
-no_operator level (PlainNumber n ∷ ts) h = refl
-no_operator level (Sign m ∷ ts) h = no_level_operator level m h
-
-pub operator_rank : (level : Level) (m : Mark) (op : Op) → level_operator level m ≡ Some op → rank m ≡ level_rank level
-operator_rank levels.And Amp op h = refl
-operator_rank levels.Xor Caret op h = refl
-operator_rank levels.Xor TildeCaret op h = refl
-operator_rank levels.Xor CaretTilde op h = refl
-operator_rank levels.Or Bar op h = refl
-operator_rank level m op h = cc
-
--- where an operator is next, the list begins with a mark that is it
-pub operator_is : (level : Level) (ts : List Symbol) (op : Op) → next_operator level ts ≡ Some op → (m : Mark) × (ts ≡ Sign m ∷ behind ts) × (level_operator level m ≡ Some op)
-operator_is level [] op h = cc
-operator_is level (Identifier n ∷ ts) op h = cc
-operator_is level (Reserved w ∷ ts) op h = cc
-operator_is level (SizedNumber b ∷ ts) op h = cc
-operator_is level (PlainNumber n ∷ ts) op h = cc
-operator_is level (Sign m ∷ ts) op h = (m, refl, h)

@@ -1,5 +1,5 @@
 -- Of what is read, part by part.
-use Rattle.std.proofs.Common.{◌≡◌, List, [], ◌∷◌, Some, None, Bool, true, false, refl, if◌then◌else◌, IfSome}
+use Rattle.std.proofs.Common.{◌≡◌, List, [], ◌∷◌, Some, None, Bool, true, false, refl, if◌then◌else◌, IfSome, MatchBool}
 use Rattle.bb_lex.specs.declared.mark.Mark.{Mark}
 use Rattle.bb_parse.specs.Symbols.{Symbol, Identifier, Reserved, SizedNumber, PlainNumber, Sign}
 use Rattle.bb_parse.specs.Inside.Symbols.{is_next}
@@ -51,3 +51,22 @@ plain_sound (Sign m ∷ ts) = tt
 pub and_so : {A : Type 0} (read : Read A) (Q P : A × List Symbol → Type 0) → IfSome read Q → ((x : A × List Symbol) → Q x → P x) → IfSome read P
 and_so None Q P h k = tt
 and_so (Some x) Q P h k = k x h
+
+-- a choice between two rules
+pub by_either : (b : Bool) (A B C : Type 0) → (A → C) → (B → C) → MatchBool b A B → C
+by_either true A B C f g p = f p
+by_either false A B C f g p = g p
+
+pub to_either : (b : Bool) (A B A' B' C : Type 0) → (A → A' × C) → (B → B' × C) → MatchBool b A B → MatchBool b A' B' × C
+to_either true A B A' B' C f g p = f p
+to_either false A B A' B' C f g p = g p
+
+-- what is read by a choice is of the choice
+pub either_sound : {A : Type 0} (b : Bool) (x y : Read A) (P Q : A × List Symbol → Type 0) → IfSome x P → IfSome y Q → IfSome (if b then x else y) (λ z. MatchBool b (P z) (Q z))
+either_sound true x y P Q h k = h
+either_sound false x y P Q h k = k
+
+pub either_complete : {A : Type 0} (b : Bool) (P Q L : Type 0) (read : Read A) (f g : A × List Symbol → Read A) (y : A × List Symbol)
+    → (P → (read >>= f ≡ Some y) × L) → (Q → (read >>= g ≡ Some y) × L) → MatchBool b P Q → (read >>= (λ x. if b then f x else g x) ≡ Some y) × L
+either_complete true P Q L read f g y h k p = h p
+either_complete false P Q L read f g y h k p = k p

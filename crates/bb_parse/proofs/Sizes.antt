@@ -3,24 +3,25 @@ use Rattle.std.proofs.Common.{◌≡◌, ℕ, zero, suc, ◌+◌, ◌≤◌, Lis
 use Rattle.std.specs.List.{sum_by}
 use Rattle.std.proofs.lemmas.List.Sums.{sum_by-cons}
 use Rattle.bb_ast.specs.declared.expr.Op.{Op}
+use Rattle.bb_ast.specs.declared.operators.WordOp.{WordOp}
 use Rattle.bb_ast.specs.declared.module.Port.{Port}
 use Rattle.bb_ast.specs.declared.module.PortKind.{PortKind}
 use Rattle.bb_ast.specs.declared.module.Range.{Range}
-use Rattle.bb_ast.specs.Syntax.{Expression, Net, Bit, Part, operands, arms, listed_parts}
+use Rattle.bb_ast.specs.Syntax.{Expression, Net, Bit, Part, operands, word_operands, arms, listed_parts}
 use Rattle.bb_ast.specs.Syntax.{PlainConns, Order, Named, PlainBody, Ports, Nets, Regs, Supply, Assign, Gates, Calls, Always, PlainItem, PlainHead, PlainModule}
+use Rattle.bb_lex.specs.declared.mark.Mark.{Mark}
 use Rattle.bb_lex.specs.declared.mark.Mark.TheVariants.{Query, Colon}
 use Rattle.bb_lex.specs.declared.token.Token.{Token}
 use Rattle.bb_lex.specs.Laws.{TokensAreFew}
-use Rattle.bb_parse.specs.declared.level.Level.{Level}
-use Rattle.bb_parse.specs.declared.level.Level.TheVariants as levels
 use Rattle.bb_parse.specs.Symbols.{Symbol, Sign}
 use Rattle.bb_parse.specs.Lists.{Rule, IsName, IsOptional, IsMore, IsList}
-use Rattle.bb_parse.specs.Expressions.{IsSelect, IsPrimary, select, sized, plain, round, concat, repeat, IsSigns, negated, IsUnary, IsOperands, chained, IsChain, IsAndx, IsXorx, IsOrx, IsArms, conditional, IsExpr, IsLval}
+use Rattle.bb_parse.specs.Expressions.{IsSelect, IsPrimary, select, sized, plain, round, concat, repeat, IsSigns, negated, IsNegated, IsFold, IsUnary, bit_operator, word_operator, IsOperands, chained, worded, IsChain, is_bitwise, IsLevel, IsArms, conditional, IsExpr, IsLval}
 use Rattle.bb_parse.specs.Declarations.{IsRange, IsPortKind, IsPort, IsPlainHead, IsNextPort, IsMoreDeclared, AreDeclared, AreHeads, absent, empty, named, declared, IsHeader}
 use Rattle.bb_parse.specs.Items.{IsAssigned, IsNet, IsAssignment, AreTerminals, IsGate, IsPlace, IsNamed, AreConns, IsCall, IsClock, IsItem}
 use Rattle.bb_parse.specs.Sources.{AreItems, IsSource}
-use Rattle.bb_ast.specs.Inside.Sizes.{expression_size, operands_size, arms_size, parts_size, optional_size, pair_size, conns_size, gate_size, call_size, item_size, module_size, source_size}
+use Rattle.bb_ast.specs.Inside.Sizes.{expression_size, operands_size, words_size, arms_size, parts_size, optional_size, pair_size, conns_size, gate_size, call_size, item_size, module_size, source_size}
 use Rattle.bb_parse.specs.Laws.{SourcesAreShort, TextsAreLong}
+use Rattle.bb_parse.proofs.Parts.{by_either}
 use Rattle.bb_parse.proofs.SymbolLaws.{length-symbols}
 
 -- what is of the rule takes as many symbols as its size, or more
@@ -94,39 +95,66 @@ module _ (inner : Rule Expression) (t : Takes expression_size inner) where
   negated_size zero e = omega arith
   negated_size (suc k) e = omega arith
 
+  negated_takes : (is : Rule Expression) → Takes expression_size is → Takes expression_size (IsNegated is)
+  negated_takes is one ts e rest p = omega (arith, signs_shorten p.0 ts p.1 p.3, one p.1 p.2 rest p.4, ap expression_size p.5, negated_size p.0 p.2)
+
+  fold_takes : Takes expression_size (IsFold inner)
+  fold_takes ts e rest (inl p) = primary_takes ts e rest p
+  fold_takes ts e rest (inr p) = omega (arith, ap length p.4, negated_takes (IsPrimary inner) primary_takes p.2 p.3 rest p.6, ap expression_size p.7)
+
   unary_takes : Takes expression_size (IsUnary inner)
-  unary_takes ts e rest p = omega (arith, signs_shorten p.0 ts p.1 p.3, primary_takes p.1 p.2 rest p.4, ap expression_size p.5, negated_size p.0 p.2)
+  unary_takes = negated_takes (IsFold inner) fold_takes
 
 -- the operands of a chain, each with its operator
-abbrev operands_sum : List (Op × Expression) → ℕ
-operands_sum xs = operands_size (operands xs)
+abbrev operand_size : {O : Type 0} → O × Expression → ℕ
+operand_size x = 1 + expression_size x.1
 
-chained_size : (e : Expression) (xs : List (Op × Expression)) → expression_size (chained e xs) ≡ expression_size e + operands_sum xs
+operands_sum : (xs : List (Op × Expression)) → operands_size (operands xs) ≡ sum_by operand_size xs
+operands_sum [] = omega arith
+operands_sum (x ∷ xs) = omega (arith, operands_sum xs, sum_by-cons (operand_size {O = Op}) x xs)
+
+words_sum : (xs : List (WordOp × Expression)) → words_size (word_operands xs) ≡ sum_by operand_size xs
+words_sum [] = omega arith
+words_sum (x ∷ xs) = omega (arith, words_sum xs, sum_by-cons (operand_size {O = WordOp}) x xs)
+
+-- what is made of a first operand and others is as large as these
+abbrev AddsUp : {O : Type 0} → (Expression → List (O × Expression) → Expression) → Type 0
+AddsUp {O} made = (e : Expression) (xs : List (O × Expression)) → expression_size (made e xs) ≡ expression_size e + sum_by operand_size xs
+
+chained_size : AddsUp chained
 chained_size e [] = omega arith
-chained_size e (x ∷ xs) = omega arith
+chained_size e (x ∷ xs) = omega (arith, operands_sum (x ∷ xs))
 
-module _ (level : Level) (is : Rule Expression) (t : Takes expression_size is) where
-  operands_take : Takes operands_sum (IsOperands level is)
+worded_size : AddsUp worded
+worded_size e [] = omega arith
+worded_size e (x ∷ xs) = omega (arith, words_sum (x ∷ xs))
+
+module _ {O : Type 0} (operator : Mark → Option O) (is : Rule Expression) (t : Takes expression_size is) where
+  operands_take : Takes (sum_by operand_size) (IsOperands operator is)
   operands_take ts [] rest p = omega (arith, ap length p)
-  operands_take ts (x ∷ xs) rest p = omega (arith, ap length p.3, t p.1 x.1 p.2 p.5, operands_take p.2 xs rest p.6)
+  operands_take ts (x ∷ xs) rest p = omega (arith, ap length p.3, t p.1 x.1 p.2 p.5, operands_take p.2 xs rest p.6, sum_by-cons (operand_size {O = O}) x xs)
 
-  chain_takes : Takes expression_size (IsChain level is)
-  chain_takes ts e rest p = omega (arith, t ts p.0 p.2 p.3, operands_take p.2 p.1 rest p.4, ap expression_size p.5, chained_size p.0 p.1)
+  chain_takes : (made : Expression → List (O × Expression) → Expression) → AddsUp made → Takes expression_size (IsChain operator made is)
+  chain_takes made adds ts e rest p = omega (arith, t ts p.0 p.2 p.3, operands_take p.2 p.1 rest p.4, ap expression_size p.5, adds p.0 p.1)
 
 conditional_size : (xs : List (Expression × Expression)) (last : Expression) → expression_size (conditional xs last) ≡ arms_size (arms xs) + expression_size last
 conditional_size [] last = omega arith
 conditional_size (x ∷ xs) last = omega arith
 
 module _ (inner : Rule Expression) (t : Takes expression_size inner) where
-  orx_takes : Takes expression_size (IsOrx inner)
-  orx_takes =
-      chain_takes levels.Or (IsXorx inner) (chain_takes levels.Xor (IsAndx inner) (chain_takes levels.And (IsUnary inner) (unary_takes inner t)))
+  level_takes : (k : ℕ) → Takes expression_size (IsLevel k inner)
+  level_takes zero ts e rest p = unary_takes inner t ts e rest p
+  level_takes (suc k) ts e rest p =
+      by_either (is_bitwise k) _ _ _
+      (λ q. chain_takes (bit_operator k) (IsLevel k inner) (level_takes k) chained chained_size ts e rest q)
+      (λ q. chain_takes (word_operator k) (IsLevel k inner) (level_takes k) worded worded_size ts e rest q)
+      p
 
   arms_take : (ts : List Symbol) (xs : List (Expression × Expression)) (last : Expression) (rest : List Symbol) → IsArms inner ts xs last rest
       → arms_size (arms xs) + expression_size last + length rest ≤ length ts
-  arms_take ts [] last rest p = omega (arith, orx_takes ts last rest p)
+  arms_take ts [] last rest p = omega (arith, level_takes 9 ts last rest p)
   arms_take ts (x ∷ xs) last rest p =
-      omega (arith, orx_takes ts x.0 (Sign Query ∷ p.0) p.2, t p.0 x.1 (Sign Colon ∷ p.1) p.3, arms_take p.1 xs last rest p.4)
+      omega (arith, level_takes 9 ts x.0 (Sign Query ∷ p.0) p.2, t p.0 x.1 (Sign Colon ∷ p.1) p.3, arms_take p.1 xs last rest p.4)
 
 expr_takes : (n : ℕ) → Takes expression_size (IsExpr n)
 expr_takes zero ts e rest p = elim p [ ]

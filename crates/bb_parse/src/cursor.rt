@@ -4,14 +4,14 @@ ghost use Rattle.bb_lex.specs.declared.token.Kind.{Kind};
 ghost use Rattle.bb_lex.specs.Cut.{IsTokenOf};
 ghost use Rattle.bb_lex.specs.Inside.Numbers.{sized_bits_of};
 ghost use Rattle.bb_parse.specs.Symbols.{Symbol};
-ghost use Rattle.bb_parse.specs.Expressions.{level_operator};
+ghost use Rattle.bb_parse.specs.Expressions.{on_one, bit_operator, word_operator};
 ghost use Rattle.bb_parse.specs.Inside.Symbols.{symbols, is_next, behind, next_kind};
 ghost use Rattle.bb_parse.specs.Inside.Steps.{Gives, read_mark, read_name, read_sized, read_plain};
-ghost use Rattle.bb_parse.specs.Inside.Expressions.{begins_repeat, next_operator};
+ghost use Rattle.bb_parse.specs.Inside.Expressions.{begins_repeat, next_operator, begins_operator};
 
-use crate::level::Level;
+use crate::operators::{bit_operator, on_bits, on_one, on_words, word_operator};
 use crate::stop::Stop;
-use bb_ast::Op;
+use bb_ast::{FoldOp, Op, WordOp};
 use bb_bits::Name;
 use bb_lex::laws::read_bits_are_said;
 use bb_lex::{Kind, Mark, Token, name_bytes, plain_value, sized_bits};
@@ -163,13 +163,44 @@ impl<'a> Cursor<'a> {
         }
     }
 
-    /// Which operator of the level comes next, if any.
-    pub(crate) fn operator(&self, level: Level) -> Option<Op>
-        ensures { result ≡ next_operator level self.now }
+    /// Which operator before one operand comes next, if any.
+    pub(crate) fn operator_on_one(&self) -> Option<FoldOp>
+        ensures { result ≡ next_operator on_one self.now }
     {
         match self.kind() {
-            Some(Kind::Mark(mark)) => operator_of(level, mark),
+            Some(Kind::Mark(mark)) => on_one(mark),
             _ => None,
+        }
+    }
+
+    /// Which operator on bits of the row comes next, if any.
+    pub(crate) fn bit_operator(&self, row: u32) -> Option<Op>
+        ensures { result ≡ next_operator (bit_operator row) self.now }
+    {
+        match self.kind() {
+            Some(Kind::Mark(mark)) => bit_operator(row, mark),
+            _ => None,
+        }
+    }
+
+    /// Which operator on words of the row comes next, if any.
+    pub(crate) fn word_operator(&self, row: u32) -> Option<WordOp>
+        ensures { result ≡ next_operator (word_operator row) self.now }
+    {
+        match self.kind() {
+            Some(Kind::Mark(mark)) => word_operator(row, mark),
+            _ => None,
+        }
+    }
+
+    /// Whether an operator between two operands comes next.
+    #[tactic(auto, unfolding(crate::specs::Inside::Expressions::begins_operator))]
+    pub(crate) fn begins_operator(&self) -> bool
+        ensures { result ≡ begins_operator self.now }
+    {
+        match self.kind() {
+            Some(Kind::Mark(mark)) => on_bits(mark).is_some() || on_words(mark).is_some(),
+            _ => false,
         }
     }
 }
@@ -183,17 +214,4 @@ fn bits_of(alloc: Global, token: &Token, text: &[u8]) -> Result<Vec<bool>, Alloc
     read_bits_are_said();
     let bits = sized_bits(alloc, token, text)?;
     Ok(bits)
-}
-
-/// The operator that a mark is at the level.
-fn operator_of(level: Level, mark: Mark) -> Option<Op>
-    ensures { result ≡ level_operator level mark }
-{
-    match (level, mark) {
-        (Level::And, Mark::Amp) => Some(Op::And),
-        (Level::Xor, Mark::Caret) => Some(Op::Xor),
-        (Level::Xor, Mark::TildeCaret | Mark::CaretTilde) => Some(Op::Xnor),
-        (Level::Or, Mark::Bar) => Some(Op::Or),
-        _ => None,
-    }
 }

@@ -1,47 +1,19 @@
-ghost use Rattle.std.specs.Prelude.{◌≡◌, ℕ, List, map, length};
+ghost use Rattle.std.specs.Prelude.{◌<◌, ◌≤◌, map, length};
 ghost use Rattle.bb_ast.specs.Inside.Views.{expression, operand_view, arm_view};
-ghost use Rattle.bb_parse.specs.Expressions.{negated, chained, conditional};
-ghost use Rattle.bb_parse.specs.Inside.Steps.{Gives, Makes, read_list};
-ghost use Rattle.bb_parse.specs.Inside.Expressions.{read_signs, read_select, read_index, read_expr, read_arm, read_conditional};
-ghost use Rattle.bb_parse.specs.Inside.Expressions.{read_level, read_operand, read_operands, read_unary, read_primary};
-ghost use Rattle.bb_parse.specs.Inside.Expressions.{read_round, read_braces, bracket_at};
+ghost use Rattle.bb_parse.specs.Expressions.{bit_operator, word_operator};
+ghost use Rattle.bb_parse.specs.Inside.Steps.{Gives, read_list};
+ghost use Rattle.bb_parse.specs.Inside.Expressions.{read_expr, read_arm, read_conditional, read_level, read_row, read_operands};
+ghost use Rattle.bb_parse.specs.Inside.Expressions.{read_negated, read_fold, read_unary, read_primary, read_round, read_braces, bracket_at};
 
 use crate::cursor::Cursor;
-use crate::level::Level;
 use crate::list::begun;
+use crate::made::{chain_of, conditional_of, fold_of, negation_of, words_of};
+use crate::operators::{is_bitwise, signs};
+use crate::select::select;
 use crate::stop::Stop;
-use bb_ast::{Expr, Op};
-use bb_bits::Name;
+use bb_ast::{Expr, Op, WordOp};
 use bb_lex::{Kind, Mark};
 use std::alloc::Global;
-
-/// A net, or some of its bits.
-#[tactic(auto, unfolding(crate::specs::Inside::Expressions::read_select))]
-pub(crate) fn select(alloc: Global, cursor: &mut Cursor<'_>) -> Result<Expr, Stop>
-    ensures { Gives expression result cursor.new (read_select cursor.old) }
-{
-    let name = cursor.name(alloc)?;
-    if cursor.takes(Mark::LeftSquare) {
-        index(cursor, name)
-    } else {
-        Ok(Expr::Net(name))
-    }
-}
-
-/// The bits of a net that stand behind `[`.
-#[tactic(auto, unfolding(crate::specs::Inside::Expressions::read_index))]
-fn index(cursor: &mut Cursor<'_>, name: Name) -> Result<Expr, Stop>
-    ensures { Gives expression result cursor.new (read_index name cursor.old) }
-{
-    let left = cursor.plain()?;
-    if cursor.takes(Mark::Colon) {
-        let right = cursor.plain()?;
-        cursor.mark(Mark::RightSquare)?;
-        return Ok(Expr::Part(name, left, right));
-    }
-    cursor.mark(Mark::RightSquare)?;
-    Ok(Expr::Bit(name, left))
-}
 
 /// An expression in which brackets and conditionals nest to less than `depth` levels.
 #[cycle(expr)]
@@ -63,7 +35,7 @@ fn conditional(alloc: Global, cursor: &mut Cursor<'_>, inner: u32) -> Result<Exp
 {
     let mut arms = Vec::new(alloc);
     for turn in 0..cursor.len() {
-        let value = chain(alloc, cursor, inner, Level::Or)?;
+        let value = level(alloc, cursor, inner, 9)?;
         if !cursor.takes(Mark::Query) {
             return conditional_of(alloc, arms, value);
         }
@@ -89,57 +61,121 @@ fn arm(
     Ok((condition, chosen))
 }
 
-/// A chain of the level.
+/// A chain of the level; level 0 is a primary with the operators before it.
 #[cycle(expr)]
-#[tactic(auto, unfolding(crate::specs::Inside::Expressions::read_chain))]
-fn chain(alloc: Global, cursor: &mut Cursor<'_>, inner: u32, level: Level) -> Result<Expr, Stop>
-    ensures { Gives expression result cursor.new (read_level level (read_expr inner) cursor.old) }
+fn level(alloc: Global, cursor: &mut Cursor<'_>, inner: u32, height: u32) -> Result<Expr, Stop>
+    requires { height ≤ 9 }
+    ensures { Gives expression result cursor.new (read_level height (read_expr inner) cursor.old) }
 {
-    let first = operand(alloc, cursor, inner, level)?;
-    let rest = operands(alloc, cursor, inner, level)?;
-    chain_of(alloc, first, rest)
+    let mut value = unary(alloc, cursor, inner)?;
+    for row in 0..height {
+        if !cursor.begins_operator() {
+            return Ok(value);
+        }
+        value = chain(alloc, cursor, inner, row, value)?;
+    }
+    Ok(value)
 }
 
-/// Operators of the level that come next, each with the operand behind it.
+/// The chain of a first operand, which was read, and the operators of the row that come next with their operands.
 #[cycle(expr)]
-fn operands(
+#[tactic(auto, unfolding(crate::specs::Inside::Expressions::read_row))]
+fn chain(
     alloc: Global,
     cursor: &mut Cursor<'_>,
     inner: u32,
-    level: Level,
+    row: u32,
+    first: Expr,
+) -> Result<Expr, Stop>
+    requires { row < 9 }
+    ensures { Gives expression result cursor.new (read_row row (read_level row (read_expr inner)) (expression first) cursor.old) }
+{
+    if is_bitwise(row) {
+        let rest = bits(alloc, cursor, inner, row)?;
+        return chain_of(alloc, first, rest);
+    }
+    let rest = words(alloc, cursor, inner, row)?;
+    words_of(alloc, first, rest)
+}
+
+/// Operators on bits of the row that come next, each with the operand behind it.
+#[cycle(expr)]
+fn bits(
+    alloc: Global,
+    cursor: &mut Cursor<'_>,
+    inner: u32,
+    row: u32,
 ) -> Result<Vec<(Op, Expr)>, Stop>
+    requires { row < 9 }
     ensures { Gives (λ rest. map operand_view rest.items) result cursor.new
-        (read_operands level (read_operand level (read_expr inner)) (length cursor.old) cursor.old) }
+        (read_operands (bit_operator row) (read_level row (read_expr inner)) (length cursor.old) cursor.old) }
 {
     let mut rest = Vec::new(alloc);
     for turn in 0..cursor.len() {
-        let Some(op) = cursor.operator(level) else {
+        let Some(op) = cursor.bit_operator(row) else {
             return Ok(rest);
         };
         cursor.skip();
-        let next = operand(alloc, cursor, inner, level)?;
+        let next = level(alloc, cursor, inner, row)?;
         rest.push((op, next))?;
     }
     Ok(rest)
 }
 
-/// An operand of a chain of the level.
+/// Operators on words of the row that come next, each with the operand behind it.
 #[cycle(expr)]
-fn operand(alloc: Global, cursor: &mut Cursor<'_>, inner: u32, level: Level) -> Result<Expr, Stop>
-    ensures { Gives expression result cursor.new (read_operand level (read_expr inner) cursor.old) }
+fn words(
+    alloc: Global,
+    cursor: &mut Cursor<'_>,
+    inner: u32,
+    row: u32,
+) -> Result<Vec<(WordOp, Expr)>, Stop>
+    requires { row < 9 }
+    ensures { Gives (λ rest. map operand_view rest.items) result cursor.new
+        (read_operands (word_operator row) (read_level row (read_expr inner)) (length cursor.old) cursor.old) }
 {
-    match level {
-        Level::And => unary(alloc, cursor, inner),
-        Level::Xor => chain(alloc, cursor, inner, Level::And),
-        Level::Or => chain(alloc, cursor, inner, Level::Xor),
+    let mut rest = Vec::new(alloc);
+    for turn in 0..cursor.len() {
+        let Some(op) = cursor.word_operator(row) else {
+            return Ok(rest);
+        };
+        cursor.skip();
+        let next = level(alloc, cursor, inner, row)?;
+        rest.push((op, next))?;
     }
+    Ok(rest)
+}
+
+/// A run of signs `~`, which may be empty, before an operator with its operand or a primary.
+#[cycle(expr)]
+#[tactic(auto, unfolding(crate::specs::Inside::Expressions::read_negated))]
+fn unary(alloc: Global, cursor: &mut Cursor<'_>, inner: u32) -> Result<Expr, Stop>
+    ensures { Gives expression result cursor.new (read_unary (read_expr inner) cursor.old) }
+{
+    let signs = signs(cursor);
+    let operand = fold(alloc, cursor, inner)?;
+    negation_of(alloc, signs, operand)
+}
+
+/// An operator with its operand, or a primary.
+#[cycle(expr)]
+#[tactic(auto, unfolding(crate::specs::Inside::Expressions::read_fold))]
+fn fold(alloc: Global, cursor: &mut Cursor<'_>, inner: u32) -> Result<Expr, Stop>
+    ensures { Gives expression result cursor.new (read_fold (read_expr inner) cursor.old) }
+{
+    let Some(op) = cursor.operator_on_one() else {
+        return primary(alloc, cursor, inner);
+    };
+    cursor.skip();
+    let operand = negated(alloc, cursor, inner)?;
+    fold_of(alloc, op, operand)
 }
 
 /// A run of signs `~`, which may be empty, before a primary.
 #[cycle(expr)]
-#[tactic(auto, unfolding(crate::specs::Inside::Expressions::read_unary))]
-fn unary(alloc: Global, cursor: &mut Cursor<'_>, inner: u32) -> Result<Expr, Stop>
-    ensures { Gives expression result cursor.new (read_unary (read_expr inner) cursor.old) }
+#[tactic(auto, unfolding(crate::specs::Inside::Expressions::read_negated))]
+fn negated(alloc: Global, cursor: &mut Cursor<'_>, inner: u32) -> Result<Expr, Stop>
+    ensures { Gives expression result cursor.new (read_negated (read_primary (read_expr inner)) cursor.old) }
 {
     let signs = signs(cursor);
     let operand = primary(alloc, cursor, inner)?;
@@ -214,49 +250,4 @@ pub(crate) fn exprs(alloc: Global, cursor: &mut Cursor<'_>, depth: u32) -> Resul
         parts.push(part)?;
     }
     Ok(parts)
-}
-
-/// How many signs `~` come next; these are taken.
-#[tactic(auto, using(crate::proofs::Loops::signs_looping))]
-fn signs(cursor: &mut Cursor<'_>) -> u32
-    ensures { read_signs (length cursor.old) cursor.old ≡ (result, cursor.new) }
-{
-    let mut signs = 0;
-    for turn in 0..cursor.len() {
-        if !cursor.takes(Mark::Tilde) {
-            return signs;
-        }
-        signs += 1;
-    }
-    signs
-}
-
-/// So many signs `~` before an expression.
-fn negation_of(alloc: Global, signs: u32, operand: Expr) -> Result<Expr, Stop>
-    ensures { Makes expression result (negated signs (expression operand)) }
-{
-    if signs == 0 {
-        return Ok(operand);
-    }
-    Ok(Expr::Not(signs, Box::new(alloc, operand)?))
-}
-
-/// A chain; one operand alone is itself.
-fn chain_of(alloc: Global, first: Expr, rest: Vec<(Op, Expr)>) -> Result<Expr, Stop>
-    ensures { Makes expression result (chained (expression first) (map operand_view rest.items)) }
-{
-    if rest.is_empty() {
-        return Ok(first);
-    }
-    Ok(Expr::Chain(Box::new(alloc, first)?, rest))
-}
-
-/// A conditional; without conditions it is the last branch.
-fn conditional_of(alloc: Global, arms: Vec<(Expr, Expr)>, last: Expr) -> Result<Expr, Stop>
-    ensures { Makes expression result (conditional (map arm_view arms.items) (expression last)) }
-{
-    if arms.is_empty() {
-        return Ok(last);
-    }
-    Ok(Expr::Cond(arms, Box::new(alloc, last)?))
 }

@@ -10,11 +10,13 @@ mod header;
 mod instances;
 mod items;
 pub mod laws;
-mod level;
 mod list;
 mod lval;
+mod made;
 mod names;
+mod operators;
 mod reader;
+mod select;
 mod statement;
 mod stop;
 

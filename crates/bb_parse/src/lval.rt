@@ -4,8 +4,8 @@ ghost use Rattle.bb_parse.specs.Inside.Steps.{Gives, read_list};
 ghost use Rattle.bb_parse.specs.Inside.Expressions.{read_lval, read_lvals};
 
 use crate::cursor::Cursor;
-use crate::expr::select;
 use crate::list::begun;
+use crate::select::select;
 use crate::stop::Stop;
 use bb_ast::Expr;
 use bb_lex::Mark;

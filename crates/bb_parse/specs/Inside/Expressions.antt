@@ -1,15 +1,13 @@
 -- Reading expressions from the left, on lists.
-use Rattle.std.specs.Prelude.{ℕ, zero, suc, ◌+◌, Bool, false, List, [], ◌∷◌, ◌++◌, Option, Some, None, length, if◌then◌else◌}
-use Rattle.bb_ast.specs.declared.expr.Op.{Op}
-use Rattle.bb_ast.specs.Syntax.{Expression, Net, Bit, Part, Sized, Plain, Concat, Repeat, listed_parts}
+use Rattle.std.specs.Prelude.{ℕ, zero, suc, ◌+◌, Bool, false, ◌||◌, is_some, List, [], ◌∷◌, ◌++◌, Option, Some, None, length, if◌then◌else◌}
+use Rattle.bb_ast.specs.declared.operators.FoldOp.{FoldOp}
+use Rattle.bb_ast.specs.Syntax.{Expression, Net, Bit, Part, Sized, Plain, Fold, Concat, Repeat, listed_parts}
 use Rattle.bb_lex.specs.declared.mark.Mark.{Mark}
 use Rattle.bb_lex.specs.declared.mark.Mark.TheVariants.{LeftRound, RightRound, LeftSquare, RightSquare, LeftBrace, RightBrace, Colon, Tilde, Query}
 use Rattle.bb_lex.specs.declared.token.Kind.{Kind}
 use Rattle.bb_lex.specs.declared.token.Kind.TheVariants as kinds
-use Rattle.bb_parse.specs.declared.level.Level.{Level}
-use Rattle.bb_parse.specs.declared.level.Level.TheVariants as levels
 use Rattle.bb_parse.specs.Symbols.{Symbol, Identifier, Reserved, SizedNumber, PlainNumber, Sign}
-use Rattle.bb_parse.specs.Expressions.{level_operator, negated, chained, conditional}
+use Rattle.bb_parse.specs.Expressions.{negated, on_one, on_bits, on_words, bit_operator, word_operator, chained, worded, is_bitwise, conditional}
 use Rattle.bb_parse.specs.Inside.Symbols.{is_next, behind, next_kind}
 use Rattle.bb_parse.specs.Inside.Steps.{Read, ◌>>=◌, read_mark, read_name, read_sized, read_plain, with_front, read_list}
 
@@ -65,43 +63,57 @@ read_signs (suc n) ts = if is_next Tilde ts then (suc (read_signs n (behind ts))
 unfoldable pub plus_signs : ℕ → ℕ × List Symbol → ℕ × List Symbol
 plus_signs k read = (k + read.0, read.1)
 
-unfoldable pub read_unary : (List Symbol → Read Expression) → List Symbol → Read Expression
-read_unary inner ts = read_primary inner (read_signs (length ts) ts).1 >>= (λ e. Some (negated (read_signs (length ts) ts).0 e.0, e.1))
+-- a run of ~ before what is read
+unfoldable pub read_negated : (List Symbol → Read Expression) → List Symbol → Read Expression
+read_negated read ts = read (read_signs (length ts) ts).1 >>= (λ e. Some (negated (read_signs (length ts) ts).0 e.0, e.1))
 
--- the operator of the level that comes next
-abbrev pub next_operator : Level → List Symbol → Option Op
-next_operator level [] = None
-next_operator level (Identifier n ∷ ts) = None
-next_operator level (Reserved w ∷ ts) = None
-next_operator level (SizedNumber b ∷ ts) = None
-next_operator level (PlainNumber n ∷ ts) = None
-next_operator level (Sign m ∷ ts) = level_operator level m
+-- the operator that the next symbol is
+abbrev pub next_operator : {O : Type 0} → (Mark → Option O) → List Symbol → Option O
+next_operator operator [] = None
+next_operator operator (Identifier n ∷ ts) = None
+next_operator operator (Reserved w ∷ ts) = None
+next_operator operator (SizedNumber b ∷ ts) = None
+next_operator operator (PlainNumber n ∷ ts) = None
+next_operator operator (Sign m ∷ ts) = operator m
+
+abbrev pub fold_at : Option FoldOp → (List Symbol → Read Expression) → List Symbol → Read Expression
+fold_at None inner ts = read_primary inner ts
+fold_at (Some op) inner ts = read_negated (read_primary inner) (behind ts) >>= (λ x. Some (Fold op x.0, x.1))
+
+unfoldable pub read_fold : (List Symbol → Read Expression) → List Symbol → Read Expression
+read_fold inner ts = fold_at (next_operator on_one ts) inner ts
+
+abbrev pub read_unary : (List Symbol → Read Expression) → List Symbol → Read Expression
+read_unary inner = read_negated (read_fold inner)
+
+-- an operator between two operands comes next
+unfoldable pub begins_operator : List Symbol → Bool
+begins_operator ts = is_some (next_operator on_bits ts) || is_some (next_operator on_words ts)
 
 -- what comes with an operator, or the end of the chain
-abbrev pub operands_at : Option Op → List Symbol → (Op → Read (List (Op × Expression))) → Read (List (Op × Expression))
+abbrev pub operands_at : {O : Type 0} → Option O → List Symbol → (O → Read (List (O × Expression))) → Read (List (O × Expression))
 operands_at None ts more = Some ([], ts)
 operands_at (Some op) ts more = more op
 
-abbrev pub read_operands : Level → (List Symbol → Read Expression) → ℕ → List Symbol → Read (List (Op × Expression))
-read_operands level operand zero ts = Some ([], ts)
-read_operands level operand (suc n) ts = operands_at (next_operator level ts) ts
-    (λ op. operand (behind ts) >>= (λ x. with_front ((op, x.0) ∷ []) (read_operands level operand n x.1)))
+abbrev pub read_operands : {O : Type 0} → (Mark → Option O) → (List Symbol → Read Expression) → ℕ → List Symbol → Read (List (O × Expression))
+read_operands operator operand zero ts = Some ([], ts)
+read_operands operator operand (suc n) ts = operands_at (next_operator operator ts) ts
+    (λ op. operand (behind ts) >>= (λ x. with_front ((op, x.0) ∷ []) (read_operands operator operand n x.1)))
 
 -- the chain of an operand and those that were read
-abbrev pub chain_from : Expression → Read (List (Op × Expression)) → Read Expression
-chain_from x read = read >>= (λ xs. Some (chained x xs.0, xs.1))
+abbrev pub chain_from : {O : Type 0} → (Expression → List (O × Expression) → Expression) → Expression → Read (List (O × Expression)) → Read Expression
+chain_from made x read = read >>= (λ xs. Some (made x xs.0, xs.1))
 
-unfoldable pub read_chain : Level → (List Symbol → Read Expression) → List Symbol → Read Expression
-read_chain level operand ts = operand ts >>= (λ x. chain_from x.0 (read_operands level operand (length x.1) x.1))
+-- behind the first operand of a chain of a row
+unfoldable pub read_row : ℕ → (List Symbol → Read Expression) → Expression → List Symbol → Read Expression
+read_row n operand x ts =
+    if is_bitwise n then chain_from chained x (read_operands (bit_operator n) operand (length ts) ts)
+    else chain_from worded x (read_operands (word_operator n) operand (length ts) ts)
 
--- an operand of a chain of the level
-abbrev pub read_operand : Level → (List Symbol → Read Expression) → List Symbol → Read Expression
-read_operand levels.And inner = read_unary inner
-read_operand levels.Xor inner = read_chain levels.And (read_unary inner)
-read_operand levels.Or inner = read_chain levels.Xor (read_chain levels.And (read_unary inner))
-
-abbrev pub read_level : Level → (List Symbol → Read Expression) → List Symbol → Read Expression
-read_level level inner = read_chain level (read_operand level inner)
+-- a unary, and then row by row what goes on with it
+unfoldable pub read_level : ℕ → (List Symbol → Read Expression) → List Symbol → Read Expression
+read_level zero inner ts = read_unary inner ts
+read_level (suc n) inner ts = read_level n inner ts >>= (λ x. read_row n (read_level n inner) x.0 x.1)
 
 -- with these in front of arms that were read
 abbrev pub with_arms : List (Expression × Expression) → Read (List (Expression × Expression) × Expression) → Read (List (Expression × Expression) × Expression)
@@ -115,7 +127,7 @@ read_arm x inner ts = inner ts >>= (λ v. read_mark Colon v.1 >>= (λ u. Some ((
 -- at most so many conditions, and the last branch
 abbrev pub read_arms : (List Symbol → Read Expression) → ℕ → List Symbol → Read (List (Expression × Expression) × Expression)
 read_arms inner zero ts = None
-read_arms inner (suc n) ts = read_level levels.Or inner ts >>= (λ c.
+read_arms inner (suc n) ts = read_level 9 inner ts >>= (λ c.
     if is_next Query c.1 then read_arm c.0 inner (behind c.1) >>= (λ a. with_arms (a.0 ∷ []) (read_arms inner n a.1))
     else Some (([], c.0), c.1))
 

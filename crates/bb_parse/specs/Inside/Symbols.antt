@@ -1,7 +1,7 @@
 -- The symbols of tokens, read from their bytes.
 use Rattle.std.specs.Prelude.{ℕ, Bool, false, List, [], ◌∷◌, Option, Some, None, ◌==◌, map}
 use Rattle.bb_lex.specs.declared.mark.Mark.{Mark}
-use Rattle.bb_lex.specs.declared.mark.Mark.TheVariants.{LeftRound, RightRound, LeftSquare, RightSquare, LeftBrace, RightBrace, Comma, Semicolon, Colon, Dot, Equals, At, Amp, Bar, Caret, Tilde, Query, LessEqual, TildeCaret, CaretTilde}
+use Rattle.bb_lex.specs.declared.mark.Mark.TheVariants.{LeftRound, RightRound, LeftSquare, RightSquare, LeftBrace, RightBrace, Comma, Semicolon, Colon, Dot, Equals, At, Amp, Bar, Caret, Tilde, Query, Plus, Minus, Less, Greater, Bang, LessEqual, GreaterEqual, EqualEqual, BangEqual, LessLess, GreaterGreater, AmpAmp, BarBar, TildeAmp, TildeBar, TildeCaret, CaretTilde}
 use Rattle.bb_lex.specs.declared.token.Kind.{Kind}
 use Rattle.bb_lex.specs.declared.token.Token.{Token}
 use Rattle.bb_lex.specs.Meaning.{name_of, plain_value_of}
@@ -41,9 +41,23 @@ mark_number Bar = 13
 mark_number Caret = 14
 mark_number Tilde = 15
 mark_number Query = 16
-mark_number LessEqual = 17
-mark_number TildeCaret = 18
-mark_number CaretTilde = 19
+mark_number Plus = 17
+mark_number Minus = 18
+mark_number Less = 19
+mark_number Greater = 20
+mark_number Bang = 21
+mark_number LessEqual = 22
+mark_number GreaterEqual = 23
+mark_number EqualEqual = 24
+mark_number BangEqual = 25
+mark_number LessLess = 26
+mark_number GreaterGreater = 27
+mark_number AmpAmp = 28
+mark_number BarBar = 29
+mark_number TildeAmp = 30
+mark_number TildeBar = 31
+mark_number TildeCaret = 32
+mark_number CaretTilde = 33
 
 -- the mark is next
 abbrev pub is_next : Mark → List Symbol → Bool

@@ -1,46 +1,62 @@
-use Rattle.std.proofs.Common.{◌≡◌, ◌+◌, ◌-◌, ◌*◌, length, map}
+use Rattle.std.proofs.Common.{◌≡◌, ◌+◌, ◌-◌, ◌*◌, length, map, Some}
 use Rattle.bb_ast.specs.Inside.Views.{expression, operand_view, arm_view}
+use Rattle.bb_parse.specs.Expressions.{bit_operator, word_operator}
 use Rattle.bb_parse.specs.Inside.Steps.{with_front, read_list, read_more}
-use Rattle.bb_parse.specs.Inside.Expressions.{read_expr, read_operand, read_operands, read_arms, read_conditional, with_arms, conditional_from}
-use Rattle.bb_parse.proofs.Measures.{tightness}
+use Rattle.bb_parse.specs.Inside.Expressions.{read_expr, read_level, read_operands, read_arms, read_conditional, with_arms, conditional_from}
 use Rattle.bb_parse.proofs.expr.+expr.Given as goal
 
 abbrev pub decreases-arm : goal.decreases-arm
-decreases-arm l = 20 * l.inner + 1
+decreases-arm l = 50 * l.inner + 1
+
+abbrev pub decreases-bits : goal.decreases-bits
+decreases-bits l = 50 * l.inner + (13 + 3 * l.row)
 
 abbrev pub decreases-braces : goal.decreases-braces
-decreases-braces l = 20 * l.inner + 4
+decreases-braces l = 50 * l.inner + 4
 
 abbrev pub decreases-bracket : goal.decreases-bracket
-decreases-bracket l = 20 * l.inner + 5
+decreases-bracket l = 50 * l.inner + 5
 
 abbrev pub decreases-chain : goal.decreases-chain
-decreases-chain l = 20 * l.inner + (10 + 3 * tightness l.level)
+decreases-chain l = 50 * l.inner + (14 + 3 * l.row)
 
 abbrev pub decreases-conditional : goal.decreases-conditional
-decreases-conditional l = 20 * l.inner + 17
+decreases-conditional l = 50 * l.inner + 40
 
 abbrev pub decreases-expr : goal.decreases-expr
-decreases-expr l = 20 * l.depth
+decreases-expr l = 50 * l.depth
 
 abbrev pub decreases-exprs : goal.decreases-exprs
-decreases-exprs l = 20 * l.depth + 3
+decreases-exprs l = 50 * l.depth + 3
 
-abbrev pub decreases-operand : goal.decreases-operand
-decreases-operand l = 20 * l.inner + (8 + 3 * tightness l.level)
+abbrev pub decreases-fold : goal.decreases-fold
+decreases-fold l = 50 * l.inner + 8
 
-abbrev pub decreases-operands : goal.decreases-operands
-decreases-operands l = 20 * l.inner + (9 + 3 * tightness l.level)
+abbrev pub decreases-level : goal.decreases-level
+decreases-level l = 50 * l.inner + (12 + 3 * l.height)
+
+abbrev pub decreases-negated : goal.decreases-negated
+decreases-negated l = 50 * l.inner + 7
 
 abbrev pub decreases-primary : goal.decreases-primary
-decreases-primary l = 20 * l.inner + 6
+decreases-primary l = 50 * l.inner + 6
 
 abbrev pub decreases-unary : goal.decreases-unary
-decreases-unary l = 20 * l.inner + 7
+decreases-unary l = 50 * l.inner + 9
 
-abbrev pub invariant-operands-loop-turn : goal.invariant-operands-loop-turn
-invariant-operands-loop-turn l = read_operands l.level (read_operand l.level (read_expr l.inner)) (length l.fn.cursor) l.fn.cursor
-    ≡ with_front (map operand_view l.rest.items) (read_operands l.level (read_operand l.level (read_expr l.inner)) (l.turn-end - l.turn) l.cursor)
+abbrev pub decreases-words : goal.decreases-words
+decreases-words l = 50 * l.inner + (13 + 3 * l.row)
+
+abbrev pub invariant-bits-loop-turn : goal.invariant-bits-loop-turn
+invariant-bits-loop-turn l = read_operands (bit_operator l.row) (read_level l.row (read_expr l.inner)) (length l.fn.cursor) l.fn.cursor
+    ≡ with_front (map operand_view l.rest.items) (read_operands (bit_operator l.row) (read_level l.row (read_expr l.inner)) (l.turn-end - l.turn) l.cursor)
+
+abbrev pub invariant-words-loop-turn : goal.invariant-words-loop-turn
+invariant-words-loop-turn l = read_operands (word_operator l.row) (read_level l.row (read_expr l.inner)) (length l.fn.cursor) l.fn.cursor
+    ≡ with_front (map operand_view l.rest.items) (read_operands (word_operator l.row) (read_level l.row (read_expr l.inner)) (l.turn-end - l.turn) l.cursor)
+
+abbrev pub invariant-level-loop-row : goal.invariant-level-loop-row
+invariant-level-loop-row l = read_level l.row (read_expr l.inner) l.fn.cursor ≡ Some (expression l.value, l.cursor)
 
 abbrev pub invariant-conditional-loop-turn : goal.invariant-conditional-loop-turn
 invariant-conditional-loop-turn l = read_conditional (read_expr l.inner) l.fn.cursor

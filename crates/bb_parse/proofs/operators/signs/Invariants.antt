@@ -1,6 +1,6 @@
 use Rattle.std.proofs.Common.{◌≡◌, ◌-◌, ◌<◌, ◌^◌, length}
 use Rattle.bb_parse.specs.Inside.Expressions.{read_signs, plus_signs}
-use Rattle.bb_parse.proofs.expr.signs.Given as goal
+use Rattle.bb_parse.proofs.operators.signs.Given as goal
 
 abbrev pub invariant-loop-turn : goal.invariant-loop-turn
 invariant-loop-turn l = record {
