@@ -3,16 +3,17 @@ use Rattle.std.proofs.Common.{◌≡◌, ℕ, ◌*◌, Bool, ◌&&◌, List, [],
 use Rattle.std.specs.Prelude.{max, sum}
 use Rattle.std.specs.List.{flat_map, list_all}
 use Rattle.bb_ast.specs.Assignable.{assigning, is_assignable}
-use Rattle.bb_names.specs.Inside.Firsts.{inner_spots, spots_of_part}
+use Rattle.bb_names.specs.Inside.Firsts.{inner_spots, spots_of_part, words_width}
 use Rattle.bb_names.specs.Spots.{Use, inside, with_inside, part_spots, spots_in}
 use Rattle.bb_names.specs.Widths.{Ranges, greatest, widths, own_width}
 use Rattle.bb_ast.specs.declared.expr.Expr.{Expr, out-Expr}
 use Rattle.bb_ast.specs.declared.expr.Op.{Op}
+use Rattle.bb_ast.specs.declared.operators.WordOp.{WordOp}
 use Rattle.bb_ast.specs.declared.expr.Expr.TheOpen.{Expr-F}
 use Rattle.bb_ast.specs.declared.expr.Expr.TheFolds.{fold_out-Expr, map-Expr}
-use Rattle.bb_ast.specs.Laws.FoldLaws.{sees_operands, sees_arms, sees_parts}
+use Rattle.bb_ast.specs.Laws.FoldLaws.{sees_operands, sees_words, sees_arms, sees_parts}
 use Rattle.bb_ast.specs.Names.{naming, names_in}
-use Rattle.bb_ast.specs.Syntax.{Expression, Chain, Cond, Concat, Repeat, operands, arms, listed_parts}
+use Rattle.bb_ast.specs.Syntax.{Expression, Chain, Words, Cond, Concat, Repeat, operands, word_operands, arms, listed_parts}
 use Rattle.bb_ast.specs.Inside.Views.{layer, expression}
 
 pub view-of : (e : Expr) (o : Expr-F Expr) → out-Expr e ≡ o → expression e ≡ layer (map-Expr Expr Expression expression o)
@@ -25,6 +26,9 @@ flat_map-map g v (x ∷ xs) = ap (λ z. g (v x) ++ z) (flat_map-map g v xs)
 -- the names of an expression by its form
 pub names-chain : (e : Expression) (rest : List (Op × Expression)) → names_in (Chain e (operands rest)) ≡ names_in e ++ flat_map (λ x. names_in x.1) rest
 names-chain e rest = ap (λ z. names_in e ++ flat_map (λ x. x.1) z) (sees_operands (λ x a. a) naming rest) ∙ ap (λ z. names_in e ++ z) (flat_map-map (λ x. x.1) (λ x. (x.0, names_in x.1)) rest)
+
+pub names-words : (e : Expression) (rest : List (WordOp × Expression)) → names_in (Words e (word_operands rest)) ≡ names_in e ++ flat_map (λ x. names_in x.1) rest
+names-words e rest = ap (λ z. names_in e ++ flat_map (λ x. x.1) z) (sees_words (λ x a. a) naming rest) ∙ ap (λ z. names_in e ++ z) (flat_map-map (λ x. x.1) (λ x. (x.0, names_in x.1)) rest)
 
 pub names-cond : (all : List (Expression × Expression)) (last : Expression) → names_in (Cond (arms all) last) ≡ flat_map (λ x. names_in x.0 ++ names_in x.1) all ++ names_in last
 names-cond all last = ap (λ z. flat_map (λ x. x.0 ++ x.1) z ++ names_in last) (sees_arms (λ x a. a) naming all) ∙ ap (λ z. z ++ names_in last) (flat_map-map (λ x. x.0 ++ x.1) (λ x. (names_in x.0, names_in x.1)) all)
@@ -48,6 +52,11 @@ spots-chain how e rest =
     ap (λ z. spots_in how e ++ flat_map (λ x. with_inside x.1) z) (sees_operands (λ x spots. (x, spots)) (inside how) rest)
     ∙ ap (λ z. spots_in how e ++ z) (flat_map-map (λ x. with_inside x.1) (λ x. (x.0, (x.1, inner_spots how x.1))) rest)
 
+pub spots-words : (how : Use) (e : Expression) (rest : List (WordOp × Expression)) → inner_spots how (Words e (word_operands rest)) ≡ spots_in how e ++ flat_map (λ x. spots_in how x.1) rest
+spots-words how e rest =
+    ap (λ z. spots_in how e ++ flat_map (λ x. with_inside x.1) z) (sees_words (λ x spots. (x, spots)) (inside how) rest)
+    ∙ ap (λ z. spots_in how e ++ z) (flat_map-map (λ x. with_inside x.1) (λ x. (x.0, (x.1, inner_spots how x.1))) rest)
+
 pub spots-cond : (how : Use) (all : List (Expression × Expression)) (last : Expression) → inner_spots how (Cond (arms all) last) ≡ flat_map (λ x. spots_in how x.0 ++ spots_in how x.1) all ++ spots_in how last
 spots-cond how all last =
     ap (λ z. flat_map (λ x. with_inside x.0 ++ with_inside x.1) z ++ spots_in how last) (sees_arms (λ x spots. (x, spots)) (inside how) all)
@@ -66,6 +75,9 @@ map-map g v (x ∷ xs) = ap (λ z. g (v x) ∷ z) (map-map g v xs)
 
 pub width-chain : (ranges : Ranges) (e : Expression) (rest : List (Op × Expression)) → own_width ranges (Chain e (operands rest)) ≡ max (own_width ranges e) (greatest (map (λ x. own_width ranges x.1) rest))
 width-chain ranges e rest = ap (λ z. max (own_width ranges e) (greatest z)) (ap (map (λ x. x.1)) (sees_operands (λ x a. a) (widths ranges) rest) ∙ map-map (λ x. x.1) (λ x. (x.0, own_width ranges x.1)) rest)
+
+pub width-words : (ranges : Ranges) (e : Expression) (rest : List (WordOp × Expression)) → own_width ranges (Words e (word_operands rest)) ≡ words_width (own_width ranges e) (map (λ x. (x.0, own_width ranges x.1)) rest)
+width-words ranges e rest = ap (words_width (own_width ranges e)) (sees_words (λ x a. a) (widths ranges) rest)
 
 pub width-cond : (ranges : Ranges) (all : List (Expression × Expression)) (last : Expression) → own_width ranges (Cond (arms all) last) ≡ max (greatest (map (λ x. own_width ranges x.1) all)) (own_width ranges last)
 width-cond ranges all last = ap (λ z. max (greatest z) (own_width ranges last)) (ap (map (λ x. x.1)) (sees_arms (λ x a. a) (widths ranges) all) ∙ map-map (λ x. x.1) (λ x. (own_width ranges x.0, own_width ranges x.1)) all)

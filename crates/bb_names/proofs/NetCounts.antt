@@ -6,10 +6,10 @@ use Rattle.std.specs.Prelude.{sum_by}
 use Rattle.std.specs.List.{flat_map}
 use Rattle.bb_ast.specs.declared.module.Port.{Port}
 use Rattle.bb_ast.specs.Names.{names_in, naming}
-use Rattle.bb_ast.specs.Folds.{of_operands, of_arms, of_parts}
-use Rattle.bb_ast.specs.Syntax.{Expression, Net, Bit, Part, Sized, Plain, Not, Chain, Cond, Concat, Repeat, Operands, no_operand, operand, Arms, no_arm, arm, Parts, no_part, part}
+use Rattle.bb_ast.specs.Folds.{of_operands, of_words, of_arms, of_parts}
+use Rattle.bb_ast.specs.Syntax.{Expression, Net, Bit, Part, Sized, Plain, Not, Fold, Chain, Words, Cond, Concat, Repeat, Operands, no_operand, operand, WordOperands, no_word, word, Arms, no_arm, arm, Parts, no_part, part}
 use Rattle.bb_ast.specs.Syntax.{PlainConns, Order, Named, PlainBody, Ports, Nets, Regs, Supply, Assign, Gates, Calls, Always, PlainHead, PlainItem, PlainModule}
-use Rattle.bb_ast.specs.Inside.Sizes.{source_size, expression_size, operands_size, arms_size, parts_size, optional_size, pair_size, conns_size, gate_size, call_size, item_size, module_size}
+use Rattle.bb_ast.specs.Inside.Sizes.{source_size, expression_size, operands_size, words_size, arms_size, parts_size, optional_size, pair_size, conns_size, gate_size, call_size, item_size, module_size}
 use Rattle.bb_names.specs.declared.net.NetKind.TheVariants.{Wire, Reg}
 use Rattle.bb_names.specs.Declarations.{declared_by, declared_by_head, port_declaration, net_declaration, supply_kind, instance_declaration, names_in_optional, names_in_conns, implicit_places, implicit_names, is_declared}
 use Rattle.bb_names.specs.Inside.NetLists.{nets_declared_by}
@@ -26,7 +26,9 @@ mutual
   names-count (Sized bits) = omega arith
   names-count (Plain n) = omega arith
   names-count (Not k e) = omega (arith, names-count e)
+  names-count (Fold op e) = omega (arith, names-count e)
   names-count (Chain e rest) = rw (length-append) (omega (arith, names-count e, operands-count rest))
+  names-count (Words e rest) = rw (length-append) (omega (arith, names-count e, words-count rest))
   names-count (Cond all last) = rw (length-append) (omega (arith, names-count last, arms-count all))
   names-count (Concat all) = omega (arith, parts-count all)
   names-count (Repeat k all) = omega (arith, parts-count all)
@@ -34,6 +36,10 @@ mutual
   operands-count : (rest : Operands) → length (flat_map (λ x. x.1) (of_operands (λ x a. a) naming rest)) ≤ operands_size rest
   operands-count no_operand = omega arith
   operands-count (operand op e rest) = rw (length-append) (omega (arith, names-count e, operands-count rest))
+
+  words-count : (rest : WordOperands) → length (flat_map (λ x. x.1) (of_words (λ x a. a) naming rest)) ≤ words_size rest
+  words-count no_word = omega arith
+  words-count (word op e rest) = rw (length-append) (omega (arith, names-count e, words-count rest))
 
   arms-count : (all : Arms) → length (flat_map (λ x. x.0 ++ x.1) (of_arms (λ x a. a) naming all)) ≤ arms_size all
   arms-count no_arm = omega arith

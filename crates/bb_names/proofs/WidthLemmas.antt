@@ -2,9 +2,12 @@
 use Rattle.std.proofs.Common.{◌≡◌, ℕ, zero, suc, ◌+◌, ◌*◌, ◌<◌, ◌≤◌, ◌-◌, ◌^◌, List, [], ◌∷◌, ◌++◌, length, take, map, get_or, sym, ap, ap₂, ◌∙◌, arith, inl, inr}
 use Rattle.std.proofs.lemmas.Grind.{common_steps}
 use Rattle.std.proofs.lemmas.List.{map-append}
+use Rattle.std.proofs.lemmas.List.Sums.{fold-append}
 use Rattle.std.specs.Prelude.{◌⊎◌, max, min, sum}
-use Rattle.bb_names.specs.Inside.Firsts.{saturated}
-use Rattle.bb_names.specs.Widths.{greatest}
+use Rattle.bb_names.specs.Inside.Firsts.{saturated, words_width}
+use Rattle.bb_names.specs.Widths.{greatest, operator_width}
+use Rattle.bb_ast.specs.declared.operators.WordOp.{WordOp}
+use Rattle.bb_ast.specs.declared.operators.WordOp.TheVariants as ops
 use Rattle.bb_names.proofs.Noting.{seen-more}
 
 most-max : (c a b : ℕ) → min (max a b) c ≡ max (min a c) (min b c)
@@ -55,6 +58,24 @@ saturated-add a b r x y f g h = h ∙ ap₂ (λ p q. saturated (p + q)) f g ∙ 
 pub saturated-times : (a r x k : ℕ) → a ≡ saturated x → r ≡ saturated (a * k) → r ≡ saturated (k * x)
 saturated-times a r x k f h = h ∙ ap (λ p. saturated (p * k)) f ∙ most-times (2 ^ 64 - 1) x k
 
+saturated-one : (r : ℕ) → r ≡ 1 → r ≡ saturated 1
+saturated-one r h = omega (arith, h)
+
+-- an operator on words whose operands are as wide as 64 bits tell
+pub saturated-operator : (op : WordOp) (a b r x y : ℕ) → a ≡ saturated x → b ≡ saturated y → r ≡ operator_width op a b → r ≡ saturated (operator_width op x y)
+saturated-operator ops.Plus a b r x y f g h = saturated-max a b r x y f g h
+saturated-operator ops.Minus a b r x y f g h = saturated-max a b r x y f g h
+saturated-operator ops.Left a b r x y f g h = h ∙ f
+saturated-operator ops.Right a b r x y f g h = h ∙ f
+saturated-operator ops.Equal a b r x y f g h = saturated-one r h
+saturated-operator ops.NotEqual a b r x y f g h = saturated-one r h
+saturated-operator ops.Less a b r x y f g h = saturated-one r h
+saturated-operator ops.LessEqual a b r x y f g h = saturated-one r h
+saturated-operator ops.Greater a b r x y f g h = saturated-one r h
+saturated-operator ops.GreaterEqual a b r x y f g h = saturated-one r h
+saturated-operator ops.Both a b r x y f g h = saturated-one r h
+saturated-operator ops.Either a b r x y f g h = saturated-one r h
+
 pub greatest-turn : {X Y : Type 0} (w : Y → ℕ) (v : X → Y) (xs : List X) (i : ℕ) (x : X) (a b r : ℕ) → i < length xs → x ≡ get_or xs i x
     → a ≡ saturated (greatest (map w (map v (take i xs)))) → b ≡ saturated (w (v x)) → r ≡ max a b → r ≡ saturated (greatest (map w (map v (take (i + 1) xs))))
 greatest-turn w v xs i x a b r within at f g h =
@@ -66,6 +87,12 @@ pub sum-turn : {X Y : Type 0} (w : Y → ℕ) (v : X → Y) (xs : List X) (i : �
 sum-turn w v xs i x a b r within at f g h =
     saturated-add a b r (sum (map w (map v (take i xs)))) (w (v x)) f g h
     ∙ ap saturated (sym (ap (λ z. sum (map w z)) (seen-more v xs i x within at) ∙ ap sum (map-append w (map v (take i xs)) (v x ∷ [])) ∙ sum-push (map w (map v (take i xs))) (w (v x))))
+
+pub words-turn : {X Y : Type 0} (w : Y → WordOp × ℕ) (v : X → Y) (xs : List X) (i : ℕ) (x : X) (left a b r : ℕ) → i < length xs → x ≡ get_or xs i x
+    → a ≡ saturated (words_width left (map w (map v (take i xs)))) → b ≡ saturated (w (v x)).1 → r ≡ operator_width (w (v x)).0 a b → r ≡ saturated (words_width left (map w (map v (take (i + 1) xs))))
+words-turn w v xs i x left a b r within at f g h =
+    saturated-operator (w (v x)).0 a b r (words_width left (map w (map v (take i xs)))) (w (v x)).1 f g h
+    ∙ ap saturated (sym (ap (λ z. words_width left (map w z)) (seen-more v xs i x within at) ∙ ap (words_width left) (map-append w (map v (take i xs)) (v x ∷ [])) ∙ fold-append (λ l z. operator_width z.0 l z.1) left (map w (map v (take i xs))) (w (v x) ∷ [])))
 
 pub saturated-small : (r x : ℕ) → r ≡ x → r ≤ 2 ^ 32 → r ≡ saturated x
 saturated-small r x same small = omega (arith, same, small)

@@ -1,6 +1,6 @@
 -- The nets of a module in net order: the ports in the order of the header, then the other declared nets in text order, then the
 -- implicit wires in the order in which they first stand in a terminal, in a connection or on the left of assign.
-use Rattle.std.specs.Prelude.{ℕ, ◌+◌, Bool, true, false, not, ◌&&◌, List, [], ◌∷◌, ◌++◌, map, is_none}
+use Rattle.std.specs.Prelude.{ℕ, Bool, true, false, not, ◌&&◌, List, ◌++◌, map, is_none}
 use Rattle.std.specs.List.{filter, list_all}
 use Rattle.bb_ast.specs.Syntax.{PlainBody, Ports, Nets, Regs, PlainModule}
 use Rattle.bb_names.specs.declared.net.NetInfo.{NetInfo}

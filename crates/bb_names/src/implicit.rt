@@ -7,7 +7,7 @@ ghost use Rattle.bb_names.specs.Declarations.{implicit_places, names_in_optional
 ghost use Rattle.bb_names.specs.Inside.Implicit.{grown};
 
 use crate::summary::Declared;
-use bb_ast::{Body, Call, Conns, Expr, GateCall, Item, Op};
+use bb_ast::{Body, Call, Conns, Expr, GateCall, Item, Op, WordOp};
 use bb_bits::{Name, NoMemory};
 use indexmap::IndexSet;
 use std::alloc::Global;
@@ -32,9 +32,14 @@ fn add_expr(set: &mut IndexSet<Name>, declared: &Declared, expr: &Expr) -> Resul
         }
         Expr::Sized(_) | Expr::Plain(_) => Ok(()),
         Expr::Not(_, operand) => add_expr(set, declared, operand),
+        Expr::Fold(_, operand) => add_expr(set, declared, operand),
         Expr::Chain(first, rest) => {
             add_expr(set, declared, first)?;
             add_operands(set, declared, rest)
+        }
+        Expr::Words(first, rest) => {
+            add_expr(set, declared, first)?;
+            add_words(set, declared, rest)
         }
         Expr::Cond(arms, last) => {
             add_arms(set, declared, arms)?;
@@ -50,6 +55,20 @@ fn add_operands(
     set: &mut IndexSet<Name>,
     declared: &Declared,
     rest: &[(Op, Expr)],
+) -> Result<(), NoMemory>
+    ensures { OnOk result (set.new.keys ≡ grown declared.now.entries set.old.keys (flat_map (λ x. names_in x.1) (map operand_view rest.now))) }
+{
+    for (_, operand) in rest {
+        add_expr(set, declared, operand)?;
+    }
+    Ok(())
+}
+
+#[cycle(names)]
+fn add_words(
+    set: &mut IndexSet<Name>,
+    declared: &Declared,
+    rest: &[(WordOp, Expr)],
 ) -> Result<(), NoMemory>
     ensures { OnOk result (set.new.keys ≡ grown declared.now.entries set.old.keys (flat_map (λ x. names_in x.1) (map operand_view rest.now))) }
 {

@@ -1,8 +1,9 @@
 -- The leftmost fault of each kind among spots that are looked at from left to right.
-use Rattle.std.specs.Prelude.{◌≡◌, ◌⊎◌, ℕ, ◌-◌, ◌^◌, ◌==◌, Bool, not, if◌then◌else◌, List, [], ◌∷◌, ◌++◌, Option, Some, None, option_map, min, Result, MatchResult}
+use Rattle.std.specs.Prelude.{◌≡◌, ◌⊎◌, ℕ, ◌-◌, ◌^◌, ◌==◌, Bool, not, if◌then◌else◌, List, [], ◌∷◌, ◌++◌, Option, Some, None, option_map, fold, min, Result, MatchResult}
 use Rattle.std.specs.List.{flat_map}
 use Rattle.std.specs.Option.{option_or}
 use Rattle.bb_ast.specs.declared.module.Gate.{Gate}
+use Rattle.bb_ast.specs.declared.operators.WordOp.{WordOp}
 use Rattle.bb_ast.specs.Syntax.{Expression, PlainAlways, PlainConns, PlainHead, PlainItem, PlainModule}
 use Rattle.bb_ast.specs.Folds.{fold_by}
 use Rattle.bb_names.specs.declared.fault.NameFault.{NameFault}
@@ -14,6 +15,7 @@ use Rattle.bb_names.specs.Declarations.{Declaration, declared_by, declared_by_he
 use Rattle.bb_names.specs.Faults.{Rows, statement_faults, told_if, twice, unknown, wrong_select, wrong_width, wrong_role}
 use Rattle.bb_names.specs.Spots.{Use, Read, Driven, Stored, Spot, HeadName, Declared as DeclaredSpot, Placed, Terminal, Clock, inside, part_spots, spots_in, declared_spots, conns_spots, place_count, item_spots}
 use Rattle.bb_bits.specs.Earlier.{has_name}
+use Rattle.bb_names.specs.Widths.{operator_width}
 
 abbrev pub first_of : {A : Type 0} → List A → Option A
 first_of [] = None
@@ -53,6 +55,10 @@ inner_spots how = fold_by (λ x spots. (x, spots)) (inside how)
 -- a width as far as 64 bits tell it
 abbrev pub saturated : ℕ → ℕ
 saturated n = min n (2 ^ 64 - 1)
+
+-- the own width of operators on words, where what stands left of them has this width
+abbrev pub words_width : ℕ → List (WordOp × ℕ) → ℕ
+words_width left rest = fold (λ l x. operator_width x.0 l x.1) left rest
 
 -- a part of a concatenation or replication
 abbrev pub spots_of_part : Use → Expression → List Spot

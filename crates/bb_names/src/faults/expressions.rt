@@ -1,11 +1,11 @@
 //! Faults in an expression: its names, its selects, its parts and its width.
-ghost use Rattle.std.specs.Prelude.{◌≡◌, ◌+◌, ◌*◌, ◌++◌, ◌∷◌, [], ◌≤◌, ◌^◌, List, Some, None, map, sum, OnOk, IfOk};
+ghost use Rattle.std.specs.Prelude.{◌≡◌, ℕ, ◌+◌, ◌*◌, ◌++◌, ◌∷◌, [], ◌≤◌, ◌^◌, List, Some, None, map, sum, OnOk, IfOk};
 ghost use Rattle.std.specs.List.{flat_map};
 ghost use Rattle.bb_ast.specs.Syntax.{PlainModule};
 ghost use Rattle.bb_ast.specs.Inside.Views.{expression, operand_view, arm_view, module_view};
 ghost use Rattle.bb_names.specs.Declarations.{direction_of, range_of};
 ghost use Rattle.bb_names.specs.Faults.{is_input_port, width_in};
-ghost use Rattle.bb_names.specs.Inside.Firsts.{noted, noted_width, use_of, inner_spots, spots_of_part, saturated};
+ghost use Rattle.bb_names.specs.Inside.Firsts.{noted, noted_width, use_of, inner_spots, spots_of_part, saturated, words_width};
 ghost use Rattle.bb_names.specs.Ranges.{distance, range_width};
 ghost use Rattle.bb_names.specs.Spots.{Used, is_plain, spots_in};
 ghost use Rattle.bb_names.specs.Widths.{greatest};
@@ -13,9 +13,11 @@ ghost use Rattle.bb_names.specs.Widths.{greatest};
 use crate::faults::found::{Found, note, note_before, note_word};
 use crate::faults::roles::{Role, is_wrong_use};
 use crate::faults::selects::is_wrong_select;
-use crate::faults::widths::{bits_between, is_other_width, wider, width_of, word_of, word_where};
+use crate::faults::widths::{
+    bits_between, is_other_width, operator_width, wider, width_of, word_of, word_where,
+};
 use crate::indexed::{IndexedModule, NetFacts};
-use bb_ast::{Expr, Op};
+use bb_ast::{Expr, Op, WordOp};
 use bb_bits::{Name, NoMemory};
 use std::alloc::Global;
 
@@ -117,9 +119,17 @@ fn look_inside(
         Expr::Sized(bits) => Ok(bits.len() as u64),
         Expr::Plain(_) => Ok(32),
         Expr::Not(_, operand) => look(alloc, of, role, operand, found),
+        Expr::Fold(_, operand) => {
+            look(alloc, of, role, operand, found)?;
+            Ok(1)
+        }
         Expr::Chain(first, rest) => {
             let width = look(alloc, of, role, first, found)?;
             Ok(wider(width, look_at_operands(alloc, of, role, rest, found)?))
+        }
+        Expr::Words(first, rest) => {
+            let width = look(alloc, of, role, first, found)?;
+            look_at_words(alloc, of, role, width, rest, found)
         }
         Expr::Cond(arms, last) => {
             let width = look_at_arms(alloc, of, role, arms, found)?;
@@ -145,6 +155,27 @@ fn look_at_operands(
     let mut width = 0;
     for (_, operand) in rest {
         width = wider(width, look(alloc, of, role, operand, found)?);
+    }
+    Ok(width)
+}
+
+/// The width of the operators on words, where what stands left of them has this width.
+#[cycle(expression)]
+fn look_at_words(
+    alloc: Global,
+    of: &IndexedModule,
+    role: Role,
+    first: u64,
+    rest: &[(WordOp, Expr)],
+    found: &mut Found,
+) -> Result<u64, NoMemory>
+    ensures noted { (text : List PlainModule) → OnOk result (found.new ≡ noted text (module_view of.now) found.old (flat_map (λ x. spots_in (use_of role) x.1) (map operand_view rest.now))) }
+    ensures width { (left : ℕ) → first ≡ saturated left → IfOk result (λ w. w ≡ saturated (words_width left (map (λ x. (x.0, width_in (module_view of.now) x.1)) (map operand_view rest.now)))) }
+{
+    let mut width = first;
+    for (op, operand) in rest {
+        let right = look(alloc, of, role, operand, found)?;
+        width = operator_width(*op, width, right);
     }
     Ok(width)
 }

@@ -11,7 +11,7 @@ use crate::faults::expressions::{look, look_at_width};
 use crate::faults::found::Found;
 use crate::faults::roles::Role;
 use crate::indexed::IndexedModule;
-use bb_ast::{Always, Expr, Op};
+use bb_ast::{Always, Expr, Op, WordOp};
 use bb_bits::{Name, NoMemory};
 use std::alloc::Global;
 
@@ -23,9 +23,14 @@ fn first_name(expr: &Expr) -> Option<&Name>
         Expr::Net(name) | Expr::Bit(name, _) | Expr::Part(name, _, _) => Some(name),
         Expr::Sized(_) | Expr::Plain(_) => None,
         Expr::Not(_, operand) => first_name(operand),
+        Expr::Fold(_, operand) => first_name(operand),
         Expr::Chain(first, rest) => match first_name(first) {
             Some(name) => Some(name),
             None => first_of_operands(rest),
+        },
+        Expr::Words(first, rest) => match first_name(first) {
+            Some(name) => Some(name),
+            None => first_of_words(rest),
         },
         Expr::Cond(arms, last) => match first_of_arms(arms) {
             Some(name) => Some(name),
@@ -38,6 +43,18 @@ fn first_name(expr: &Expr) -> Option<&Name>
 
 #[cycle(first)]
 fn first_of_operands(rest: &[(Op, Expr)]) -> Option<&Name>
+    ensures { option_map (λ n. n.now) result ≡ first_of (flat_map (λ x. names_in x.1) (map operand_view rest.now)) }
+{
+    for (_, operand) in rest {
+        if let Some(name) = first_name(operand) {
+            return Some(name);
+        }
+    }
+    None
+}
+
+#[cycle(first)]
+fn first_of_words(rest: &[(WordOp, Expr)]) -> Option<&Name>
     ensures { option_map (λ n. n.now) result ≡ first_of (flat_map (λ x. names_in x.1) (map operand_view rest.now)) }
 {
     for (_, operand) in rest {

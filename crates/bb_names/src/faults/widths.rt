@@ -7,8 +7,9 @@ ghost use Rattle.bb_names.specs.Faults.{is_no_copy, told_if, width_in, wrong_wid
 ghost use Rattle.bb_names.specs.Inside.Firsts.{first_of, saturated};
 ghost use Rattle.bb_names.specs.Spots.{Whole};
 ghost use Rattle.bb_names.specs.Ranges.{distance, range_width};
+ghost use Rattle.bb_names.specs.Widths.{operator_width};
 
-use bb_ast::{Expr, Gate, Range};
+use bb_ast::{Expr, Gate, Range, WordOp};
 
 /// No net and no expression has more bits.
 pub(crate) const WIDEST: u64 = 65536;
@@ -33,6 +34,17 @@ pub(crate) fn wider(a: u64, b: u64) -> u64
     ensures { result ≡ max a b }
 {
     if a < b { b } else { a }
+}
+
+/// The own width of an operator on words, whose operands have these widths.
+pub(crate) fn operator_width(op: WordOp, left: u64, right: u64) -> u64
+    ensures { result ≡ operator_width op left right }
+{
+    match op {
+        WordOp::Plus | WordOp::Minus => wider(left, right),
+        WordOp::Left | WordOp::Right => left,
+        _ => 1,
+    }
 }
 
 /// Whether it is a replication of no copies.

@@ -3,10 +3,10 @@ use Rattle.std.proofs.lemmas.Result.{on_ok_weaker}
 use Rattle.std.specs.List.{flat_map}
 use Rattle.bb_ast.specs.Names.{names_in}
 use Rattle.bb_ast.specs.Inside.Views.{expression, operand_view, arm_view}
-use Rattle.bb_ast.specs.declared.expr.Expr.TheVariants.{outs-Chain, outs-Concat, outs-Cond, outs-Repeat}
+use Rattle.bb_ast.specs.declared.expr.Expr.TheVariants.{outs-Chain, outs-Words, outs-Concat, outs-Cond, outs-Repeat}
 use Rattle.bb_ast.specs.declared.expr.Expr.{out-Expr}
 use Rattle.bb_names.specs.Inside.Implicit.{grown}
-use Rattle.bb_names.proofs.ExpressionViews.{view-of, names-chain, names-cond, names-concat, names-repeat}
+use Rattle.bb_names.proofs.ExpressionViews.{view-of, names-chain, names-words, names-cond, names-concat, names-repeat}
 use Rattle.bb_names.proofs.OnceLemmas.{grown-then, grown-turn, grown-all}
 use Rattle.bb_names.proofs.implicit.+names.Goals as goal
 
@@ -19,6 +19,16 @@ add_expr-returns-in_ok-add_expr-in-Chain t c =
     (λ step. grown-then entries _ _ _ _ _ (c.in_ok-add_expr-in-Chain.ensures ∙ ap (λ e. grown entries c.args.set.now.keys (names_in (expression e))) c.deref-in-Chain.ensures)
     (step ∙ ap (λ es. grown entries c.add_expr-in-Chain.new.set.keys (flat_map (λ x. names_in x.1) (map operand_view es))) c.deref-in-Chain-2.ensures.value))
     c.add_operands.ensures)
+
+pub add_expr-returns-in_ok-add_expr-in-Words : goal.add_expr-returns-in_ok-add_expr-in-Words
+add_expr-returns-in_ok-add_expr-in-Words t c =
+    let entries = c.args.declared.now.entries in
+    let view = view-of c.args.expr.now _ (ap out-Expr c.in-Words.is ∙ outs-Words c.in-Words.first c.in-Words.rest) in
+    rw (ap names_in view ∙ names-words (expression c.in-Words.first.value) (map operand_view c.in-Words.rest.items))
+    (on_ok_weaker c.add_words.result
+    (λ step. grown-then entries _ _ _ _ _ (c.in_ok-add_expr-in-Words.ensures ∙ ap (λ e. grown entries c.args.set.now.keys (names_in (expression e))) c.deref-in-Words.ensures)
+    (step ∙ ap (λ es. grown entries c.add_expr-in-Words.new.set.keys (flat_map (λ x. names_in x.1) (map operand_view es))) c.deref-in-Words-2.ensures.value))
+    c.add_words.ensures)
 
 pub add_expr-returns-in_ok-add_arms-in-Cond : goal.add_expr-returns-in_ok-add_arms-in-Cond
 add_expr-returns-in_ok-add_arms-in-Cond t c =
@@ -49,6 +59,14 @@ add_operands-loop-operand-preserved t c =
 
 pub add_operands-returns : goal.add_operands-returns
 add_operands-returns t c = grown-all c.args.declared.now.entries (λ x. names_in x.1) operand_view c.args.rest.now c.loop-operand.operand-index c.args.set.now.keys c.loop-operand.set.keys c.loop-operand-test.false c.loop-operand.invariant
+
+pub add_words-loop-operand-preserved : goal.add_words-loop-operand-preserved
+add_words-loop-operand-preserved t c =
+    grown-turn c.args.declared.now.entries (λ x. names_in x.1) operand_view c.args.rest.now c.loop-operand.operand-index c.loop-operand-item.result c.args.set.now.keys c.loop-operand.set.keys c.add_expr.new.set.keys c.loop-operand-test.true c.loop-operand-item.is
+    c.loop-operand.invariant c.in_ok-add_expr.ensures
+
+pub add_words-returns : goal.add_words-returns
+add_words-returns t c = grown-all c.args.declared.now.entries (λ x. names_in x.1) operand_view c.args.rest.now c.loop-operand.operand-index c.args.set.now.keys c.loop-operand.set.keys c.loop-operand-test.false c.loop-operand.invariant
 
 pub add_parts-loop-part-preserved : goal.add_parts-loop-part-preserved
 add_parts-loop-part-preserved t c =

@@ -11,5 +11,8 @@ invariant-add_arms-loop-condition l = l.set.keys ≡ grown l.declared.entries l.
 abbrev pub invariant-add_operands-loop-operand : goal.invariant-add_operands-loop-operand
 invariant-add_operands-loop-operand l = l.set.keys ≡ grown l.declared.entries l.initial.set.keys (flat_map (λ x. names_in x.1) (map operand_view (take l.operand-index l.rest)))
 
+abbrev pub invariant-add_words-loop-operand : goal.invariant-add_words-loop-operand
+invariant-add_words-loop-operand l = l.set.keys ≡ grown l.declared.entries l.initial.set.keys (flat_map (λ x. names_in x.1) (map operand_view (take l.operand-index l.rest)))
+
 abbrev pub invariant-add_parts-loop-part : goal.invariant-add_parts-loop-part
 invariant-add_parts-loop-part l = l.set.keys ≡ grown l.declared.entries l.initial.set.keys (flat_map names_in (map expression (take l.part-index l.parts)))

@@ -5,16 +5,16 @@ use Rattle.bb_names.specs.Declarations.{range_of}
 use Rattle.std.proofs.lemmas.Result.{on_ok_weaker}
 use Rattle.std.specs.List.{flat_map}
 use Rattle.bb_ast.specs.Inside.Views.{expression, operand_view, arm_view, module_view}
-use Rattle.bb_ast.specs.declared.expr.Expr.TheVariants.{outs-Net, outs-Bit, outs-Part, outs-Sized, outs-Plain, outs-Not, outs-Chain, outs-Concat, outs-Cond, outs-Repeat}
+use Rattle.bb_ast.specs.declared.expr.Expr.TheVariants.{outs-Net, outs-Bit, outs-Part, outs-Sized, outs-Plain, outs-Not, outs-Fold, outs-Chain, outs-Words, outs-Concat, outs-Cond, outs-Repeat}
 use Rattle.bb_ast.specs.declared.expr.Expr.{out-Expr}
 use Rattle.bb_names.specs.Faults.{width_in, wrong_width}
-use Rattle.bb_names.specs.Inside.Firsts.{noted, use_of, spots_of_part, inner_spots, saturated, first_of, first_told}
+use Rattle.bb_names.specs.Inside.Firsts.{noted, use_of, spots_of_part, inner_spots, saturated, words_width, first_of, first_told}
 use Rattle.bb_names.specs.Ranges.{distance}
 use Rattle.bb_names.specs.Spots.{Whole, spots_in}
 use Rattle.bb_names.specs.Widths.{greatest}
-use Rattle.bb_names.proofs.ExpressionViews.{view-of, spots-chain, spots-cond, spots-concat, spots-repeat, width-chain, width-cond, width-concat, width-repeat}
+use Rattle.bb_names.proofs.ExpressionViews.{view-of, spots-chain, spots-words, spots-cond, spots-concat, spots-repeat, width-chain, width-words, width-cond, width-concat, width-repeat}
 use Rattle.bb_names.proofs.Noting.{noted-none, seen-all, noted-turn, noted-all, noted-then, noted-part, noted-whole, put-left, kept-left}
-use Rattle.bb_names.proofs.WidthLemmas.{greatest-turn, sum-turn, saturated-max, saturated-times}
+use Rattle.bb_names.proofs.WidthLemmas.{greatest-turn, words-turn, sum-turn, saturated-max, saturated-times}
 use Rattle.bb_names.proofs.faults.expressions.+expression.Goals as goal
 
 pub look_at_operands-loop-operand-preserved : goal.look_at_operands-loop-operand-preserved
@@ -28,6 +28,25 @@ look_at_operands-loop-operand-preserved t c =
 
 pub look_at_operands-returns-clause-noted : goal.look_at_operands-returns-clause-noted
 look_at_operands-returns-clause-noted t c = λ text. noted-all text (module_view c.args.of.now) (λ x. spots_in (use_of c.args.role) x.1) operand_view c.args.rest.now c.loop-operand.operand-index c.args.found.now c.loop-operand.found c.loop-operand-test.false (c.loop-operand.invariant.noted text)
+
+pub look_at_words-loop-op-preserved : goal.look_at_words-loop-op-preserved
+look_at_words-loop-op-preserved t c =
+    let m = module_view c.args.of.now in
+    let i = c.loop-op.op-index in
+    record {
+      noted = λ text. noted-turn text m (λ x. spots_in (use_of c.args.role) x.1) operand_view c.args.rest.now i c.loop-op-item.result c.args.found.now c.loop-op.found c.look.new.found c.loop-op-test.true c.loop-op-item.is (c.loop-op.invariant.noted text) (c.in_ok-right.ensures.noted text);
+      width = λ left is. words-turn (λ x. (x.0, width_in m x.1)) operand_view c.args.rest.now i c.loop-op-item.result left c.loop-op.width c.in_ok-right.right c.operator_width-width.result c.loop-op-test.true c.loop-op-item.is (c.loop-op.invariant.width left is) c.in_ok-right.ensures.width c.operator_width-width.ensures;
+    }
+
+pub look_at_words-loop-op-init : goal.look_at_words-loop-op-init
+look_at_words-loop-op-init t c = record { noted = λ text. sym (noted-none text (module_view c.args.of.now) c.args.found.now); width = λ left is. is }
+
+pub look_at_words-returns-clause-noted : goal.look_at_words-returns-clause-noted
+look_at_words-returns-clause-noted t c = λ text. noted-all text (module_view c.args.of.now) (λ x. spots_in (use_of c.args.role) x.1) operand_view c.args.rest.now c.loop-op.op-index c.args.found.now c.loop-op.found c.loop-op-test.false (c.loop-op.invariant.noted text)
+
+pub look_at_words-returns-clause-width : goal.look_at_words-returns-clause-width
+look_at_words-returns-clause-width t c = λ left is.
+    c.loop-op.invariant.width left is ∙ ap (λ z. saturated (words_width left (map (λ x. (x.0, width_in (module_view c.args.of.now) x.1)) z))) (seen-all operand_view c.args.rest.now c.loop-op.op-index c.loop-op-test.false)
 
 pub look_at_arms-loop-condition-preserved : goal.look_at_arms-loop-condition-preserved
 look_at_arms-loop-condition-preserved t c =
@@ -113,6 +132,37 @@ look_inside-returns-in_ok-look_at_operands-in-Chain-clause-width t c =
     (c.in_ok-width-in-Chain.ensures.width ∙ ap (λ e. saturated (width_in m (expression e))) c.deref-in-Chain.ensures)
     (c.in_ok-look_at_operands-in-Chain.ensures.width ∙ ap (λ es. saturated (greatest (map (λ x. width_in m x.1) (map operand_view es)))) c.deref-in-Chain-2.ensures.value)
     c.wider.ensures ∙ ap saturated (sym all)
+
+pub look_inside-returns-in_ok-look-in-Fold-clause-noted : goal.look_inside-returns-in_ok-look-in-Fold-clause-noted
+look_inside-returns-in_ok-look-in-Fold-clause-noted t c = λ text.
+    let m = module_view c.args.of.now in
+    let how = use_of c.args.role in
+    let view = view-of c.args.expr.now _ (ap out-Expr c.in-Fold.is ∙ outs-Fold c.in-Fold.field-0 c.in-Fold.operand) in
+    c.in_ok-look-in-Fold.ensures.noted text ∙ ap (λ e. noted text m c.args.found.now (spots_in how (expression e))) c.deref-in-Fold.ensures ∙ ap (λ z. noted text m c.args.found.now (inner_spots how z)) (sym view)
+
+pub look_inside-returns-in_ok-width-in-Words-clause-noted : goal.look_inside-returns-in_ok-width-in-Words-clause-noted
+look_inside-returns-in_ok-width-in-Words-clause-noted t c = λ text.
+    let m = module_view c.args.of.now in
+    let f = c.args.found.now in
+    let how = use_of c.args.role in
+    let first = expression c.in-Words.first.value in
+    let rest = map operand_view c.in-Words.rest.items in
+    let view = view-of c.args.expr.now _ (ap out-Expr c.in-Words.is ∙ outs-Words c.in-Words.first c.in-Words.rest) in
+    let all = ap (inner_spots how) view ∙ spots-words how first rest in
+    on_ok_weaker c.look_at_words.result (λ step. noted-then text m f c.look-in-Words.new.found c.look_at_words.new.found (spots_in how first) (flat_map (λ x. spots_in how x.1) rest)
+    (c.in_ok-width-in-Words.ensures.noted text ∙ ap (λ e. noted text m f (spots_in how (expression e))) c.deref-in-Words.ensures)
+    (step ∙ ap (λ es. noted text m c.look-in-Words.new.found (flat_map (λ x. spots_in how x.1) (map operand_view es))) c.deref-in-Words-2.ensures.value)
+    ∙ ap (noted text m f) (sym all)) (c.look_at_words.ensures.noted text)
+
+pub look_inside-returns-in_ok-width-in-Words-clause-width : goal.look_inside-returns-in_ok-width-in-Words-clause-width
+look_inside-returns-in_ok-width-in-Words-clause-width t c =
+    let m = module_view c.args.of.now in
+    let first = expression c.in-Words.first.value in
+    let rest = map operand_view c.in-Words.rest.items in
+    let view = view-of c.args.expr.now _ (ap out-Expr c.in-Words.is ∙ outs-Words c.in-Words.first c.in-Words.rest) in
+    let all = ap (width_in m) view ∙ width-words (range_of m) first rest in
+    subst (λ z. IfOk c.look_at_words.result (λ w. w ≡ saturated z)) (ap (λ es. words_width (width_in m first) (map (λ x. (x.0, width_in m x.1)) (map operand_view es))) c.deref-in-Words-2.ensures.value ∙ sym all)
+    (c.look_at_words.ensures.width (width_in m first) (c.in_ok-width-in-Words.ensures.width ∙ ap (λ e. saturated (width_in m (expression e))) c.deref-in-Words.ensures))
 
 pub look_inside-returns-in_ok-look-in-Cond-clause-noted : goal.look_inside-returns-in_ok-look-in-Cond-clause-noted
 look_inside-returns-in_ok-look-in-Cond-clause-noted t c = λ text.

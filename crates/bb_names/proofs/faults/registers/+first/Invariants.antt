@@ -12,5 +12,8 @@ invariant-first_of_arms-loop-condition l = first_of (flat_map (λ x. names_in x.
 abbrev pub invariant-first_of_operands-loop-operand : goal.invariant-first_of_operands-loop-operand
 invariant-first_of_operands-loop-operand l = first_of (flat_map (λ x. names_in x.1) (map operand_view (take l.operand-index l.rest))) ≡ None
 
+abbrev pub invariant-first_of_words-loop-operand : goal.invariant-first_of_words-loop-operand
+invariant-first_of_words-loop-operand l = first_of (flat_map (λ x. names_in x.1) (map operand_view (take l.operand-index l.rest))) ≡ None
+
 abbrev pub invariant-first_of_parts-loop-part : goal.invariant-first_of_parts-loop-part
 invariant-first_of_parts-loop-part l = first_of (flat_map names_in (map expression (take l.part-index l.parts))) ≡ None
