@@ -1,5 +1,5 @@
 -- What folds over bits give.
-use Rattle.std.proofs.Common.{◌≡◌, ◌∙◌, ◌≤◌, suc, Bool, true, false, not, ◌&&◌, ◌||◌, List, [], ◌∷◌, ◌++◌, length, reverse, refl, sym, ap, arith}
+use Rattle.std.proofs.Common.{◌≡◌, ◌∙◌, suc, Bool, true, false, not, ◌&&◌, ◌||◌, List, [], ◌∷◌, ◌++◌, reverse, refl, sym, ap, arith}
 use Rattle.std.specs.List.{list_any, list_all, count_by}
 use Rattle.std.proofs.lemmas.List.{reverse-reverse, reverse-append}
 use Rattle.std.proofs.lemmas.Grind.{common_steps}
@@ -7,8 +7,8 @@ use Rattle.bb_bits.specs.Bits.{xor}
 use Rattle.bb_word.specs.Gates.{bits}
 use Rattle.bb_word.specs.Circuits.{joined, joined_all}
 use Rattle.bb_word.specs.Folds.{is_odd, fold_bit, fold_circuit}
-use Rattle.bb_word.specs.declared.operators.FoldOp.{FoldOp}
-use Rattle.bb_word.specs.declared.operators.FoldOp.TheVariants as ops
+use Rattle.bb_ast.specs.declared.operators.FoldOp.{FoldOp}
+use Rattle.bb_ast.specs.declared.operators.FoldOp.TheVariants as ops
 
 pub joined_any : (b : Bool) (xs : List Bool) → (joined ◌||◌ b xs).bits ≡ (b || list_any (λ x. x) xs) ∷ []
 joined_any true [] = refl
@@ -44,30 +44,30 @@ first_odd : (x : Bool) (xs : List Bool) → xor x (is_odd (count_by (λ y. y) xs
 first_odd true xs = ap is_odd (sym (count-one xs))
 first_odd false xs = refl
 
-pub all_any : (xs : List Bool) → 1 ≤ length xs → (joined_all ◌||◌ xs).bits ≡ list_any (λ x. x) xs ∷ []
-all_any [] some = absurd (omega arith)
-all_any (x ∷ xs) some = joined_any x xs
+pub all_any : (xs : List Bool) → (joined_all ◌||◌ false xs).bits ≡ list_any (λ x. x) xs ∷ []
+all_any [] = refl
+all_any (x ∷ xs) = joined_any x xs
 
-pub all_every : (xs : List Bool) → 1 ≤ length xs → (joined_all ◌&&◌ xs).bits ≡ list_all (λ x. x) xs ∷ []
-all_every [] some = absurd (omega arith)
-all_every (x ∷ xs) some = joined_every x xs
+pub all_every : (xs : List Bool) → (joined_all ◌&&◌ true xs).bits ≡ list_all (λ x. x) xs ∷ []
+all_every [] = refl
+all_every (x ∷ xs) = joined_every x xs
 
-pub all_odd : (xs : List Bool) → 1 ≤ length xs → (joined_all xor xs).bits ≡ is_odd (count_by (λ x. x) xs) ∷ []
-all_odd [] some = absurd (omega arith)
-all_odd (x ∷ xs) some = joined_odd x xs ∙ ap (λ z. z ∷ []) (first_odd x xs)
+pub all_odd : (xs : List Bool) → (joined_all xor false xs).bits ≡ is_odd (count_by (λ x. x) xs) ∷ []
+all_odd [] = refl
+all_odd (x ∷ xs) = joined_odd x xs ∙ ap (λ z. z ∷ []) (first_odd x xs)
 
 -- a reduction of a word, whose first bit is the most significant one
-pub fold_is : (op : FoldOp) (xs : List Bool) → 1 ≤ length xs → (fold_circuit bits op (reverse xs)).bits ≡ fold_bit op xs ∷ []
-fold_is op xs some = by op (reverse-reverse xs)
+pub fold_is : (op : FoldOp) (xs : List Bool) → (fold_circuit bits op (reverse xs)).bits ≡ fold_bit op xs ∷ []
+fold_is op xs = by op (reverse-reverse xs)
   where
     by : (op : FoldOp) → reverse (reverse xs) ≡ xs → (fold_circuit bits op (reverse xs)).bits ≡ fold_bit op xs ∷ []
-    by ops.None e = rw (e, all_any xs some) refl
-    by ops.All e = rw (e, all_every xs some) refl
-    by ops.NotAll e = rw (e, all_every xs some) refl
-    by ops.Any e = rw (e, all_any xs some) refl
-    by ops.NotAny e = rw (e, all_any xs some) refl
-    by ops.Odd e = rw (e, all_odd xs some) refl
-    by ops.NotOdd e = rw (e, all_odd xs some) refl
+    by ops.None e = rw (e, all_any xs) refl
+    by ops.All e = rw (e, all_every xs) refl
+    by ops.NotAll e = rw (e, all_every xs) refl
+    by ops.Any e = rw (e, all_any xs) refl
+    by ops.NotAny e = rw (e, all_any xs) refl
+    by ops.Odd e = rw (e, all_odd xs) refl
+    by ops.NotOdd e = rw (e, all_odd xs) refl
 
 -- the order of the bits does not matter
 and-end : (a b : Bool) → (b && (a && true)) ≡ (a && b)

@@ -6,13 +6,13 @@ use Rattle.std.proofs.lemmas.List.{append-nil, length-reverse}
 use Rattle.std.proofs.lemmas.List.FromFn.{length-range_with_len, get_or-range_with_len}
 use Rattle.bb_net.specs.Netlists.{Netlist, IsNetlist, with_out}
 use Rattle.bb_net.specs.Values.{bit_of, flat}
-use Rattle.bb_word.specs.declared.operators.FoldOp.{FoldOp}
+use Rattle.bb_ast.specs.declared.operators.FoldOp.{FoldOp}
 use Rattle.bb_word.specs.Gates.{bits, Made}
 use Rattle.bb_word.specs.Folds.{fold_circuit, fold_cells, fold_bit}
 use Rattle.bb_word.specs.Formulas.{Formula, formulas, formula_bit}
 use Rattle.bb_word.specs.Inside.Adding.{nothing, Adds}
 use Rattle.bb_word.specs.Nets.{inputs_from, IsCircuit}
-use Rattle.bb_word.proofs.MapLemmas.{reverse-map, fold_map}
+use Rattle.bb_word.specs.Laws.CircuitMaps.{reverse-map, fold_map}
 use Rattle.bb_word.proofs.FoldLemmas.{fold_is}
 use Rattle.bb_word.proofs.FoldSteps.{All-reversed}
 use Rattle.bb_word.proofs.FormulaLemmas.{OneValue, bits_map}
@@ -54,4 +54,4 @@ fold_net_value one op n new some kept is a long =
     let ins = reverse (inputs_from 0 n) in
     let input : map (formula_bit a) ins ≡ reverse a = subst (λ x. map (formula_bit x) ins ≡ reverse a) (append-nil a) (input_bits [] a [] 0 n refl (sym long)) in
     let made = fold_map formulas bits (formula_bit a) (bits_map a) op ins ∙ ap (fold_circuit bits op) input in
-    outs_value one new n (fold_circuit formulas op ins) a kept is ∙ ap (λ z. reverse z.bits) made ∙ ap reverse (fold_is op a (omega (arith, long)))
+    outs_value one new n (fold_circuit formulas op ins) a kept is ∙ ap (λ z. reverse z.bits) made ∙ ap reverse (fold_is op a)

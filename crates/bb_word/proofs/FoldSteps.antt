@@ -8,8 +8,8 @@ use Rattle.bb_word.specs.declared.joint.Joint.{Joint}
 use Rattle.bb_word.specs.Gates.{Made, behind}
 use Rattle.bb_word.specs.Circuits.{folded, inverted, joined_all}
 use Rattle.bb_word.specs.Formulas.{Formula, formulas}
-use Rattle.bb_word.specs.Inside.Adding.{with_cells, nothing, Adds, joint_gate}
-use Rattle.bb_word.proofs.MapLemmas.{reverse-map}
+use Rattle.bb_word.specs.Inside.Adding.{with_cells, nothing, Adds, joint_gate, joint_none}
+use Rattle.bb_word.specs.Laws.CircuitMaps.{reverse-map}
 use Rattle.bb_word.proofs.AddingLemmas.{Adds-chain}
 use Rattle.bb_word.proofs.SumSteps.{both_complements, IsComplemented-start, IsComplemented-step, IsComplemented-end}
 
@@ -21,13 +21,13 @@ All-reversed n xs ys turned all k d h =
 
 -- the list that is joined is the reverse
 pub IsFolded : (joint : Joint) (bits turned : List ℕ) (old now : Netlist) (place : ℕ) → turned ≡ reverse bits
-    → Adds old now (place ∷ []) (λ part. joined_all (joint_gate formulas joint) (map part turned)) nothing
-    → Adds old now (place ∷ []) (λ part. folded (joint_gate formulas joint) (map part bits)) nothing
+    → Adds old now (place ∷ []) (λ part. joined_all (joint_gate formulas joint) (joint_none formulas joint) (map part turned)) nothing
+    → Adds old now (place ∷ []) (λ part. folded (joint_gate formulas joint) (joint_none formulas joint) (map part bits)) nothing
 IsFolded joint bits turned old now place is adds = record {
   more = adds.more;
   grown = adds.grown;
   there = adds.there;
-  made = λ part meets. adds.made part meets ∙ ap (joined_all (joint_gate formulas joint)) (ap (map part) is ∙ reverse-map part bits);
+  made = λ part meets. adds.made part meets ∙ ap (joined_all (joint_gate formulas joint) (joint_none formulas joint)) (ap (map part) is ∙ reverse-map part bits);
 }
 
 -- and then a complement

@@ -1,11 +1,9 @@
-pub mod MapLemmas
 pub mod NumberLemmas
 pub mod SumLemmas
 pub mod OrderLemmas
 pub mod FoldLemmas
 pub mod ShiftLemmas
 pub mod WordLemmas
-pub mod CountLemmas
 pub mod AddingLemmas
 pub mod JointLemmas
 pub mod StepLemmas

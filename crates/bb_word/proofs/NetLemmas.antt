@@ -16,8 +16,9 @@ use Rattle.bb_word.specs.Formulas.{Formula, Input, cell_formula, formula_at, for
 use Rattle.bb_word.specs.Inside.Adding.{Meets, nothing, Adds, HasConstants}
 use Rattle.bb_word.specs.Nets.{inputs_from, IsCircuit}
 use Rattle.bb_word.proofs.AddingLemmas.{Adds-bits, Adds-cells}
-use Rattle.bb_word.proofs.FormulaLemmas.{formula_at-meets, flat_formula, OneValue}
-use Rattle.bb_word.proofs.MapLemmas.{reverse-map}
+use Rattle.bb_word.proofs.FormulaLemmas.{flat_formula, OneValue}
+use Rattle.bb_word.specs.Laws.NetFormulas.{formula_at-meets}
+use Rattle.bb_word.specs.Laws.CircuitMaps.{reverse-map}
 
 abbrev pub started : ℕ → Netlist
 started n = record { inputs = n; cells = first_cells n; boxes = []; outs = [] }

@@ -3,7 +3,6 @@ use Rattle.std.proofs.Common.{◌≡◌, ◌∙◌, ◌+◌, ◌*◌, ◌≤◌,
 use Rattle.std.specs.Prelude.{nat_eq, nat_lt}
 use Rattle.std.specs.List.{list_all}
 use Rattle.std.proofs.lemmas.Bool.Decides.{nat_tests}
-use Rattle.std.proofs.lemmas.List.{length-reverse}
 use Rattle.bb_word.proofs.FoldLemmas.{all_every, list_all-reverse}
 use Rattle.bb_word.specs.Gates.{bits}
 use Rattle.bb_word.specs.Circuits.{less, alike, equal}
@@ -61,8 +60,7 @@ alike_number (true ∷ xs) (false ∷ ys) same = equal_apart (number_up xs) (num
 alike_number (false ∷ xs) (true ∷ ys) same = equal_apart' (number_up xs) (number_up ys)
 
 -- whether the words are equal is whether their numbers are
-pub equal_number : (xs ys : List Bool) → length xs ≡ length ys → 1 ≤ length xs → (equal bits xs ys).bits ≡ nat_eq (number_up xs) (number_up ys) ∷ []
-equal_number xs ys same some =
+pub equal_number : (xs ys : List Bool) → length xs ≡ length ys → (equal bits xs ys).bits ≡ nat_eq (number_up xs) (number_up ys) ∷ []
+equal_number xs ys same =
     let zs = (alike bits xs ys).bits in
-    let long : 1 ≤ length (reverse zs) = omega (arith, length-reverse zs, length-alike xs ys same) in
-    all_every (reverse zs) long ∙ ap (λ b. b ∷ []) (list_all-reverse zs ∙ alike_number xs ys same)
+    all_every (reverse zs) ∙ ap (λ b. b ∷ []) (list_all-reverse zs ∙ alike_number xs ys same)

@@ -8,8 +8,8 @@ use Rattle.bb_word.specs.declared.joint.Joint.TheVariants as joints
 use Rattle.bb_word.specs.Gates.{behind}
 use Rattle.bb_word.specs.Circuits.{alike, equal, less, joined_all}
 use Rattle.bb_word.specs.Formulas.{Formula, Xor, Not, Mux, formulas}
-use Rattle.bb_word.specs.Inside.Adding.{with_cells, nothing, ahead, Adds, alike_cells, less_cells, HasConstants, joint_gate}
-use Rattle.bb_word.proofs.MapLemmas.{made_same, reverse-map}
+use Rattle.bb_word.specs.Inside.Adding.{with_cells, nothing, ahead, Adds, alike_cells, less_cells, HasConstants, joint_gate, joint_none}
+use Rattle.bb_word.specs.Laws.CircuitMaps.{made_same, reverse-map}
 use Rattle.bb_word.proofs.AddingLemmas.{Adds-start, Adds-step, Adds-end, Adds-chain}
 use Rattle.bb_word.proofs.StepLemmas.{part_new, length_new, parts_more, part_zero, Adds-constants}
 
@@ -46,13 +46,13 @@ AreAlike-end left right old now places i past done = subst (λ l. Adds old now p
 
 pub IsEqual : (old mid new : Netlist) (left right places reversed : List ℕ) (place : ℕ) → reversed ≡ reverse places
     → Adds old mid places (λ part. alike formulas (map part left) (map part right)) nothing
-    → Adds mid new (place ∷ []) (λ part. joined_all (joint_gate formulas joints.Both) (map part reversed)) nothing
+    → Adds mid new (place ∷ []) (λ part. joined_all (joint_gate formulas joints.Both) (joint_none formulas joints.Both) (map part reversed)) nothing
     → Adds old new (place ∷ []) (λ part. equal formulas (map part left) (map part right)) nothing
 IsEqual old mid new left right places reversed place turned first second =
-    Adds-chain old mid new places (place ∷ []) (λ part. alike formulas (map part left) (map part right)) (λ part. joined_all (joint_gate formulas joints.Both) (map part reversed)) (λ part. equal formulas (map part left) (map part right)) first second
+    Adds-chain old mid new places (place ∷ []) (λ part. alike formulas (map part left) (map part right)) (λ part. joined_all (joint_gate formulas joints.Both) (joint_none formulas joints.Both) (map part reversed)) (λ part. equal formulas (map part left) (map part right)) first second
     (λ part meets bits.
     let e = ap (map part) turned ∙ reverse-map part places ∙ ap reverse bits in
-    ap (λ l. behind (alike formulas (map part left) (map part right)).cells (joined_all formulas.both l)) e)
+    ap (λ l. behind (alike formulas (map part left) (map part right)).cells (joined_all formulas.both formulas.one l)) e)
 
 pub record IsLess (left right : List ℕ) (old now : Netlist) (so_far i : ℕ) : Type 0 where
   pub made : Adds old now [] (λ part. less formulas (part 0) (map part left) (map part right)) (λ part. less formulas (part so_far) (map part (drop i left)) (map part (drop i right)))

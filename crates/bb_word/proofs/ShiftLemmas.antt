@@ -5,9 +5,10 @@ use Rattle.std.proofs.Math.Nat.{pow-suc, div-one, mul_assoc, mul_comm, div-eq_of
 use Rattle.std.proofs.Math.Pow.{pow_mono}
 use Rattle.std.proofs.lemmas.Bool.{cases_lt}
 use Rattle.std.proofs.lemmas.Nat.{div-mul-add, mul-mod_first, pow-add}
-use Rattle.std.proofs.lemmas.List.{length-append, length-replicate, length-drop, length-take, take-append-drop, drop_all}
+use Rattle.std.proofs.lemmas.List.{length-append, length-replicate, length-take, take-append-drop, drop_all}
 use Rattle.bb_word.specs.Gates.{bits}
 use Rattle.bb_word.specs.Circuits.{choices, up, down, shifted}
+use Rattle.bb_word.specs.Laws.CircuitCounts.{length-up, length-down}
 use Rattle.bb_word.proofs.NumberLemmas.{number_up, number_up-below, mod_is}
 
 pub number_up-append : (xs ys : List Bool) → number_up (xs ++ ys) ≡ number_up xs + 2 ^ length xs * number_up ys
@@ -45,12 +46,6 @@ number_up-drop n xs = elim (cases_lt n (length xs)) [
       let less : number_up xs < 2 ^ n = omega (arith, number_up-below xs, pow_mono past) in
       none ∙ sym (div-eq_of_lt less)
 ]
-
-pub length-up : {A : Type 0} (o : A) (n : ℕ) (xs : List A) → length (up o n xs) ≡ length xs
-length-up o n xs = omega (arith, length-take (length xs) (replicate n o ++ xs), length-append (replicate n o) xs, length-replicate n o)
-
-pub length-down : {A : Type 0} (o : A) (n : ℕ) (xs : List A) → length (down o n xs) ≡ length xs
-length-down o n xs = omega (arith, length-append (drop n xs) (replicate (min n (length xs)) o), length-drop n xs, length-replicate (min n (length xs)) o)
 
 up_number : (n : ℕ) (xs : List Bool) → number_up (up false n xs) ≡ (number_up xs * 2 ^ n) % 2 ^ length xs
 up_number n xs =

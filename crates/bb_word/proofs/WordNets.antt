@@ -6,14 +6,14 @@ use Rattle.std.proofs.lemmas.List.{append-nil, length-map, length-replicate, tak
 use Rattle.bb_bits.specs.Numbers.{number_of}
 use Rattle.bb_net.specs.Netlists.{Netlist, IsNetlist}
 use Rattle.bb_net.specs.Values.{bit_of, flat}
-use Rattle.bb_word.specs.declared.operators.WordOp.{WordOp}
+use Rattle.bb_ast.specs.declared.operators.WordOp.{WordOp}
 use Rattle.bb_word.specs.Gates.{bits, Made}
-use Rattle.bb_word.specs.Words.{word_circuit, word_cells, AreWidths}
+use Rattle.bb_word.specs.Words.{word_circuit, word_cells, AreWidths, HaveOneWidth}
 use Rattle.bb_word.specs.Meanings.{word_number, word_width}
 use Rattle.bb_word.specs.Formulas.{Formula, formulas, formula_bit}
 use Rattle.bb_word.specs.Inside.Adding.{nothing, Adds, with_outs}
 use Rattle.bb_word.specs.Nets.{inputs_from, IsCircuit}
-use Rattle.bb_word.proofs.MapLemmas.{reverse-map, word_map}
+use Rattle.bb_word.specs.Laws.CircuitMaps.{reverse-map, word_map}
 use Rattle.bb_word.proofs.NumberLemmas.{Doubles}
 use Rattle.bb_word.proofs.WordLemmas.{word_is, word_long}
 use Rattle.bb_word.proofs.FormulaLemmas.{OneValue, bits_map}
@@ -47,8 +47,8 @@ module _ (one : OneValue) (doubles : Doubles) (op : WordOp) (left right : ℕ) (
       let made = word_map formulas bits (formula_bit x) (bits_map x) op ins jns ∙ ap₂ (word_circuit bits op) first second in
       outs_value one new (left + right) (word_circuit formulas op ins jns) x kept is ∙ ap (λ z. reverse z.bits) made
 
-  widths_of : (a b : List Bool) → length a ≡ left → length b ≡ right → AreWidths op (length a) (length b)
-  widths_of a b long_a long_b = subst (λ n. AreWidths op n (length b)) (sym long_a) (subst (λ n. AreWidths op left n) (sym long_b) widths)
+  widths_of : (a b : List Bool) → length a ≡ left → length b ≡ right → HaveOneWidth op (length a) (length b)
+  widths_of a b long_a long_b = subst (λ n. HaveOneWidth op n (length b)) (sym long_a) (subst (λ n. HaveOneWidth op left n) (sym long_b) widths.one)
 
   pub word_net_value : (a b : List Bool) → length a ≡ left → length b ≡ right → number_of (map (bit_of (flat new (a ++ b) [])) new.outs) ≡ word_number op a b
   word_net_value a b long_a long_b = ap number_of (outs_are a b long_a long_b) ∙ word_is doubles op a b (widths_of a b long_a long_b)

@@ -34,14 +34,14 @@ abbrev pub joined : {A : Type 0} → (A → A → A) → A → List A → Made A
 joined op so_far [] = record { bits = so_far ∷ []; cells = [] }
 joined op so_far (x ∷ xs) = behind (op so_far x ∷ []) (joined op (op so_far x) xs)
 
--- the same over all bits of a list in its order
-abbrev pub joined_all : {A : Type 0} → (A → A → A) → List A → Made A
-joined_all op [] = record { bits = []; cells = [] }
-joined_all op (x ∷ xs) = joined op x xs
+-- the same over all bits of a list in its order; of no bits it gives this one
+abbrev pub joined_all : {A : Type 0} → (A → A → A) → A → List A → Made A
+joined_all op none [] = record { bits = none ∷ []; cells = [] }
+joined_all op none (x ∷ xs) = joined op x xs
 
 -- a gate over all bits, from the most significant one on
-abbrev pub folded : {A : Type 0} → (A → A → A) → List A → Made A
-folded op xs = joined_all op (reverse xs)
+abbrev pub folded : {A : Type 0} → (A → A → A) → A → List A → Made A
+folded op none xs = joined_all op none (reverse xs)
 
 -- and then a complement
 abbrev pub inverted : {A : Type 0} → Gates A → Made A → Made A
@@ -49,7 +49,7 @@ inverted g made = record { bits = complements g made.bits; cells = made.cells ++
 
 -- whether the words are equal
 abbrev pub equal : {A : Type 0} → Gates A → List A → List A → Made A
-equal g xs ys = behind (alike g xs ys).cells (folded g.both (alike g xs ys).bits)
+equal g xs ys = behind (alike g xs ys).cells (folded g.both g.one (alike g xs ys).bits)
 
 -- whether the left word is less, where so_far says it of the bits below: where two bits differ, the right one decides
 abbrev pub less : {A : Type 0} → Gates A → A → List A → List A → Made A
@@ -83,6 +83,6 @@ shifted g move n (s ∷ amount) xs =
 -- a gate of "some bit of the left word is 1" and the same of the right word
 abbrev pub truths : {A : Type 0} → Gates A → (A → A → A) → List A → List A → Made A
 truths g op xs ys =
-    let left = folded g.either xs in
-    let right = folded g.either ys in
-    behind (left.cells ++ right.cells) (joined_all op (left.bits ++ right.bits))
+    let left = folded g.either g.zero xs in
+    let right = folded g.either g.zero ys in
+    behind (left.cells ++ right.cells) (joined_all op g.zero (left.bits ++ right.bits))

@@ -1,19 +1,19 @@
 -- The circuits of reductions, and what they mean.
 use Rattle.std.specs.Prelude.{ℕ, zero, suc, ◌+◌, ◌-◌, Bool, false, not, List}
 use Rattle.std.specs.List.{list_any, list_all, count_by}
-use Rattle.bb_word.specs.declared.operators.FoldOp.{FoldOp}
-use Rattle.bb_word.specs.declared.operators.FoldOp.TheVariants as ops
+use Rattle.bb_ast.specs.declared.operators.FoldOp.{FoldOp}
+use Rattle.bb_ast.specs.declared.operators.FoldOp.TheVariants as ops
 use Rattle.bb_word.specs.Gates.{Gates, Made}
 use Rattle.bb_word.specs.Circuits.{folded, inverted}
 
 abbrev pub fold_circuit : {A : Type 0} → Gates A → FoldOp → List A → Made A
-fold_circuit g ops.None xs = inverted g (folded g.either xs)
-fold_circuit g ops.All xs = folded g.both xs
-fold_circuit g ops.NotAll xs = inverted g (folded g.both xs)
-fold_circuit g ops.Any xs = folded g.either xs
-fold_circuit g ops.NotAny xs = inverted g (folded g.either xs)
-fold_circuit g ops.Odd xs = folded g.differ xs
-fold_circuit g ops.NotOdd xs = inverted g (folded g.differ xs)
+fold_circuit g ops.None xs = inverted g (folded g.either g.zero xs)
+fold_circuit g ops.All xs = folded g.both g.one xs
+fold_circuit g ops.NotAll xs = inverted g (folded g.both g.one xs)
+fold_circuit g ops.Any xs = folded g.either g.zero xs
+fold_circuit g ops.NotAny xs = inverted g (folded g.either g.zero xs)
+fold_circuit g ops.Odd xs = folded g.differ g.zero xs
+fold_circuit g ops.NotOdd xs = inverted g (folded g.differ g.zero xs)
 
 -- how many cells they make of so many bits
 abbrev pub fold_cells : FoldOp → ℕ → ℕ

@@ -1,3 +1,9 @@
+pub mod CircuitCounts
+pub mod CircuitGates
+pub mod CircuitKept
+pub mod CircuitMaps
+pub mod Each
 pub mod Counts
 pub mod Maps
 pub mod Numbers
+pub mod NetFormulas

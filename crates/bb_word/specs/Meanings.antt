@@ -2,9 +2,9 @@
 -- unsigned operands).
 use Rattle.std.specs.Prelude.{ℕ, ◌+◌, ◌-◌, ◌*◌, ◌/◌, ◌%◌, ◌^◌, Bool, not, ◌&&◌, ◌||◌, if◌then◌else◌, nat_eq, nat_lt, List, length}
 use Rattle.std.specs.List.{list_any}
-use Rattle.bb_bits.specs.Numbers.{number_of}
-use Rattle.bb_word.specs.declared.operators.WordOp.{WordOp}
-use Rattle.bb_word.specs.declared.operators.WordOp.TheVariants as ops
+use Rattle.bb_bits.specs.Numbers.{number_of, bits_of}
+use Rattle.bb_ast.specs.declared.operators.WordOp.{WordOp}
+use Rattle.bb_ast.specs.declared.operators.WordOp.TheVariants as ops
 
 -- a truth value as a number
 abbrev pub truth : Bool → ℕ
@@ -40,3 +40,7 @@ word_number ops.Left a b = (number_of a * 2 ^ number_of b) % 2 ^ length a
 word_number ops.Right a b = number_of a / 2 ^ number_of b
 word_number ops.Both a b = truth (list_any (λ x. x) a && list_any (λ x. x) b)
 word_number ops.Either a b = truth (list_any (λ x. x) a || list_any (λ x. x) b)
+
+-- the bits that spell it, the most significant first
+abbrev pub word_bits : WordOp → List Bool → List Bool → List Bool
+word_bits op a b = bits_of (word_width op (length a)) (word_number op a b)

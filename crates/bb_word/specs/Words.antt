@@ -1,7 +1,7 @@
 -- The circuits of the operators on two words. Operands and results go from the least significant bit upwards.
 use Rattle.std.specs.Prelude.{◌≡◌, ℕ, ◌+◌, ◌-◌, ◌*◌, ◌≤◌, List}
-use Rattle.bb_word.specs.declared.operators.WordOp.{WordOp}
-use Rattle.bb_word.specs.declared.operators.WordOp.TheVariants as ops
+use Rattle.bb_ast.specs.declared.operators.WordOp.{WordOp}
+use Rattle.bb_ast.specs.declared.operators.WordOp.TheVariants as ops
 use Rattle.bb_word.specs.Gates.{Gates, Made}
 use Rattle.bb_word.specs.Circuits.{sum, difference, equal, inverted, less, shifted, up, down, truths}
 
@@ -49,7 +49,7 @@ HaveOneWidth ops.Right left right = Unit {0}
 HaveOneWidth ops.Both left right = Unit {0}
 HaveOneWidth ops.Either left right = Unit {0}
 
--- the operands have one bit or more, and one width where they need it
+-- what a netlist of an operator asks: operands have one bit or more, and one width where they need it
 pub record AreWidths (op : WordOp) (left right : ℕ) : Type 0 where
   pub some_left : 1 ≤ left
   pub some_right : 1 ≤ right

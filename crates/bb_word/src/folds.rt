@@ -4,11 +4,11 @@ ghost use Rattle.std.specs.Prelude.{◌≡◌, ◌+◌, ◌-◌, ◌<◌, ◌≤
 ghost use Rattle.bb_word.specs.Circuits.{folded, inverted, truths};
 ghost use Rattle.bb_word.specs.Folds.{fold_circuit, fold_cells};
 ghost use Rattle.bb_word.specs.Formulas.{formulas};
-ghost use Rattle.bb_word.specs.Inside.Adding.{Adds, nothing, joint_gate};
+ghost use Rattle.bb_word.specs.Inside.Adding.{Adds, nothing, joint_gate, joint_none};
 
 use crate::joint::{Joint, reduce};
-use crate::operators::FoldOp;
 use crate::sums::add_complement;
+use bb_ast::FoldOp;
 use bb_bits::NoMemory;
 use bb_net::Net;
 use std::alloc::Global;
@@ -23,7 +23,7 @@ pub(crate) fn add_folded(
     requires some { 1 ≤ length bits.now }
     requires room { length net.old.cells + length bits.now < 2 ^ 32 }
     requires there { All (λ bit. bit < length net.old.cells) bits.now }
-    ensures made { IfOk result (λ place. Adds net.old net.new (place ∷ []) (λ part. folded (joint_gate formulas joint) (map part bits.now)) nothing) }
+    ensures made { IfOk result (λ place. Adds net.old net.new (place ∷ []) (λ part. folded (joint_gate formulas joint) (joint_none formulas joint) (map part bits.now)) nothing) }
     ensures grown { OnOk result (length net.new.cells ≡ length net.old.cells + (length bits.now - 1)) }
 {
     let mut highest_first = Vec::from_slice(alloc, bits)?;
@@ -36,7 +36,7 @@ fn add_inverted(alloc: Global, net: &mut Net, joint: Joint, bits: &[u32]) -> Res
     requires some { 1 ≤ length bits.now }
     requires room { length net.old.cells + length bits.now < 2 ^ 32 }
     requires there { All (λ bit. bit < length net.old.cells) bits.now }
-    ensures made { IfOk result (λ place. Adds net.old net.new (place ∷ []) (λ part. inverted formulas (folded (joint_gate formulas joint) (map part bits.now))) nothing) }
+    ensures made { IfOk result (λ place. Adds net.old net.new (place ∷ []) (λ part. inverted formulas (folded (joint_gate formulas joint) (joint_none formulas joint) (map part bits.now))) nothing) }
     ensures grown { OnOk result (length net.new.cells ≡ length net.old.cells + length bits.now) }
 {
     let place = add_folded(alloc, net, joint, bits)?;

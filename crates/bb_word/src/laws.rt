@@ -2,16 +2,18 @@
 
 ghost use Rattle.bb_word.specs.Laws.Counts.{WordsAreCounted, FoldsAreCounted};
 ghost use Rattle.bb_word.specs.Laws.Maps.{WordsAreMapped, FoldsAreMapped};
-ghost use Rattle.bb_word.specs.Laws.Numbers.{WordsSpellNumbers, WordsHaveWidths, FoldsGiveBits};
+ghost use Rattle.bb_word.specs.Laws.Numbers.{WordsSpellNumbers, WordsHaveBits, WordsHaveWidths, FoldsGiveBits};
 
-use bb_bits::number_doubles;
+use bb_bits::{number_doubles, number_spelled_once};
 
 /// The circuit of an operator on two words spells the number that the operator means.
 pub fn words_spell_numbers()
     ensures numbers { WordsSpellNumbers }
+    ensures bits { WordsHaveBits }
     ensures widths { WordsHaveWidths }
 {
     number_doubles();
+    number_spelled_once();
 }
 
 /// The circuit of a reduction gives the bit that it means.

@@ -5,14 +5,10 @@ mod folds;
 mod joint;
 mod laws;
 mod nets;
-mod operators;
 mod orders;
 mod shifts;
 mod sums;
-#[cfg(test)]
-mod tests;
 mod words;
 
 pub use laws::{cells_are_counted, circuits_are_mapped, folds_give_bits, words_spell_numbers};
 pub use nets::{fold, word};
-pub use operators::{FoldOp, WordOp};

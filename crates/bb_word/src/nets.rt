@@ -12,8 +12,8 @@ ghost use Rattle.bb_word.specs.Words.{word_circuit, word_cells, AreWidths};
 ghost use Rattle.bb_word.specs.Nets.{IsCircuit, inputs_from};
 
 use crate::folds::add_fold;
-use crate::operators::{FoldOp, WordOp};
 use crate::words::add_word;
+use bb_ast::{FoldOp, WordOp};
 use bb_bits::{NoMemory, number_doubles};
 use bb_net::{Net, value_is_unique};
 use std::alloc::Global;

@@ -8,10 +8,10 @@ ghost use Rattle.bb_word.specs.Words.{word_circuit, word_cells, AreWidths};
 
 use crate::folds::add_folded;
 use crate::joint::{Joint, reduce};
-use crate::operators::WordOp;
 use crate::orders::{add_equal, add_less};
 use crate::shifts::{Direction, add_shift};
 use crate::sums::{add_complement, add_difference, add_sum};
+use bb_ast::WordOp;
 use bb_bits::NoMemory;
 use bb_net::Net;
 use std::alloc::Global;

@@ -45,6 +45,12 @@ joint_gate g joints.Both = g.both
 joint_gate g joints.Either = g.either
 joint_gate g joints.Differ = g.differ
 
+-- what it gives of no bits
+abbrev pub joint_none : {A : Type 0} → Gates A → Joint → A
+joint_none g joints.Both = g.one
+joint_none g joints.Either = g.zero
+joint_none g joints.Differ = g.zero
+
 abbrev pub joint_cell : Joint → ℕ → ℕ → Cell
 joint_cell joints.Both a b = cells.And a b
 joint_cell joints.Either a b = cells.Or a b

@@ -1,7 +1,7 @@
 -- Maps of gates go through circuits.
 use Rattle.std.specs.Prelude.{◌≡◌, Bool, List, map}
-use Rattle.bb_word.specs.declared.operators.WordOp.{WordOp}
-use Rattle.bb_word.specs.declared.operators.FoldOp.{FoldOp}
+use Rattle.bb_ast.specs.declared.operators.WordOp.{WordOp}
+use Rattle.bb_ast.specs.declared.operators.FoldOp.{FoldOp}
 use Rattle.bb_word.specs.Gates.{IsMap, mapped, bits}
 use Rattle.bb_word.specs.Formulas.{Formula, formulas}
 use Rattle.bb_word.specs.Words.{word_circuit}

@@ -1,12 +1,13 @@
--- Maps of gates go through circuits.
+-- Maps of gates go through circuits. The laws hold for gates of every kind, also for those that no type of the code stands for: so they
+-- are proved here, and the function of the crate has them as contract for formulas and bits.
 use Rattle.std.proofs.Common.{◌≡◌, ◌∙◌, ◌+◌, ℕ, zero, suc, List, [], ◌∷◌, ◌++◌, map, length, reverse, take, drop, replicate, refl, sym, ap}
 use Rattle.std.specs.Prelude.{min}
 use Rattle.std.proofs.Math.Path.{ap₂}
 use Rattle.std.proofs.lemmas.List.{length-map, map-append, take-map, drop-map, reverse-append}
-use Rattle.bb_word.specs.declared.operators.WordOp.{WordOp}
-use Rattle.bb_word.specs.declared.operators.WordOp.TheVariants as ops
-use Rattle.bb_word.specs.declared.operators.FoldOp.{FoldOp}
-use Rattle.bb_word.specs.declared.operators.FoldOp.TheVariants as folds
+use Rattle.bb_ast.specs.declared.operators.WordOp.{WordOp}
+use Rattle.bb_ast.specs.declared.operators.WordOp.TheVariants as ops
+use Rattle.bb_ast.specs.declared.operators.FoldOp.{FoldOp}
+use Rattle.bb_ast.specs.declared.operators.FoldOp.TheVariants as folds
 use Rattle.bb_word.specs.Words.{word_circuit}
 use Rattle.bb_word.specs.Folds.{fold_circuit}
 use Rattle.bb_word.specs.Gates.{Gates, Made, IsMap, mapped}
@@ -67,12 +68,12 @@ module _ {A B : Type 0} (g : Gates A) (h : Gates B) (f : A → B) (m : IsMap g h
       let rc = ap (λ z. z.cells) rest in
       made_same _ _ (simp (rb, e)) (simp (rc, e))
 
-  pub map-joined_all : (op : A → A → A) (po : B → B → B) → ((a b : A) → f (op a b) ≡ po (f a) (f b)) → (xs : List A) → mapped f (joined_all op xs) ≡ joined_all po (map f xs)
-  map-joined_all op po each [] = refl
-  map-joined_all op po each (x ∷ xs) = map-joined op po each x xs
+  pub map-joined_all : (op : A → A → A) (po : B → B → B) → ((a b : A) → f (op a b) ≡ po (f a) (f b)) → (o : A) (xs : List A) → mapped f (joined_all op o xs) ≡ joined_all po (f o) (map f xs)
+  map-joined_all op po each o [] = refl
+  map-joined_all op po each o (x ∷ xs) = map-joined op po each x xs
 
-  pub map-folded : (op : A → A → A) (po : B → B → B) → ((a b : A) → f (op a b) ≡ po (f a) (f b)) → (xs : List A) → mapped f (folded op xs) ≡ folded po (map f xs)
-  map-folded op po each xs = map-joined_all op po each (reverse xs) ∙ ap (joined_all po) (reverse-map f xs)
+  pub map-folded : (op : A → A → A) (po : B → B → B) → ((a b : A) → f (op a b) ≡ po (f a) (f b)) → (o : A) (p : B) → f o ≡ p → (xs : List A) → mapped f (folded op o xs) ≡ folded po p (map f xs)
+  map-folded op po each o p none xs = map-joined_all op po each o (reverse xs) ∙ ap₂ (joined_all po) none (reverse-map f xs)
 
   pub map-inverted : (a : Made A) (b : Made B) → mapped f a ≡ b → mapped f (inverted g a) ≡ inverted h b
   map-inverted a b same =
@@ -97,10 +98,10 @@ module _ {A B : Type 0} (g : Gates A) (h : Gates B) (f : A → B) (m : IsMap g h
       let first = map-alike xs ys in
       let fb = ap (λ z. z.bits) first in
       let fc = ap (λ z. z.cells) first in
-      let rest = map-folded g.both h.both m.both (alike g xs ys).bits in
-      let rb = ap (λ z. z.bits) rest ∙ ap (λ z. (folded h.both z).bits) fb in
-      let rc = ap (λ z. z.cells) rest ∙ ap (λ z. (folded h.both z).cells) fb in
-      made_same _ _ rb (map-append f (alike g xs ys).cells (folded g.both (alike g xs ys).bits).cells ∙ ap₂ (λ a b. a ++ b) fc rc)
+      let rest = map-folded g.both h.both m.both g.one h.one m.one (alike g xs ys).bits in
+      let rb = ap (λ z. z.bits) rest ∙ ap (λ z. (folded h.both h.one z).bits) fb in
+      let rc = ap (λ z. z.cells) rest ∙ ap (λ z. (folded h.both h.one z).cells) fb in
+      made_same _ _ rb (map-append f (alike g xs ys).cells (folded g.both g.one (alike g xs ys).bits).cells ∙ ap₂ (λ a b. a ++ b) fc rc)
 
   pub map-less : (so_far : A) (xs ys : List A) → mapped f (less g so_far xs ys) ≡ less h (f so_far) (map f xs) (map f ys)
   map-less so_far [] ys = refl
@@ -129,23 +130,23 @@ module _ {A B : Type 0} (g : Gates A) (h : Gates B) (f : A → B) (m : IsMap g h
 
   pub map-truths : (op : A → A → A) (po : B → B → B) → ((a b : A) → f (op a b) ≡ po (f a) (f b)) → (xs ys : List A) → mapped f (truths g op xs ys) ≡ truths h po (map f xs) (map f ys)
   map-truths op po each xs ys =
-      let l = folded g.either xs in
-      let r = folded g.either ys in
-      let left = map-folded g.either h.either m.either xs in
-      let right = map-folded g.either h.either m.either ys in
+      let l = folded g.either g.zero xs in
+      let r = folded g.either g.zero ys in
+      let left = map-folded g.either h.either m.either g.zero h.zero m.zero xs in
+      let right = map-folded g.either h.either m.either g.zero h.zero m.zero ys in
       let bits = map-append f l.bits r.bits ∙ ap₂ (λ a b. a ++ b) (ap (λ z. z.bits) left) (ap (λ z. z.bits) right) in
       let cells = map-append f l.cells r.cells ∙ ap₂ (λ a b. a ++ b) (ap (λ z. z.cells) left) (ap (λ z. z.cells) right) in
-      let last = map-joined_all op po each (l.bits ++ r.bits) ∙ ap (joined_all po) bits in
-      made_same _ _ (ap (λ z. z.bits) last) (map-append f (l.cells ++ r.cells) (joined_all op (l.bits ++ r.bits)).cells ∙ ap₂ (λ a b. a ++ b) cells (ap (λ z. z.cells) last))
+      let last = map-joined_all op po each g.zero (l.bits ++ r.bits) ∙ ap₂ (joined_all po) m.zero bits in
+      made_same _ _ (ap (λ z. z.bits) last) (map-append f (l.cells ++ r.cells) (joined_all op g.zero (l.bits ++ r.bits)).cells ∙ ap₂ (λ a b. a ++ b) cells (ap (λ z. z.cells) last))
 
   pub fold_map : (op : FoldOp) (xs : List A) → mapped f (fold_circuit g op xs) ≡ fold_circuit h op (map f xs)
-  fold_map folds.None xs = map-inverted (folded g.either xs) _ (map-folded g.either h.either m.either xs)
-  fold_map folds.All xs = map-folded g.both h.both m.both xs
-  fold_map folds.NotAll xs = map-inverted (folded g.both xs) _ (map-folded g.both h.both m.both xs)
-  fold_map folds.Any xs = map-folded g.either h.either m.either xs
-  fold_map folds.NotAny xs = map-inverted (folded g.either xs) _ (map-folded g.either h.either m.either xs)
-  fold_map folds.Odd xs = map-folded g.differ h.differ m.differ xs
-  fold_map folds.NotOdd xs = map-inverted (folded g.differ xs) _ (map-folded g.differ h.differ m.differ xs)
+  fold_map folds.None xs = map-inverted (folded g.either g.zero xs) _ (map-folded g.either h.either m.either g.zero h.zero m.zero xs)
+  fold_map folds.All xs = map-folded g.both h.both m.both g.one h.one m.one xs
+  fold_map folds.NotAll xs = map-inverted (folded g.both g.one xs) _ (map-folded g.both h.both m.both g.one h.one m.one xs)
+  fold_map folds.Any xs = map-folded g.either h.either m.either g.zero h.zero m.zero xs
+  fold_map folds.NotAny xs = map-inverted (folded g.either g.zero xs) _ (map-folded g.either h.either m.either g.zero h.zero m.zero xs)
+  fold_map folds.Odd xs = map-folded g.differ h.differ m.differ g.zero h.zero m.zero xs
+  fold_map folds.NotOdd xs = map-inverted (folded g.differ g.zero xs) _ (map-folded g.differ h.differ m.differ g.zero h.zero m.zero xs)
 
   from_zero : (xs ys : List A) → mapped f (less g g.zero xs ys) ≡ less h h.zero (map f xs) (map f ys)
   from_zero xs ys = map-less g.zero xs ys ∙ ap (λ o. less h o (map f xs) (map f ys)) m.zero
