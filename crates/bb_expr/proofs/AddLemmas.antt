@@ -1,10 +1,10 @@
 -- What each kind of row makes: constants and bits of nets, zeros on the left, complements, operators between bits, whether some
 -- bit is 1, and a choice.
-use Rattle.std.proofs.Common.{◌≡◌, ℕ, zero, suc, ◌+◌, ◌-◌, ◌*◌, ◌<◌, ◌≤◌, true, false, List, [], ◌∷◌, ◌++◌, length, map, Some, None, refl, sym, ap, ap₂, ◌∙◌, subst, arith, inl, inr, length-append, append-nil}
-use Rattle.std.specs.Prelude.{All, Contains, replicate, if◌then◌else◌}
+use Rattle.std.proofs.Common.{◌≡◌, ℕ, zero, suc, ◌+◌, ◌-◌, ◌*◌, ◌<◌, ◌≤◌, true, false, List, [], ◌∷◌, ◌++◌, length, map, Some, None, refl, sym, ap, ap₂, ◌∙◌, subst, arith, length-append, append-nil}
+use Rattle.std.specs.Prelude.{All, replicate, if◌then◌else◌}
 use Rattle.std.specs.List.{AllByRecursion, filter_map, cons_option, range_with_len}
 use Rattle.std.proofs.lemmas.List.{length-map, length-replicate, map-append}
-use Rattle.std.proofs.lemmas.List.Elements.{Contains-append_left, Contains-append_right, Contains-append_cases, All-from_recursion, recursion_from_All, All-append, All-weaker, All-from_get_or}
+use Rattle.std.proofs.lemmas.List.Elements.{All-from_recursion, recursion_from_All, All-append, All-weaker, All-from_get_or}
 use Rattle.std.proofs.lemmas.List.FromFn.{length-range_with_len, get_or-range_with_len}
 use Rattle.bb_names.specs.declared.net.NetInfo.{NetInfo}
 use Rattle.bb_expr.specs.declared.step.BitStep.{BitStep}
@@ -12,19 +12,13 @@ use Rattle.bb_expr.specs.declared.step.BitStep.TheVariants as steps
 use Rattle.bb_expr.specs.Lists.{extended}
 use Rattle.bb_expr.specs.Terms.{Term, Const, Not}
 use Rattle.bb_expr.specs.Cells.{Made, without_cells, inverted}
-use Rattle.bb_expr.specs.Lowered.{step_term, term_at, Reads, operands, is_operator}
+use Rattle.bb_expr.specs.Lowered.{step_term, term_at, Reads, is_operator}
 use Rattle.bb_expr.specs.Inside.Growing.{Adds, AddsRow}
 use Rattle.bb_expr.proofs.StepLemmas.{reads-later}
-use Rattle.bb_expr.proofs.RowLemmas.{row_cell, IsReadBy, terms-of-rows, terms-kept, adds-nothing, adds-rows}
-
-in-range : (a n i : ℕ) → i < n → Contains (range_with_len a n) (a + i)
-in-range a n i lt = (i, omega (arith, lt, length-range_with_len a n), get_or-range_with_len a n i (a + i) lt)
+use Rattle.bb_expr.proofs.RowLemmas.{row_cell, terms-of-rows, terms-kept, adds-nothing, adds-rows}
 
 range-below : (a n : ℕ) → All (λ k. k < a + n) (range_with_len a n)
 range-below a n = All-from_get_or (λ k. k < a + n) (range_with_len a n) 0 (λ i lt. omega (arith, get_or-range_with_len a n i 0 (omega (arith, lt, length-range_with_len a n)), lt, length-range_with_len a n))
-
-pub none-in : {X : Type 0} (x : X) (A : Type 0) → Contains [] x → A
-none-in x A h = absurd (omega (arith, h.1))
 
 -- steps that are no operators, and read nothing
 abbrev pub AreLeaves : List NetInfo → List BitStep → Type 0
@@ -68,7 +62,7 @@ module _ (nets : List NetInfo) where
       subst (Adds nets (without_cells (map (leaf_term nets) rows)) old new) (sym row.numbered)
       (adds-rows nets (without_cells []) old old new rows [] (range_with_len (length old) (length rows)) (map (leaf_term nets) rows) [] (adds-nothing nets old) row.grows
       (All-from_recursion (Reads nets (length old)) rows (leaves-read (length old) rows leaves))
-      (λ k h. none-in k _ h) (λ i lt. in-range (length old) (length rows) i lt) (range-below (length old) (length rows))
+      (range-below (length old) (length rows))
       (length-range_with_len (length old) (length rows) ∙ sym (length-map rows (leaf_term nets))) (omega (arith, length-range_with_len (length old) (length rows)))
       (λ ordered same. (
         terms-of-rows nets old rows ordered (All-from_recursion (Reads nets (length old)) rows (leaves-read (length old) rows leaves)) ∙ leaves-terms (term_at nets old) rows leaves,
@@ -97,8 +91,6 @@ module _ (nets : List NetInfo) where
       (subst (λ b. Adds nets (record { bits = b; cells = m.cells ++ [] }) old new out) (sym zeros)
       (subst (Adds nets (record { bits = replicate n (Const false) ++ m.bits; cells = m.cells ++ [] }) old new) (sym is)
       (adds-rows nets m old mid new rows bits (range ++ bits) (replicate n (Const false) ++ m.bits) [] x grows reads
-      (λ k h. inl (Contains-append_right range bits k h))
-      (λ i lt. Contains-append_left range bits (length mid + i) (in-range (length mid) n i (omega (arith, lt, count))))
       (All-append (λ k. k < length mid + length rows) range bits
       (All-weaker (λ k. k < length mid + n) (λ k. k < length mid + length rows) (λ k lt. omega (arith, lt, count)) range (range-below (length mid) n))
       (All-weaker (λ k. k < length mid) (λ k. k < length mid + length rows) (λ k lt. omega (arith, lt)) bits x.within))
@@ -114,15 +106,15 @@ module _ (nets : List NetInfo) where
 
   -- a row of operators that read all of the bits
   pub adds-operators : (m : Made) (old mid new rows : List BitStep) (bits out : List ℕ) (cells : List Term) → Adds nets m old mid bits → AddsRow rows mid new out
-      → AllByRecursion (Reads nets (length mid)) rows → AllByRecursion (λ s. is_operator s ≡ true) rows → ((k : ℕ) → Contains bits k → IsReadBy rows k)
+      → AllByRecursion (Reads nets (length mid)) rows → AllByRecursion (λ s. is_operator s ≡ true) rows
       → length rows ≡ length cells → length bits ≤ 3 * length rows
       → (map (term_at nets mid) bits ≡ m.bits → map (λ s. step_term nets s (term_at nets mid)) rows ≡ cells)
       → Adds nets (record { bits = cells; cells = m.cells ++ cells }) old new out
-  adds-operators m old mid new rows bits out cells x row reads are read count fits terms =
+  adds-operators m old mid new rows bits out cells x row reads are count fits terms =
       let range = range_with_len (length mid) (length rows) in
       let reading = All-from_recursion (Reads nets (length mid)) rows reads in
       subst (Adds nets (record { bits = cells; cells = m.cells ++ cells }) old new) (sym row.numbered)
-      (adds-rows nets m old mid new rows bits range cells cells x row.grows reading (λ k h. inr (read k h)) (λ i lt. in-range (length mid) (length rows) i lt) (range-below (length mid) (length rows))
+      (adds-rows nets m old mid new rows bits range cells cells x row.grows reading (range-below (length mid) (length rows))
       (length-range_with_len (length mid) (length rows) ∙ count) (omega (arith, length-range_with_len (length mid) (length rows), count, fits))
       (λ ordered same. (terms-of-rows nets mid rows ordered reading ∙ terms same, operator-cells mid rows are ∙ terms same)))
 
@@ -138,24 +130,10 @@ module _ (nets : List NetInfo) where
   nots-terms v [] = refl
   nots-terms v (b ∷ bits) = ap (λ r. Not (v b) ∷ r) (nots-terms v bits)
 
-  -- one more step in front of a row
-  pub read-next : (s : BitStep) (rows : List BitStep) (k : ℕ) → IsReadBy rows k → IsReadBy (s ∷ rows) k
-  read-next s rows k h = (h.0, Contains-append_right (s ∷ []) rows h.0 h.1, h.2)
-
-  pub read-first : (s : BitStep) (rows : List BitStep) (k : ℕ) → Contains (operands s) k → IsReadBy (s ∷ rows) k
-  read-first s rows k h = (s, (0, omega arith, refl), h)
-
-  nots-reading : (bits : List ℕ) (k : ℕ) → Contains bits k → IsReadBy (map steps.Not bits) k
-  nots-reading [] k h = none-in k _ h
-  nots-reading (b ∷ bits) k h = elim (Contains-append_cases (b ∷ []) bits k h) [
-    | inl here ↦ read-first (steps.Not b) (map steps.Not bits) k here
-    | inr there ↦ read-next (steps.Not b) (map steps.Not bits) k (nots-reading bits k there)
-  ]
-
   -- a complement of each bit
   pub adds-inverted : (m : Made) (old mid new : List BitStep) (bits out : List ℕ) → Adds nets m old mid bits → AddsRow (map steps.Not bits) mid new out
       → Adds nets (record { bits = inverted m.bits; cells = m.cells ++ inverted m.bits }) old new out
   adds-inverted m old mid new bits out x row =
-      adds-operators m old mid new (map steps.Not bits) bits out (inverted m.bits) x row (nots-read (length mid) bits (recursion_from_All (λ k. k < length mid) bits x.within)) (nots-are bits) (nots-reading bits)
+      adds-operators m old mid new (map steps.Not bits) bits out (inverted m.bits) x row (nots-read (length mid) bits (recursion_from_All (λ k. k < length mid) bits x.within)) (nots-are bits)
       (length-map bits steps.Not ∙ x.long ∙ sym (length-map m.bits Not)) (omega (arith, length-map bits steps.Not))
       (λ same. nots-terms (term_at nets mid) bits ∙ ap (map Not) same)

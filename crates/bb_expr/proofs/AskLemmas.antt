@@ -8,7 +8,8 @@ use Rattle.bb_ast.specs.declared.expr.Op.{Op}
 use Rattle.bb_ast.specs.Syntax.{Expression, Not, Chain, Cond, Concat, Repeat, operands, arms, listed_parts}
 use Rattle.bb_names.specs.Widths.{own_width, greatest}
 use Rattle.bb_names.specs.Inside.Checked.{ModuleFacts}
-use Rattle.bb_expr.specs.Cells.{is_odd, cell_count}
+use Rattle.bb_expr.specs.Cells.{cell_count}
+use Rattle.bb_word.specs.Folds.{is_odd}
 use Rattle.bb_expr.specs.Inside.Fit.{AreFit, ranges_in}
 use Rattle.bb_expr.specs.Inside.Growing.{most_steps}
 use Rattle.bb_expr.specs.Inside.Shares.{own_cells, operand_cells, arm_cells}
@@ -20,7 +21,8 @@ use Rattle.bb_expr.proofs.ShareLemmas.{chain-cells, cond-cells, concat-cells, re
 pub record IsAsked (m : ModuleFacts) (e : Expression) (w n : ℕ) : Type 0 where
   pub fit : AreFit m e
   pub own : own_width (ranges_in m) e ≤ w
-  pub room : n + most_steps w (cell_count (ranges_in m) e w) ≤ 2 ^ 32
+  pub room : n + most_steps w (cell_count (ranges_in m) e w) ≤ 2 ^ 31
+  pub few : cell_count (ranges_in m) e w ≤ 2000000
 
 no-more : (n k : ℕ) → n ≤ n + k
 no-more n k = omega arith
@@ -35,9 +37,10 @@ module _ (m : ModuleFacts) where
     fit = fit-not m k e h.fit;
     own = h.own;
     room = omega (arith, h.room, no-more (cell_count (ranges_in m) e w) (if is_odd k then w else 0));
+    few = omega (arith, h.few, no-more (cell_count (ranges_in m) e w) (if is_odd k then w else 0));
   }
 
-  pub asked-odd : (k : ℕ) (e : Expression) (w n : ℕ) → is_odd k ≡ true → IsAsked m (Not k e) w n → n + (w + 3 * (cell_count (ranges_in m) e w + w)) ≤ 2 ^ 32
+  pub asked-odd : (k : ℕ) (e : Expression) (w n : ℕ) → is_odd k ≡ true → IsAsked m (Not k e) w n → n + (w + 4 * (cell_count (ranges_in m) e w + w)) ≤ 2 ^ 31
   asked-odd k e w n odd h = omega (arith, h.room, ap (λ (b : Bool). cell_count (ranges_in m) e w + (if b then w else 0)) odd)
 
   pub asked-first : (e : Expression) (xs : List (Op × Expression)) (w n : ℕ) → IsAsked m (Chain e (operands xs)) w n → own_width (ranges_in m) e ≤ w
@@ -46,8 +49,9 @@ module _ (m : ModuleFacts) where
   pub asked-operands : (e : Expression) (xs : List (Op × Expression)) (w n : ℕ) → IsAsked m (Chain e (operands xs)) w n → All (λ x. own_width (ranges_in m) x.1 ≤ w) xs
   asked-operands e xs w n h = All-from_recursion (λ x. own_width (ranges_in m) x.1 ≤ w) xs (greatest-each (λ x. own_width (ranges_in m) x.1) w xs (omega (arith, h.own, chain-width (ranges_in m) e xs)))
 
-  pub asked-chain : (e : Expression) (xs : List (Op × Expression)) (w n : ℕ) → IsAsked m (Chain e (operands xs)) w n → n + most_steps w (cell_count (ranges_in m) e w + sum_by (operand_cells (ranges_in m) w) xs) ≤ 2 ^ 32
-  asked-chain e xs w n h = subst (λ k. n + most_steps w k ≤ 2 ^ 32) (chain-cells (ranges_in m) e xs w) h.room
+  pub asked-chain : (e : Expression) (xs : List (Op × Expression)) (w n : ℕ) → IsAsked m (Chain e (operands xs)) w n → (n + most_steps w (cell_count (ranges_in m) e w + sum_by (operand_cells (ranges_in m) w) xs) ≤ 2 ^ 31)
+      × (cell_count (ranges_in m) e w + sum_by (operand_cells (ranges_in m) w) xs ≤ 2000000)
+  asked-chain e xs w n h = (subst (λ k. n + most_steps w k ≤ 2 ^ 31) (chain-cells (ranges_in m) e xs w) h.room, omega (arith, h.few, chain-cells (ranges_in m) e xs w))
 
   pub asked-arms : (xs : List (Expression × Expression)) (last : Expression) (w n : ℕ) → IsAsked m (Cond (arms xs) last) w n → All (λ x. own_width (ranges_in m) x.1 ≤ w) xs
   asked-arms xs last w n h = All-from_recursion (λ x. own_width (ranges_in m) x.1 ≤ w) xs (greatest-each (λ x. own_width (ranges_in m) x.1) w xs (omega (arith, h.own, cond-width (ranges_in m) xs last)))
@@ -55,16 +59,17 @@ module _ (m : ModuleFacts) where
   pub asked-last : (xs : List (Expression × Expression)) (last : Expression) (w n : ℕ) → IsAsked m (Cond (arms xs) last) w n → own_width (ranges_in m) last ≤ w
   asked-last xs last w n h = omega (arith, h.own, cond-width (ranges_in m) xs last)
 
-  pub asked-cond : (xs : List (Expression × Expression)) (last : Expression) (w n : ℕ) → IsAsked m (Cond (arms xs) last) w n → n + most_steps w (sum_by (arm_cells (ranges_in m) w) xs + cell_count (ranges_in m) last w) ≤ 2 ^ 32
-  asked-cond xs last w n h = subst (λ k. n + most_steps w k ≤ 2 ^ 32) (cond-cells (ranges_in m) xs last w) h.room
+  pub asked-cond : (xs : List (Expression × Expression)) (last : Expression) (w n : ℕ) → IsAsked m (Cond (arms xs) last) w n → (n + most_steps w (sum_by (arm_cells (ranges_in m) w) xs + cell_count (ranges_in m) last w) ≤ 2 ^ 31)
+      × (sum_by (arm_cells (ranges_in m) w) xs + cell_count (ranges_in m) last w ≤ 2000000)
+  asked-cond xs last w n h = (subst (λ k. n + most_steps w k ≤ 2 ^ 31) (cond-cells (ranges_in m) xs last w) h.room, omega (arith, h.few, cond-cells (ranges_in m) xs last w))
 
   -- parts are no wider side by side than their context, and make the cells of the whole
-  pub asked-concat : (xs : List Expression) (w n : ℕ) → IsAsked m (Concat (listed_parts xs)) w n → (sum_by (own_width (ranges_in m)) xs ≤ w) × (n + (w + 3 * sum_by (own_cells (ranges_in m)) xs) ≤ 2 ^ 32)
-  asked-concat xs w n h = (omega (arith, h.own, concat-width (ranges_in m) xs, sum-map (own_width (ranges_in m)) xs), omega (arith, h.room, concat-cells (ranges_in m) xs w))
+  pub asked-concat : (xs : List Expression) (w n : ℕ) → IsAsked m (Concat (listed_parts xs)) w n → (sum_by (own_width (ranges_in m)) xs ≤ w) × (n + (w + 4 * sum_by (own_cells (ranges_in m)) xs) ≤ 2 ^ 31) × (sum_by (own_cells (ranges_in m)) xs ≤ 2000000)
+  asked-concat xs w n h = (omega (arith, h.own, concat-width (ranges_in m) xs, sum-map (own_width (ranges_in m)) xs), omega (arith, h.room, concat-cells (ranges_in m) xs w), omega (arith, h.few, concat-cells (ranges_in m) xs w))
 
   pub asked-repeat : (k : ℕ) (xs : List Expression) (w n : ℕ) → IsAsked m (Repeat k (listed_parts xs)) w n
-      → (sum_by (own_width (ranges_in m)) xs ≤ w) × (n + (w + 3 * sum_by (own_cells (ranges_in m)) xs) ≤ 2 ^ 32) × (1 ≤ k) × (k * sum_by (own_width (ranges_in m)) xs ≤ w)
+      → (sum_by (own_width (ranges_in m)) xs ≤ w) × (n + (w + 4 * sum_by (own_cells (ranges_in m)) xs) ≤ 2 ^ 31) × (1 ≤ k) × (k * sum_by (own_width (ranges_in m)) xs ≤ w) × (sum_by (own_cells (ranges_in m)) xs ≤ 2000000)
   asked-repeat k xs w n h =
       let some : 1 ≤ k = (fit-here m (Repeat k (listed_parts xs)) h.fit).right in
       let whole : k * sum_by (own_width (ranges_in m)) xs ≤ w = omega (arith, h.own, repeat-width (ranges_in m) k xs, ap (λ s. k * s) (sum-map (own_width (ranges_in m)) xs)) in
-      (omega (arith, whole, copies-cover k (sum_by (own_width (ranges_in m)) xs) some), omega (arith, h.room, repeat-cells (ranges_in m) k xs w), some, whole)
+      (omega (arith, whole, copies-cover k (sum_by (own_width (ranges_in m)) xs) some), omega (arith, h.room, repeat-cells (ranges_in m) k xs w), some, whole, omega (arith, h.few, repeat-cells (ranges_in m) k xs w))

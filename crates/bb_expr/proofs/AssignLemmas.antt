@@ -5,7 +5,7 @@ use Rattle.std.proofs.lemmas.List.{length-map}
 use Rattle.std.proofs.lemmas.List.Elements.{All-from_recursion}
 use Rattle.std.specs.Prelude.{replicate, sum}
 use Rattle.std.specs.List.{AllByRecursion, list_all, range_with_len}
-use Rattle.bb_ast.specs.Syntax.{Expression, Net, Bit, Part, Sized, Plain, Not, Chain, Cond, Concat, Repeat, Parts, no_part, part}
+use Rattle.bb_ast.specs.Syntax.{Expression, Net, Bit, Part, Sized, Plain, Not, Fold, Chain, Words, Cond, Concat, Repeat, Parts, no_part, part}
 use Rattle.bb_ast.specs.Folds.{of_parts}
 use Rattle.bb_ast.specs.Assignable.{assigning, is_assignable}
 use Rattle.bb_names.specs.Ranges.{distance, range_width, place_of}
@@ -55,7 +55,9 @@ mutual
   assigned ranges (Sized bits) h = absurd (false≢true h)
   assigned ranges (Plain n) h = absurd (false≢true h)
   assigned ranges (Not k e) h = absurd (false≢true h)
+  assigned ranges (Fold op e) h = absurd (false≢true h)
   assigned ranges (Chain e rest) h = absurd (false≢true h)
+  assigned ranges (Words e rest) h = absurd (false≢true h)
   assigned ranges (Cond all last) h = absurd (false≢true h)
   assigned ranges (Concat all) h =
       let parts = parts-assigned ranges all h in

@@ -1,10 +1,10 @@
 -- What a chain of or, a choice between bits, an arm of a conditional, and copies make.
-use Rattle.std.proofs.Common.{◌≡◌, ℕ, zero, suc, ◌+◌, ◌<◌, ◌≤◌, List, [], ◌∷◌, ◌++◌, length, map, refl, sym, ap, ap₂, ◌∙◌, subst, arith, inl, inr, length-append, append_assoc}
-use Rattle.std.specs.Prelude.{◌*◌, Contains}
+use Rattle.std.proofs.Common.{◌≡◌, ℕ, zero, suc, ◌+◌, ◌<◌, ◌≤◌, List, [], ◌∷◌, ◌++◌, length, map, refl, sym, ap, ap₂, ◌∙◌, subst, arith, length-append, append_assoc}
+use Rattle.std.specs.Prelude.{◌*◌}
 use Rattle.std.specs.List.{AllByRecursion}
 use Rattle.std.specs.List.Sorted.{IsPermutation}
 use Rattle.std.proofs.lemmas.List.{length-map, map-append}
-use Rattle.std.proofs.lemmas.List.Elements.{Contains-append_left, Contains-append_right, Contains-append_cases, All-from_recursion, recursion_from_All, All-cons}
+use Rattle.std.proofs.lemmas.List.Elements.{All-from_recursion, recursion_from_All, All-cons}
 use Rattle.std.proofs.lemmas.List.Sorted.{IsPermutation-append_left, IsPermutation-append_comm}
 use Rattle.bb_names.specs.declared.net.NetInfo.{NetInfo}
 use Rattle.bb_expr.specs.declared.step.BitStep.{BitStep}
@@ -15,10 +15,10 @@ use Rattle.bb_expr.specs.Cells.{Made, any_bit, selected, arm_made}
 use Rattle.bb_expr.specs.Lowered.{term_at, Reads}
 use Rattle.bb_expr.specs.Inside.Growing.{Adds, AddsRow, paired}
 use Rattle.bb_expr.proofs.ValueLemmas.{length-bitwise, length-copies}
-use Rattle.bb_expr.proofs.RowLemmas.{IsReadBy, terms-of-rows, terms-kept, steps-kept, adds-rows, adds-beside, adds-same}
-use Rattle.bb_expr.proofs.AddLemmas.{adds-operators, read-first}
-use Rattle.bb_expr.proofs.ListLemmas.{all-front, all-back, all-join, single}
-use Rattle.bb_expr.proofs.GateLemmas.{both-halves, length-paired, selected-bitwise, pairs-read, pairs-are, pairs-terms, first-read, second-read}
+use Rattle.bb_expr.proofs.RowLemmas.{terms-of-rows, terms-kept, adds-rows, adds-beside, adds-same}
+use Rattle.bb_expr.proofs.AddLemmas.{adds-operators}
+use Rattle.bb_expr.proofs.ListLemmas.{all-front, all-back, all-join}
+use Rattle.bb_expr.proofs.GateLemmas.{both-halves, length-paired, selected-bitwise, pairs-read, pairs-are, pairs-terms}
 
 three-equal : {X : Type 0} (p q x y : X) (ps xs : List X) → p ∷ q ∷ ps ≡ x ∷ y ∷ xs → (p ≡ x) × (q ≡ y) × (ps ≡ xs)
 three-equal p q x y ps xs same =
@@ -35,10 +35,6 @@ all-copies : {X : Type 0} (P : X → Type 0) (k : ℕ) (xs : List X) → AllByRe
 all-copies P zero xs h = tt
 all-copies P (suc k) xs h = all-join P xs (copies k xs) h (all-copies P k xs h)
 
-in-copies : {X : Type 0} (k : ℕ) (xs : List X) (x : X) → 1 ≤ k → Contains xs x → Contains (copies k xs) x
-in-copies zero xs x some h = absurd (omega (arith, some))
-in-copies (suc k) xs x some h = Contains-append_left xs (copies k xs) x h
-
 pub copies-cover : (k n : ℕ) → 1 ≤ k → n ≤ k * n
 copies-cover zero n some = absurd (omega (arith, some))
 copies-cover (suc k) n some = grind arith
@@ -53,11 +49,6 @@ module _ (nets : List NetInfo) where
       let reads : AllByRecursion (Reads nets (length mid)) row = ((below.0, below.1.0), tt) in
       let reading = All-from_recursion (Reads nets (length mid)) row reads in
       adds-rows nets (record { bits = x ∷ y ∷ zs; cells = cells }) old mid new row (a ∷ b ∷ ks) (length mid ∷ ks) (Or x y ∷ zs) (Or x y ∷ []) h grows reading
-      (λ k here. elim (Contains-append_cases (a ∷ b ∷ []) ks k here) [
-        | inl read ↦ inr (read-first nets (steps.Or a b) [] k read)
-        | inr kept ↦ inl (Contains-append_right (length mid ∷ []) ks k kept)
-      ])
-      (λ i lt. Contains-append_left (length mid ∷ []) ks (length mid + i) (at (length mid) i lt))
       (All-cons (λ k. k < length mid + 1) (length mid) ks (omega arith) (All-from_recursion (λ k. k < length mid + 1) ks (weaker ks below.1.1)))
       (omega (arith, h.long)) (omega (arith, h.long))
       (λ ordered same.
@@ -66,13 +57,6 @@ module _ (nets : List NetInfo) where
       let made : map (term_at nets (mid ++ row)) (length mid ∷ []) ≡ Or x y ∷ [] = terms-of-rows nets mid row ordered reading ∙ ap (λ t. t ∷ []) cell in
       (ap₂ (λ u v. u ++ v) made (terms-kept nets mid row ordered ks (All-from_recursion (λ k. k < length mid) ks below.1.1) ∙ parts.2), ap (λ t. t ∷ []) cell))
     where
-      at : (n i : ℕ) → i < 1 → Contains (n ∷ []) (n + i)
-      at n zero lt = (0, omega arith, plus n)
-        where
-          plus : (n : ℕ) → n ≡ n + 0
-          plus n = omega arith
-      at n (suc i) lt = absurd (omega (arith, lt))
-
       weaker : (ks : List ℕ) → AllByRecursion (λ k. k < length mid) ks → AllByRecursion (λ k. k < length mid + 1) ks
       weaker [] all = tt
       weaker (k ∷ ks) all = (omega (arith, all.0), weaker ks all.1)
@@ -92,13 +76,6 @@ module _ (nets : List NetInfo) where
       (adds-operators nets (record { bits = (me.bits ++ x ∷ []) ++ mt.bits; cells = (me.cells ++ cells) ++ mt.cells }) old s3 new (paired (steps.Mux c) t e) ((e ++ c ∷ []) ++ t) out (bitwise (Mux x) mt.bits me.bits) all row
       (pairs-read nets (steps.Mux c) (length s3) (λ u v lu lv. (first, lu, lv)) t e (all-back (λ k. k < length s3) (e ++ c ∷ []) t below) (all-front (λ k. k < length s3) e (c ∷ []) front))
       (pairs-are nets (steps.Mux c) (λ u v. refl) t e)
-      (λ k h. elim (Contains-append_cases (e ++ c ∷ []) t k h) [
-        | inl left ↦ elim (Contains-append_cases e (c ∷ []) k left) [
-          | inl in_e ↦ second-read nets (steps.Mux c) (λ u v. (2, omega arith, refl)) t e long k in_e
-          | inr is_c ↦ condition-read t e some long k (single c k is_c)
-        ]
-        | inr in_t ↦ first-read nets (steps.Mux c) (λ u v. (1, omega arith, refl)) t e long k in_t
-      ])
       (count ∙ sym (length-bitwise (Mux x) (length t) mt.bits me.bits (sym ht.long) (sym he.long ∙ sym long)))
       (omega (arith, count, long, some, length-append (e ++ c ∷ []) t, length-append e (c ∷ [])))
       (λ same.
@@ -110,11 +87,6 @@ module _ (nets : List NetInfo) where
     where
       heads : (u w : Term) → u ∷ [] ≡ w ∷ [] → u ≡ w
       heads u w same = cc
-
-      condition-read : (us vs : List ℕ) → 1 ≤ length us → length us ≡ length vs → (k : ℕ) → c ≡ k → IsReadBy (paired (steps.Mux c) us vs) k
-      condition-read [] vs some same k is = absurd (omega (arith, some))
-      condition-read (u ∷ us) [] some same k is = absurd (omega (arith, same))
-      condition-read (u ∷ us) (w ∷ vs) some same k is = read-first nets (steps.Mux c u w) (paired (steps.Mux c) us vs) k (0, omega arith, is)
 
   -- an arm of a conditional
   pub adds-arm : (me mc mt : Made) (old s1 s2 s3 new : List BitStep) (e t out : List ℕ) (c : ℕ) → Adds nets me old s1 e → Adds nets (record { bits = (any_bit mc.bits).0 ∷ []; cells = mc.cells ++ (any_bit mc.bits).1 }) s1 s2 (c ∷ []) → Adds nets mt s2 s3 t
@@ -136,13 +108,5 @@ module _ (nets : List NetInfo) where
     within = All-from_recursion (λ j. j < length new) (copies k bits) (all-copies (λ j. j < length new) k bits (recursion_from_All (λ j. j < length new) bits x.within));
     long = length-copies k bits ∙ ap (λ n. k * n) x.long ∙ sym (length-copies k m.bits);
     few = omega (arith, x.few, length-copies k bits, copies-cover k (length bits) some);
-    makes = λ kept terms h.
-        let p = x.makes kept terms h in (
-          steps-kept nets new (bits ++ kept) (copies k bits ++ kept) (terms ++ m.cells)
-              (λ j here. elim (Contains-append_cases bits kept j here) [
-                | inl a ↦ Contains-append_left (copies k bits) kept j (in-copies k bits j some a)
-                | inr b ↦ Contains-append_right (copies k bits) kept j b
-              ]) p.0,
-          map-copies (term_at nets new) k bits ∙ ap (copies k) p.1,
-        );
+    makes = λ terms h. let p = x.makes terms h in (p.0, map-copies (term_at nets new) k bits ∙ ap (copies k) p.1);
   }

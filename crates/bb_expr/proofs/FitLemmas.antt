@@ -1,15 +1,18 @@
 -- An expression that is well formed, and at whose spots nothing is at fault, is fit, with all that stands in it.
 use Rattle.std.proofs.Common.{◌≡◌, ℕ, zero, suc, ◌+◌, ◌*◌, ◌≤◌, Bool, true, false, List, [], ◌∷◌, ◌++◌, Option, Some, None, refl, arith}
-use Rattle.std.specs.Prelude.{Contains, codes, nat_lt, ◌==◌, if◌then◌else◌, sum}
+use Rattle.std.specs.Prelude.{Contains, codes, nat_lt, ◌==◌, if◌then◌else◌, sum, fold}
 use Rattle.std.specs.List.{AllByRecursion, flat_map}
 use Rattle.std.proofs.lemmas.Bool.Decides.{nat_tests}
 use Rattle.std.proofs.lemmas.List.Sums.{sum_by-cons}
 use Rattle.bb_ast.specs.declared.module.Range.{Range}
-use Rattle.bb_ast.specs.Syntax.{Expression, Net, Bit, Part, Sized, Plain, Not, Chain, Cond, Concat, Repeat, Operands, no_operand, operand, Arms, no_arm, arm, Parts, no_part, part, PlainModule}
-use Rattle.bb_ast.specs.Folds.{of_operands, of_arms, of_parts}
-use Rattle.bb_ast.specs.Inside.Formed.{IsFormedExpression, AreFormedOperands, AreFormedArms, AreFormedParts}
+use Rattle.bb_ast.specs.Syntax.{Expression, Net, Bit, Part, Sized, Plain, Not, Fold, Chain, Words, Cond, Concat, Repeat, Operands, no_operand, operand, WordOperands, no_word, word, Arms, no_arm, arm, Parts, no_part, part, PlainModule}
+use Rattle.bb_ast.specs.Levels.{level_of, AreOfLevel}
+use Rattle.bb_ast.specs.declared.operators.WordOp.{WordOp}
+use Rattle.bb_ast.specs.declared.operators.WordOp.TheVariants as words
+use Rattle.bb_ast.specs.Folds.{of_operands, of_words, of_arms, of_parts}
+use Rattle.bb_ast.specs.Inside.Formed.{IsFormedExpression, AreFormedOperands, AreFormedWords, AreFormedArms, AreFormedParts}
 use Rattle.bb_names.specs.Ranges.{range_width, has_bits}
-use Rattle.bb_names.specs.Widths.{widths, own_width}
+use Rattle.bb_names.specs.Widths.{widths, own_width, operator_width}
 use Rattle.bb_names.specs.Declarations.{is_instance, range_of}
 use Rattle.bb_names.specs.Spots.{Use, Read, Driven, Stored, Spot, Number, Whole, Used, with_inside, part_spots, inside, is_plain, spots_in}
 use Rattle.bb_names.specs.Faults.{told_if, wrong_role, widest, is_no_copy}
@@ -44,6 +47,26 @@ sum-cons x xs = sum_by-cons (λ (n : ℕ). n) x xs
 
 sum-some : (x : ℕ) (xs : List ℕ) → 1 ≤ x → 1 ≤ sum (x ∷ xs)
 sum-some x xs some = omega (arith, some, sum-cons x xs)
+
+-- an operator on words has a bit where its operands have
+pub operator-some : (op : WordOp) (l r : ℕ) → 1 ≤ l → 1 ≤ r → 1 ≤ operator_width op l r
+operator-some words.Plus l r a b = omega (arith, a)
+operator-some words.Minus l r a b = omega (arith, a)
+operator-some words.Equal l r a b = omega arith
+operator-some words.NotEqual l r a b = omega arith
+operator-some words.Less l r a b = omega arith
+operator-some words.LessEqual l r a b = omega arith
+operator-some words.Greater l r a b = omega arith
+operator-some words.GreaterEqual l r a b = omega arith
+operator-some words.Left l r a b = a
+operator-some words.Right l r a b = a
+operator-some words.Both l r a b = omega arith
+operator-some words.Either l r a b = omega arith
+
+-- well-formed operators on words are of one level
+formed-level : (level : ℕ) (rest : WordOperands) → AreFormedWords level rest → AreOfLevel level rest
+formed-level level no_word formed = tt
+formed-level level (word op e rest) formed = (formed.0, formed-level level rest formed.2)
 
 -- the spots of arms
 abbrev arm_spots : Use → Arms → List Spot
@@ -94,6 +117,19 @@ module _ (text : List PlainModule) (m : PlainModule) where
           fit (Chain e (operand op x rest)) tt (omega (arith, first.0.some)) clean.0,
           all-join (IsFitIn m) (expressions_in e) _ first (all-join (IsFitIn m) (expressions_in x) _ second last),
         )
+    fits how (Fold op e) formed clean =
+        let inner = fits how e formed clean.1 in
+        (fit (Fold op e) tt (omega arith) clean.0, inner)
+    fits how (Words e no_word) formed clean = absurd formed
+    fits how (Words e (word op x rest)) formed clean =
+        let first = fits how e formed.0 (all-front (IsClean text m) (spots_in how e) _ clean.1) in
+        let others = all-back (IsClean text m) (spots_in how e) _ clean.1 in
+        let second = fits how x formed.1 (all-front (IsClean text m) (spots_in how x) _ others) in
+        let last = words-fit how (level_of op) rest formed.2 (all-back (IsClean text m) (spots_in how x) _ others) in (
+          fit (Words e (word op x rest)) (formed-level (level_of op) rest formed.2)
+              (last.1 (operator_width op (own_width (range_of m) e) (own_width (range_of m) x)) (operator-some op (own_width (range_of m) e) (own_width (range_of m) x) first.0.some second.0.some)) clean.0,
+          all-join (IsFitIn m) (expressions_in e) _ first (all-join (IsFitIn m) (expressions_in x) _ second last.0),
+        )
     fits how (Cond no_arm last) formed clean = absurd formed
     fits how (Cond (arm c v rest) last) formed clean =
         let arms = all-front (IsClean text m) ((spots_in how c ++ spots_in how v) ++ arm_spots how rest) (spots_in how last) clean.1 in
@@ -126,6 +162,17 @@ module _ (text : List PlainModule) (m : PlainModule) where
     operands-fit how (operand op e rest) formed clean =
         all-join (IsFitIn m) (expressions_in e) _ (fits how e formed.0 (all-front (IsClean text m) (spots_in how e) _ clean))
         (operands-fit how rest formed.1 (all-back (IsClean text m) (spots_in how e) _ clean))
+
+    words-fit : (how : Use) (level : ℕ) (rest : WordOperands) → AreFormedWords level rest → AreClean text m (flat_map (λ x. with_inside x.1) (of_words (λ x spots. (x, spots)) (inside how) rest))
+        → AllByRecursion (IsFitIn m) (flat_map (λ x. x.1) (of_words (λ x all. x ∷ all) gathering rest))
+        × ((l : ℕ) → 1 ≤ l → 1 ≤ fold (λ left x. operator_width x.0 left x.1) l (of_words (λ x a. a) (widths (range_of m)) rest))
+    words-fit how level no_word formed clean = (tt, λ l some. some)
+    words-fit how level (word op e rest) formed clean =
+        let first = fits how e formed.1 (all-front (IsClean text m) (spots_in how e) _ clean) in
+        let others = words-fit how level rest formed.2 (all-back (IsClean text m) (spots_in how e) _ clean) in (
+          all-join (IsFitIn m) (expressions_in e) _ first others.0,
+          λ l some. others.1 (operator_width op l (own_width (range_of m) e)) (operator-some op l (own_width (range_of m) e) some first.0.some),
+        )
 
     arms-fit : (how : Use) (rest : Arms) → AreFormedArms rest → AreClean text m (flat_map (λ x. with_inside x.0 ++ with_inside x.1) (of_arms (λ x spots. (x, spots)) (inside how) rest))
         → AllByRecursion (IsFitIn m) (flat_map (λ x. x.0 ++ x.1) (of_arms (λ x all. x ∷ all) gathering rest))

@@ -1,20 +1,19 @@
 -- What operators between bits, a chain of or, a choice, and copies make.
-use Rattle.std.proofs.Common.{◌≡◌, ℕ, zero, suc, ◌<◌, true, List, [], ◌∷◌, ◌++◌, length, map, refl, sym, ap, ap₂, ◌∙◌, subst, arith, inl, inr, length-append}
-use Rattle.std.specs.Prelude.{Contains}
+use Rattle.std.proofs.Common.{◌≡◌, ℕ, zero, suc, ◌<◌, true, List, [], ◌∷◌, ◌++◌, length, map, refl, sym, ap, ap₂, ◌∙◌, arith, length-append}
 use Rattle.std.specs.List.{AllByRecursion}
 use Rattle.std.proofs.lemmas.List.{length-map, map-append}
-use Rattle.std.proofs.lemmas.List.Elements.{Contains-append_cases, recursion_from_All}
+use Rattle.std.proofs.lemmas.List.Elements.{recursion_from_All}
 use Rattle.bb_names.specs.declared.net.NetInfo.{NetInfo}
 use Rattle.bb_expr.specs.declared.step.BitStep.{BitStep}
 use Rattle.bb_expr.specs.Lists.{bitwise}
 use Rattle.bb_expr.specs.Terms.{Term, Mux}
 use Rattle.bb_expr.specs.Cells.{Made, selected}
-use Rattle.bb_expr.specs.Lowered.{step_term, term_at, Reads, operands, is_operator}
+use Rattle.bb_expr.specs.Lowered.{step_term, term_at, Reads, is_operator}
 use Rattle.bb_expr.specs.Inside.Growing.{Adds, AddsRow, paired}
 use Rattle.bb_expr.proofs.ValueLemmas.{length-bitwise}
-use Rattle.bb_expr.proofs.RowLemmas.{IsReadBy, adds-beside}
-use Rattle.bb_expr.proofs.ListLemmas.{all-front, all-back, single}
-use Rattle.bb_expr.proofs.AddLemmas.{adds-operators, read-next, read-first, none-in}
+use Rattle.bb_expr.proofs.RowLemmas.{adds-beside}
+use Rattle.bb_expr.proofs.ListLemmas.{all-front, all-back}
+use Rattle.bb_expr.proofs.AddLemmas.{adds-operators}
 
 -- the two halves of a joined list
 pub both-halves : {X : Type 0} (us vs xs ys : List X) → length us ≡ length xs → us ++ vs ≡ xs ++ ys → (us ≡ xs) × (vs ≡ ys)
@@ -55,30 +54,11 @@ module _ (nets : List NetInfo) (op : ℕ → ℕ → BitStep) where
   pairs-terms v gate means (x ∷ xs) [] = refl
   pairs-terms v gate means (x ∷ xs) (y ∷ ys) = ap₂ (λ a r. a ∷ r) (means x y) (pairs-terms v gate means xs ys)
 
-  pub first-read : ((x y : ℕ) → Contains (operands (op x y)) x) → (xs ys : List ℕ) → length xs ≡ length ys → (k : ℕ) → Contains xs k → IsReadBy (paired op xs ys) k
-  first-read reads [] ys long k h = none-in k _ h
-  first-read reads (x ∷ xs) [] long k h = absurd (omega (arith, long))
-  first-read reads (x ∷ xs) (y ∷ ys) long k h = elim (Contains-append_cases (x ∷ []) xs k h) [
-    | inl here ↦ read-first nets (op x y) (paired op xs ys) k (subst (Contains (operands (op x y))) (single x k here) (reads x y))
-    | inr there ↦ read-next nets (op x y) (paired op xs ys) k (first-read reads xs ys (omega (arith, long)) k there)
-  ]
-
-  pub second-read : ((x y : ℕ) → Contains (operands (op x y)) y) → (xs ys : List ℕ) → length xs ≡ length ys → (k : ℕ) → Contains ys k → IsReadBy (paired op xs ys) k
-  second-read reads [] [] long k h = none-in k _ h
-  second-read reads [] (y ∷ ys) long k h = absurd (omega (arith, long))
-  second-read reads (x ∷ xs) [] long k h = absurd (omega (arith, long))
-  second-read reads (x ∷ xs) (y ∷ ys) long k h = elim (Contains-append_cases (y ∷ []) ys k h) [
-    | inl here ↦ read-first nets (op x y) (paired op xs ys) k (subst (Contains (operands (op x y))) (single y k here) (reads x y))
-    | inr there ↦ read-next nets (op x y) (paired op xs ys) k (second-read reads xs ys (omega (arith, long)) k there)
-  ]
-
 -- an operator of two bits, as a step and as a cell
 pub record IsGate (nets : List NetInfo) (op : ℕ → ℕ → BitStep) (gate : Term → Term → Term) : Type 0 where
   pub reads : (n x y : ℕ) → x < n → y < n → Reads nets n (op x y)
   pub is : (x y : ℕ) → is_operator (op x y) ≡ true
   pub means : (v : ℕ → Term) (x y : ℕ) → step_term nets (op x y) v ≡ gate (v x) (v y)
-  pub first : (x y : ℕ) → Contains (operands (op x y)) x
-  pub second : (x y : ℕ) → Contains (operands (op x y)) y
 
 module _ (nets : List NetInfo) where
   -- an operator between the bits of two expressions
@@ -90,10 +70,6 @@ module _ (nets : List NetInfo) where
       let count : length (paired op a b) ≡ length a = length-paired op (length a) a b refl (sym long) in
       adds-operators nets (record { bits = m.bits ++ n.bits; cells = m.cells ++ n.cells }) old s2 new (paired op a b) (a ++ b) out (bitwise gate m.bits n.bits) both row
       (pairs-read nets op (length s2) (g.reads (length s2)) a b (all-front (λ k. k < length s2) a b below) (all-back (λ k. k < length s2) a b below)) (pairs-are nets op g.is a b)
-      (λ k h. elim (Contains-append_cases a b k h) [
-        | inl in_a ↦ first-read nets op g.first a b long k in_a
-        | inr in_b ↦ second-read nets op g.second a b long k in_b
-      ])
       (count ∙ sym (length-bitwise gate (length a) m.bits n.bits (sym x.long) (sym y.long ∙ sym long))) (omega (arith, count, long, length-append a b))
       (λ same.
       let halves = both-halves (map (term_at nets s2) a) (map (term_at nets s2) b) m.bits n.bits (length-map a (term_at nets s2) ∙ x.long) (sym (map-append (term_at nets s2) a b) ∙ same) in

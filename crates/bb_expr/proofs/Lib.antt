@@ -25,6 +25,16 @@ pub mod OperatorLemmas
 pub mod NetBitLemmas
 pub mod WalkLemmas
 pub mod AskLemmas
+pub mod LevelLemmas
+pub mod ReadyLemmas
 pub mod NameLemmas
 pub mod SomeRows
+pub mod SomeWords
 pub mod SomeLowerings
+pub mod PasteGates
+pub mod PasteTerms
+pub mod PasteRows
+pub mod PastePlaces
+pub mod PasteAdds
+pub mod PasteCounts
+pub mod PasteWords

@@ -1,5 +1,5 @@
 -- Steps from nothing on that make an expression's bits and cells are the expression lowered, and have its value.
-use Rattle.std.proofs.Common.{◌≡◌, ℕ, ◌+◌, ◌<◌, ◌≤◌, false, List, [], length, map, get_or, sym, ap, ◌∙◌, subst, arith, append-nil}
+use Rattle.std.proofs.Common.{◌≡◌, ℕ, ◌+◌, ◌<◌, ◌≤◌, false, List, [], length, map, get_or, sym, ap, ◌∙◌, subst, arith}
 use Rattle.std.specs.Prelude.{All}
 use Rattle.std.specs.List.{enumerate_from}
 use Rattle.std.proofs.lemmas.List.{get_or_default}
@@ -13,16 +13,15 @@ use Rattle.bb_expr.specs.declared.step.BitStep.{BitStep}
 use Rattle.bb_expr.specs.declared.step.BitStep.TheVariants as steps
 use Rattle.bb_expr.specs.Terms.{term_bit}
 use Rattle.bb_expr.specs.Cells.{made}
-use Rattle.bb_expr.specs.Lowered.{Reads, term_at, IsUsed, IsLowered, HasValue}
+use Rattle.bb_expr.specs.Lowered.{Reads, term_at, IsLowered, HasValue}
+use Rattle.bb_expr.specs.Laws.{MadeHasValue}
 use Rattle.bb_expr.specs.Inside.Growing.{AreOrdered, AreSteps, Adds}
-use Rattle.bb_expr.proofs.MadeValue.{made-value}
 use Rattle.bb_expr.proofs.CellCounts.{length-made}
 
-nothing-stands : (nets : List NetInfo) → AreSteps nets [] [] []
+nothing-stands : (nets : List NetInfo) → AreSteps nets [] []
 nothing-stands nets = record {
   earlier = λ k lt. absurd (omega (arith, lt));
-  cells = IsPermutation-refl [];
-  used = λ k lt is. absurd (omega (arith, lt));
+  made = IsPermutation-refl [];
 }
 
 ordered-each : (nets : List NetInfo) (all : List BitStep) → AreOrdered nets all → All (λ x. Reads nets x.0 x.1) (enumerate_from 0 all)
@@ -37,15 +36,14 @@ ordered-each nets all ordered k d lt =
 module _ (nets : List NetInfo) (ranges : Ranges) (e : Expression) (w : ℕ) (all : List BitStep) (bits : List ℕ) (own : own_width ranges e ≤ w) (adds : Adds nets (made ranges e w) [] all bits) where
   pub is-lowered : IsLowered nets ranges e w all bits
   is-lowered =
-      let p = adds.makes [] [] (nothing-stands nets) in
+      let p = adds.makes [] (nothing-stands nets) in
       record {
         earlier = ordered-each nets all p.0.earlier;
         places = adds.within;
         width = adds.long ∙ length-made ranges e w own;
         terms = p.1;
-        cells = p.0.cells;
-        used = λ k lt is. subst (λ kept. IsUsed all kept k) (append-nil bits) (p.0.used k lt is);
+        cells = p.0.made;
       }
 
-  pub has-value : HasValue nets ranges e w all bits
-  has-value env = sym (map-map (term_bit env) (term_at nets all) bits) ∙ ap (map (term_bit env)) (adds.makes [] [] (nothing-stands nets)).1 ∙ made-value ranges env e w own
+  pub has-value : MadeHasValue → HasValue nets ranges e w all bits
+  has-value law env = sym (map-map (term_bit env) (term_at nets all) bits) ∙ ap (map (term_bit env)) (adds.makes [] (nothing-stands nets)).1 ∙ law ranges env e w own

@@ -3,8 +3,8 @@ use Rattle.std.proofs.Common.{◌∷◌, ◌++◌}
 use Rattle.std.specs.Prelude.{slice_get, All}
 use Rattle.std.specs.List.{AllByRecursion, flat_map}
 use Rattle.std.proofs.lemmas.List.Elements.{All-from_recursion, recursion_from_All}
-use Rattle.bb_ast.specs.Syntax.{Expression, Net, Bit, Part, Sized, Plain, Not, Chain, Cond, Concat, Repeat, Operands, no_operand, operand, Arms, no_arm, arm, Parts, no_part, part}
-use Rattle.bb_ast.specs.Folds.{of_operands, of_arms, of_parts}
+use Rattle.bb_ast.specs.Syntax.{Expression, Net, Bit, Part, Sized, Plain, Not, Fold, Chain, Words, Cond, Concat, Repeat, Operands, no_operand, operand, WordOperands, no_word, word, Arms, no_arm, arm, Parts, no_part, part}
+use Rattle.bb_ast.specs.Folds.{of_operands, of_words, of_arms, of_parts}
 use Rattle.bb_ast.specs.Names.{naming, names_in}
 use Rattle.bb_names.specs.Inside.Checked.{ModuleFacts}
 use Rattle.bb_expr.specs.Inside.Standing.{gathering, expressions_in}
@@ -22,8 +22,11 @@ module _ (m : ModuleFacts) where
     names-named (Sized bits) fit = tt
     names-named (Plain n) fit = tt
     names-named (Not k e) fit = names-named e fit.1
+    names-named (Fold op e) fit = names-named e fit.1
     names-named (Chain e rest) fit =
         all-join (HasNet m) (names_in e) _ (names-named e (all-front (IsFit m) (expressions_in e) _ fit.1)) (operands-named rest (all-back (IsFit m) (expressions_in e) _ fit.1))
+    names-named (Words e rest) fit =
+        all-join (HasNet m) (names_in e) _ (names-named e (all-front (IsFit m) (expressions_in e) _ fit.1)) (words-named rest (all-back (IsFit m) (expressions_in e) _ fit.1))
     names-named (Cond all last) fit =
         all-join (HasNet m) _ (names_in last) (arms-named all (all-front (IsFit m) (flat_map (λ x. x.0 ++ x.1) (of_arms (λ x all. x ∷ all) gathering all)) (expressions_in last) fit.1))
         (names-named last (all-back (IsFit m) (flat_map (λ x. x.0 ++ x.1) (of_arms (λ x all. x ∷ all) gathering all)) (expressions_in last) fit.1))
@@ -34,6 +37,11 @@ module _ (m : ModuleFacts) where
     operands-named no_operand fit = tt
     operands-named (operand op e rest) fit =
         all-join (HasNet m) (names_in e) _ (names-named e (all-front (IsFit m) (expressions_in e) _ fit)) (operands-named rest (all-back (IsFit m) (expressions_in e) _ fit))
+
+    words-named : (rest : WordOperands) → AllByRecursion (IsFit m) (flat_map (λ x. x.1) (of_words (λ x all. x ∷ all) gathering rest)) → AllByRecursion (HasNet m) (flat_map (λ x. x.1) (of_words (λ x a. a) naming rest))
+    words-named no_word fit = tt
+    words-named (word op e rest) fit =
+        all-join (HasNet m) (names_in e) _ (names-named e (all-front (IsFit m) (expressions_in e) _ fit)) (words-named rest (all-back (IsFit m) (expressions_in e) _ fit))
 
     arms-named : (rest : Arms) → AllByRecursion (IsFit m) (flat_map (λ x. x.0 ++ x.1) (of_arms (λ x all. x ∷ all) gathering rest)) → AllByRecursion (HasNet m) (flat_map (λ x. x.0 ++ x.1) (of_arms (λ x a. a) naming rest))
     arms-named no_arm fit = tt

@@ -4,8 +4,10 @@ use Rattle.std.specs.Prelude.{All, sum, max}
 use Rattle.std.specs.List.{AllByRecursion, flat_map}
 use Rattle.std.proofs.lemmas.List.Elements.{All-from_recursion, recursion_from_All}
 use Rattle.bb_ast.specs.declared.expr.Op.{Op}
-use Rattle.bb_ast.specs.Syntax.{Expression, Not, Chain, Cond, Concat, Repeat, operands, arms, listed_parts}
-use Rattle.bb_ast.specs.Folds.{of_operands, of_arms, of_parts}
+use Rattle.bb_ast.specs.declared.operators.WordOp.{WordOp}
+use Rattle.bb_ast.specs.declared.operators.FoldOp.{FoldOp}
+use Rattle.bb_ast.specs.Syntax.{Expression, Not, Fold, Chain, Words, Cond, Concat, Repeat, operands, word_operands, arms, listed_parts}
+use Rattle.bb_ast.specs.Folds.{of_operands, of_words, of_arms, of_parts}
 use Rattle.bb_names.specs.Widths.{Ranges, greatest, widths, own_width}
 use Rattle.bb_names.specs.Faults.{widest}
 use Rattle.bb_names.specs.Inside.Checked.{ModuleFacts}
@@ -25,6 +27,19 @@ module _ (m : ModuleFacts) where
 
   pub fit-not : (k : ℕ) (e : Expression) → AreFit m (Not k e) → AreFit m e
   fit-not k e fit = fit-of e (each-in (Not k e) fit).1
+
+  pub fit-folded : (op : FoldOp) (e : Expression) → AreFit m (Fold op e) → AreFit m e
+  fit-folded op e fit = fit-of e (each-in (Fold op e) fit).1
+
+  words-each : (xs : List (WordOp × Expression)) → AllByRecursion (IsFit m) (flat_map (λ x. x.1) (of_words (λ x all. x ∷ all) gathering (word_operands xs))) → AllByRecursion (λ x. AreFit m x.1) xs
+  words-each [] h = tt
+  words-each (x ∷ xs) h = (fit-of x.1 (all-front (IsFit m) (expressions_in x.1) _ h), words-each xs (all-back (IsFit m) (expressions_in x.1) _ h))
+
+  pub fit-left : (e : Expression) (xs : List (WordOp × Expression)) → AreFit m (Words e (word_operands xs)) → AreFit m e
+  fit-left e xs fit = fit-of e (all-front (IsFit m) (expressions_in e) _ (each-in (Words e (word_operands xs)) fit).1)
+
+  pub fit-words : (e : Expression) (xs : List (WordOp × Expression)) → AreFit m (Words e (word_operands xs)) → All (λ x. AreFit m x.1) xs
+  fit-words e xs fit = All-from_recursion (λ x. AreFit m x.1) xs (words-each xs (all-back (IsFit m) (expressions_in e) _ (each-in (Words e (word_operands xs)) fit).1))
 
   operands-each : (xs : List (Op × Expression)) → AllByRecursion (IsFit m) (flat_map (λ x. x.1) (of_operands (λ x all. x ∷ all) gathering (operands xs))) → AllByRecursion (λ x. AreFit m x.1) xs
   operands-each [] h = tt

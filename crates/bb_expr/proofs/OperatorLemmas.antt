@@ -15,10 +15,10 @@ use Rattle.bb_expr.proofs.ChoiceLemmas.{adds-or}
 
 module _ (nets : List NetInfo) where
   op-gate : (op : Op) → IsGate nets (gate_step op) (gate_term op)
-  op-gate ops.And = record { reads = λ n x y a b. (a, b); is = λ x y. refl; means = λ v x y. refl; first = λ x y. (0, omega arith, refl); second = λ x y. (1, omega arith, refl) }
-  op-gate ops.Or = record { reads = λ n x y a b. (a, b); is = λ x y. refl; means = λ v x y. refl; first = λ x y. (0, omega arith, refl); second = λ x y. (1, omega arith, refl) }
-  op-gate ops.Xor = record { reads = λ n x y a b. (a, b); is = λ x y. refl; means = λ v x y. refl; first = λ x y. (0, omega arith, refl); second = λ x y. (1, omega arith, refl) }
-  op-gate ops.Xnor = record { reads = λ n x y a b. (a, b); is = λ x y. refl; means = λ v x y. refl; first = λ x y. (0, omega arith, refl); second = λ x y. (1, omega arith, refl) }
+  op-gate ops.And = record { reads = λ n x y a b. (a, b); is = λ x y. refl; means = λ v x y. refl }
+  op-gate ops.Or = record { reads = λ n x y a b. (a, b); is = λ x y. refl; means = λ v x y. refl }
+  op-gate ops.Xor = record { reads = λ n x y a b. (a, b); is = λ x y. refl; means = λ v x y. refl }
+  op-gate ops.Xnor = record { reads = λ n x y a b. (a, b); is = λ x y. refl; means = λ v x y. refl }
 
   pub adds-gated : (op : Op) (m n : Made) (old mid before new : List BitStep) (a b out : List ℕ) → Adds nets m old mid a → Adds nets n mid before b → length a ≡ length b
       → AddsRow (paired (gate_step op) a b) before new out → Adds nets (gated op m n) old new out

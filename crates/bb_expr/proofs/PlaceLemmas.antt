@@ -63,6 +63,9 @@ ranged-more f from n old new places row = subst (λ rows. AddsRow rows old new p
 pub repeated-length : (s : BitStep) (n : ℕ) (old new : List BitStep) (places : List ℕ) → AddsRow (replicate n s) old new places → length new ≡ length old + n
 repeated-length s n old new places row = row-length (replicate n s) old new places row ∙ ap (λ k. length old + k) (length-replicate n s)
 
+pub repeated-count : (s : BitStep) (n : ℕ) (old new : List BitStep) (places : List ℕ) → AddsRow (replicate n s) old new places → length places ≡ n
+repeated-count s n old new places row = row-count (replicate n s) old new places row ∙ length-replicate n s
+
 pub repeated-more : (s : BitStep) (n : ℕ) (old new : List BitStep) (places : List ℕ) → AddsRow (replicate n s ++ s ∷ []) old new places → AddsRow (replicate (n + 1) s) old new places
 repeated-more s n old new places row = subst (λ rows. AddsRow rows old new places) (replicate_more n s) row
 

@@ -1,26 +1,22 @@
--- Rows of steps that read earlier ones alone: which cells they are, and that what they read is used.
-use Rattle.std.proofs.Common.{◌≡◌, ℕ, suc, ◌+◌, ◌<◌, ◌≤◌, List, [], ◌∷◌, ◌++◌, length, map, drop, Option, Some, None, refl, sym, ap, ap₂, ◌∙◌, subst, arith, inl, inr, length-append, append_assoc, append-nil}
-use Rattle.std.specs.Prelude.{◌⊎◌, ◌*◌, All, Contains, if◌then◌else◌}
+-- Rows of steps that read earlier ones alone: which cells they are.
+use Rattle.std.proofs.Common.{◌≡◌, ℕ, suc, ◌+◌, ◌<◌, ◌≤◌, List, [], ◌∷◌, ◌++◌, length, map, Option, Some, None, refl, sym, ap, ap₂, ◌∙◌, subst, arith, length-append, append_assoc, append-nil}
+use Rattle.std.specs.Prelude.{◌*◌, All, if◌then◌else◌}
 use Rattle.std.specs.List.{filter_map, cons_option, enumerate_from, range_with_len}
 use Rattle.std.specs.List.Sorted.{IsPermutation}
-use Rattle.std.proofs.lemmas.List.{get_or_append_left, drop-append-le, map-append}
-use Rattle.std.proofs.lemmas.List.Elements.{filter_map-append, Contains-append_left, Contains-append_right, Contains-append_cases, All-head, All-tail, All-weaker, All-append, All-nil}
+use Rattle.std.proofs.lemmas.List.{map-append}
+use Rattle.std.proofs.lemmas.List.Elements.{filter_map-append, All-head, All-tail, All-weaker, All-append, All-nil}
 use Rattle.std.proofs.lemmas.List.Sorted.{IsPermutation-append_left, IsPermutation-append_right, IsPermutation-trans, length_permutation}
 use Rattle.bb_names.specs.declared.net.NetInfo.{NetInfo}
 use Rattle.bb_expr.specs.declared.step.BitStep.{BitStep}
 use Rattle.bb_expr.specs.Terms.{Term}
 use Rattle.bb_expr.specs.Cells.{Made}
-use Rattle.bb_expr.specs.Lowered.{step_term, term_at, Reads, operands, is_operator, operators}
+use Rattle.bb_expr.specs.Lowered.{step_term, term_at, Reads, is_operator, operators}
 use Rattle.bb_expr.specs.Inside.Growing.{step_at, AreOrdered, AreSteps, Adds}
-use Rattle.bb_expr.proofs.StepLemmas.{either-side, term-more, ordered-rows, row-term}
+use Rattle.bb_expr.proofs.StepLemmas.{term-more, ordered-rows, row-term}
 
 -- the cell that a step is, if it is an operator, where its operands stand among these steps
 abbrev pub row_cell : List NetInfo → List BitStep → BitStep → Option Term
 row_cell nets all s = if is_operator s then Some (step_term nets s (term_at nets all)) else None
-
--- some step of a row reads the place
-abbrev pub IsReadBy : List BitStep → ℕ → Type 0
-IsReadBy rows k = (s : BitStep) × Contains rows s × Contains (operands s) k
 
 enumerate-append : (n : ℕ) (xs ys : List BitStep) → enumerate_from n (xs ++ ys) ≡ enumerate_from n xs ++ enumerate_from (n + length xs) ys
 enumerate-append n [] ys = ap (λ k. enumerate_from k ys) (same n)
@@ -88,38 +84,14 @@ module _ (nets : List NetInfo) where
   terms-kept all more ordered (k ∷ ks) h =
       ap₂ (λ a r. a ∷ r) (term-more nets all more ordered k (All-head (λ k. k < length all) k ks h)) (terms-kept all more ordered ks (All-tail (λ k. k < length all) k ks h))
 
-  pub steps-kept : (all : List BitStep) (kept kept' : List ℕ) (terms : List Term) → ((k : ℕ) → Contains kept k → Contains kept' k) → AreSteps nets all kept terms → AreSteps nets all kept' terms
-  steps-kept all kept kept' terms moves h = record {
-    earlier = h.earlier;
-    cells = h.cells;
-    used = λ k lt is. elim (h.used k lt is) [
-      | inl here ↦ inl (moves k here)
-      | inr later ↦ inr later
-    ];
-  }
+  pub steps-permuted : (all : List BitStep) (terms terms' : List Term) → IsPermutation terms' terms → AreSteps nets all terms → AreSteps nets all terms'
+  steps-permuted all terms terms' moves h = record { earlier = h.earlier; made = IsPermutation-trans terms' terms (operators nets all) moves h.made }
 
-  pub steps-permuted : (all : List BitStep) (kept : List ℕ) (terms terms' : List Term) → IsPermutation terms' terms → AreSteps nets all kept terms → AreSteps nets all kept terms'
-  steps-permuted all kept terms terms' moves h = record { earlier = h.earlier; cells = IsPermutation-trans terms' terms (operators nets all) moves h.cells; used = h.used }
-
-  -- a row that reads what is no longer kept
-  pub steps-rows : (old rows : List BitStep) (kept kept' : List ℕ) (terms : List Term) → AreSteps nets old kept terms → All (Reads nets (length old)) rows
-      → ((k : ℕ) → Contains kept k → Contains kept' k ⊎ IsReadBy rows k) → ((i : ℕ) → i < length rows → Contains kept' (length old + i))
-      → AreSteps nets (old ++ rows) kept' (terms ++ filter_map (row_cell nets old) rows)
-  steps-rows old rows kept kept' terms h reads read there = record {
+  -- a row that reads earlier steps alone
+  pub steps-rows : (old rows : List BitStep) (terms : List Term) → AreSteps nets old terms → All (Reads nets (length old)) rows → AreSteps nets (old ++ rows) (terms ++ filter_map (row_cell nets old) rows)
+  steps-rows old rows terms h reads = record {
     earlier = ordered-rows nets old rows h.earlier reads;
-    cells = subst (IsPermutation (terms ++ filter_map (row_cell nets old) rows)) (sym (operators-rows old rows h.earlier reads)) (IsPermutation-append_left (filter_map (row_cell nets old) rows) terms (operators nets old) h.cells);
-    used = λ k lt is. elim (either-side k (length old)) [
-      | inl below ↦
-          let behind : drop (k + 1) (old ++ rows) ≡ drop (k + 1) old ++ rows = drop-append-le (k + 1) old rows (omega arith) in
-          elim (h.used k below (ap is_operator (sym (get_or_append_left old rows _ k below)) ∙ is)) [
-            | inl here ↦ elim (read k here) [
-              | inl kept ↦ inl kept
-              | inr reader ↦ inr (reader.0, subst (λ l. Contains l reader.0) (sym behind) (Contains-append_right (drop (k + 1) old) rows reader.0 reader.1), reader.2)
-            ]
-            | inr later ↦ inr (later.0, subst (λ l. Contains l later.0) (sym behind) (Contains-append_left (drop (k + 1) old) rows later.0 later.1), later.2)
-          ]
-      | inr above ↦ inl (subst (Contains kept') (sym above.1) (there above.0 (omega (arith, lt, above.1, length-append old rows))))
-    ];
+    made = subst (IsPermutation (terms ++ filter_map (row_cell nets old) rows)) (sym (operators-rows old rows h.earlier reads)) (IsPermutation-append_left (filter_map (row_cell nets old) rows) terms (operators nets old) h.made);
   }
 
   -- nothing is added
@@ -130,35 +102,26 @@ module _ (nets : List NetInfo) where
     within = All-nil (λ k. k < length old);
     long = refl;
     few = omega arith;
-    makes = λ kept terms h. (subst (AreSteps nets old kept) (sym (append-nil terms)) h, refl);
+    makes = λ terms h. (subst (AreSteps nets old) (sym (append-nil terms)) h, refl);
   }
 
   -- a row of steps behind others
   pub adds-rows : (m : Made) (old mid new rows : List BitStep) (bits out : List ℕ) (made cells : List Term) → Adds nets m old mid bits → new ≡ mid ++ rows → All (Reads nets (length mid)) rows
-      → ((k : ℕ) → Contains bits k → Contains out k ⊎ IsReadBy rows k) → ((i : ℕ) → i < length rows → Contains out (length mid + i)) → All (λ k. k < length mid + length rows) out
+      → All (λ k. k < length mid + length rows) out
       → length out ≡ length made → length bits + length rows ≤ length out + 3 * length cells
       → (AreOrdered nets mid → map (term_at nets mid) bits ≡ m.bits → (map (term_at nets (mid ++ rows)) out ≡ made) × (filter_map (row_cell nets mid) rows ≡ cells))
       → Adds nets (record { bits = made; cells = m.cells ++ cells }) old new out
-  adds-rows m old mid new rows bits out made cells x is reads read there within long fits terms = record {
+  adds-rows m old mid new rows bits out made cells x is reads within long fits terms = record {
     more = x.more ++ rows;
     grows = is ∙ ap (λ l. l ++ rows) x.grows ∙ append_assoc old x.more rows;
     within = subst (λ n. All (λ k. k < n) out) (sym (length-append mid rows) ∙ ap length (sym is)) within;
     long = long;
     few = omega (arith, x.few, fits, ap length is, length-append mid rows, length-append m.cells cells);
-    makes = λ kept before h.
-        let p = x.makes kept before h in
+    makes = λ before h.
+        let p = x.makes before h in
         let t = terms p.0.earlier p.1 in
-        let after = steps-rows mid rows (bits ++ kept) (out ++ kept) (before ++ m.cells) p.0 reads
-        (λ k here. elim (Contains-append_cases bits kept k here) [
-          | inl a ↦ elim (read k a) [
-            | inl b ↦ inl (Contains-append_left out kept k b)
-            | inr b ↦ inr b
-          ]
-          | inr a ↦ inl (Contains-append_right out kept k a)
-        ])
-        (λ i lt. Contains-append_left out kept (length mid + i) (there i lt)) in (
-          subst (λ all. AreSteps nets all (out ++ kept) (before ++ (m.cells ++ cells))) (sym is)
-              (subst (AreSteps nets (mid ++ rows) (out ++ kept)) (ap (λ c. (before ++ m.cells) ++ c) t.1 ∙ append_assoc before m.cells cells) after),
+        let after = steps-rows mid rows (before ++ m.cells) p.0 reads in (
+          subst (λ all. AreSteps nets all (before ++ (m.cells ++ cells))) (sym is) (subst (AreSteps nets (mid ++ rows)) (ap (λ c. (before ++ m.cells) ++ c) t.1 ∙ append_assoc before m.cells cells) after),
           ap (λ all. map (term_at nets all) out) is ∙ t.0,
         );
   }
@@ -173,24 +136,14 @@ module _ (nets : List NetInfo) where
         (All-weaker (λ k. k < length mid) (λ k. k < length new) (λ k lt. omega (arith, lt, ap length y.grows, length-append mid y.more)) a x.within) y.within;
     long = length-append a b ∙ ap₂ (λ u v. u + v) x.long y.long ∙ sym (length-append m.bits n.bits);
     few = omega (arith, x.few, y.few, length-append a b, length-append m.cells n.cells);
-    makes = λ kept terms h.
-        let p = x.makes kept terms h in
-        let q = y.makes (a ++ kept) (terms ++ m.cells) p.0 in (
-          subst (AreSteps nets new ((a ++ b) ++ kept)) (append_assoc terms m.cells n.cells)
-              (steps-kept new (b ++ (a ++ kept)) ((a ++ b) ++ kept) ((terms ++ m.cells) ++ n.cells) (exchange kept) q.0),
+    makes = λ terms h.
+        let p = x.makes terms h in
+        let q = y.makes (terms ++ m.cells) p.0 in (
+          subst (AreSteps nets new) (append_assoc terms m.cells n.cells) q.0,
           map-append (term_at nets new) a b
               ∙ ap₂ (λ u v. u ++ v) (ap (λ all. map (term_at nets all) a) y.grows ∙ terms-kept mid y.more p.0.earlier a x.within ∙ p.1) q.1,
         );
   }
-    where
-      exchange : (kept : List ℕ) (k : ℕ) → Contains (b ++ (a ++ kept)) k → Contains ((a ++ b) ++ kept) k
-      exchange kept k h = elim (Contains-append_cases b (a ++ kept) k h) [
-        | inl in_b ↦ Contains-append_left (a ++ b) kept k (Contains-append_right a b k in_b)
-        | inr other ↦ elim (Contains-append_cases a kept k other) [
-          | inl in_a ↦ Contains-append_left (a ++ b) kept k (Contains-append_left a b k in_a)
-          | inr in_kept ↦ Contains-append_right (a ++ b) kept k in_kept
-        ]
-      ]
 
   -- the same cells in another order, and the same bits in other words
   pub adds-same : (m n : Made) (old new : List BitStep) (bits : List ℕ) → m.bits ≡ n.bits → IsPermutation n.cells m.cells → Adds nets m old new bits → Adds nets n old new bits
@@ -200,7 +153,7 @@ module _ (nets : List NetInfo) where
     within = x.within;
     long = x.long ∙ ap length same;
     few = omega (arith, x.few, length_permutation n.cells m.cells moves);
-    makes = λ kept terms h.
-        let p = x.makes kept terms h in
-        (steps-permuted new (bits ++ kept) (terms ++ m.cells) (terms ++ n.cells) (IsPermutation-append_right terms n.cells m.cells moves) p.0, p.1 ∙ same);
+    makes = λ terms h.
+        let p = x.makes terms h in
+        (steps-permuted new (terms ++ m.cells) (terms ++ n.cells) (IsPermutation-append_right terms n.cells m.cells moves) p.0, p.1 ∙ same);
   }

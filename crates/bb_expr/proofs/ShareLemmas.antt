@@ -10,7 +10,8 @@ use Rattle.bb_ast.specs.declared.expr.Op.TheVariants as ops
 use Rattle.bb_ast.specs.Syntax.{Expression, Chain, Cond, Concat, Repeat, operands, arms, listed_parts}
 use Rattle.bb_ast.specs.Folds.{of_operands, of_arms, of_parts}
 use Rattle.bb_names.specs.Widths.{Ranges, Operand, alone}
-use Rattle.bb_expr.specs.Cells.{is_odd, op_cells, counts, cell_count}
+use Rattle.bb_expr.specs.Cells.{op_cells, counts, cell_count}
+use Rattle.bb_word.specs.Folds.{is_odd}
 use Rattle.bb_expr.specs.Inside.Shares.{own_cells, operand_cells, arm_cells}
 use Rattle.bb_expr.proofs.CellCounts.{count_seen}
 
@@ -58,6 +59,12 @@ arm-share m a v own w first second inner result x y both small is =
 pub sum-more : {X Y : Type 0} (g : Y → ℕ) (f : X → Y) (xs : List X) (i : ℕ) (x : X) → i < length xs → x ≡ get_or xs i x → sum_by g (map f (take (i + 1) xs)) ≡ sum_by g (map f (take i xs)) + g (f x)
 sum-more g f xs i x within at =
     ap (sum_by g) (map_more f xs i x within ∙ ap (λ y. map f (take i xs) ++ f y ∷ []) (sym at)) ∙ sum_by_push g (map f (take i xs)) (f x)
+
+-- one element is no more than all
+pub one-share : {X Y : Type 0} (g : Y → ℕ) (f : X → Y) (xs : List X) (i : ℕ) (x : X) → i < length xs → x ≡ get_or xs i x → g (f x) ≤ sum_by g (map f xs)
+one-share g f [] i x within at = absurd (omega (arith, within))
+one-share g f (y ∷ xs) zero x within at = omega (arith, sum_by-cons g (f y) (map f xs), ap (λ z. g (f z)) at)
+one-share g f (y ∷ xs) (suc i) x within at = omega (arith, sum_by-cons g (f y) (map f xs), one-share g f xs i x (omega (arith, within)) at)
 
 -- one element more
 pub share-more : {X Y : Type 0} (g : Y → ℕ) (f : X → Y) (xs : List X) (i : ℕ) (x : X) (m before here now : ℕ) → i < length xs → x ≡ get_or xs i x

@@ -1,14 +1,17 @@
 -- Each expression that is fit in a module can be lowered: operand by operand, behind the steps of those before it.
-use Rattle.std.proofs.Common.{◌≡◌, ℕ, ◌+◌, ◌≤◌, List, [], ◌∷◌, ◌++◌, length, map, refl, inl, inr, arith}
+use Rattle.std.proofs.Common.{◌≡◌, ℕ, ◌+◌, ◌≤◌, List, [], ◌∷◌, ◌++◌, length, map, refl, sym, subst, inl, inr, arith}
 use Rattle.std.specs.Prelude.{fold, Contains}
 use Rattle.std.specs.List.{AllByRecursion, flat_map}
 use Rattle.std.proofs.lemmas.List.Elements.{recursion_from_All}
-use Rattle.bb_ast.specs.Syntax.{Expression, Net, Bit, Part, Sized, Plain, Not, Chain, Cond, Concat, Repeat, Operands, no_operand, operand, Arms, no_arm, arm, Parts, no_part, part, PlainModule}
-use Rattle.bb_ast.specs.Folds.{of_operands, of_arms, of_parts}
+use Rattle.bb_ast.specs.Syntax.{Expression, Net, Bit, Part, Sized, Plain, Not, Fold, Chain, Words, Cond, Concat, Repeat, Operands, no_operand, operand, WordOperands, no_word, word, Arms, no_arm, arm, Parts, no_part, part, PlainModule}
+use Rattle.bb_ast.specs.Folds.{of_operands, of_words, of_arms, of_parts}
 use Rattle.bb_bits.specs.Numbers.{bits_of}
 use Rattle.bb_names.specs.declared.net.NetInfo.{NetInfo}
 use Rattle.bb_names.specs.Ranges.{range_width, distance, place_of}
-use Rattle.bb_names.specs.Widths.{Ranges, greatest, widths, own_width}
+use Rattle.bb_ast.specs.declared.operators.WordOp.{WordOp}
+use Rattle.bb_ast.specs.declared.operators.WordOp.TheVariants as words
+use Rattle.bb_names.specs.Widths.{Ranges, greatest, widths, own_width, operator_width, first_at, second_at, word_step}
+use Rattle.bb_word.specs.Words.{HaveOneWidth}
 use Rattle.bb_names.specs.Declarations.{range_of}
 use Rattle.bb_names.specs.Nets.{net_names, net_of, nets_of}
 use Rattle.bb_expr.specs.declared.step.BitStep.{BitStep}
@@ -16,10 +19,11 @@ use Rattle.bb_expr.specs.Inside.Standing.{gathering, expressions_in}
 use Rattle.bb_expr.specs.Inside.Fit.{IsFitIn}
 use Rattle.bb_expr.specs.Laws.FitLaws.{LoweringsExist}
 use Rattle.bb_expr.specs.Terms.{Const}
-use Rattle.bb_expr.specs.Cells.{Made, without_cells, net_terms, made, makes, chained, operated, arms_made, part_bits, part_cells, is_odd}
-use Rattle.bb_expr.specs.Inside.Growing.{Adds, widened}
+use Rattle.bb_expr.specs.Cells.{Made, without_cells, net_terms, made, makes, chained, operated, arms_made, part_bits, part_cells, word_made}
+use Rattle.bb_word.specs.Folds.{is_odd}
+use Rattle.bb_expr.specs.Inside.Growing.{Adds, widened, word_joined, fold_joined}
 use Rattle.bb_expr.proofs.Booleans.{either}
-use Rattle.bb_expr.proofs.CellCounts.{length-made, length-operated}
+use Rattle.bb_expr.proofs.CellCounts.{length-made, length-operated, IsLong, word-makes}
 use Rattle.bb_expr.proofs.KnownNames.{net-at}
 use Rattle.bb_expr.proofs.ListLemmas.{all-front, all-back}
 use Rattle.bb_expr.proofs.LoweredLemmas.{is-lowered}
@@ -27,6 +31,8 @@ use Rattle.bb_expr.proofs.MadeValue.{made_seen}
 use Rattle.bb_expr.proofs.NetBitLemmas.{part-fits}
 use Rattle.bb_expr.proofs.RowLemmas.{adds-beside, adds-nothing}
 use Rattle.bb_expr.proofs.SomeRows.{Lowers, constants, net-bits, widen, complement, operate, any, choose, copy}
+use Rattle.bb_expr.proofs.SomeWords.{word-lowers, fold-lowers}
+use Rattle.bb_expr.proofs.ValueLemmas.{first-fits, second-fits, one-width}
 use Rattle.bb_expr.proofs.WalkLemmas.{not-odd, not-even}
 
 module _ (m : PlainModule) where
@@ -60,6 +66,47 @@ module _ (m : PlainModule) where
   arms-long : (all : Arms) (last : Expression) (w : ℕ) → greatest (map (λ x. x.1) (of_arms (λ x a. a) (widths ranges) all)) ≤ w → own_width ranges last ≤ w → length (arms_at all last w).bits ≡ w
   arms-long all last w fits own = length-made ranges (Cond all last) w (omega (arith, fits, own))
 
+  -- an operand that can be lowered at each width that is at least its own
+  record CanLower (l : ℕ) (f : ℕ → Made) : Type 0 where
+    pub some : 1 ≤ l
+    pub long : IsLong l f
+    pub lowers : (w : ℕ) (old : List BitStep) → l ≤ w → Lowers nets (f w) old
+
+  word-lower : (op : WordOp) (l r : ℕ) (f h : ℕ → Made) → CanLower l f → CanLower r h
+      → CanLower (operator_width op l r) (word_step word_made (record { width = l; at = f }) (op, record { width = r; at = h })).at
+  word-lower op l r f h first second = record {
+    some = some_width op l r first.some second.some;
+    long = word-makes op l r f h first.long second.long;
+    lowers = λ w old fits.
+        let left : ℕ = first_at op l r w in
+        let right : ℕ = second_at op l r w in
+        let a : l ≤ left = first-fits op l r w fits in
+        let b : r ≤ right = second-fits op l r w fits in
+        let x = first.lowers left old a in
+        let y = second.lowers right x.0 b in
+        let long_a = first.long left a in
+        let long_b = second.long right b in
+        widen nets w (word_joined op (f left) (h right)) old (word-lowers nets op (f left) (h right) old x.0 y.0 x.1 y.1 x.2 y.2 (record {
+          some_left = omega (arith, long_a, a, first.some);
+          some_right = omega (arith, long_b, b, second.some);
+          one = subst (λ i. HaveOneWidth op i (length (h right).bits)) (sym long_a) (subst (λ i. HaveOneWidth op left i) (sym long_b) (one-width op l r w));
+        }));
+  }
+    where
+      some_width : (op : WordOp) (l r : ℕ) → 1 ≤ l → 1 ≤ r → 1 ≤ operator_width op l r
+      some_width words.Plus l r a b = omega (arith, a)
+      some_width words.Minus l r a b = omega (arith, a)
+      some_width words.Equal l r a b = omega arith
+      some_width words.NotEqual l r a b = omega arith
+      some_width words.Less l r a b = omega arith
+      some_width words.LessEqual l r a b = omega arith
+      some_width words.Greater l r a b = omega arith
+      some_width words.GreaterEqual l r a b = omega arith
+      some_width words.Left l r a b = a
+      some_width words.Right l r a b = a
+      some_width words.Both l r a b = omega arith
+      some_width words.Either l r a b = omega arith
+
   mutual
     lowers : (e : Expression) (w : ℕ) (old : List BitStep) → AllByRecursion (IsFitIn m) (expressions_in e) → own_width ranges e ≤ w → Lowers nets (made ranges e w) old
     lowers (Net n) w old fit own = net-part n w 0 (range_width (ranges n)) old fit.0.right (omega arith)
@@ -72,6 +119,14 @@ module _ (m : PlainModule) where
         let first : own_width ranges e ≤ w = omega (arith, own) in
         let h = lowers e w old (all-front (IsFitIn m) (expressions_in e) _ fit.1) first in
         operands-lower rest w (made ranges e w) old h.0 h.1 h.2 (length-made ranges e w first) (all-back (IsFitIn m) (expressions_in e) _ fit.1) (omega (arith, own))
+    lowers (Fold op e) w old fit own =
+        let n : ℕ = own_width ranges e in
+        let a = made ranges e n in
+        widen nets w (fold_joined op a) old (fold-lowers nets op a old (lowers e n old fit.1 (omega arith)) (omega (arith, length-made ranges e n (omega arith), fit.1.0.some)))
+    lowers (Words e rest) w old fit own =
+        let first = all-front (IsFitIn m) (expressions_in e) _ fit.1 in
+        let can : CanLower (own_width ranges e) (made ranges e) = record { some = first.0.some; long = λ v h. length-made ranges e v h; lowers = λ v before h. lowers e v before first h } in
+        (words-lower rest (own_width ranges e) (made ranges e) can (all-back (IsFitIn m) (expressions_in e) _ fit.1)).lowers w old own
     lowers (Cond all last) w old fit own =
         arms-lower all last w old (all-front (IsFitIn m) (flat_map (λ x. x.0 ++ x.1) (of_arms (λ x all. x ∷ all) gathering all)) (expressions_in last) fit.1)
         (omega (arith, fit.0.some, own)) (omega (arith, own)) (omega (arith, own))
@@ -91,6 +146,16 @@ module _ (m : PlainModule) where
         let g = operate nets op p (made ranges e w) old now h.0 bits h.1 adds h.2 (omega (arith, adds.long, long, here, h.2.long)) in
         operands-lower rest w (chained p (made ranges e w) (operated op p.bits (made ranges e w).bits)) old g.0 g.1 g.2 (length-operated op w p.bits (made ranges e w).bits long here)
         (all-back (IsFitIn m) (expressions_in e) _ fit) (omega (arith, own))
+
+    words-lower : (rest : WordOperands) (l : ℕ) (f : ℕ → Made) → CanLower l f → AllByRecursion (IsFitIn m) (flat_map (λ x. x.1) (of_words (λ x all. x ∷ all) gathering rest))
+        → CanLower (fold (λ n x. operator_width x.0 n x.1) l (of_words (λ x a. a) (widths ranges) rest)) (fold (word_step word_made) (record { width = l; at = f }) (of_words (made_seen ranges) (makes ranges) rest)).at
+    words-lower no_word l f can fit = can
+    words-lower (word op e rest) l f can fit =
+        let r = own_width ranges e in
+        let first = all-front (IsFitIn m) (expressions_in e) _ fit in
+        let right : CanLower r (made ranges e) = record { some = first.0.some; long = λ v h. length-made ranges e v h; lowers = λ v before h. lowers e v before first h } in
+        words-lower rest (operator_width op l r) (word_step word_made (record { width = l; at = f }) (op, made_seen ranges e (made ranges e))).at
+        (word-lower op l r f (made ranges e) can right) (all-back (IsFitIn m) (expressions_in e) _ fit)
 
     arms-lower : (all : Arms) (last : Expression) (w : ℕ) (old : List BitStep) → AllByRecursion (IsFitIn m) (flat_map (λ x. x.0 ++ x.1) (of_arms (λ x all. x ∷ all) gathering all))
         → 1 ≤ w → greatest (map (λ x. x.1) (of_arms (λ x a. a) (widths ranges) all)) ≤ w → own_width ranges last ≤ w → Lowers nets (made ranges last w) old → Lowers nets (arms_at all last w) old

@@ -3,9 +3,9 @@ use Rattle.std.proofs.Common.{ℕ, zero, suc, List, [], ◌∷◌, ◌++◌, map
 use Rattle.std.specs.Prelude.{Contains, IfSome, IsSomeAnd, slice_get, option_to_list}
 use Rattle.std.specs.List.{AllByRecursion, flat_map}
 use Rattle.std.proofs.lemmas.List.Elements.{All-weaker, All-from_recursion, recursion_from_All, All-contains, Contains-get_or, Contains-append_left, Contains-append_right, Contains-append_cases}
-use Rattle.bb_ast.specs.Syntax.{Expression, Net, Bit, Part, Sized, Plain, Not, Chain, Cond, Concat, Repeat, Operands, no_operand, operand, Arms, no_arm, arm, Parts, no_part, part}
+use Rattle.bb_ast.specs.Syntax.{Expression, Net, Bit, Part, Sized, Plain, Not, Fold, Chain, Words, Cond, Concat, Repeat, Operands, no_operand, operand, WordOperands, no_word, word, Arms, no_arm, arm, Parts, no_part, part}
 use Rattle.bb_ast.specs.Syntax.{PlainConns, Order, Named, PlainBody, Ports, Nets, Regs, Supply, Assign, Gates, Calls, Always, PlainItem, PlainModule}
-use Rattle.bb_ast.specs.Folds.{fold_by, of_operands, of_arms, of_parts}
+use Rattle.bb_ast.specs.Folds.{fold_by, of_operands, of_words, of_arms, of_parts}
 use Rattle.bb_ast.specs.Inside.Formed.{IsFormedExpression, IsFormedConns, IsFormedBody, IsFormed}
 use Rattle.bb_names.specs.Inside.Checked.{ModuleFacts, syntax, HasNets}
 use Rattle.bb_expr.specs.Inside.Standing.{gathering, expressions_in, conns_expressions, item_expressions, StandsIn, StandsAt}
@@ -47,7 +47,9 @@ mutual
   closed (Sized bits) = nil-closed
   closed (Plain n) = nil-closed
   closed (Not k e) = whole-closed e (closed e)
+  closed (Fold op e) = whole-closed e (closed e)
   closed (Chain e rest) = join-closed (expressions_in e) _ (whole-closed e (closed e)) (operands-closed rest)
+  closed (Words e rest) = join-closed (expressions_in e) _ (whole-closed e (closed e)) (words-closed rest)
   closed (Cond all last) = join-closed _ (expressions_in last) (arms-closed all) (whole-closed last (closed last))
   closed (Concat all) = parts-closed all
   closed (Repeat k all) = parts-closed all
@@ -55,6 +57,10 @@ mutual
   operands-closed : (rest : Operands) → IsClosed (flat_map (λ x. x.1) (of_operands (λ x all. x ∷ all) gathering rest))
   operands-closed no_operand = nil-closed
   operands-closed (operand op e rest) = join-closed (expressions_in e) _ (whole-closed e (closed e)) (operands-closed rest)
+
+  words-closed : (rest : WordOperands) → IsClosed (flat_map (λ x. x.1) (of_words (λ x all. x ∷ all) gathering rest))
+  words-closed no_word = nil-closed
+  words-closed (word op e rest) = join-closed (expressions_in e) _ (whole-closed e (closed e)) (words-closed rest)
 
   arms-closed : (rest : Arms) → IsClosed (flat_map (λ x. x.0 ++ x.1) (of_arms (λ x all. x ∷ all) gathering rest))
   arms-closed no_arm = nil-closed
@@ -141,7 +147,9 @@ right-kept m nets (Part n i j) h = (has-net m nets n h.0, h.1)
 right-kept m nets (Sized bits) h = tt
 right-kept m nets (Plain n) h = tt
 right-kept m nets (Not k e) h = tt
+right-kept m nets (Fold op e) h = tt
 right-kept m nets (Chain e rest) h = tt
+right-kept m nets (Words e rest) h = h
 right-kept m nets (Cond all last) h = tt
 right-kept m nets (Concat all) h = tt
 right-kept m nets (Repeat k all) h = h

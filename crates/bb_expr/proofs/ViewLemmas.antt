@@ -1,11 +1,13 @@
 -- What an expression of the code says, one form after another.
 use Rattle.std.proofs.Common.{◌≡◌, ℕ, Bool, List, map, refl, Box, Vec, Global}
 use Rattle.bb_ast.specs.declared.expr.Op.{Op}
+use Rattle.bb_ast.specs.declared.operators.WordOp.{WordOp}
+use Rattle.bb_ast.specs.declared.operators.FoldOp.{FoldOp}
 use Rattle.bb_ast.specs.declared.expr.Expr.{Expr}
 use Rattle.bb_ast.specs.declared.expr.Expr as of
 use Rattle.bb_ast.specs.declared.expr.Expr.TheFolds.{fold_out-Expr}
-use Rattle.bb_ast.specs.declared.expr.Expr.TheVariants.{outs-Net, outs-Bit, outs-Part, outs-Sized, outs-Plain, outs-Not, outs-Chain, outs-Cond, outs-Concat, outs-Repeat}
-use Rattle.bb_ast.specs.Syntax.{Expression, Net, Bit, Part, Sized, Plain, Not, Chain, Cond, Concat, Repeat, operands, arms, listed_parts}
+use Rattle.bb_ast.specs.declared.expr.Expr.TheVariants.{outs-Net, outs-Bit, outs-Part, outs-Sized, outs-Plain, outs-Not, outs-Fold, outs-Chain, outs-Words, outs-Cond, outs-Concat, outs-Repeat}
+use Rattle.bb_ast.specs.Syntax.{Expression, Net, Bit, Part, Sized, Plain, Not, Fold, Chain, Words, Cond, Concat, Repeat, operands, word_operands, arms, listed_parts}
 use Rattle.bb_ast.specs.Inside.Views.{layer, expression, operand_view, arm_view}
 
 pub expression-not : (e : Expr) (k : ℕ) (operand : Box Expr Global) → e ≡ of.Not k operand → expression e ≡ Not k (expression operand.value)
@@ -13,6 +15,12 @@ expression-not e k operand is = rw (fold_out-Expr Expression layer e, is, outs-N
 
 pub expression-chain : (e : Expr) (first : Box Expr Global) (rest : Vec (Op × Expr) Global) → e ≡ of.Chain first rest → expression e ≡ Chain (expression first.value) (operands (map operand_view rest.items))
 expression-chain e first rest is = rw (fold_out-Expr Expression layer e, is, outs-Chain first rest) refl
+
+pub expression-fold : (e : Expr) (op : FoldOp) (operand : Box Expr Global) → e ≡ of.Fold op operand → expression e ≡ Fold op (expression operand.value)
+expression-fold e op operand is = rw (fold_out-Expr Expression layer e, is, outs-Fold op operand) refl
+
+pub expression-words : (e : Expr) (first : Box Expr Global) (rest : Vec (WordOp × Expr) Global) → e ≡ of.Words first rest → expression e ≡ Words (expression first.value) (word_operands (map operand_view rest.items))
+expression-words e first rest is = rw (fold_out-Expr Expression layer e, is, outs-Words first rest) refl
 
 pub expression-cond : (e : Expr) (all : Vec (Expr × Expr) Global) (last : Box Expr Global) → e ≡ of.Cond all last → expression e ≡ Cond (arms (map arm_view all.items)) (expression last.value)
 expression-cond e all last is = rw (fold_out-Expr Expression layer e, is, outs-Cond all last) refl

@@ -13,7 +13,8 @@ use Rattle.bb_names.specs.Widths.{Ranges, own_width}
 use Rattle.bb_expr.specs.declared.step.BitStep.{BitStep}
 use Rattle.bb_expr.specs.Lists.{copies, extended}
 use Rattle.bb_expr.specs.Terms.{Const}
-use Rattle.bb_expr.specs.Cells.{Made, made, makes, chained, operated, arm_made, part_bits, part_cells, is_odd, cell_count}
+use Rattle.bb_expr.specs.Cells.{Made, made, makes, chained, operated, arm_made, part_bits, part_cells, cell_count}
+use Rattle.bb_word.specs.Folds.{is_odd}
 use Rattle.bb_expr.specs.Inside.Growing.{Adds, beside, chained_on, arms_on, widened, complemented}
 use Rattle.bb_expr.specs.Inside.Shares.{own_cells}
 use Rattle.bb_expr.proofs.MadeValue.{made_seen}

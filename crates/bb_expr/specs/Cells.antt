@@ -1,22 +1,24 @@
--- The cells of an expression at the width of its context. Each occurrence of an operator makes cells of its own, for each bit
--- of that width; nothing is folded or shared. Nets, selects, numbers, concatenations and replications make none; the parts of
--- a replication occur once. Where high bits are cut off later, their cells stand all the same.
-use Rattle.std.specs.Prelude.{ℕ, zero, suc, ◌+◌, ◌-◌, ◌*◌, Bool, false, if◌then◌else◌, not, List, [], ◌∷◌, ◌++◌, map, fold, sum_by}
+-- The cells of an expression at the width of its context. Each occurrence of an operator makes cells of its own, and nothing is folded
+-- or shared: an odd run of ~, and each &, ^ and | of a chain, one for each bit, each ~^ two, an arm of a conditional a choice for each
+-- bit and the ors of its condition, an operator on words or a reduction those of its circuit, at the widths at which it takes its
+-- operands. Nets, selects, numbers, concatenations and replications make none; the parts of a replication occur once. Where high
+-- bits are cut off later, their cells stand all the same.
+use Rattle.std.specs.Prelude.{ℕ, ◌+◌, ◌-◌, ◌*◌, false, if◌then◌else◌, List, [], ◌∷◌, ◌++◌, map, fold, reverse, sum_by}
 use Rattle.std.specs.List.{flat_map, range_with_len}
 use Rattle.bb_ast.specs.declared.expr.Op.{Op}
 use Rattle.bb_ast.specs.declared.expr.Op.TheVariants as ops
+use Rattle.bb_ast.specs.declared.operators.WordOp.{WordOp}
+use Rattle.bb_ast.specs.declared.operators.FoldOp.{FoldOp}
 use Rattle.bb_ast.specs.Syntax.{Expression}
 use Rattle.bb_ast.specs.Folds.{Cases}
 use Rattle.bb_bits.specs.Numbers.{bits_of}
 use Rattle.bb_names.specs.Ranges.{distance, range_width, place_of}
-use Rattle.bb_names.specs.Widths.{Ranges, Operand, alone, fold_at}
+use Rattle.bb_names.specs.Widths.{Ranges, Operand, alone, fold_at, words_at}
+use Rattle.bb_word.specs.Folds.{fold_circuit, fold_cells, is_odd}
+use Rattle.bb_word.specs.Gates.{Made as Circuit}
+use Rattle.bb_word.specs.Words.{word_circuit, word_cells}
 use Rattle.bb_expr.specs.Lists.{extended, copies, bitwise}
-use Rattle.bb_expr.specs.Terms.{Term, Const, Net, Not, And, Or, Xor, Mux}
-
--- an odd number of complements is one, an even number none
-abbrev pub is_odd : ℕ → Bool
-is_odd zero = false
-is_odd (suc k) = not (is_odd k)
+use Rattle.bb_expr.specs.Terms.{Term, Const, Net, Not, And, Or, Xor, Mux, terms}
 
 -- the cells for each bit of an operator of a chain
 abbrev pub op_cells : Op → ℕ
@@ -24,6 +26,10 @@ op_cells ops.And = 1
 op_cells ops.Or = 1
 op_cells ops.Xor = 1
 op_cells ops.Xnor = 2
+
+-- an operator on words, whose operands make so many cells at the widths m and n at which it takes them
+abbrev pub word_count : WordOp → ℕ → ℕ → ℕ → ℕ → ℕ → ℕ
+word_count op m n a b w = a + b + word_cells op m n
 
 -- how many cells there are
 abbrev pub counts : Cases (Operand ℕ) (ℕ → ℕ)
@@ -34,7 +40,9 @@ counts = record {
   sized = λ bits w. 0;
   plain = λ n w. 0;
   not = λ k e w. e.at w + (if is_odd k then w else 0);
+  reduce = λ op e w. alone e + fold_cells op e.width;
   chain = λ e rest w. e.at w + sum_by (λ x. x.1.at w + op_cells x.0 * w) rest;
+  words = λ e rest w. words_at word_count e rest w;
   cond = λ all last w. sum_by (λ x. alone x.0 + (x.0.width - 1) + x.1.at w + w) all + last.at w;
   concat = λ all w. sum_by alone all;
   repeat = λ k all w. sum_by alone all;
@@ -69,6 +77,16 @@ operated ops.Xnor a b = record { bits = inverted (bitwise Xor a b); cells = bitw
 
 abbrev pub chained : Made → Made → Made → Made
 chained a b made = record { bits = made.bits; cells = a.cells ++ b.cells ++ made.cells }
+
+-- a circuit, whose bits go from the least significant one upwards, behind the cells of its operands, with zeros on the left
+abbrev pub circuit_made : List Term → Circuit Term → ℕ → Made
+circuit_made cells circuit w = record { bits = extended (Const false) w (reverse circuit.bits); cells = cells ++ circuit.cells }
+
+abbrev pub word_made : WordOp → ℕ → ℕ → Made → Made → ℕ → Made
+word_made op m n a b w = circuit_made (a.cells ++ b.cells) (word_circuit terms op (reverse a.bits) (reverse b.bits)) w
+
+abbrev pub fold_made : FoldOp → Made → ℕ → Made
+fold_made op a w = circuit_made a.cells (fold_circuit terms op (reverse a.bits)) w
 
 -- whether some bit is 1, from the most significant on: the bit, and its cells
 abbrev pub any_from : Term → List Term → Term × List Term
@@ -109,7 +127,9 @@ makes ranges = record {
   sized = λ bits w. without_cells (extended (Const false) w (map Const bits));
   plain = λ n w. without_cells (extended (Const false) w (map Const (bits_of 32 n)));
   not = λ k e w. let x = e.at w in if is_odd k then record { bits = inverted x.bits; cells = x.cells ++ inverted x.bits } else x;
+  reduce = λ op e w. fold_made op (alone e) w;
   chain = λ e rest w. fold (λ a x. let b = x.1.at w in chained a b (operated x.0 a.bits b.bits)) (e.at w) rest;
+  words = λ e rest w. words_at word_made e rest w;
   cond = λ all last w. arms_made all last w;
   concat = λ all w. record { bits = extended (Const false) w (part_bits all); cells = part_cells all };
   repeat = λ k all w. record { bits = extended (Const false) w (copies k (part_bits all)); cells = part_cells all };

@@ -1,5 +1,5 @@
 -- What a list of steps means. A step is a constant, a bit of a net, or an operator on the bits of earlier steps.
-use Rattle.std.specs.Prelude.{◌≡◌, ◌<◌, ◌⊎◌, ℕ, zero, suc, ◌+◌, Bool, true, false, if◌then◌else◌, List, [], ◌∷◌, map, length, drop, All, Contains, IfSome, Some, None, slice_get, slice_index_or}
+use Rattle.std.specs.Prelude.{◌≡◌, ◌<◌, ℕ, zero, suc, ◌+◌, Bool, true, false, if◌then◌else◌, List, [], map, length, All, IfSome, Some, None, slice_get, slice_index_or}
 use Rattle.std.specs.List.{filter_map, enumerate_from}
 use Rattle.std.specs.List.Sorted.{IsPermutation}
 use Rattle.std.specs.Option.{option_map_or}
@@ -45,20 +45,6 @@ Reads nets place (steps.Or a b) = (a < place) × (b < place)
 Reads nets place (steps.Xor a b) = (a < place) × (b < place)
 Reads nets place (steps.Mux c t e) = (c < place) × (t < place) × (e < place)
 
--- the earlier steps that it reads
-abbrev pub operands : BitStep → List ℕ
-operands (steps.Const b) = []
-operands (steps.Net k i) = []
-operands (steps.Not a) = a ∷ []
-operands (steps.And a b) = a ∷ b ∷ []
-operands (steps.Or a b) = a ∷ b ∷ []
-operands (steps.Xor a b) = a ∷ b ∷ []
-operands (steps.Mux c t e) = c ∷ t ∷ e ∷ []
-
--- it is one of the bits, or a later step reads it
-abbrev pub IsUsed : List BitStep → List ℕ → ℕ → Type 0
-IsUsed all bits k = Contains bits k ⊎ ((step : BitStep) × Contains (drop (k + 1) all) step × Contains (operands step) k)
-
 abbrev pub is_operator : BitStep → Bool
 is_operator (steps.Const b) = false
 is_operator (steps.Net k i) = false
@@ -69,14 +55,14 @@ abbrev pub operators : List NetInfo → List BitStep → List Term
 operators nets all = filter_map (λ x. if is_operator x.1 then Some (term_at nets all x.0) else None) (enumerate_from 0 all)
 
 -- steps and bits are the expression at that width: its bits are made as they should be, and the operators among the steps are
--- its cells, one for one, each of them in use
+-- its cells, one for one. The last carry of a sum is a cell that nothing reads, and which of several equal cells a step reads is not
+-- said.
 pub record IsLowered (nets : List NetInfo) (ranges : Ranges) (e : Expression) (w : ℕ) (all : List BitStep) (bits : List ℕ) : Type 0 where
   pub earlier : All (λ x. Reads nets x.0 x.1) (enumerate_from 0 all)
   pub places : All (λ k. k < length all) bits
   pub width : length bits ≡ w
   pub terms : map (term_at nets all) bits ≡ (made ranges e w).bits
   pub cells : IsPermutation (made ranges e w).cells (operators nets all)
-  pub used : (k : ℕ) → k < length all → is_operator (slice_index_or all k (steps.Const false)) ≡ true → IsUsed all bits k
 
 -- the bits have the value of the expression, whatever the bits of the nets are
 abbrev pub HasValue : List NetInfo → Ranges → Expression → ℕ → List BitStep → List ℕ → Type 0

@@ -4,14 +4,20 @@ ghost use Rattle.std.specs.Prelude.{◌≡◌, ◌≤◌, ◌+◌, ◌*◌, ◌-
 ghost use Rattle.bb_ast.specs.Inside.Views.{expression, operand_view, arm_view};
 ghost use Rattle.bb_names.specs.Inside.Checked.{module_facts};
 ghost use Rattle.bb_names.specs.Widths.{own_width};
-ghost use Rattle.bb_expr.specs.Cells.{is_odd, op_cells, cell_count};
+ghost use Rattle.bb_expr.specs.Cells.{op_cells, cell_count};
+ghost use Rattle.bb_word.specs.Folds.{is_odd, fold_cells};
+ghost use Rattle.bb_word.specs.Words.{word_cells};
+ghost use Rattle.bb_ast.specs.Levels.{IsOneLevel};
+ghost use Rattle.bb_ast.specs.Syntax.{word_operands};
+ghost use Rattle.bb_expr.specs.Inside.Levels.{words_cells};
 ghost use Rattle.bb_expr.specs.Inside.Fit.{AreFit, ranges_in};
 ghost use Rattle.bb_expr.specs.Inside.Shares.{capped, own_cells, operand_cells, arm_cells};
 ghost use Rattle.bb_expr.specs.Inside.Standing.{StandsAt, ranges_at};
 
 use crate::laws;
+use crate::operands::{taken_at, widths_at};
 use crate::width::width_of;
-use bb_ast::{Expr, Op};
+use bb_ast::{Expr, FoldOp, Op, WordOp};
 use bb_names::{Checked, CheckedModule};
 
 /// The number of cells that an expression of a module makes at a width that is at least its own, or 2^64 - 1 where it is greater.
@@ -42,6 +48,37 @@ fn op_cells(op: Op) -> u32
     }
 }
 
+/// The cells of a reduction of a word with this width.
+fn fold_cells(op: FoldOp, width: u32) -> u64
+    ensures { result ≡ fold_cells op width }
+{
+    let between = u64::from(width.saturating_sub(1));
+    match op {
+        FoldOp::All | FoldOp::Any | FoldOp::Odd => between,
+        _ => between + 1,
+    }
+}
+
+/// The cells of an operator on words with these widths.
+fn word_cells(op: WordOp, left: u32, right: u32) -> u64
+    requires left { left ≤ 65536 }
+    requires right { right ≤ 65536 }
+    ensures { result ≡ word_cells op left right }
+{
+    match op {
+        WordOp::Plus => u64::from(5 * left),
+        WordOp::Minus => u64::from(6 * left),
+        WordOp::Equal => u64::from(2 * left + left.saturating_sub(1)),
+        WordOp::NotEqual => u64::from(2 * left + left.saturating_sub(1) + 1),
+        WordOp::Less | WordOp::Greater => u64::from(2 * left),
+        WordOp::LessEqual | WordOp::GreaterEqual => u64::from(2 * left + 1),
+        WordOp::Left | WordOp::Right => u64::from(right) * u64::from(left),
+        WordOp::Both | WordOp::Either => {
+            u64::from(left.saturating_sub(1) + right.saturating_sub(1) + 1)
+        }
+    }
+}
+
 /// The cells of an expression at a width. Recursion goes as deep as the expression nests.
 #[cycle(cells)]
 fn cells_at(scope: &CheckedModule, expr: &Expr, width: u32) -> u64
@@ -66,6 +103,15 @@ fn cells_at(scope: &CheckedModule, expr: &Expr, width: u32) -> u64
         }
         Expr::Concat(all) => part_cells(scope, all),
         Expr::Repeat(_, all) => part_cells(scope, all),
+        Expr::Fold(op, operand) => {
+            let own = width_of(scope, operand);
+            cells_at(scope, operand, own).saturating_add(fold_cells(*op, own))
+        }
+        Expr::Words(first, rest) => {
+            let own = width_of(scope, first);
+            let left = cells_at(scope, first, taken_at(scope, own, rest, 0, width));
+            left.saturating_add(level_cells(scope, own, rest, width))
+        }
         _ => 0,
     }
 }
@@ -81,6 +127,28 @@ fn operand_cells(scope: &CheckedModule, rest: &[(Op, Expr)], width: u32) -> u64
     for (op, operand) in rest {
         let inner = cells_at(scope, operand, width);
         total = total.saturating_add(inner.saturating_add(u64::from(op_cells(*op) * width)));
+    }
+    total
+}
+
+/// The cells of operators on words of one level and of their right operands, where what stands left of them has the width `left`.
+#[cycle(cells)]
+fn level_cells(scope: &CheckedModule, left: u32, rest: &[(WordOp, Expr)], width: u32) -> u64
+    requires fit { All (λ x. AreFit (module_facts scope.now) x.1) (map operand_view rest.now) }
+    requires level { IsOneLevel (word_operands (map operand_view rest.now)) }
+    requires bounded { left ≤ 65536 }
+    requires width { width ≤ 65536 }
+    ensures { result ≡ capped (words_cells (ranges_in (module_facts scope.now)) left (map operand_view rest.now) width) }
+{
+    let mut total = 0u64;
+    let mut own = left;
+    let mut next = 0usize;
+    for (op, operand) in rest {
+        next += 1;
+        let at = widths_at(scope, *op, operand, own, rest, next, width);
+        let inner = cells_at(scope, operand, at.second);
+        total = total.saturating_add(inner.saturating_add(word_cells(*op, at.first, at.second)));
+        own = at.own;
     }
     total
 }

@@ -3,6 +3,8 @@
 ghost use Rattle.bb_expr.specs.Laws.{ValuesHaveWidth, MadeHasValue, CellsAreCounted, WiderAddsZeros};
 ghost use Rattle.bb_expr.specs.Laws.FitLaws.{StandingIsFit, StandingIsFitIn, LoweringsExist, NamesAreNets, PartsStand, NetNamesDiffer, AssignableIsNets};
 
+use bb_word::{folds_give_bits, words_spell_numbers};
+
 /// A value has as many bits as its context.
 #[tactic(auto, using(crate::proofs::ValueLemmas::values_have_width))]
 pub fn values_have_width()
@@ -10,10 +12,12 @@ pub fn values_have_width()
 {}
 
 /// The bits that the cells of an expression make have its value.
-#[tactic(auto, using(crate::proofs::MadeValue::made_has_value))]
 pub fn made_has_value()
     ensures { MadeHasValue }
-{}
+{
+    words_spell_numbers();
+    folds_give_bits();
+}
 
 /// As many cells are made as are counted.
 #[tactic(auto, using(crate::proofs::CellCounts::cells_are_counted))]
@@ -21,7 +25,7 @@ pub fn cells_are_counted()
     ensures { CellsAreCounted }
 {}
 
-/// Where no `~` and no `~^` stands above, a wider context only adds zeros.
+/// Where no `~`, no `~^`, no sum or difference and no shift stands above, a wider context only adds zeros.
 #[tactic(auto, using(crate::proofs::WiderValue::wider_adds_zeros))]
 pub fn wider_adds_zeros()
     ensures { WiderAddsZeros }

@@ -3,8 +3,11 @@
 #![tactic(auto)]
 
 mod cell_count;
+mod circuits;
 pub mod laws;
+mod leaves;
 mod lowering;
+mod operands;
 mod operators;
 mod rows;
 mod scope;

@@ -11,6 +11,7 @@ ghost use Rattle.bb_expr.specs.declared.step.BitStep.{BitStep};
 ghost use Rattle.bb_expr.specs.Cells.{Made, without_cells, made, cell_count};
 ghost use Rattle.bb_expr.specs.Inside.Fit.{HasNet, AreFit, ranges_in};
 ghost use Rattle.bb_expr.specs.Inside.Growing.{Adds, beside, chained_on, arms_on, most_steps};
+ghost use Rattle.bb_expr.specs.Inside.Levels.{AreReady, words_on};
 ghost use Rattle.bb_expr.specs.Lists.{extended};
 ghost use Rattle.bb_expr.specs.Lowered.{IsLowered, HasValue};
 ghost use Rattle.bb_expr.specs.Inside.Shares.{own_cells, operand_cells, arm_cells};
@@ -18,14 +19,16 @@ ghost use Rattle.bb_expr.specs.Inside.Standing.{StandsAt, nets_at, ranges_at};
 ghost use Rattle.bb_expr.specs.Terms.{Const};
 
 use crate::cell_count::{cells, is_odd};
+use crate::circuits::{fold, word};
 use crate::laws;
+use crate::leaves::{net, number, part};
+use crate::operands::{taken_at, widths_at};
 use crate::operators::{any_bit, copied, inverted, operate, select};
-use crate::rows::{constants, extended, net_bits, number_bits};
-use crate::scope::{place_of, range_of};
+use crate::rows::{extended, number_bits};
 use crate::step::{BitStep, Lowered};
-use crate::width::{range_width, total_width, width_of};
-use bb_ast::{Expr, Op, Range};
-use bb_bits::{Name, NoMemory};
+use crate::width::{total_width, width_of};
+use bb_ast::{Expr, Op, WordOp};
+use bb_bits::NoMemory;
 use bb_names::{Checked, CheckedModule};
 use std::alloc::Global;
 
@@ -49,82 +52,19 @@ pub fn lower(
     ensures value { IfOk result (λ l.
         HasValue (nets_at checked.now «module») (ranges_at checked.now «module») (expression expr.now) width l.steps.items l.bits.items) }
 
-    // Each use of a bit or a constant is a step, and they are no more than this.
+    // Nets and numbers are steps wherever they stand, and the cells of an operator on words have each constant once; they are no more
+    // than this.
     ensures few { IfOk result (λ l.
         length l.steps.items ≤ width + 3 * cell_count (ranges_at checked.now «module») (expression expr.now) width) }
 {
     laws::standing_is_fit();
+    laws::made_has_value();
     let count = cells(checked, module, expr, width);
     let scope = &checked.modules()[module as usize];
     // The list is allocated once, since so many steps suffice.
     let mut steps = Vec::with_capacity(alloc, width as usize + 3 * count as usize)?;
     let bits = lower_at(alloc, scope, &mut steps, expr, width)?;
     Ok(Lowered { steps, bits })
-}
-
-/// The place of an index of a net among its bits, from the leftmost on.
-fn first_place(range: Option<Range>, index: u32) -> u32
-    ensures { result ≡ place_of range index }
-{
-    match range {
-        Some(range) => range.left.abs_diff(index),
-        None => 0,
-    }
-}
-
-fn net(
-    alloc: Global,
-    scope: &CheckedModule,
-    steps: &mut Vec<BitStep>,
-    name: &Name,
-    width: u32,
-) -> Result<Vec<u32>, NoMemory>
-    requires has { HasNet (module_facts scope.now) name.now }
-    requires own { range_width (ranges_in (module_facts scope.now) name.now) ≤ width }
-    requires width { width ≤ 65536 }
-    requires room { length steps.old.items + width ≤ 2 ^ 32 }
-    ensures { IfOk result (λ bits. Adds scope.now.nets.items (made (ranges_in (module_facts scope.now)) (Net name.now) width) steps.old.items steps.new.items bits.items) }
-{
-    let count = range_width(range_of(scope, name));
-    let bits = net_bits(alloc, steps, place_of(scope, name), 0, count)?;
-    extended(alloc, steps, &bits, width)
-}
-
-fn part(
-    alloc: Global,
-    scope: &CheckedModule,
-    steps: &mut Vec<BitStep>,
-    name: &Name,
-    left: u32,
-    right: u32,
-    width: u32,
-) -> Result<Vec<u32>, NoMemory>
-    requires has { HasNet (module_facts scope.now) name.now }
-    requires bits { has_bits (ranges_in (module_facts scope.now) name.now) left right ≡ true }
-    requires own { distance left right + 1 ≤ width }
-    requires width { width ≤ 65536 }
-    requires room { length steps.old.items + width ≤ 2 ^ 32 }
-    ensures { IfOk result (λ bits. Adds scope.now.nets.items (made (ranges_in (module_facts scope.now)) (Part name.now left right) width) steps.old.items steps.new.items bits.items) }
-{
-    let from = first_place(range_of(scope, name), left);
-    let count = left.abs_diff(right) + 1;
-    let bits = net_bits(alloc, steps, place_of(scope, name), from, count)?;
-    extended(alloc, steps, &bits, width)
-}
-
-fn number(
-    alloc: Global,
-    steps: &mut Vec<BitStep>,
-    bits: &[bool],
-    width: u32,
-) -> Result<Vec<u32>, NoMemory>
-    requires own { length bits.now ≤ width }
-    requires room { length steps.old.items + width ≤ 2 ^ 32 }
-    ensures { (nets : List NetInfo) → IfOk result (λ places.
-        Adds nets (without_cells (extended (Const false) width (map Const bits.now))) steps.old.items steps.new.items places.items) }
-{
-    let places = constants(alloc, steps, bits)?;
-    extended(alloc, steps, &places, width)
 }
 
 /// The steps of an expression at a width, and its bits. Recursion goes as deep as the expression nests.
@@ -139,7 +79,8 @@ fn lower_at(
     requires fit { AreFit (module_facts scope.now) (expression expr.now) }
     requires own { own_width (ranges_in (module_facts scope.now)) (expression expr.now) ≤ width }
     requires width { width ≤ 65536 }
-    requires room { length steps.old.items + most_steps width (cell_count (ranges_in (module_facts scope.now)) (expression expr.now) width) ≤ 2 ^ 32 }
+    requires room { length steps.old.items + most_steps width (cell_count (ranges_in (module_facts scope.now)) (expression expr.now) width) ≤ 2 ^ 31 }
+    requires few { cell_count (ranges_in (module_facts scope.now)) (expression expr.now) width ≤ 2000000 }
     ensures { IfOk result (λ bits. Adds scope.now.nets.items (made (ranges_in (module_facts scope.now)) (expression expr.now) width) steps.old.items steps.new.items bits.items) }
 {
     match expr {
@@ -176,6 +117,18 @@ fn lower_at(
             let copies = copied(alloc, &bits, *count)?;
             extended(alloc, steps, &copies, width)
         }
+        Expr::Fold(op, operand) => {
+            let own = width_of(scope, operand);
+            let bits = lower_at(alloc, scope, steps, operand, own)?;
+            let result = fold(alloc, steps, *op, &bits)?;
+            extended(alloc, steps, &result, width)
+        }
+        Expr::Words(first, rest) => {
+            let own = width_of(scope, first);
+            let taken = taken_at(scope, own, rest, 0, width);
+            let bits = lower_at(alloc, scope, steps, first, taken)?;
+            words(alloc, scope, steps, bits, own, rest, width)
+        }
     }
 }
 
@@ -193,7 +146,8 @@ fn chain(
     requires owns { All (λ x. own_width (ranges_in (module_facts scope.now)) x.1 ≤ width) (map operand_view rest.now) }
     requires width { width ≤ 65536 }
     requires first { length first.items ≡ width }
-    requires room { length steps.old.items + 3 * sum_by (operand_cells (ranges_in (module_facts scope.now)) width) (map operand_view rest.now) ≤ 2 ^ 32 }
+    requires room { length steps.old.items + 4 * sum_by (operand_cells (ranges_in (module_facts scope.now)) width) (map operand_view rest.now) ≤ 2 ^ 31 }
+    requires few { sum_by (operand_cells (ranges_in (module_facts scope.now)) width) (map operand_view rest.now) ≤ 2000000 }
     ensures { (m : Made) (old : List BitStep) → Adds scope.now.nets.items m old steps.old.items first.items
         → IfOk result (λ bits. Adds scope.now.nets.items (chained_on (ranges_in (module_facts scope.now)) width m (map operand_view rest.now)) old steps.new.items bits.items) }
 {
@@ -201,6 +155,37 @@ fn chain(
     for (op, operand) in rest {
         let right = lower_at(alloc, scope, steps, operand, width)?;
         bits = operate(alloc, steps, *op, &bits, &right)?;
+    }
+    Ok(bits)
+}
+
+/// Operators on words of one level, from the first one on, where what stands left of them has the width `left` by itself.
+///
+/// What was made so far is as wide as the next operator takes it.
+#[cycle(lowering)]
+fn words(
+    alloc: Global,
+    scope: &CheckedModule,
+    steps: &mut Vec<BitStep>,
+    first: Vec<u32>,
+    left: u32,
+    rest: &[(WordOp, Expr)],
+    width: u32,
+) -> Result<Vec<u32>, NoMemory>
+    requires { AreReady (module_facts scope.now) (map operand_view rest.now) width left (length steps.old.items) (length first.items) }
+    ensures { (m : Made) (old : List BitStep) → Adds scope.now.nets.items m old steps.old.items first.items
+        → IfOk result (λ bits. Adds scope.now.nets.items (words_on (ranges_in (module_facts scope.now)) m left (map operand_view rest.now) width) old steps.new.items bits.items) }
+{
+    let mut bits = first;
+    let mut own = left;
+    let mut next = 0usize;
+    for (op, operand) in rest {
+        next += 1;
+        let at = widths_at(scope, *op, operand, own, rest, next, width);
+        let more = lower_at(alloc, scope, steps, operand, at.second)?;
+        let places = word(alloc, steps, *op, &bits, &more)?;
+        bits = extended(alloc, steps, &places, at.context)?;
+        own = at.own;
     }
     Ok(bits)
 }
@@ -220,7 +205,8 @@ fn conditional(
     requires width { width ≤ 65536 }
     requires some { 1 ≤ width }
     requires last { length last.items ≡ width }
-    requires room { length steps.old.items + 3 * sum_by (arm_cells (ranges_in (module_facts scope.now)) width) (map arm_view all.now) ≤ 2 ^ 32 }
+    requires room { length steps.old.items + 4 * sum_by (arm_cells (ranges_in (module_facts scope.now)) width) (map arm_view all.now) ≤ 2 ^ 31 }
+    requires few { sum_by (arm_cells (ranges_in (module_facts scope.now)) width) (map arm_view all.now) ≤ 2000000 }
     ensures { (m : Made) (old : List BitStep) → Adds scope.now.nets.items m old steps.old.items last.items
         → IfOk result (λ bits. Adds scope.now.nets.items (arms_on (ranges_in (module_facts scope.now)) width m (map arm_view all.now)) old steps.new.items bits.items) }
 {
@@ -247,7 +233,8 @@ fn side_by_side(
     requires fit { All (AreFit (module_facts scope.now)) (map expression all.now) }
     requires width { sum (map (own_width (ranges_in (module_facts scope.now))) (map expression all.now)) ≤ 65536 }
     requires room { length steps.old.items + most_steps (sum_by (own_width (ranges_in (module_facts scope.now))) (map expression all.now))
-        (sum_by (own_cells (ranges_in (module_facts scope.now))) (map expression all.now)) ≤ 2 ^ 32 }
+        (sum_by (own_cells (ranges_in (module_facts scope.now))) (map expression all.now)) ≤ 2 ^ 31 }
+    requires few { sum_by (own_cells (ranges_in (module_facts scope.now))) (map expression all.now) ≤ 2000000 }
     ensures { IfOk result (λ bits. Adds scope.now.nets.items (beside (ranges_in (module_facts scope.now)) (map expression all.now)) steps.old.items steps.new.items bits.items) }
 {
     let mut bits = Vec::with_capacity(alloc, total_width(scope, all) as usize)?;

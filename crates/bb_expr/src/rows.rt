@@ -82,8 +82,10 @@ pub(crate) fn extended(
     width: u32,
 ) -> Result<Vec<u32>, NoMemory>
     requires { length steps.old.items + (width - length bits.now) ≤ 2 ^ 32 }
-    ensures { (nets : List NetInfo) (m : Made) (old : List BitStep) → Adds nets m old steps.old.items bits.now
+    ensures made { (nets : List NetInfo) (m : Made) (old : List BitStep) → Adds nets m old steps.old.items bits.now
         → IfOk result (λ places. Adds nets (widened width m) old steps.new.items places.items) }
+    ensures grown { OnOk result (length steps.new.items ≡ length steps.old.items + (width - length bits.now)) }
+    ensures count { IfOk result (λ places. length places.items ≡ length bits.now + (width - length bits.now)) }
 {
     let mut places = Vec::with_capacity(alloc, width as usize)?;
     let missing = (width as usize).saturating_sub(bits.len());

@@ -7,10 +7,12 @@ ghost use Rattle.bb_names.specs.Ranges.{distance, range_width};
 ghost use Rattle.bb_names.specs.Widths.{own_width, greatest};
 ghost use Rattle.bb_expr.specs.Inside.Fit.{AreFit, ranges_in};
 ghost use Rattle.bb_expr.specs.Inside.Standing.{StandsAt, ranges_at};
+ghost use Rattle.bb_expr.specs.Inside.Levels.{width_on};
 
 use crate::laws;
+use crate::operands::operator_width;
 use crate::scope::range_of;
-use bb_ast::{Expr, Op, Range};
+use bb_ast::{Expr, Op, Range, WordOp};
 use bb_names::{Checked, CheckedModule};
 
 /// The width of an expression of a module by itself.
@@ -50,6 +52,8 @@ pub(crate) fn width_of(scope: &CheckedModule, expr: &Expr) -> u32
         Expr::Cond(all, last) => widest_value(scope, all).max(width_of(scope, last)),
         Expr::Concat(all) => total_width(scope, all),
         Expr::Repeat(count, all) => *count * total_width(scope, all),
+        Expr::Fold(_, _) => 1,
+        Expr::Words(first, rest) => level_width(scope, width_of(scope, first), rest),
     }
 }
 
@@ -63,6 +67,19 @@ fn widest_operand(scope: &CheckedModule, rest: &[(Op, Expr)]) -> u32
         widest = widest.max(width_of(scope, operand));
     }
     widest
+}
+
+/// The width of operators on words of one level, where what stands left of them has this width.
+#[cycle(width)]
+fn level_width(scope: &CheckedModule, left: u32, rest: &[(WordOp, Expr)]) -> u32
+    requires fit { All (λ x. AreFit (module_facts scope.now) x.1) (map operand_view rest.now) }
+    ensures { result ≡ width_on (ranges_in (module_facts scope.now)) left (map operand_view rest.now) }
+{
+    let mut width = left;
+    for (op, operand) in rest {
+        width = operator_width(*op, width, width_of(scope, operand));
+    }
+    width
 }
 
 #[cycle(width)]

@@ -1,6 +1,5 @@
--- Lists of steps while they grow:
--- which places are still to be read, and which cells have been made so far.
-use Rattle.std.specs.Prelude.{◌≡◌, ◌<◌, ◌≤◌, ℕ, ◌+◌, ◌*◌, false, true, List, [], ◌∷◌, ◌++◌, map, length, All, slice_index_or}
+-- Lists of steps while they grow: which cells have been made so far, and the places of the bits.
+use Rattle.std.specs.Prelude.{◌≡◌, ◌<◌, ◌≤◌, ℕ, ◌+◌, ◌*◌, false, reverse, List, [], ◌∷◌, ◌++◌, map, length, All, slice_index_or}
 use Rattle.std.specs.List.{range_with_len, flat_map}
 use Rattle.std.specs.List.Sorted.{IsPermutation}
 use Rattle.bb_names.specs.declared.net.NetInfo.{NetInfo}
@@ -9,11 +8,15 @@ use Rattle.bb_expr.specs.declared.step.BitStep.TheVariants as steps
 use Rattle.bb_ast.specs.Syntax.{Expression}
 use Rattle.bb_ast.specs.declared.expr.Op.{Op}
 use Rattle.bb_ast.specs.declared.expr.Op.TheVariants as ops
+use Rattle.bb_ast.specs.declared.operators.WordOp.{WordOp}
+use Rattle.bb_ast.specs.declared.operators.FoldOp.{FoldOp}
 use Rattle.bb_names.specs.Widths.{Ranges, own_width}
 use Rattle.bb_expr.specs.Lists.{extended, bitwise}
-use Rattle.bb_expr.specs.Terms.{Term, Const, And, Or, Xor}
+use Rattle.bb_expr.specs.Terms.{Term, Const, And, Or, Xor, terms}
+use Rattle.bb_word.specs.Words.{word_circuit}
+use Rattle.bb_word.specs.Folds.{fold_circuit}
 use Rattle.bb_expr.specs.Cells.{Made, made, inverted, any_bit, operated, chained, arm_made}
-use Rattle.bb_expr.specs.Lowered.{Reads, IsUsed, is_operator, operators, term_at}
+use Rattle.bb_expr.specs.Lowered.{Reads, operators, term_at}
 
 abbrev pub step_at : List BitStep → ℕ → BitStep
 step_at all place = slice_index_or all place (steps.Const false)
@@ -22,21 +25,19 @@ step_at all place = slice_index_or all place (steps.Const false)
 abbrev pub AreOrdered : List NetInfo → List BitStep → Type 0
 AreOrdered nets all = (k : ℕ) → k < length all → Reads nets k (step_at all k)
 
--- the operators among the steps are these cells, and each of them is read by a later step or is one of the places that are kept
-pub record AreSteps (nets : List NetInfo) (all : List BitStep) (kept : List ℕ) (terms : List Term) : Type 0 where
+-- the operators among the steps are these cells
+pub record AreSteps (nets : List NetInfo) (all : List BitStep) (cells : List Term) : Type 0 where
   pub earlier : AreOrdered nets all
-  pub cells : IsPermutation terms (operators nets all)
-  pub used : (k : ℕ) → k < length all → is_operator (step_at all k) ≡ true → IsUsed all kept k
+  pub made : IsPermutation cells (operators nets all)
 
--- the steps that were added make these bits and these cells, whatever was made before and is kept; and they are few
+-- the steps that were added make these bits and these cells, whatever was made before; and they are few
 pub record Adds (nets : List NetInfo) (m : Made) (old new : List BitStep) (bits : List ℕ) : Type 0 where
   pub more : List BitStep
   pub grows : new ≡ old ++ more
   pub within : All (λ k. k < length new) bits
   pub long : length bits ≡ length m.bits
   pub few : length new ≤ length old + (length bits + 3 * length m.cells)
-  pub makes : (kept : List ℕ) (terms : List Term) → AreSteps nets old kept terms
-      → AreSteps nets new (bits ++ kept) (terms ++ m.cells) × (map (term_at nets new) bits ≡ m.bits)
+  pub makes : (cells : List Term) → AreSteps nets old cells → AreSteps nets new (cells ++ m.cells) × (map (term_at nets new) bits ≡ m.bits)
 
 -- a row of steps behind others, with its places
 pub record AddsRow (rows old new : List BitStep) (places : List ℕ) : Type 0 where
@@ -78,6 +79,14 @@ complemented m = record { bits = inverted m.bits; cells = m.cells ++ inverted m.
 abbrev pub gated : Op → Made → Made → Made
 gated op m n = let bits = bitwise (gate_term op) m.bits n.bits in record { bits = bits; cells = m.cells ++ n.cells ++ bits }
 
+-- a circuit on one expression's bits and another's, which reads them from the least significant one upwards
+abbrev pub word_joined : WordOp → Made → Made → Made
+word_joined op m n = let circuit = word_circuit terms op (reverse m.bits) (reverse n.bits) in record { bits = reverse circuit.bits; cells = (m.cells ++ n.cells) ++ circuit.cells }
+
+-- the same on one expression's bits alone
+abbrev pub fold_joined : FoldOp → Made → Made
+fold_joined op m = let circuit = fold_circuit terms op (reverse m.bits) in record { bits = reverse circuit.bits; cells = m.cells ++ circuit.cells }
+
 -- parts side by side, each at its own width
 abbrev pub beside : Ranges → List Expression → Made
 beside ranges all = record {
@@ -85,9 +94,9 @@ beside ranges all = record {
   cells = flat_map (λ e. (made ranges e (own_width ranges e)).cells) all;
 }
 
--- how many steps suffice for an expression's bits and cells
+-- how many steps suffice for an expression's bits and cells while they are made
 abbrev pub most_steps : ℕ → ℕ → ℕ
-most_steps width cells = width + 3 * cells
+most_steps width cells = width + 4 * cells
 
 -- the operands of a chain behind what was made before them
 abbrev pub chained_on : Ranges → ℕ → Made → List (Op × Expression) → Made

@@ -1,9 +1,11 @@
--- Expressions whose value only grows by zeros in a wider context: no ~ and no ~^ stands where the context's width counts. What
--- stands alone, as a condition or a part, is not looked at.
-use Rattle.std.specs.Prelude.{Bool, true, false, ◌&&◌}
+-- Expressions whose value only grows by zeros in a wider context: no ~, no ~^, no sum or difference and no shift stands where the
+-- context's width counts. What stands alone, as a condition or a part, is not looked at. Of operators on words the last one decides.
+use Rattle.std.specs.Prelude.{Bool, true, false, fold, ◌&&◌}
 use Rattle.std.specs.List.{list_all}
 use Rattle.bb_ast.specs.declared.expr.Op.{Op}
 use Rattle.bb_ast.specs.declared.expr.Op.TheVariants as ops
+use Rattle.bb_ast.specs.declared.operators.WordOp.{WordOp}
+use Rattle.bb_ast.specs.declared.operators.WordOp.TheVariants as words
 use Rattle.bb_ast.specs.Syntax.{Expression}
 use Rattle.bb_ast.specs.Folds.{Cases, fold_expression}
 
@@ -14,6 +16,14 @@ keeps_zero ops.Or = true
 keeps_zero ops.Xor = true
 keeps_zero ops.Xnor = false
 
+-- it gives one bit: a comparison or a truth of words
+abbrev pub gives_one_bit : WordOp → Bool
+gives_one_bit words.Plus = false
+gives_one_bit words.Minus = false
+gives_one_bit words.Left = false
+gives_one_bit words.Right = false
+gives_one_bit _ = true
+
 abbrev pub steadying : Cases Bool Bool
 steadying = record {
   net = λ n. true;
@@ -22,7 +32,9 @@ steadying = record {
   sized = λ bits. true;
   plain = λ n. true;
   not = λ k e. false;
+  reduce = λ op e. true;
   chain = λ e rest. e && list_all (λ x. keeps_zero x.0 && x.1) rest;
+  words = λ e rest. fold (λ left x. gives_one_bit x.0) e rest;
   cond = λ all last. list_all (λ x. x.1) all && last;
   concat = λ all. true;
   repeat = λ k all. true;

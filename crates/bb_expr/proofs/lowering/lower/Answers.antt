@@ -25,6 +25,7 @@ lower_at-requires c =
       own = subst (λ r. own_width r e ≤ c.args.width) ranges c.requires.own;
       width = c.requires.width;
       room = omega (arith, ap length c.in_ok-steps.ensures.items, c.requires.width, c.requires.cells, ap (λ r. cell_count r e c.args.width) ranges);
+      few = omega (arith, c.requires.cells, ap (λ r. cell_count r e c.args.width) ranges);
     }
 
 pub returns : goal.returns
@@ -42,6 +43,6 @@ returns c =
     (subst (λ r. Adds m.nets (made r e w) [] all bits) (sym ranges) (subst (λ old. Adds m.nets (made (ranges_in m) e w) old all bits) c.in_ok-steps.ensures.items c.in_ok-bits.ensures)) in
     record {
       lowered = is-lowered (nets_at c.args.checked.now c.args.module) (ranges_at c.args.checked.now c.args.module) e w all bits c.requires.own adds;
-      value = has-value (nets_at c.args.checked.now c.args.module) (ranges_at c.args.checked.now c.args.module) e w all bits c.requires.own adds;
+      value = has-value (nets_at c.args.checked.now c.args.module) (ranges_at c.args.checked.now c.args.module) e w all bits c.requires.own adds c.made_has_value.ensures;
       few = omega (arith, steps-few (nets_at c.args.checked.now c.args.module) (ranges_at c.args.checked.now c.args.module) e w [] all bits c.requires.own adds);
     }

@@ -1,14 +1,17 @@
 -- What an operand needs, and what the widths of operands are together.
-use Rattle.std.proofs.Common.{◌*◌, ◌≤◌, map, sym, ap, ap₂, ◌∙◌, subst, arith, rules}
+use Rattle.std.proofs.Common.{◌+◌, ◌*◌, ◌≤◌, map, drop, sym, ap, ap₂, ◌∙◌, subst, arith, rules}
 use Rattle.std.specs.Prelude.{sum, max, All}
 use Rattle.bb_ast.specs.Inside.Views.{expression, operand_view, arm_view}
 use Rattle.bb_ast.specs.declared.expr.Expr.{the_lemmas}
 use Rattle.bb_names.specs.Inside.Checked.{module_facts}
-use Rattle.bb_names.specs.Widths.{own_width, greatest}
+use Rattle.bb_names.specs.Widths.{own_width, greatest, operator_width}
 use Rattle.bb_expr.specs.Inside.Fit.{AreFit, ranges_in}
-use Rattle.bb_expr.proofs.ViewLemmas.{expression-not, expression-chain, expression-cond, expression-concat, expression-repeat}
-use Rattle.bb_expr.proofs.OperandLemmas.{fit-not, fit-first, fit-operands, fit-arms, fit-last, fit-parts, fit-copied, parts-bounded, copied-bounded, copies-bounded, chain-width, cond-width, concat-width, repeat-width}
-use Rattle.bb_expr.proofs.Loops.{All-here}
+use Rattle.bb_expr.proofs.ViewLemmas.{expression-not, expression-chain, expression-cond, expression-concat, expression-repeat, expression-words}
+use Rattle.bb_expr.proofs.OperandLemmas.{fit-not, fit-first, fit-operands, fit-left, fit-words, fit-arms, fit-last, fit-parts, fit-copied, parts-bounded, copied-bounded, copies-bounded, chain-width, cond-width, concat-width, repeat-width}
+use Rattle.std.proofs.lemmas.List.{at_drop_all}
+use Rattle.bb_expr.specs.Inside.Levels.{width_on}
+use Rattle.bb_expr.proofs.LevelLemmas.{level-width}
+use Rattle.bb_expr.proofs.Loops.{All-here, rest-here}
 use Rattle.bb_expr.proofs.width.+width.Goals as goal
 
 pub width_of-width_of-requires : goal.width_of-width_of-requires
@@ -133,3 +136,49 @@ width_of-returns-in-Concat t c =
     let view = expression-concat c.args.expr.now c.in-Concat.all c.in-Concat.is in
     c.total_width.ensures ∙ ap (λ xs. sum (map (own_width (ranges_in m)) (map expression xs))) c.deref-in-Concat.ensures.value
     ∙ sym (ap (own_width (ranges_in m)) view ∙ concat-width (ranges_in m) (map expression c.in-Concat.all.items))
+
+-- operators on words
+pub width_of-width_of-requires-in-Words : goal.width_of-width_of-requires-in-Words
+width_of-width_of-requires-in-Words t c =
+    let m = module_facts c.args.scope.now in (
+      search (rules, the_lemmas),
+      subst (λ e. AreFit m (expression e)) (sym c.deref-in-Words.ensures)
+          (fit-left m (expression c.in-Words.first.value) (map operand_view c.in-Words.rest.items)
+          (subst (AreFit m) (expression-words c.args.expr.now c.in-Words.first c.in-Words.rest c.in-Words.is) c.requires.fit)),
+    )
+
+pub width_of-level_width-requires : goal.width_of-level_width-requires
+width_of-level_width-requires t c =
+    let m = module_facts c.args.scope.now in (
+      search (rules, the_lemmas),
+      subst (λ xs. All (λ x. AreFit m x.1) (map operand_view xs)) (sym c.deref-in-Words-2.ensures.value)
+          (fit-words m (expression c.in-Words.first.value) (map operand_view c.in-Words.rest.items)
+          (subst (AreFit m) (expression-words c.args.expr.now c.in-Words.first c.in-Words.rest c.in-Words.is) c.requires.fit)),
+    )
+
+pub width_of-returns-in-Words : goal.width_of-returns-in-Words
+width_of-returns-in-Words t c =
+    let ranges = ranges_in (module_facts c.args.scope.now) in
+    let view = expression-words c.args.expr.now c.in-Words.first c.in-Words.rest c.in-Words.is in
+    c.level_width.ensures
+    ∙ ap₂ (λ l xs. width_on ranges l (map operand_view xs)) (c.width_of-in-Words.ensures ∙ ap (λ e. own_width ranges (expression e)) c.deref-in-Words.ensures) c.deref-in-Words-2.ensures.value
+    ∙ sym (ap (own_width ranges) view ∙ level-width ranges (expression c.in-Words.first.value) (map operand_view c.in-Words.rest.items))
+
+pub level_width-width_of-requires : goal.level_width-width_of-requires
+level_width-width_of-requires t c = (
+  search (rules, the_lemmas),
+  All-here (λ x. AreFit (module_facts c.args.scope.now) x.1) operand_view c.args.rest.now c.loop-op.op-index c.loop-op-item.result c.loop-op-test.true c.loop-op-item.is c.requires.fit,
+)
+
+pub level_width-loop-op-preserved : goal.level_width-loop-op-preserved
+level_width-loop-op-preserved t c =
+    let ranges = ranges_in (module_facts c.args.scope.now) in
+    let i = c.loop-op.op-index in
+    let x = c.loop-op-item.result in
+    ap (λ k. width_on ranges k (map operand_view (drop (i + 1) c.args.rest.now))) (c.operator_width-width.ensures ∙ ap (operator_width x.0 c.loop-op.width) c.width_of.ensures)
+    ∙ sym (rest-here (width_on ranges c.loop-op.width) operand_view c.args.rest.now i x c.loop-op-test.true c.loop-op-item.is) ∙ c.loop-op.invariant
+
+pub level_width-returns : goal.level_width-returns
+level_width-returns t c =
+    let ranges = ranges_in (module_facts c.args.scope.now) in
+    sym (at_drop_all (λ ys. width_on ranges c.loop-op.width (map operand_view ys)) c.args.rest.now c.loop-op.op-index c.loop-op-test.false) ∙ c.loop-op.invariant

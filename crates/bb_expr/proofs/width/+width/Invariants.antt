@@ -4,6 +4,7 @@ use Rattle.bb_ast.specs.Inside.Views.{expression, operand_view, arm_view}
 use Rattle.bb_names.specs.Inside.Checked.{module_facts}
 use Rattle.bb_names.specs.Widths.{own_width, greatest}
 use Rattle.bb_expr.specs.Inside.Fit.{ranges_in}
+use Rattle.bb_expr.specs.Inside.Levels.{width_on}
 use Rattle.bb_expr.proofs.width.+width.Given as goal
 
 abbrev pub invariant-widest_operand-loop-operand : goal.invariant-widest_operand-loop-operand
@@ -20,3 +21,8 @@ abbrev pub invariant-total_width-loop-part : goal.invariant-total_width-loop-par
 invariant-total_width-loop-part l =
     l.total + sum (map (own_width (ranges_in (module_facts l.scope))) (map expression (drop l.part-index l.all)))
     ≡ sum (map (own_width (ranges_in (module_facts l.scope))) (map expression l.all))
+
+abbrev pub invariant-level_width-loop-op : goal.invariant-level_width-loop-op
+invariant-level_width-loop-op l =
+    width_on (ranges_in (module_facts l.scope)) l.width (map operand_view (drop l.op-index l.rest))
+    ≡ width_on (ranges_in (module_facts l.scope)) l.fn.left (map operand_view l.rest)

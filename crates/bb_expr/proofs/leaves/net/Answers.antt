@@ -8,7 +8,7 @@ use Rattle.bb_expr.specs.Inside.Fit.{ranges_in}
 use Rattle.bb_expr.specs.Inside.Growing.{Adds, AddsRow}
 use Rattle.bb_expr.proofs.PlaceLemmas.{ranged-length, ranged-count}
 use Rattle.bb_expr.proofs.NetBitLemmas.{adds-net}
-use Rattle.bb_expr.proofs.lowering.net.Goals as goal
+use Rattle.bb_expr.proofs.leaves.net.Goals as goal
 
 pub extended-requires : goal.extended-requires
 extended-requires c =
@@ -31,5 +31,5 @@ returns c =
     let own : c.range_width-count.result ≡ range_width (ranges_in m c.args.name.now) = c.range_width-count.ensures ∙ ap range_width c.range_of.ensures in
     let row = subst (λ n. AddsRow (map (of.Net c.place_of.result) (range_with_len 0 n)) c.args.steps.now.items c.net_bits.new.steps.items c.in_ok-bits.bits.items) own c.in_ok-bits.ensures in
     let adds = adds-net m c.args.name.now c.place_of.result 0 (range_width (ranges_in m c.args.name.now)) c.args.steps.now.items c.net_bits.new.steps.items c.in_ok-bits.bits.items c.requires.has c.place_of.ensures (omega arith) row in
-    c.extended.ensures m.nets (without_cells (net_terms c.args.name.now 0 (range_width (ranges_in m c.args.name.now)))) c.args.steps.now.items
+    c.extended.ensures.made m.nets (without_cells (net_terms c.args.name.now 0 (range_width (ranges_in m c.args.name.now)))) c.args.steps.now.items
     (subst (Adds m.nets (without_cells (net_terms c.args.name.now 0 (range_width (ranges_in m c.args.name.now)))) c.args.steps.now.items c.net_bits.new.steps.items) (sym c.deref.ensures.value) adds)

@@ -5,7 +5,7 @@ use Rattle.bb_expr.specs.Cells.{without_cells}
 use Rattle.bb_expr.specs.Inside.Growing.{Adds}
 use Rattle.bb_expr.proofs.PlaceLemmas.{all-mapped-length}
 use Rattle.bb_expr.proofs.NetBitLemmas.{adds-constants}
-use Rattle.bb_expr.proofs.lowering.number.Goals as goal
+use Rattle.bb_expr.proofs.leaves.number.Goals as goal
 
 pub extended-requires : goal.extended-requires
 extended-requires c =
@@ -14,6 +14,6 @@ extended-requires c =
 
 pub returns : goal.returns
 returns c = λ nets.
-    c.extended.ensures nets (without_cells (map Const c.args.bits.now)) c.args.steps.now.items
+    c.extended.ensures.made nets (without_cells (map Const c.args.bits.now)) c.args.steps.now.items
     (subst (Adds nets (without_cells (map Const c.args.bits.now)) c.args.steps.now.items c.constants.new.steps.items) (sym c.deref.ensures.value)
     (adds-constants nets c.args.bits.now c.args.steps.now.items c.constants.new.steps.items c.in_ok-places.places.items c.in_ok-places.ensures))

@@ -8,7 +8,7 @@ use Rattle.bb_expr.specs.Inside.Fit.{ranges_in}
 use Rattle.bb_expr.specs.Inside.Growing.{Adds, AddsRow}
 use Rattle.bb_expr.proofs.PlaceLemmas.{ranged-length, ranged-count}
 use Rattle.bb_expr.proofs.NetBitLemmas.{adds-net, part-fits}
-use Rattle.bb_expr.proofs.lowering.part.Goals as goal
+use Rattle.bb_expr.proofs.leaves.part.Goals as goal
 
 pub extended-requires : goal.extended-requires
 extended-requires c =
@@ -37,5 +37,5 @@ returns c =
     let terms = net_terms c.args.name.now (place_of range c.args.left) (distance c.args.left c.args.right + 1) in
     let adds = adds-net m c.args.name.now c.place_of.result (place_of range c.args.left) (distance c.args.left c.args.right + 1) c.args.steps.now.items c.net_bits.new.steps.items c.in_ok-bits.bits.items
     c.requires.has c.place_of.ensures (part-fits range c.args.left c.args.right c.requires.bits) row in
-    c.extended.ensures m.nets (without_cells terms) c.args.steps.now.items
+    c.extended.ensures.made m.nets (without_cells terms) c.args.steps.now.items
     (subst (Adds m.nets (without_cells terms) c.args.steps.now.items c.net_bits.new.steps.items) (sym c.deref.ensures.value) adds)
