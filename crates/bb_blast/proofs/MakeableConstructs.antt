@@ -8,7 +8,7 @@ use Rattle.std.proofs.lemmas.List.Elements.{All-contains, All-take, All-drop, Co
 use Rattle.bb_ast.specs.declared.module.Range.{Range}
 use Rattle.bb_ast.specs.Inside.Formed.{IsFormed, IsNetOrBit}
 use Rattle.bb_ast.specs.Gates.{output_count}
-use Rattle.bb_ast.specs.Syntax.{Expression, Net, Bit, Part, Sized, Plain, Not, Chain, Cond, Concat, Repeat, PlainConns, Order, Named, PlainAlways, PlainBody, Ports, Nets, Regs, Supply, Assign, Gates, Calls, Always, PlainItem, PlainModule}
+use Rattle.bb_ast.specs.Syntax.{Expression, Net, Bit, Part, Sized, Plain, Not, Fold, Chain, Words, Cond, Concat, Repeat, PlainConns, Order, Named, PlainAlways, PlainBody, Ports, Nets, Regs, Supply, Assign, Gates, Calls, Always, PlainItem, PlainModule}
 use Rattle.bb_names.specs.declared.net.NetKind.TheVariants.{Wire}
 use Rattle.bb_names.specs.declared.fault.NameFault.TheVariants as name_faults
 use Rattle.bb_names.specs.Inside.Checked.{ModuleFacts, syntax, IsChecked}
@@ -111,7 +111,9 @@ module _ (of_designs : DesignLaws) (checked : List ModuleFacts) (ok : IsChecked 
       by (Sized bits) sound one = absurd one
       by (Plain n) sound one = absurd one
       by (Not k e) sound one = absurd one
+      by (Fold op e) sound one = absurd one
       by (Chain e rest) sound one = absurd one
+      by (Words e rest) sound one = absurd one
       by (Cond all last) sound one = absurd one
       by (Concat all) sound one = absurd one
       by (Repeat k all) sound one = absurd one

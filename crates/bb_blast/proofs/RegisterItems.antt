@@ -5,7 +5,7 @@ use Rattle.bb_ast.specs.declared.module.Range.{Range}
 use Rattle.bb_ast.specs.Assignable.{assigning, is_assignable}
 use Rattle.bb_ast.specs.Folds.{of_parts}
 use Rattle.bb_ast.specs.Inside.Formed.{IsFormedExpression, IsFormedBody, IsFormed, IsNetOrBit}
-use Rattle.bb_ast.specs.Syntax.{Expression, Net, Bit, Part, Sized, Plain, Not, Chain, Cond, Concat, Repeat, no_part, part, PlainBody, Ports, Nets, Regs, Supply, Assign, Gates, Calls, Always, PlainItem, PlainModule}
+use Rattle.bb_ast.specs.Syntax.{Expression, Net, Bit, Part, Sized, Plain, Not, Fold, Chain, Words, Cond, Concat, Repeat, no_part, part, PlainBody, Ports, Nets, Regs, Supply, Assign, Gates, Calls, Always, PlainItem, PlainModule}
 use Rattle.bb_names.specs.Declarations.{range_of}
 use Rattle.bb_names.specs.Ranges.{distance, range_width, place_of}
 use Rattle.bb_design.specs.Hierarchy.{Scope}
@@ -46,7 +46,9 @@ left_written (Part n i j) formed may s = omega (arith, length-run {A = NetBit} (
 left_written (Sized bits) formed may s = absurd (true≢false (sym may))
 left_written (Plain n) formed may s = absurd (true≢false (sym may))
 left_written (Not k e) formed may s = absurd (true≢false (sym may))
+left_written (Fold op e) formed may s = absurd (true≢false (sym may))
 left_written (Chain e more) formed may s = absurd (true≢false (sym may))
+left_written (Words e more) formed may s = absurd (true≢false (sym may))
 left_written (Cond all last) formed may s = absurd (true≢false (sym may))
 left_written (Concat no_part) formed may s = absurd formed
 left_written (Concat (part x rest)) formed may s =

@@ -6,12 +6,14 @@ use Rattle.std.specs.List.{AllByRecursion}
 use Rattle.std.specs.Fmt.{digits, digits_onto, digit_glyph}
 use Rattle.bb_bits.specs.Names.{same_name, IsPrintable}
 use Rattle.bb_ast.specs.declared.expr.Op.{Op}
+use Rattle.bb_ast.specs.declared.operators.WordOp.{WordOp}
 use Rattle.bb_ast.specs.declared.module.Port.{Port}
 use Rattle.bb_ast.specs.declared.module.Range.{Range}
-use Rattle.bb_ast.specs.Folds.{of_operands, of_arms, of_parts}
-use Rattle.bb_ast.specs.Inside.Formed.{IsFormedExpression, AreFormedOperands, AreFormedArms, AreFormedParts, IsFormedPair, IsFormedAssignment, IsFormedGate, IsFormedConns, IsFormedCall, IsFormedBody, IsFormedHead, IsFormed}
+use Rattle.bb_ast.specs.Folds.{of_operands, of_words, of_arms, of_parts}
+use Rattle.bb_ast.specs.Inside.Formed.{IsFormedExpression, AreFormedOperands, AreFormedWords, AreFormedArms, AreFormedParts, IsFormedPair, IsFormedAssignment, IsFormedGate, IsFormedConns, IsFormedCall, IsFormedBody, IsFormedHead, IsFormed}
+use Rattle.bb_ast.specs.Levels.{level_of}
 use Rattle.bb_ast.specs.Names.{naming, names_in}
-use Rattle.bb_ast.specs.Syntax.{Expression, Net, Bit as BitOf, Part, Sized, Plain, Not, Chain, Cond, Concat, Repeat, Operands, no_operand, operand, Arms, no_arm, arm, Parts, no_part, part, PlainConns, Order, Named, PlainBody, Ports, Nets, Regs, Supply, Assign, Gates, Calls, Always, PlainItem, PlainHead, PlainModule}
+use Rattle.bb_ast.specs.Syntax.{Expression, Net, Bit as BitOf, Part, Sized, Plain, Not, Fold, Chain, Words, Cond, Concat, Repeat, Operands, no_operand, operand, WordOperands, no_word, word, Arms, no_arm, arm, Parts, no_part, part, PlainConns, Order, Named, PlainBody, Ports, Nets, Regs, Supply, Assign, Gates, Calls, Always, PlainItem, PlainHead, PlainModule}
 use Rattle.bb_names.specs.declared.net.NetInfo.{NetInfo}
 use Rattle.bb_names.specs.Declarations.{Declaration, port_declaration, declared_by_head, declared_by, declarations, is_declared, names_in_optional, names_in_conns, implicit_places, implicit_names}
 use Rattle.bb_names.specs.Nets.{net_names, net_of, nets_of, is_empty}
@@ -56,9 +58,13 @@ mutual
   names_formed (Sized bits) formed = tt
   names_formed (Plain n) formed = tt
   names_formed (Not k e) formed = names_formed e formed.1
+  names_formed (Fold op e) formed = names_formed e formed
   names_formed (Chain e no_operand) formed = absurd formed
   names_formed (Chain e (operand op x rest)) formed =
       all_append IsPrintable (names_in e) _ (names_formed e formed.0) (all_append IsPrintable (names_in x) _ (names_formed x formed.1) (operands_formed rest formed.2))
+  names_formed (Words e no_word) formed = absurd formed
+  names_formed (Words e (word op x rest)) formed =
+      all_append IsPrintable (names_in e) _ (names_formed e formed.0) (all_append IsPrintable (names_in x) _ (names_formed x formed.1) (words_formed (level_of op) rest formed.2))
   names_formed (Cond no_arm last) formed = absurd formed
   names_formed (Cond (arm c v rest) last) formed =
       all_append IsPrintable ((names_in c ++ names_in v) ++ flat_map (λ (x : List (List ℕ) × List (List ℕ)). x.0 ++ x.1) (of_arms (λ e a. a) naming rest)) (names_in last)
@@ -71,6 +77,10 @@ mutual
   operands_formed : (rest : Operands) → AreFormedOperands rest → AllByRecursion IsPrintable (flat_map (λ (x : Op × List (List ℕ)). x.1) (of_operands (λ e a. a) naming rest))
   operands_formed no_operand formed = tt
   operands_formed (operand op e rest) formed = all_append IsPrintable (names_in e) _ (names_formed e formed.0) (operands_formed rest formed.1)
+
+  words_formed : (level : ℕ) (rest : WordOperands) → AreFormedWords level rest → AllByRecursion IsPrintable (flat_map (λ (x : WordOp × List (List ℕ)). x.1) (of_words (λ e a. a) naming rest))
+  words_formed level no_word formed = tt
+  words_formed level (word op e rest) formed = all_append IsPrintable (names_in e) _ (names_formed e formed.1) (words_formed level rest formed.2)
 
   arms_formed : (rest : Arms) → AreFormedArms rest → AllByRecursion IsPrintable (flat_map (λ (x : List (List ℕ) × List (List ℕ)). x.0 ++ x.1) (of_arms (λ e a. a) naming rest))
   arms_formed no_arm formed = tt

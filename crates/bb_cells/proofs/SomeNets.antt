@@ -6,7 +6,7 @@ use Rattle.std.specs.List.{AllZip}
 use Rattle.std.proofs.lemmas.List.Elements.{All-contains}
 use Rattle.bb_ast.specs.Inside.Formed.{IsFormed, IsFormedBody, IsNetOrBit}
 use Rattle.bb_ast.specs.Names.{names_in}
-use Rattle.bb_ast.specs.Syntax.{Expression, Net, Bit as BitOf, Part, Sized, Plain, Not, Chain, Cond, Concat, Repeat, Always, PlainAlways, PlainItem}
+use Rattle.bb_ast.specs.Syntax.{Expression, Net, Bit as BitOf, Part, Sized, Plain, Not, Fold, Chain, Words, Cond, Concat, Repeat, Always, PlainAlways, PlainItem}
 use Rattle.bb_bits.specs.Closures.{Leads, One, More, IsFirst}
 use Rattle.bb_names.specs.Declarations.{range_of}
 use Rattle.bb_names.specs.Ranges.{range_width}
@@ -79,7 +79,9 @@ clock_bit s (Part n i j) is one = absurd is
 clock_bit s (Sized bits) is one = absurd is
 clock_bit s (Plain n) is one = absurd is
 clock_bit s (Not k e) is one = absurd is
+clock_bit s (Fold op e) is one = absurd is
 clock_bit s (Chain e rest) is one = absurd is
+clock_bit s (Words e rest) is one = absurd is
 clock_bit s (Cond all last) is one = absurd is
 clock_bit s (Concat all) is one = absurd is
 clock_bit s (Repeat k all) is one = absurd is

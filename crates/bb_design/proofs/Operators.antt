@@ -1,17 +1,23 @@
 -- Every operator of which a bit of an expression is made is one of its cells.
-use Rattle.std.proofs.Common.{◌≡◌, ◌⊎◌, ℕ, zero, suc, ◌+◌, Bool, true, false, if◌then◌else◌, List, [], ◌∷◌, ◌++◌, map, fold, replicate, drop, Contains, subst, inl, inr}
+use Rattle.std.proofs.Common.{◌≡◌, ◌⊎◌, ℕ, zero, suc, ◌+◌, Bool, true, false, if◌then◌else◌, List, [], ◌∷◌, ◌++◌, map, fold, reverse, replicate, drop, Contains, subst, inl, inr}
 use Rattle.std.specs.List.{range_with_len}
 use Rattle.std.proofs.lemmas.List.Elements.{Contains-append_left, Contains-append_right, Contains-append_cases}
 use Rattle.bb_ast.specs.declared.expr.Op.{Op}
 use Rattle.bb_ast.specs.declared.expr.Op.TheVariants as ops
-use Rattle.bb_ast.specs.Syntax.{Expression, Net as NetOf, Bit, Part, Sized, Plain, Not as NotOf, Chain, Cond, Concat, Repeat, Operands, no_operand, operand, Arms, no_arm, arm, Parts, no_part, part}
-use Rattle.bb_ast.specs.Folds.{of_operands, of_arms, of_parts}
+use Rattle.bb_ast.specs.declared.operators.WordOp.{WordOp}
+use Rattle.bb_ast.specs.declared.operators.FoldOp.{FoldOp}
+use Rattle.bb_ast.specs.Syntax.{Expression, Net as NetOf, Bit, Part, Sized, Plain, Not as NotOf, Fold, Chain, Words, Cond, Concat, Repeat, Operands, no_operand, operand, WordOperands, no_word, word, Arms, no_arm, arm, Parts, no_part, part}
+use Rattle.bb_ast.specs.Folds.{of_operands, of_words, of_arms, of_parts}
 use Rattle.bb_bits.specs.Numbers.{bits_of}
 use Rattle.bb_names.specs.Ranges.{distance, range_width, place_of}
-use Rattle.bb_names.specs.Widths.{Ranges, own_width, Operand}
+use Rattle.bb_names.specs.Widths.{Ranges, own_width, Operand, first_at, second_at, word_step, words_at}
 use Rattle.bb_expr.specs.Lists.{extended, copies, bitwise}
-use Rattle.bb_expr.specs.Terms.{Term, Const, Net, Not, And, Or, Xor, Mux}
-use Rattle.bb_expr.specs.Cells.{Made, made, makes, net_terms, inverted, operated, chained, any_from, any_bit, selected, arm_made, arms_made, part_bits, part_cells, is_odd}
+use Rattle.bb_expr.specs.Terms.{Term, Const, Net, Not, And, Or, Xor, Mux, terms}
+use Rattle.bb_expr.specs.Cells.{Made, made, makes, net_terms, inverted, operated, chained, word_made, fold_made, any_from, any_bit, selected, arm_made, arms_made, part_bits, part_cells}
+use Rattle.bb_word.specs.Folds.{is_odd, fold_circuit}
+use Rattle.bb_word.specs.Words.{word_circuit}
+use Rattle.bb_word.specs.Laws.Each.{each_reverse}
+use Rattle.bb_word.specs.Laws.CircuitKept.{IsKept, kept_word, kept_fold}
 use Rattle.bb_lists.proofs.Members.{contains_here, contains_there, contains_cases, none_in_nil}
 
 -- each operator in a term is one of these cells
@@ -143,6 +149,36 @@ closed_chained op a b first second = each_operated op (a.cells ++ b.cells ++ mor
     more : List Term
     more = (operated op a.bits b.bits).cells
 
+-- gates of such terms, where they are among the cells
+ops_kept : (cells : List Term) → IsKept terms (OpsIn cells) cells
+ops_kept cells = record {
+  zero = tt;
+  one = tt;
+  inverse = λ a has p. (has, p);
+  both = λ a b has p q. (has, p, q);
+  either = λ a b has p q. (has, p, q);
+  differ = λ a b has p q. (has, p, q);
+  choice = λ c t e has p q r. (has, p, q, r);
+}
+
+closed_word : (op : WordOp) (m n : ℕ) (a b : Made) (w : ℕ) → IsClosed a → IsClosed b → IsClosed (word_made op m n a b w)
+closed_word op m n a b w first second =
+    let circuit = word_circuit terms op (reverse a.bits) (reverse b.bits) in
+    let before = a.cells ++ b.cells in
+    let all = before ++ circuit.cells in
+    let left = each_reverse (OpsIn all) a.bits (λ t has. ops_left before circuit.cells t (ops_left a.cells b.cells t (first t has))) in
+    let right = each_reverse (OpsIn all) b.bits (λ t has. ops_left before circuit.cells t (ops_right a.cells b.cells t (second t has))) in
+    let kept = kept_word terms (OpsIn all) all (ops_kept all) op (reverse a.bits) (reverse b.bits) left right (λ t has. Contains-append_right before circuit.cells t has) in
+    each_extended all w (reverse circuit.bits) (each_reverse (OpsIn all) circuit.bits kept.bits)
+
+closed_fold : (op : FoldOp) (a : Made) (w : ℕ) → IsClosed a → IsClosed (fold_made op a w)
+closed_fold op a w first =
+    let circuit = fold_circuit terms op (reverse a.bits) in
+    let all = a.cells ++ circuit.cells in
+    let operand = each_reverse (OpsIn all) a.bits (λ t has. ops_left a.cells circuit.cells t (first t has)) in
+    let kept = kept_fold terms (OpsIn all) all (ops_kept all) op (reverse a.bits) operand (λ t has. Contains-append_right a.cells circuit.cells t has) in
+    each_extended all w (reverse circuit.bits) (each_reverse (OpsIn all) circuit.bits kept.bits)
+
 closed_arm : (c t e : Made) → IsClosed c → IsClosed t → IsClosed e → IsClosed (arm_made c t e)
 closed_arm c t e first second third =
     let any = any_bit c.bits in
@@ -168,7 +204,9 @@ mutual
   closed ranges (Sized bits) w = each_extended [] w _ (each_const [] bits)
   closed ranges (Plain n) w = each_extended [] w (map Const (bits_of 32 n)) (each_const [] (bits_of 32 n))
   closed ranges (NotOf k e) w = closed_inverted (is_odd k) (made ranges e w) (closed ranges e w)
+  closed ranges (Fold op e) w = closed_fold op (made ranges e (own_width ranges e)) w (closed ranges e (own_width ranges e))
   closed ranges (Chain e rest) w = closed_chain ranges rest w (made ranges e w) (closed ranges e w)
+  closed ranges (Words e rest) w = closed_words ranges rest (made_seen ranges e (made ranges e)) (λ v. closed ranges e v) w
   closed ranges (Cond all last) w = closed_arms ranges all w last (closed ranges last w)
   closed ranges (Concat all) w = each_extended (part_cells (of_parts (made_seen ranges) (makes ranges) all)) w _ (closed_parts ranges all)
   closed ranges (Repeat k all) w = each_extended (part_cells (of_parts (made_seen ranges) (makes ranges) all)) w _ (each_copies (OpsIn (part_cells (of_parts (made_seen ranges) (makes ranges) all))) k _ (closed_parts ranges all))
@@ -177,6 +215,17 @@ mutual
       → IsClosed (fold (λ a x. let b = x.1.at w in chained a b (operated x.0 a.bits b.bits)) m (of_operands (made_seen ranges) (makes ranges) rest))
   closed_chain ranges no_operand w m all = all
   closed_chain ranges (operand op e rest) w m all = closed_chain ranges rest w (chained m (made ranges e w) (operated op m.bits (made ranges e w).bits)) (closed_chained op m (made ranges e w) all (closed ranges e w))
+
+  closed_words : (ranges : Ranges) (rest : WordOperands) (left : Operand Made) → ((w : ℕ) → IsClosed (left.at w)) → (w : ℕ)
+      → IsClosed (words_at word_made left (of_words (made_seen ranges) (makes ranges) rest) w)
+  closed_words ranges no_word left all w = all w
+  closed_words ranges (word op e rest) left all w =
+      closed_words ranges rest (word_step word_made left (op, made_seen ranges e (made ranges e)))
+      (λ v.
+      let l = first_at op left.width (own_width ranges e) v in
+      let r = second_at op left.width (own_width ranges e) v in
+      closed_word op l r (left.at l) (made ranges e r) v (all l) (closed ranges e r))
+      w
 
   closed_arms : (ranges : Ranges) (all : Arms) (w : ℕ) (last : Expression) → IsClosed (made ranges last w)
       → IsClosed (arms_made (of_arms (made_seen ranges) (makes ranges) all) (made_seen ranges last (made ranges last)) w)

@@ -1,25 +1,31 @@
 -- Where each net that an expression names has its bits in a scope, whatever the expression writes or is made of has them there.
-use Rattle.std.proofs.Common.{◌≡◌, ◌⊎◌, ℕ, ◌+◌, ◌-◌, ◌<◌, Bool, true, false, if◌then◌else◌, List, [], ◌∷◌, ◌++◌, map, flat_map, fold, length, replicate, Contains, Some, None, subst, inl, inr, arith}
+use Rattle.std.proofs.Common.{◌≡◌, ◌⊎◌, ℕ, ◌+◌, ◌-◌, ◌<◌, Bool, true, false, if◌then◌else◌, List, [], ◌∷◌, ◌++◌, map, flat_map, fold, length, reverse, replicate, Contains, Some, None, subst, inl, inr, arith}
 use Rattle.std.specs.List.{range_with_len}
 use Rattle.std.proofs.lemmas.List.Elements.{Contains-append_left, Contains-append_right, Contains-append_cases}
 use Rattle.bb_ast.specs.declared.expr.Op.{Op}
 use Rattle.bb_ast.specs.declared.expr.Op.TheVariants as ops
+use Rattle.bb_ast.specs.declared.operators.WordOp.{WordOp}
+use Rattle.bb_ast.specs.declared.operators.FoldOp.{FoldOp}
 use Rattle.bb_ast.specs.declared.module.Gate.{Gate}
 use Rattle.bb_ast.specs.declared.module.Gate.TheVariants as gates
-use Rattle.bb_ast.specs.Syntax.{Expression, Net as NetOf, Bit as BitOf, Part, Sized, Plain, Not as NotOf, Chain, Cond, Concat, Repeat, Operands, no_operand, operand, Arms, no_arm, arm, Parts, no_part, part}
-use Rattle.bb_ast.specs.Folds.{fold_by, of_operands, of_arms, of_parts}
+use Rattle.bb_ast.specs.Syntax.{Expression, Net as NetOf, Bit as BitOf, Part, Sized, Plain, Not as NotOf, Fold, Chain, Words, Cond, Concat, Repeat, Operands, no_operand, operand, WordOperands, no_word, word, Arms, no_arm, arm, Parts, no_part, part}
+use Rattle.bb_ast.specs.Folds.{fold_by, of_operands, of_words, of_arms, of_parts}
 use Rattle.bb_bits.specs.Numbers.{bits_of}
 use Rattle.bb_names.specs.Declarations.{range_of}
 use Rattle.bb_names.specs.Ranges.{distance, range_width, place_of}
 use Rattle.bb_names.specs.Spots.{Use, Spot, Number, Whole, Used, with_inside, part_spots, inside, is_plain, spots_in}
-use Rattle.bb_names.specs.Widths.{Ranges, own_width, Operand}
+use Rattle.bb_names.specs.Widths.{Ranges, own_width, Operand, first_at, second_at, word_step, words_at}
 use Rattle.bb_expr.specs.Lists.{extended, copies, bitwise}
-use Rattle.bb_expr.specs.Terms.{Term, Const, Net, Not, And, Or, Xor, Mux}
-use Rattle.bb_expr.specs.Cells.{Made, made, makes, net_terms, inverted, operated, chained, any_from, any_bit, selected, arm_made, arms_made, part_bits, part_cells, is_odd}
+use Rattle.bb_expr.specs.Terms.{Term, Const, Net, Not, And, Or, Xor, Mux, terms}
+use Rattle.bb_expr.specs.Cells.{Made, made, makes, net_terms, inverted, operated, chained, word_made, fold_made, any_from, any_bit, selected, arm_made, arms_made, part_bits, part_cells}
 use Rattle.bb_design.specs.Hierarchy.{Scope}
 use Rattle.bb_design.specs.NetBits.{Bit, bits_from, scope_bits, assigned, written_bits}
 use Rattle.bb_design.specs.GateFunctions.{on_terms, joins, joined, inverts, gate_gives, joined_after, joining_cells, gate_cells}
 use Rattle.bb_design.specs.Reading.{operand_terms, bit_itself}
+use Rattle.bb_word.specs.Folds.{is_odd, fold_circuit}
+use Rattle.bb_word.specs.Words.{word_circuit}
+use Rattle.bb_word.specs.Laws.Each.{each_reverse}
+use Rattle.bb_word.specs.Laws.CircuitKept.{IsKept, kept_word, kept_fold}
 use Rattle.bb_lists.proofs.Members.{from_map, contains_here, contains_there, contains_cases, none_in_nil}
 use Rattle.bb_lists.proofs.Ranges.{from_range}
 use Rattle.bb_design.proofs.Operators.{Each, each_nil, each_cons, each_append, each_replicate, each_copies}
@@ -144,6 +150,36 @@ module _ (s : Scope) where
       let both = operated_named op a.bits b.bits first.bits second.bits in
       record { bits = both.bits; cells = each_append Names (a.cells ++ b.cells) (operated op a.bits b.bits).cells (each_append Names a.cells b.cells first.cells second.cells) both.cells }
 
+  -- gates of such terms
+  names_kept : (cells : List Term) → IsKept terms Names cells
+  names_kept cells = record {
+    zero = tt;
+    one = tt;
+    inverse = λ a has p. p;
+    both = λ a b has p q. (p, q);
+    either = λ a b has p q. (p, q);
+    differ = λ a b has p q. (p, q);
+    choice = λ c t e has p q r. (p, q, r);
+  }
+
+  word_named : (op : WordOp) (m n : ℕ) (a b : Made) (w : ℕ) → AreNamed a → AreNamed b → AreNamed (word_made op m n a b w)
+  word_named op m n a b w first second =
+      let circuit = word_circuit terms op (reverse a.bits) (reverse b.bits) in
+      let kept = kept_word terms Names circuit.cells (names_kept circuit.cells) op (reverse a.bits) (reverse b.bits) (each_reverse Names a.bits first.bits) (each_reverse Names b.bits second.bits) (λ t has. has) in
+      record {
+        bits = extended_named w (reverse circuit.bits) (each_reverse Names circuit.bits kept.bits);
+        cells = each_append Names (a.cells ++ b.cells) circuit.cells (each_append Names a.cells b.cells first.cells second.cells) kept.cells;
+      }
+
+  fold_named : (op : FoldOp) (a : Made) (w : ℕ) → AreNamed a → AreNamed (fold_made op a w)
+  fold_named op a w first =
+      let circuit = fold_circuit terms op (reverse a.bits) in
+      let kept = kept_fold terms Names circuit.cells (names_kept circuit.cells) op (reverse a.bits) (each_reverse Names a.bits first.bits) (λ t has. has) in
+      record {
+        bits = extended_named w (reverse circuit.bits) (each_reverse Names circuit.bits kept.bits);
+        cells = each_append Names a.cells circuit.cells first.cells kept.cells;
+      }
+
   arm_named : (c t e : Made) → AreNamed c → AreNamed t → AreNamed e → AreNamed (arm_made c t e)
   arm_named c t e first second third =
       let any = any_bit_named c.bits first.bits in
@@ -169,6 +205,9 @@ module _ (s : Scope) where
   abbrev operand_spots : Use → Operands → List Spot
   operand_spots how rest = flat_map (λ x. with_inside x.1) (of_operands (spots_of how) (inside how) rest)
 
+  abbrev word_spots : Use → WordOperands → List Spot
+  word_spots how rest = flat_map (λ x. with_inside x.1) (of_words (spots_of how) (inside how) rest)
+
   abbrev arm_spots : Use → Arms → List Spot
   arm_spots how arms = flat_map (λ x. with_inside x.0 ++ with_inside x.1) (of_arms (spots_of how) (inside how) arms)
 
@@ -186,9 +225,13 @@ module _ (s : Scope) where
     named how (Sized bits) w all = record { bits = extended_named w (map Const bits) (constants_named bits); cells = each_nil Names }
     named how (Plain n) w all = record { bits = extended_named w (map Const (bits_of 32 n)) (constants_named (bits_of 32 n)); cells = each_nil Names }
     named how (NotOf k e) w all = not_named (is_odd k) (made ranges e w) (named how e w (behind (Whole (NotOf k e)) (spots_in how e) all))
+    named how (Fold op e) w all = fold_named op (made ranges e (own_width ranges e)) w (named how e (own_width ranges e) (behind (Whole (Fold op e)) (spots_in how e) all))
     named how (Chain e rest) w all =
         let inner = behind (Whole (Chain e rest)) (inner_spots how (Chain e rest)) all in
         named_chain how rest w (made ranges e w) (named how e w (front (spots_in how e) (operand_spots how rest) inner)) (back (spots_in how e) (operand_spots how rest) inner)
+    named how (Words e rest) w all =
+        let inner = behind (Whole (Words e rest)) (inner_spots how (Words e rest)) all in
+        named_words how rest (seen e (made ranges e)) (λ v. named how e v (front (spots_in how e) (word_spots how rest) inner)) (back (spots_in how e) (word_spots how rest) inner) w
     named how (Cond arms last) w all =
         let inner = behind (Whole (Cond arms last)) (inner_spots how (Cond arms last)) all in
         named_arms how arms w last (named how last w (back (arm_spots how arms) (spots_in how last) inner))
@@ -205,6 +248,18 @@ module _ (s : Scope) where
     named_chain how no_operand w m h all = h
     named_chain how (operand op e rest) w m h all = named_chain how rest w (chained m (made ranges e w) (operated op m.bits (made ranges e w).bits))
         (chained_named op m (made ranges e w) h (named how e w (front (spots_in how e) (operand_spots how rest) all))) (back (spots_in how e) (operand_spots how rest) all)
+
+    named_words : (how : Use) (rest : WordOperands) (left : Operand Made) → ((w : ℕ) → AreNamed (left.at w)) → HaveUsed (word_spots how rest) → (w : ℕ)
+        → AreNamed (words_at word_made left (of_words seen (makes ranges) rest) w)
+    named_words how no_word left h all w = h w
+    named_words how (word op e rest) left h all w =
+        named_words how rest (word_step word_made left (op, seen e (made ranges e)))
+        (λ v.
+        let l = first_at op left.width (own_width ranges e) v in
+        let r = second_at op left.width (own_width ranges e) v in
+        word_named op l r (left.at l) (made ranges e r) v (h l) (named how e r (front (spots_in how e) (word_spots how rest) all)))
+        (back (spots_in how e) (word_spots how rest) all)
+        w
 
     named_arms : (how : Use) (arms : Arms) (w : ℕ) (last : Expression) → AreNamed (made ranges last w) → HaveUsed (arm_spots how arms)
         → AreNamed (arms_made (of_arms seen (makes ranges) arms) (seen last (made ranges last)) w)
@@ -231,7 +286,9 @@ module _ (s : Scope) where
     written_there how (Sized bits) all b has = absurd (none_in_nil b has)
     written_there how (Plain n) all b has = absurd (none_in_nil b has)
     written_there how (NotOf k e) all b has = absurd (none_in_nil b has)
+    written_there how (Fold op e) all b has = absurd (none_in_nil b has)
     written_there how (Chain e rest) all b has = absurd (none_in_nil b has)
+    written_there how (Words e rest) all b has = absurd (none_in_nil b has)
     written_there how (Cond arms last) all b has = absurd (none_in_nil b has)
     written_there how (Repeat k parts) all b has = absurd (none_in_nil b has)
     written_there how (Concat parts) all b has = written_parts how parts (behind (Whole (Concat parts)) (inner_spots how (Concat parts)) all) b has

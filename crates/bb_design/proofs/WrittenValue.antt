@@ -6,7 +6,7 @@ use Rattle.std.specs.Prelude.{sum}
 use Rattle.std.specs.List.{flat_map, list_all, range_with_len}
 use Rattle.bb_ast.specs.Assignable.{assigning, is_assignable}
 use Rattle.bb_ast.specs.Folds.{of_parts}
-use Rattle.bb_ast.specs.Syntax.{Expression, Net, Bit, Part, Sized, Plain, Not, Chain, Cond, Concat, Repeat, Parts, no_part, part}
+use Rattle.bb_ast.specs.Syntax.{Expression, Net, Bit, Part, Sized, Plain, Not, Fold, Chain, Words, Cond, Concat, Repeat, Parts, no_part, part}
 use Rattle.bb_names.specs.Declarations.{range_of}
 use Rattle.bb_names.specs.Ranges.{distance, range_width, place_of}
 use Rattle.bb_names.specs.Widths.{own_width, widths, Operand, alone}
@@ -64,7 +64,9 @@ mutual
   written law w s (Sized bits) may = absurd (true≢false (sym may))
   written law w s (Plain n) may = absurd (true≢false (sym may))
   written law w s (Not k e) may = absurd (true≢false (sym may))
+  written law w s (Fold op e) may = absurd (true≢false (sym may))
   written law w s (Chain e rest) may = absurd (true≢false (sym may))
+  written law w s (Words e rest) may = absurd (true≢false (sym may))
   written law w s (Cond all last) may = absurd (true≢false (sym may))
   written law w s (Repeat k all) may = absurd (true≢false (sym may))
   written law w s (Concat all) may = parts_written law w s all may ∙ sym (extended_none false _ _ (parts_long law (w s.path) s all))
@@ -88,7 +90,9 @@ mutual
   written_short s (Sized bits) = omega arith
   written_short s (Plain n) = omega arith
   written_short s (Not k e) = omega arith
+  written_short s (Fold op e) = omega arith
   written_short s (Chain e rest) = omega arith
+  written_short s (Words e rest) = omega arith
   written_short s (Cond all last) = omega arith
   written_short s (Repeat k all) = omega arith
   written_short s (Concat all) = parts_short s all

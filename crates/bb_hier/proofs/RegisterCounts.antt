@@ -7,7 +7,7 @@ use Rattle.std.proofs.lemmas.Simd.{map-map}
 use Rattle.std.proofs.lemmas.List.Elements.{filter-append}
 use Rattle.std.proofs.lemmas.List.Sums.{sum_by-cons}
 use Rattle.bb_ast.specs.Folds.{of_parts}
-use Rattle.bb_ast.specs.Syntax.{Expression, Net, Bit as BitOf, Part, Sized, Plain, Not, Chain, Cond, Concat, Repeat, Parts, no_part, part, PlainAlways, PlainBody, Ports, Nets, Regs, Supply, Assign, Gates, Calls, Always, PlainItem, PlainModule}
+use Rattle.bb_ast.specs.Syntax.{Expression, Net, Bit as BitOf, Part, Sized, Plain, Not, Fold, Chain, Words, Cond, Concat, Repeat, Parts, no_part, part, PlainAlways, PlainBody, Ports, Nets, Regs, Supply, Assign, Gates, Calls, Always, PlainItem, PlainModule}
 use Rattle.bb_names.specs.Declarations.{range_of}
 use Rattle.bb_names.specs.Nets.{nets_of}
 use Rattle.bb_names.specs.Ranges.{distance, range_width, place_of}
@@ -86,7 +86,9 @@ module _ (m : PlainModule) (p : Path) where
     written_moved (Sized bits) = refl
     written_moved (Plain n) = refl
     written_moved (Not k e) = refl
+    written_moved (Fold op e) = refl
     written_moved (Chain e rest) = refl
+    written_moved (Words e rest) = refl
     written_moved (Cond all last) = refl
     written_moved (Concat all) = parts_moved all
     written_moved (Repeat k all) = refl
