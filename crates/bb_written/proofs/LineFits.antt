@@ -218,7 +218,7 @@ module _ (stem : List ℕ) (is : IsStem stem) where
       let d : List Written = c ++ written_word stem high ++ spaced (OneMark Colon) in
       let a_fits : (more : List ℕ) → AreFit a more = λ more. ((assign_word.0, assign_word.1, refl), (tt, tt)) in
       let b_fits : (more : List ℕ) → AreFit b more =
-      λ more. word_between a left (spaced (OneMark Equals)) more a_fits (good_net left good.0) refl (tt, (tt, (tt, tt))) in
+      λ more. word_between a left (spaced (OneMark Equals)) more a_fits (good_net left good.0) refl (tt, (refl, (tt, tt))) in
       let c_fits : (more : List ℕ) → AreFit c more =
       λ more. word_between b condition (spaced (OneMark Query)) more b_fits good.1 refl (tt, (tt, (tt, tt))) in
       let d_fits : (more : List ℕ) → AreFit d more =

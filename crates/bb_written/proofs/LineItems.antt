@@ -1,5 +1,5 @@
 -- The symbols of a line are the item that the line says, or the header of the module.
-use Rattle.std.proofs.Common.{◌≡◌, inl, ℕ, suc, ◌<◌, None, List, [], ◌∷◌, ◌++◌, length, map, refl, ap, arith, append_assoc}
+use Rattle.std.proofs.Common.{◌≡◌, inl, ℕ, zero, suc, Bool, true, false, MatchBool, ◌<◌, None, List, [], ◌∷◌, ◌++◌, length, map, refl, ap, arith, append_assoc}
 use Rattle.std.specs.Prelude.{codes}
 use Rattle.bb_ast.specs.declared.module.Dir.TheVariants as directions
 use Rattle.bb_ast.specs.Syntax.{Expression, Net, Cond, arm, no_arm, PlainBody, Regs, Assign as Assigns, Gates, Always as Takes}
@@ -7,7 +7,7 @@ use Rattle.bb_lex.specs.declared.keyword.Keyword.TheVariants as words
 use Rattle.bb_lex.specs.declared.mark.Mark.TheVariants.{LeftRound, RightRound, Comma, Semicolon, Colon, Equals, Query, LessEqual}
 use Rattle.bb_parse.specs.Symbols.{Symbol, Identifier, Reserved, Sign}
 use Rattle.bb_parse.specs.Lists.{Rule, IsName, IsMore, IsList}
-use Rattle.bb_parse.specs.Expressions.{IsPrimary, select, sized, IsOrx, IsExpr, IsLval}
+use Rattle.bb_parse.specs.Expressions.{IsPrimary, select, sized, is_bitwise, IsLevel, IsExpr, IsLval}
 use Rattle.bb_parse.specs.Declarations.{IsPlainHead, AreHeads, empty, named, IsHeader}
 use Rattle.bb_parse.specs.Items.{gate_word, AreTerminals, IsItem}
 use Rattle.bb_fill.specs.Words.{Word, Bit, Named, CellNet, ChoiceNet}
@@ -15,6 +15,10 @@ use Rattle.bb_fill.specs.Lines.{Line, Primitive, Module, Input, Output, Reg, Gat
 use Rattle.bb_written.specs.Laws.Modules.{expression_of, gate_of, port_body, bodies_of, plain_head}
 use Rattle.bb_written.proofs.LineFits.{IsGoodLine, IsNet}
 use Rattle.bb_written.proofs.LineSymbols.{word_symbol, more_symbols, list_symbols, line_symbols}
+
+either_of : (b : Bool) (A B : Type 0) → A → B → MatchBool b A B
+either_of true A B p q = p
+either_of false A B p q = q
 
 module _ (stem : List ℕ) where
   word_primary : (inner : Rule Expression) (word : Word) (rest : List Symbol)
@@ -24,15 +28,17 @@ module _ (stem : List ℕ) where
   word_primary inner (CellNet number) rest = select refl
   word_primary inner (ChoiceNet number) rest = select refl
 
-  word_orx : (inner : Rule Expression) (word : Word) (rest : List Symbol)
-      → IsOrx inner (word_symbol stem word ∷ rest) (expression_of stem word) rest
-  word_orx inner word rest =
+  -- it is a chain of every level, with no operator
+  word_level : (inner : Rule Expression) (n : ℕ) (word : Word) (rest : List Symbol)
+      → IsLevel n inner (word_symbol stem word ∷ rest) (expression_of stem word) rest
+  word_level inner zero word rest = (0, word_symbol stem word ∷ rest, expression_of stem word, refl, inl (word_primary inner word rest), refl)
+  word_level inner (suc n) word rest =
       let e = expression_of stem word in
-      (e, [], rest, (e, [], rest, (e, [], rest, (0, word_symbol stem word ∷ rest, e, refl, word_primary inner word rest, refl), refl, refl), refl, refl), refl, refl)
+      either_of (is_bitwise n) _ _ (e, [], rest, word_level inner n word rest, refl, refl) (e, [], rest, word_level inner n word rest, refl, refl)
 
   word_expr : (n : ℕ) (word : Word) (rest : List Symbol)
       → IsExpr (suc n) (word_symbol stem word ∷ rest) (expression_of stem word) rest
-  word_expr n word rest = ([], expression_of stem word, word_orx (IsExpr n) word rest, refl)
+  word_expr n word rest = ([], expression_of stem word, word_level (IsExpr n) 9 word rest, refl)
 
   -- a condition with both its values
   choice_expr : (condition high low : Word) (rest : List Symbol)
@@ -44,9 +50,9 @@ module _ (stem : List ℕ) where
     (
       word_symbol stem high ∷ Sign Colon ∷ word_symbol stem low ∷ rest,
       word_symbol stem low ∷ rest,
-      word_orx (IsExpr 1) condition (Sign Query ∷ word_symbol stem high ∷ Sign Colon ∷ word_symbol stem low ∷ rest),
+      word_level (IsExpr 1) 9 condition (Sign Query ∷ word_symbol stem high ∷ Sign Colon ∷ word_symbol stem low ∷ rest),
       word_expr 0 high (Sign Colon ∷ word_symbol stem low ∷ rest),
-      word_orx (IsExpr 1) low rest,
+      word_level (IsExpr 1) 9 low rest,
     ),
     refl,
   )

@@ -1,11 +1,11 @@
 -- What a filled text is written with, piece by piece: names, reserved words, the two numbers of one bit, marks and white space. Each is one
 -- piece of a text before certain bytes alone: a word would go on with a byte of its class, and some marks with another mark.
-use Rattle.std.specs.Prelude.{◌≡◌, ℕ, ◌==◌, Bool, if◌then◌else◌, Option, Some, None, List, [], ◌∷◌, ◌++◌, codes}
+use Rattle.std.specs.Prelude.{◌≡◌, ℕ, ◌||◌, ◌==◌, Bool, if◌then◌else◌, Option, Some, None, List, [], ◌∷◌, ◌++◌, codes}
 use Rattle.std.specs.List.{flat_map}
 use Rattle.bb_bits.specs.Names.{IsPrintable}
 use Rattle.bb_lex.specs.declared.keyword.Keyword.{Keyword}
 use Rattle.bb_lex.specs.declared.mark.Mark.{Mark}
-use Rattle.bb_lex.specs.declared.mark.Mark.TheVariants.{LeftRound, Tilde, Caret}
+use Rattle.bb_lex.specs.declared.mark.Mark.TheVariants.{LeftRound, Equals, Bang, Less, Greater, Amp, Bar, Caret, Tilde}
 use Rattle.bb_lex.specs.declared.token.Kind.{Kind}
 use Rattle.bb_lex.specs.declared.token.Kind.TheVariants as kinds
 use Rattle.bb_lex.specs.Bytes.{newline, space, star, backslash, is_white, is_identifier_byte, is_word_byte, BeginsNot, EndsBefore}
@@ -52,11 +52,18 @@ kind_of Feed = None
 abbrev pub piece_of : Written → Piece
 piece_of w = record { kind = kind_of w; bytes = spelled w }
 
--- a mark that is no part of a longer one, and opens no attribute, where these bytes follow it; ^ is 94 and ~ is 126
+-- a mark that is no part of a longer one, and opens no attribute, where these bytes follow it; & is 38, < = > are 60 to 62, ^ is 94,
+-- | is 124 and ~ is 126
 abbrev pub StandsApart : Mark → List ℕ → Type 0
 StandsApart LeftRound after = BeginsNot (λ b. b == star) after
-StandsApart Tilde after = BeginsNot (λ b. b == 94) after
+StandsApart Equals after = BeginsNot (λ b. b == 61) after
+StandsApart Bang after = BeginsNot (λ b. b == 61) after
+StandsApart Less after = BeginsNot (λ b. b == 60 || b == 61) after
+StandsApart Greater after = BeginsNot (λ b. b == 61 || b == 62) after
+StandsApart Amp after = BeginsNot (λ b. b == 38) after
+StandsApart Bar after = BeginsNot (λ b. b == 124) after
 StandsApart Caret after = BeginsNot (λ b. b == 126) after
+StandsApart Tilde after = BeginsNot (λ b. b == 38 || (b == 94 || b == 124)) after
 StandsApart mark after = Unit {0}
 
 -- it is a piece where these bytes follow it
