@@ -177,6 +177,10 @@ buf(w, w); buf(y, a); => loop w
 // Copies alone: within one net, and through an instance.
 wire [1:0] w; assign w = {w[0], w[1]}; buf(y, w[1]); => loop w[1]
 wire [0:1] w; assign w = {w[1], w[0]}; buf(y, w[1]); => loop w[0]
+// A bit of a sum depends on the bits up to its place.
+wire [1:0] w; assign w = {a, w[1]} + 2'b01; buf(y, w[1]); => loop w[1]
+assign y = y == a; => loop y
+wire w; assign w = &{a, w}; buf(y, a); => loop w
 k u(w, w); buf(y, w); => loop w
 k u(w, v), x(v, w); buf(y, a); => loop w
 // Through a box, each of whose outputs depends on all its inputs.

@@ -90,6 +90,22 @@ fn cells_row<R: Abort>(rt: &R, alloc: Global, more: u32, expected: &str) -> Resu
     row(rt, alloc, &text, None, expected)
 }
 
+// So many sums of 65,536 bits, of 327,680 cells each.
+fn sums_row<R: Abort>(rt: &R, alloc: Global, sums: &str, expected: &str) -> Result<(), Fail> {
+    let text = format!(in alloc;
+        "module t(a, b, e); input [65535:0] a, b; output e; buf(e, e, a[0]); wire [65535:0] {sums}; endmodule"
+    )?;
+    row(rt, alloc, &text, None, expected)
+}
+
+#[test]
+fn too_many_cells_of_words(rt: HostRuntime) -> Result<(), Fail> {
+    let six = "c = a + b, d = a + b, f = a + b, g = a + b, h = a + b, i = a + b";
+    sums_row(&rt, rt.alloc(), six, "toolarge")?;
+    // An amount of so many bits has as many stages of as many choices.
+    sums_row(&rt, rt.alloc(), "c = a << b", "toolarge")
+}
+
 #[test]
 fn too_many_cells(rt: HostRuntime) -> Result<(), Fail> {
     // 2,000,000 cells, and one more.

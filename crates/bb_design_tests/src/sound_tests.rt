@@ -56,7 +56,10 @@ bx u(a, ); buf(y, a); => sound
 bx u(a, w), v(w, x), \\u.v (x, y); => sound
 bx u(a, z); assign y = z ? a : a; => sound
 // The bits of one net by several drivers.
-wire [3:0] w; assign w[3:2] = 2'b01; k u(a, w[1]); not(w[0], a); assign y = w[3] & w[1] & w[0]; => sound";
+wire [3:0] w; assign w[3:2] = 2'b01; k u(a, w[1]); not(w[0], a); assign y = w[3] & w[1] & w[0]; => sound
+// A bit of a sum depends on the bits up to its place alone.
+wire [1:0] w; assign w = {w[0], a} + 2'b01; buf(y, w[1]); => sound
+wire [1:0] w; assign w = {w[0], a} << 1'b1; buf(y, w[1]); => sound";
 
 #[test]
 fn sound_items(rt: HostRuntime) -> Result<(), Fail> {

@@ -14,6 +14,8 @@ mod net_tests;
 #[cfg(test)]
 mod net_texts;
 #[cfg(test)]
+mod operator_tests;
+#[cfg(test)]
 mod order_tests;
 #[cfg(test)]
 mod pattern_tests;

@@ -28,5 +28,7 @@ mod row_tests;
 #[cfg(test)]
 mod sharing_tests;
 pub mod texts;
+#[cfg(test)]
+mod word_tests;
 
 pub use memory::{Outcome, run_in_memory};

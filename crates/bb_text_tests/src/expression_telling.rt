@@ -1,6 +1,6 @@
 //! What an expression says, in words.
 
-use bb_ast::{Expr, Op};
+use bb_ast::{Expr, Op, WordOp};
 use bb_bits::Name;
 use std::alloc::AllocError;
 
@@ -19,7 +19,7 @@ fn tell_bits(out: &mut String, bits: &[bool]) -> Result<(), AllocError> {
     Ok(())
 }
 
-/// Writes an expression with parentheses around each chain and each conditional.
+/// Writes an expression with parentheses around the operators of each level and around each conditional.
 #[cycle(tell)]
 pub(crate) fn tell(out: &mut String, e: &Expr) -> Result<(), AllocError> {
     match e {
@@ -37,6 +37,16 @@ pub(crate) fn tell(out: &mut String, e: &Expr) -> Result<(), AllocError> {
         Expr::Not(k, inner) => {
             write!(out, "~{k} ")?;
             tell(out, inner)
+        }
+        Expr::Fold(op, inner) => {
+            write!(out, "{op:?} ")?;
+            tell(out, inner)
+        }
+        Expr::Words(first, rest) => {
+            out.push_str("(")?;
+            tell(out, first)?;
+            tell_words(out, rest)?;
+            out.push_str(")")
         }
         Expr::Chain(first, rest) => {
             out.push_str("(")?;
@@ -65,6 +75,15 @@ pub(crate) fn tell(out: &mut String, e: &Expr) -> Result<(), AllocError> {
 
 #[cycle(tell)]
 fn tell_operands(out: &mut String, operands: &[(Op, Expr)]) -> Result<(), AllocError> {
+    for (op, e) in operands {
+        write!(out, " {op:?} ")?;
+        tell(out, e)?;
+    }
+    Ok(())
+}
+
+#[cycle(tell)]
+fn tell_words(out: &mut String, operands: &[(WordOp, Expr)]) -> Result<(), AllocError> {
     for (op, e) in operands {
         write!(out, " {op:?} ")?;
         tell(out, e)?;

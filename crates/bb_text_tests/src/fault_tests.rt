@@ -161,7 +161,10 @@ module m;\nassign v = {1, {0 {1'b1}}}; endmodule => width 2 decimal
 module m;\nassign v = {2147483647 {{2147483647 {{2147483647 {8'd0}}}}}}; endmodule => width 2 wide
 module m; wire [1:0] w;\nn u(w); endmodule module n(p); input p; endmodule => width 2 p
 module m; wire [1:0] w;\nn u(.p(w[0] ? w : w)); endmodule module n(p); input [7:6] p; endmodule => m: w Wire 1:0 0,; n empty: p Wire 7:6 Input 0,;
-module m; wire [1:0] c; reg q;\nalways @(negedge c) q <= c; endmodule => width 2 c";
+module m; wire [1:0] c; reg q;\nalways @(negedge c) q <= c; endmodule => width 2 c
+module m; wire [1:0] c; wire y;\nand (y, c == c, c + c); endmodule => width 2 and
+module m; wire [1:0] c;\nn u(c << 3'd1); endmodule module n(p); input p; endmodule => width 2 p
+module m; wire a; wire y;\nassign y = {1 + 1} == {65504{a}};\nassign y = {1 + 1, {65505{a}}} == a; endmodule => width 3 wide";
 
 #[test]
 fn width(rt: HostRuntime) -> Result<(), Fail> {
@@ -181,6 +184,8 @@ module m; n a();\nassign w = a; endmodule module n; endmodule => role 2 a
 module m(a); input a; wire c;\nbuf (a & b, c); endmodule => role 2 buf
 module m(a); input a; wire c;\nbuf (c, a & b); endmodule => m: a Wire Input 0, c Wire 1, b Wire 2,;
 module m; wire c;\nn u(~c); endmodule module n(p); output p; endmodule => role 2 p
+module m; wire c;\nn u(c + c); endmodule module n(p); output p; endmodule => role 2 p
+module m; wire c, d;\nand (c == d, c, d); endmodule => role 2 and
 module m; wire c;\nn u(c, c); endmodule module n(p); output p; endmodule => role 2 u";
 
 #[test]

@@ -246,7 +246,31 @@ fn the_longest_mark_is_read(rt: HostRuntime) -> Result<(), Fail> {
             ),
             (
                 b"^^~~==",
-                "Caret 0-1 line 1; CaretTilde 1-3 line 1; Tilde 3-4 line 1; Equals 4-5 line 1; Equals 5-6 line 1; ",
+                "Caret 0-1 line 1; CaretTilde 1-3 line 1; Tilde 3-4 line 1; EqualEqual 4-6 line 1; ",
+            ),
+            (
+                b"+-<>!",
+                "Plus 0-1 line 1; Minus 1-2 line 1; Less 2-3 line 1; Greater 3-4 line 1; Bang 4-5 line 1; ",
+            ),
+            (
+                b"<=>===!=",
+                "LessEqual 0-2 line 1; GreaterEqual 2-4 line 1; EqualEqual 4-6 line 1; BangEqual 6-8 line 1; ",
+            ),
+            (
+                b"===<<<",
+                "EqualEqual 0-2 line 1; Equals 2-3 line 1; LessLess 3-5 line 1; Less 5-6 line 1; ",
+            ),
+            (
+                b">>>=&&&",
+                "GreaterGreater 0-2 line 1; GreaterEqual 2-4 line 1; AmpAmp 4-6 line 1; Amp 6-7 line 1; ",
+            ),
+            (
+                b"|||~~&~|",
+                "BarBar 0-2 line 1; Bar 2-3 line 1; Tilde 3-4 line 1; TildeAmp 4-6 line 1; TildeBar 6-8 line 1; ",
+            ),
+            (
+                b"a /* b */ < c",
+                "name a 0-1 line 1; Less 10-11 line 1; name c 12-13 line 1; ",
             ),
             (
                 b"()[]{}",
@@ -257,9 +281,9 @@ fn the_longest_mark_is_read(rt: HostRuntime) -> Result<(), Fail> {
                 "Comma 0-1 line 1; Semicolon 1-2 line 1; Colon 2-3 line 1; Dot 3-4 line 1; At 4-5 line 1; ",
             ),
             (b"&|?", "Amp 0-1 line 1; Bar 1-2 line 1; Query 2-3 line 1; "),
-            (b"a < b", "bad line 1"),
-            (b"\na + b", "bad line 2"),
             (b"a * b", "bad line 1"),
+            (b"\na / b", "bad line 2"),
+            (b"a % b", "bad line 1"),
         ],
     )
 }

@@ -8,6 +8,8 @@ mod expression_telling;
 #[cfg(test)]
 mod fault_tests;
 #[cfg(test)]
+mod grouping_tests;
+#[cfg(test)]
 mod lex_tests;
 #[cfg(test)]
 mod make_tests;
@@ -22,3 +24,5 @@ mod telling;
 #[cfg(test)]
 mod value_tests;
 pub mod values;
+#[cfg(test)]
+mod word_value_tests;
