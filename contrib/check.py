@@ -26,13 +26,15 @@ from check_scripts import drat_part, fill_part, order_part, refuse_part, wave_pa
 from check_sources import sources_part  # noqa: E402
 from check_unfinished import unfinished_part  # noqa: E402
 from check_unused import unused_part  # noqa: E402
+from check_words import words_part  # noqa: E402
 from tries import Tally  # noqa: E402
 
 PARTS = {"gates": gates_part, "cells": cells_part, "async": async_part, "messages": messages_part, "fill": fill_part, "filled": filled_part, "wave": wave_part,
          "order": order_part, "ordered": ordered_part, "drat": drat_part, "ladder": ladder_part, "names": names_part, "why": why_part,
          "refutations": refutations_part, "made": made_part, "refuse": refuse_part, "limits": limits_part, "reports": reports_part, "bad": bad_part,
          "hostile": hostile_part, "ended": ended_part, "program": program_part, "manual": manual_part, "install": install_part, "documents": documents_part,
-         "unused": unused_part, "unfinished": unfinished_part, "sources": sources_part, "parts": parts_part, "run": run_part}
+         "unused": unused_part, "unfinished": unfinished_part, "sources": sources_part, "parts": parts_part, "run": run_part,
+         "words": words_part}
 
 
 def main():

@@ -14,7 +14,7 @@ from tries import bbeq, example, is_told, read, run, script, write
 
 # Names that have to be escaped, or look like words of the text; none with a backquote, in which iverilog sees a macro.
 ODD = ("_", "___x", "filled", "module", "_3", "_t0", "(*", "//", "/*", ";", "\\", "a[0]", "x.y", "1'b0", "@(posedge", '"', "endmodule", "fill", "table")
-EXAMPLES = ("carry", "counter", "holes", "mixer", "packet", "shared", "stages", "twins")
+EXAMPLES = ("carry", "counter", "holes", "mixer", "packet", "shared", "stages", "sum", "twins")
 KINDS = ("as they are", "shared", "care")
 
 # Modules in which two nets have one name: an input and an output; an input and a register below; an output and another register.

@@ -75,6 +75,7 @@ def gates_part(tally, folder):
     tally.note("gates tells all that is expected of the refused designs", sorted(told) == sorted(expected))
     warned_designs(tally)
     netlist_with_cells(tally, folder)
+    words_tries(tally, folder)
     for bit in "01":
         done = run([script("gates"), "--undef", bit, "undefined.v"], REFUSED)
         tally.note(f"gates --undef {bit} takes an undefined value", done.status == 0 and "boxes" in done.out, done.why())
@@ -104,6 +105,40 @@ def netlist_with_cells(tally, folder):
     done = run([script("gates"), netlist, cells])
     tally.note("gates without --cells: cells that are not used could be tops", is_told(done, "gates") and "--top" in done.err,
                done.why())
+
+
+# Designs whose operators on words stay, and what is told of those that do not.
+SIGNED = ((7, "ge"), (7, "gt"), (11, "add"))
+WITH_WORDS = ("words.v", "accumulate.v", "alu_hole.v", "bcd.v", "comparator.v", "cpu.v", "minmax.v", "packed.sv", "shifter.v")
+
+
+def words_tries(tally, folder):
+    """With --words the text has the ports, registers and boxes that it has without, and does the same; the operators stand in it."""
+    for name in WITH_WORDS:
+        source, made, plain = os.path.join(DESIGNS, name), os.path.join(folder, "words.v"), os.path.join(folder, "plain.v")
+        done = [run([script("gates"), "--keep-order", *words, source, "-o", path])
+                for words, path in ((["--words"], made), ([], plain))]
+        if any(one.status for one in done):
+            tally.note(f"gates --words {name}", False, " ".join(one.why() for one in done))
+            continue
+        texts = [read(path) for path in (made, plain)]
+        kept = [re.findall(r"^module .*|^  (?:input|output|reg) .*|^  \w+ \S+ ?\(\.", text, re.MULTILINE) for text in texts]
+        tally.note(f"gates --words {name}: names and boxes stay, and operators stand in it", kept[0] == kept[1]
+                   and " on words, " in texts[0].splitlines()[0] and " on words, " not in texts[1].splitlines()[0], texts[0][:300])
+        right, answer = is_read(made)
+        tally.note(f"gates --words {name}: read", right, answer.why())
+        done = is_equivalent(source, made, folder)
+        tally.note(f"gates --words {name}: equivalent to its source", done.status == 0, done.why())
+        if ", 0 boxes" in texts[0].splitlines()[0]:
+            answer = bbeq(plain, made)
+            tally.note(f"gates --words {name}: agrees with the gates of the same source", answer.status == 0, answer.why())
+    done = run([script("gates"), "--words", "mux.v"], DESIGNS)
+    right = done.status == 0 and " on words, " not in done.out.splitlines()[0]
+    tally.note("gates --words maps what an index is made of", right, done.why())
+    done = run([script("gates"), "--words", "words.v"], DESIGNS)
+    told = [f"gates: words.v:{line}: a signed ${kind} is mapped to gates" for line, kind in SIGNED]
+    right = done.status == 0 and done.err.splitlines() == told
+    tally.note("gates --words tells which signed operators are mapped", right, done.why())
 
 
 def yosys_tests(tally, folder):

@@ -77,6 +77,11 @@ def assigned(value):
     return f"module s(a,y); input a; output y; wire w;\nassign w = {value};\nbuf(y,a); endmodule\n"
 
 
+# Operators that are not read.
+NO_TOKENS = ("a * a", "a / a", "a % a", "a ** a")
+NO_STATEMENTS = ("-a", "+a", "a === a", "a !== a", "a <<< 1", "a >>> 1", "!!a", "!&a", "a +", "a < > a")
+
+
 def text_limits(tally, folder):
     for name, spec, line in (
             ("200 levels of brackets", brackets(200), None), ("201", brackets(201), "deep line 2"),
@@ -91,6 +96,11 @@ def text_limits(tally, folder):
             ("an expression of 65,536 bits", assigned("{65536{a}}"), None), ("of 65,537", assigned("{65537{a}}"), "width line 2 wide"),
             ("a number of 128 bits", assigned("128'd" + str(2 ** 128 - 1)), None), ("of 129", assigned("129'd1"), "token line 2"),
             ("the number 2^31 - 1", assigned(str(2 ** 31 - 1)), None), ("2^31", assigned(str(2 ** 31)), "token line 2"),
+            ("a sum of 5,000 operands", assigned(" + ".join(["a"] * 5_000)), None), ("a &&& a", assigned("a &&& a"), None),
+            ("200 levels round sums", brackets(200, "(1'b1 + ", ")"), None),
+            ("a shift of 65,536 bits by as many", assigned("{65536{a}} << {65536{a}}"), "toolarge"),
+            *((text, assigned(text), "token line 2") for text in NO_TOKENS),
+            *((text, assigned(text), "statement line 2") for text in NO_STATEMENTS),
             ("a text of 33,554,432 bytes", " " * MOST_BYTES, "notop"), ("a byte more", " " * (MOST_BYTES + 1), "toolong")):
         begun = time.monotonic()
         done = run_limited(Pair(folder, spec).words)

@@ -187,7 +187,10 @@ TEXTS = (
      "bx u(a, r, y); buf(z, b); buf(w, c); bx v(a, b, n); wire n; always @(posedge clk) r <= n;", None),
     ("wide operands", "assign {y, z} = {a, b} & {2{c}} | (r ? {b, a} : 2'b10); xor(w, a, b, c); always @(posedge clk) r <= {a, b} ? c : r;",
      "wire n; bx u(b, c, n); assign y = a & c | (r ? b : 1'b1), z = n | (r ? a : 1'b0); xor(w, a, b, c); always @(posedge clk) r <= (a | b) ? c : r;",
-     None))
+     None),
+    ("words", "assign {y, z} = a + b + c; assign w = !{a, b} || {r, c} < 2'd2; always @(posedge clk) r <= a - b << (b && r);",
+     "wire n; bx u(a, b, n); assign {y, z} = {n, a ^ b} + c; assign w = (a | b) == 0 || !r; "
+     "always @(posedge clk) r <= (a != b) & ~(b & r);", None))
 BOX = "module bx(i, j, o); input i, j; output o; endmodule\n"
 
 

@@ -9,7 +9,7 @@ from nesting import drawn_nested
 from language import Reader, top_of
 from reports import tables
 from tries import TOP, bbeq, example, is_told, read, run, script, write
-from truths import CHECKS, by_rows, climb, in_order, pair_of, vectors
+from truths import CHECKS, MOST_CONTENTS, by_rows, climb, in_order, pair_of, vectors
 from values import Design, World
 
 BY_HAND = os.path.join(TOP, "crates", "bb_rows", "src", "pairs.rt")
@@ -94,9 +94,22 @@ def all_reports(pair):
     return [[*front, *pair.table_lines(contents), lines[-1]] for contents in pair.completions()]
 
 
+def can_be_tried(pair):
+    """There are no more contents than `evaluate` tries."""
+    return sum(len(box.outs) << len(box.ins) for box in pair.kinds.values()) <= MOST_CONTENTS
+
+
+def some_agree(pair):
+    """Whether some contents agree: of all, or of more than can be tried those that the check by choices gives."""
+    if can_be_tried(pair):
+        return next(pair.completions(), None) is not None
+    contents = pair.contents_in(tables(climb(pair)))
+    return contents is not None and pair.difference(contents) is None
+
+
 def try_by_hand(tally, folder, texts, answer, reports):
     pair = pair_in(texts)
-    agree = next(pair.completions(), None) is not None
+    agree = some_agree(pair)
     tally.note(f"by hand, {answer}", agree == answer.startswith("yes: "), "evaluate finds another answer")
     due = ["\n".join(lines) for lines in all_reports(pair)]
     tally.note("  its reports are those that are due", sorted(due) == sorted(reports.split("\nor\n")), "\n".join(due))
@@ -121,7 +134,7 @@ def is_due(pair, done, **asked):
 
 
 def try_deciders(tally, folder, name, texts, pair):
-    asked = [("expand", "expand")] + ([("input", "input")] if pair.readers() is not None else [])
+    asked = [("expand", "expand")] * can_be_tried(pair) + [("input", "input")] * (pair.readers() is not None)
     done = [report_of(folder, texts, "--from", first, "--to", last) for first, last in asked]
     right = all(is_due(pair, one, first=first, last=last) and UNFINISHED.search(one.out) is None
                 for one, (first, last) in zip(done, asked))

@@ -126,12 +126,13 @@ def wave_part(tally, folder):
                     example("adder", "spec.v"), example("adder", "impl.v")], folder)
     tally.note("wave adder: what the box leaves open is x", re.search(r"^output cout +0 +x$", open_bit.out, re.MULTILINE),
                open_bit.why())
-    spec = write(folder, "s.v", REGISTERED.format("q <= d ^ q", "q[1] & ~q[0]"))
-    implementation = write(folder, "i.v", REGISTERED.format("q <= d ^ {q[0], q[0]}", "q[1] & ~q[0]"))
-    report = write(folder, "report", bbeq(spec, implementation).out)
-    done = run([script("wave"), report, spec, implementation, "--vcd", os.path.join(folder, "next.vcd")])
-    right = done.status == 0 and re.search(r"next u1\.q\[1\] .*wrong +\(named by the report\)", done.out)
-    tally.note("wave: a wrong next state is seen", right, done.why())
+    for told, right, wrong in (("", "d ^ q", "d ^ {q[0], q[0]}"), (" of a sum", "d + q", "d ^ q")):
+        spec = write(folder, "s.v", REGISTERED.format(f"q <= {right}", "q > 2'd1 && !q[0]"))
+        implementation = write(folder, "i.v", REGISTERED.format(f"q <= {wrong}", "q[1] & ~q[0]"))
+        report = write(folder, "report", bbeq(spec, implementation).out)
+        done = run([script("wave"), report, spec, implementation, "--vcd", os.path.join(folder, "next.vcd")])
+        seen = done.status == 0 and re.search(r"next u1\.q\[1\] .*wrong +\(named by the report\)", done.out)
+        tally.note(f"wave: a wrong next state{told} is seen", seen, done.why())
 
 
 REGISTERED = """module cnt(clk, d, y);
@@ -158,15 +159,22 @@ def ripple(width):
     return "\n".join([*lines, "endmodule", ""])
 
 
+SUM = """module add(a, b, ci, s, co); input [7:0] a, b; input ci; output [7:0] s; output co;
+  assign {co, s} = a + b + ci;
+endmodule
+"""
+
+
 def order_part(tally, folder):
-    spec = write(folder, "ripple.v", ripple(8))
     ordered = os.path.join(folder, "ordered.v")
-    done = run([script("order"), spec, "-o", ordered])
-    counts = re.search(r"(\d+) beads in the old order, (\d+) in the new one", done.err)
-    fell = counts and 4 * int(counts.group(2)) < int(counts.group(1))
-    tally.note(f"order: an adder of 8 bits; {done.err.strip()}", done.status == 0 and fell, done.why())
-    done = bbeq(ordered, spec, "--to", "output")
-    tally.note("order: the ordered text fits the implementation as it is", done.status in (0, 3), done.why())
+    for name, text in (("an adder of 8 bits", ripple(8)), ("a sum of two words", SUM)):
+        spec = write(folder, "adder.v", text)
+        done = run([script("order"), spec, "-o", ordered])
+        counts = re.search(r"(\d+) beads in the old order, (\d+) in the new one", done.err)
+        fell = counts and 4 * int(counts.group(2)) < int(counts.group(1))
+        tally.note(f"order: {name}; {done.err.strip()}", done.status == 0 and fell, done.why())
+        done = bbeq(ordered, spec, "--to", "output")
+        tally.note("order: the ordered text fits the implementation as it is", done.status in (0, 3), done.why())
     for source in designs_in(DESIGNS):
         made = os.path.join(folder, "made.v")
         if run([script("gates"), source, "-o", made]).status or "box" in read(made).splitlines()[0].replace("0 boxes", ""):

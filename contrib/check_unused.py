@@ -24,6 +24,8 @@ TWICE = (FRONT + "  xor(y[1], p, q, b); xor(y[0], q, p, b); assign z = b; endmod
 # A box behind another: its pins are the outputs of the first.
 BEHIND = (FRONT + "  xor(y[1], a[1], a[0]); assign y[0] = b; assign z = b; endmodule\n",
           FRONT + "  wire o; bx u(a, 1'b0, o); bx v({o, o}, 1'b1, y[1]); assign y[0] = b; assign z = b; endmodule\n" + BOX)
+# The pins of the first as values of operators on words.
+WORDS = (NEVER[0], NEVER[1].replace("{p, q}", "{&a, a - 2'd1 < 2'd3}"))
 # The same where directions stand in the header, with a register and a box below the top.
 DEEP = ("module t(input clk, input [1:0] a, input b, output reg y); always @(posedge clk) y <= a[0] ^ b; endmodule\n",
         "module t(input clk, input [1:0] a, input b, output reg y); wire o; k w({a[0], a[0]}, b, o);\n"
@@ -81,7 +83,8 @@ def drawn_tries(tally, folder):
 def unused_part(tally, folder):
     drawn_tries(tally, folder)
     for name, texts, rows, defaults in (
-            ("two rows that never come", NEVER, 6, 1), ("rows of which nothing is seen", UNSEEN, 8, 0),
+            ("two rows that never come", NEVER, 6, 1), ("words at the pins", WORDS, 6, 1),
+            ("rows of which nothing is seen", UNSEEN, 8, 0),
             ("two boxes that need other rows", TWICE, None, None), ("boxes one behind the other", BEHIND, None, None),
             ("a box below the top", DEEP, 8, 0), ("directions in the header", FLAT, 4, 1), ("a row that comes once", RARE, 4, 1)):
         for style in ("case", "casez", "assign"):

@@ -17,6 +17,9 @@ MODULES = {
 BELOW = {"n21": ("b21",)}
 TRIVIA = ("", "", '(* src = "a.v:1 *)" *)', "/* assign y = 1'b0; // */", "// wire a; /*\n", "`celldefine\n")
 NUMBERS = ("1'b0", "1'b1", "2'd2", "3'b101", "2'h7", "1'd3", "1'o10", "3 'B1_0", "1")
+BITWISE, SUMS, ORDERS = ("&", "|", "^", "~^", "^~"), ("+", "-"), ("==", "!=", "<", "<=", ">", ">=")
+WORDS = (*SUMS, *SUMS, *ORDERS, "<<", ">>", "&&", "||")
+FOLDS = ("!", "&", "~&", "|", "~|", "^", "~^", "^~")
 BOXES = {"b11": (1, 1), "b12": (1, 2), "b21": (2, 1), "b22": (2, 2), "n21": (2, 1)}
 
 
@@ -49,16 +52,31 @@ class Circuit:
             return self.draw.choice(NUMBERS)
         return self.draw.choice(self.wide) if kind < 3 and self.wide else self.bit()
 
+    def operator(self):
+        return self.draw.choice(BITWISE if self.draw.randrange(4) else WORDS)
+
     def expression(self, depth=2):
         if not depth:
             return self.leaf()
         a, b, c = [self.expression(depth - 1) for _ in range(3)]
-        one, other = [self.draw.choice(("&", "|", "^", "~^", "^~")) for _ in range(2)]
+        one, other = self.operator(), self.operator()
         return self.draw.choice((a, f"~{self.leaf()}", f"({a} {one} {b})", f"({a} {one} {b} {other} {c})", f"({a} ? {b} : {c})",
-                                 f"({a} ? {b} : {b})", f"~~({a})", f"{{{self.bit()}, {self.bit()}}}", f"{{2{{{self.bit()}}}}}"))
+                                 f"({self.comparison()} ? {a} : {b})", f"~~({a})", f"{{{self.bit()}, {self.bit()}}}",
+                                 f"{{2{{{self.bit()}}}}}", f"{self.draw.choice(('', '~'))}{self.draw.choice(FOLDS)}({a})"))
+
+    def vector_of(self):
+        """Two bits side by side."""
+        return self.draw.choice((*self.wide, f"{{{self.bit()}, {self.bit()}}}"))
+
+    def comparison(self):
+        return f"{self.vector_of()} {self.draw.choice(ORDERS)} {self.draw.choice((self.vector_of(), self.bit()))}"
+
+    def sum(self):
+        return f"{self.vector_of()} {self.draw.choice(SUMS)} {self.draw.choice((self.vector_of(), self.bit()))}"
 
     def terminal(self):
-        return self.draw.choice((self.bit(), self.bit(), self.bit(), f"{self.bit()} & ~{self.bit()}", "1'b1"))
+        return self.draw.choice((self.bit(), self.bit(), self.bit(), f"{self.bit()} & ~{self.bit()}", "1'b1", self.comparison(),
+                                 f"{self.draw.choice(FOLDS)}{self.vector_of()}")[:7 if not self.draw.randrange(3) else 5])
 
     # What drives nets. The nets of gates and instances need no declaration.
 
@@ -86,7 +104,8 @@ class Circuit:
         self.drive(f"{declared} {value};", out)
 
     def vector(self):
-        net, value, (left, right) = self.net(), self.expression(), self.draw.choice(((1, 0), (0, 1), (7, 6)))
+        net, (left, right) = self.net(), self.draw.choice(((1, 0), (0, 1), (7, 6)))
+        value = self.sum() if self.draw.randrange(3) == 0 else self.expression()
         assigned = self.draw.choice((f"assign {net} = {value};", f"assign {{{net}[{right}], {net}[{left}]}} = {value};",
                                      f"assign {net}[{left}] = {self.bit()}, {net}[{right}] = {value};"))
         self.drive(f"wire [{left}:{right}] {net}; {assigned}", f"{net}[{left}]", f"{net}[{right}]")

@@ -1,5 +1,8 @@
 """What each bit of a text is made from, instance by instance."""
+from functools import reduce
+
 from scripts import Fault
+from words import circuit, contexts, reduced, result_width
 
 OUTPUTS_LAST = ("buf", "not")
 
@@ -10,7 +13,7 @@ class FanIn:
     may keep more."""
 
     def __init__(self, modules, top):
-        self.modules, self.sources, self.registers = modules, {}, []
+        self.modules, self.sources, self.registers, self.made = modules, {}, [], 0
         self.walk(top, "")
 
     def walk(self, module, scope):
@@ -69,6 +72,11 @@ class FanIn:
             return expression[1]
         if kind == "not":
             return self.width(module, expression[1])
+        if kind == "fold":
+            return 1
+        if kind == "words":
+            return reduce(lambda left, step: result_width(step[0], left, self.width(module, step[1])),
+                          zip(expression[2], expression[1][1:]), self.width(module, expression[1][0]))
         if kind == "chain":
             return max(self.width(module, part) for part in expression[1])
         if kind == "conditional":
@@ -76,6 +84,16 @@ class FanIn:
         if kind == "repeat":
             return expression[1] * self.width(module, expression[2])
         return sum(self.width(module, part) for part in expression[1])
+
+    def word(self, module, scope, expression, width):
+        """The bits of a level of operators on words, each as what it is made of."""
+        _, parts, operators = expression
+        first, steps = contexts(operators, [self.width(module, part) for part in parts], width)
+        made = self.value(module, scope, parts[0], first)
+        for (operator, beside, context), part in zip(steps, parts[1:]):
+            made = circuit(self, operator, made, self.value(module, scope, part, beside))
+            made = self.number(("bits", context - len(made), 0)) + made
+        return made
 
     def whole(self, module, scope, expression):
         """The bits of an expression at its own width, the leftmost first, each as what it is made of."""
@@ -96,9 +114,13 @@ class FanIn:
             bits = self.number(expression)
         elif kind == "not":
             return [self.inverted(bit, expression[2]) for bit in self.value(module, scope, expression[1], width)]
+        elif kind == "fold":
+            bits = [reduced(self, expression[2], self.whole(module, scope, expression[1]))]
+        elif kind == "words":
+            return self.word(module, scope, expression, width)
         elif kind == "chain":
             columns = [self.value(module, scope, part, width) for part in expression[1]]
-            return [self.chain(column, expression[2]) for column in zip(*columns)]
+            return [self.joined(column, expression[2]) for column in zip(*columns)]
         elif kind == "conditional":
             condition = self.condition(self.whole(module, scope, expression[1]))
             columns = [self.value(module, scope, part, width) for part in expression[2:]]
@@ -117,25 +139,31 @@ class FanIn:
     def number(self, number):
         return [[] for _ in range(number[1])]
 
-    def inverted(self, bit, _signs):
+    zero, one = (), ()
+
+    def inverted(self, bit, _signs=1):
         return bit
 
-    def chain(self, bits, _operators):
+    def joined(self, bits, _operators):
         return [bit for read in bits for bit in read]
 
     def condition(self, bits):
-        return self.chain(bits, ())
+        return self.joined(bits, ())
 
     def choice(self, condition, then, otherwise):
-        return condition + then + otherwise
+        return [*condition, *then, *otherwise]
 
     def gate(self, _word, bits):
-        return self.chain(bits, ())
+        return self.joined(bits, ())
 
     def box(self, module, scope, read):
         for net, index in module.pins("output"):
             self.sources[scope, net.name, index] = read
 
-    def once(self, bit):
-        """What is read at several places."""
-        return bit
+    def once(self, read):
+        """What is read at several places gets a bit without a name."""
+        if len(read) < 2:
+            return read
+        self.made += 1
+        self.sources[None, None, self.made] = read
+        return [(None, None, self.made)]

@@ -59,7 +59,7 @@ class Flat(FanIn):
     def __init__(self, path, name):
         self.text, modules = read_modules(path)
         self.top = top_of(path, modules, name)
-        self.boxes, self.stored, self.ends, self.below, self.made = [], {}, {}, {}, 0
+        self.boxes, self.stored, self.ends, self.below = [], {}, {}, {}
         super().__init__(modules, self.top)
         self.inputs, self.outputs = ({bit_text(net.name, index): ("", net.name, index) for net,
                                       index in self.top.pins(direction)}
@@ -113,10 +113,12 @@ class Flat(FanIn):
             raise Fault("a number has digits that are neither 0 nor 1")
         return [CONSTANTS[value >> place & 1] for place in reversed(range(width))]
 
-    def inverted(self, bit, signs):
+    zero, one = CONSTANTS
+
+    def inverted(self, bit, signs=1):
         return Cell("~", [bit]) if signs % 2 else bit
 
-    def chain(self, bits, operators):
+    def joined(self, bits, operators):
         return Cell("chain", bits, operators)
 
     def condition(self, bits):

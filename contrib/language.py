@@ -37,7 +37,7 @@ PIECES = re.compile(r"""
   | (?P<sized>[0-9][0-9_]*\s*'\s*[bodhBODH]\s*[0-9a-fA-FxXzZ_?]+)
   | (?P<plain>[0-9][0-9_]*)
   | (?P<escaped>\\[!-~]+)
-  | (?P<mark><=|~\^|\^~|[()\[\]{},;:.=@&|^~?])
+  | (?P<mark><=|>=|==|!=|<<|>>|&&|\|\||~\^|\^~|~&|~\||[()\[\]{},;:.=@&|^~?+\-<>!])
 """, re.VERBOSE | re.DOTALL)
 ATTRIBUTE_PARTS = re.compile(r'"(?:\\.|[^"\\])*"|//[^\n]*|/\*.*?\*/|\*\)|.', re.DOTALL)
 
@@ -400,7 +400,10 @@ class Reader:
         self.take(":")
         return "conditional", first, then, self.expression()
 
-    LEVELS = (("|",), ("^", "~^", "^~"), ("&",))
+    # The levels of precedence, the loosest first (IEEE 1364-2005, table 5-4).
+    LEVELS = (("||",), ("&&",), ("|",), ("^", "~^", "^~"), ("&",), ("==", "!="), ("<", "<=", ">", ">="), ("<<", ">>"), ("+", "-"))
+    BITWISE = ("&", "|", "^", "~^", "^~")
+    FOLDS = ("!", "&", "~&", "|", "~|", "^", "~^", "^~")
 
     def level(self, depth):
         if depth == len(self.LEVELS):
@@ -409,14 +412,27 @@ class Reader:
         while self.sees(*self.LEVELS[depth]):
             operators.append(self.take().text)
             parts.append(self.level(depth + 1))
-        return parts[0] if len(parts) == 1 else ("chain", parts, operators)
+        if not operators:
+            return parts[0]
+        return "chain" if operators[0] in self.BITWISE else "words", parts, operators
 
     def unary(self):
-        signs = 0
+        signs = self.signs()
+        if self.sees(*self.FOLDS):
+            operator, inner = self.take().text, self.signs()
+            return self.inverted(("fold", self.inverted(self.primary(), inner), operator), signs)
+        return self.inverted(self.primary(), signs)
+
+    def signs(self):
+        count = 0
         while self.sees("~"):
             self.take()
-            signs += 1
-        return ("not", self.primary(), signs) if signs else self.primary()
+            count += 1
+        return count
+
+    @staticmethod
+    def inverted(operand, signs):
+        return ("not", operand, signs) if signs else operand
 
     def primary(self):
         token = self.take()

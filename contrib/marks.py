@@ -1,7 +1,9 @@
 """What `gates` writes into yosys' text of a design between two runs: undefined values as a net of their own, boxes as black, the
-nets by which registers are known, and what registers with an asynchronous set or reset store."""
+nets by which registers are known, what registers with an asynchronous set or reset store, and which operators on words stay."""
 import os
 import re
+
+from sources import natural, place
 
 MARK = "\\bbeq.undefined"
 UNDEFINED = re.compile(r"\b(\d+)'([01zm-]*x[01xzm-]*)")
@@ -116,3 +118,33 @@ def mark_modules(folder, boxes, ports):
                 file.write("  attribute \\bbeq_register 1\n")
             if name is None or name.removeprefix("\\") not in ports or line.split() != ["attribute", "\\bbeq_register", "1"]:
                 file.write(line)
+
+
+WORD = "bbeq."  # The kinds of operators on words that stay begin so.
+SIGNED = ("add", "sub", "lt", "le", "gt", "ge", "eq", "ne", "shl", "shr")  # A sign counts in these alone.
+UNSIGNED = ("reduce_and", "reduce_or", "reduce_xor", "reduce_xnor", "reduce_bool", "logic_not", "logic_and", "logic_or")
+OPERATION = re.compile(rf"((?:^  attribute [^\n]*\n)*)^  cell \$({'|'.join(SIGNED + UNSIGNED)}) (.*?^  end\n)",
+                       re.MULTILINE | re.DOTALL)
+BY_NUMBER = re.compile(r"^    connect \\B (\d+'[01]+|\d+)$", re.MULTILINE)
+
+
+def mark_words(folder):
+    """Calls unsigned operators on words so that they stay, but for shifts by a number, which need no cells, and for what an index is
+    made of. The result is the place and the kind of each signed one."""
+    told = []
+
+    def marked(cell):
+        attributes, kind, rest = cell.groups()
+        if kind in SIGNED and re.search(r"^    parameter \\A_SIGNED (1'|32'0*)?1$", rest, re.MULTILINE):
+            source = re.search(r'attribute \\src "([^\n"]*)"', attributes)
+            told.append((place({"src": source.group(1) if source else ""}), kind))
+            return cell.group()
+        if "\\bbeq_index " in attributes or kind in ("shl", "shr") and BY_NUMBER.search(rest):
+            return cell.group()
+        return f"{attributes}  cell \\{WORD}{kind} {rest}"
+
+    with open(os.path.join(folder, "words.il"), encoding="utf-8", errors="replace") as file:
+        text = OPERATION.sub(marked, file.read())
+    with open(os.path.join(folder, "left.il"), "w", encoding="utf-8") as file:
+        file.write(text)
+    return sorted(set(told), key=lambda one: (natural(one[0]), one[1]))

@@ -1,10 +1,15 @@
 """The netlist that yosys mapped for `gates`: who drives each bit, which bits are registers, and which name each bit goes by."""
-from marks import MARK
+from marks import MARK, WORD
 from scripts import Fault
 from sources import place
 
 GATES = {"$_AND_": "and", "$_OR_": "or", "$_XOR_": "xor", "$_NAND_": "nand", "$_NOR_": "nor", "$_XNOR_": "xnor"}
 EDGES = {"$_DFF_P_": "posedge", "$_DFF_N_": "negedge"}
+SUMS, SHIFTS = {WORD + "add": "+", WORD + "sub": "-"}, {WORD + "shl": "<<", WORD + "shr": ">>"}
+WORDS = {**SUMS, **SHIFTS, WORD + "eq": "==", WORD + "ne": "!=", WORD + "lt": "<", WORD + "le": "<=", WORD + "gt": ">",
+         WORD + "ge": ">=", WORD + "logic_and": "&&", WORD + "logic_or": "||"}
+FOLDS = {WORD + "reduce_and": "&", WORD + "reduce_or": "|", WORD + "reduce_xor": "^", WORD + "reduce_xnor": "~^",
+         WORD + "reduce_bool": "|", WORD + "logic_not": "!"}
 CHECKS = ("$assert", "$assume", "$cover", "$live", "$fair")
 
 
@@ -16,6 +21,7 @@ class Netlist:
         self.ports, self.nets, self.cells = self.top["ports"], self.top["netnames"], self.top["cells"]
         self.gates = {key: cell for key, cell in self.cells.items() if cell["type"] in GATES or cell["type"] in (
             "$_NOT_", "$_MUX_", "$_BUF_", "$_NMUX_", "$_ANDNOT_", "$_ORNOT_")}
+        self.words = {key: cell for key, cell in self.cells.items() if cell["type"] in WORDS or cell["type"] in FOLDS}
         self.flops = {key: cell for key, cell in self.cells.items() if cell["type"] in EDGES}
         self.boxes = {key: cell for key, cell in self.cells.items() if cell["type"] in modules}
         self.refuse_others()
@@ -27,7 +33,7 @@ class Netlist:
 
     def refuse_others(self):
         for key, cell in self.cells.items():
-            if key in self.gates or key in self.flops or key in self.boxes or cell["type"] in CHECKS:
+            if key in self.gates or key in self.words or key in self.flops or key in self.boxes or cell["type"] in CHECKS:
                 continue
             raise Fault(f"{place(cell['attributes'])}: a cell of kind {cell['type']} has no gates")
 
@@ -39,7 +45,7 @@ class Netlist:
         if cell["type"] in self.modules:
             ports = self.modules[cell["type"]]["ports"]
             return [bit for port, bits in cell["connections"].items() if ports[port]["direction"] == "output" for bit in bits]
-        return [self.driven(cell)]
+        return cell["connections"]["Q" if cell["type"] in EDGES else "Y"]
 
     def inputs(self, cell):
         """The bits that a cell reads."""
@@ -50,15 +56,36 @@ class Netlist:
 
     def sources(self, bit):
         """The bits from which a gate makes a bit: what chooses, and then what is chosen."""
-        key = self.driver.get(bit)
+        key = bit[0] if isinstance(bit, tuple) else self.driver.get(bit)
+        if key in self.words:
+            return self.word_sources(key, bit)
         if key not in self.gates:
             return []
         pins = self.cells[key]["connections"]
         return [pins[pin][0] for pin in ("S", "B", "A") if pin in pins] if "S" in pins else self.inputs(self.cells[key])
 
+    def word_sources(self, key, bit):
+        """The same of a bit of an operator on words. What stands between operands and result has the name of the cell with a place:
+        of what goes on from place to place, as a carry does, and of a shift the row as well."""
+        cell = self.cells[key]
+        pins, kind = cell["connections"], cell["type"]
+        if kind in SHIFTS:
+            row, at = bit[1:] if isinstance(bit, tuple) else (len(pins["B"]), pins["Y"].index(bit))
+            if not row:
+                return pins["A"][at:at + 1]
+            width = max(len(pins["A"]), len(pins["Y"]))
+            moved = at + min(1 << row - 1, width) * (1 if SHIFTS[kind] == ">>" else -1)
+            return [pins["B"][row - 1], *[(key, row - 1, place) for place in (moved, at) if 0 <= place < width]]
+        if isinstance(bit, tuple):
+            return [pins[pin][bit[1]] for pin in ("A", "B") if bit[1] < len(pins.get(pin, ()))] + [(key, bit[1] - 1)] * (bit[1] > 0)
+        if kind in SUMS:
+            at = pins["Y"].index(bit)
+            return [pins[pin][at] for pin in ("A", "B") if at < len(pins[pin])] + [(key, at - 1)] * (at > 0)
+        return [(key, max(len(pins[pin]) for pin in ("A", "B") if pin in pins) - 1)] * (bit == pins["Y"][0])
+
     def find_drivers(self):
         driver = {}
-        for key in [*self.gates, *self.flops, *self.boxes]:
+        for key in [*self.gates, *self.words, *self.flops, *self.boxes]:
             for bit in self.outputs(self.cells[key]):
                 if bit in driver or bit in self.input_bits or isinstance(bit, str):
                     raise Fault(f"{place(self.cells[key]['attributes'])}: {self.describe(bit)} has two drivers")
@@ -103,13 +130,15 @@ class Netlist:
         kept = [key for key in self.flops if self.is_kept(key)]
         roots = [bit for port in self.ports.values() if port["direction"] != "input" for bit in port["bits"]]
         roots += [bit for key in self.boxes for bit in self.inputs(self.cells[key])]
-        self.live_flops, order, state = dict.fromkeys(kept), [], {}
+        self.live_flops, order, state = dict.fromkeys(kept), {}, {}
         pending = roots + [bit for key in kept for bit in self.inputs(self.cells[key])]
         while pending:
             for key in self.reach(pending.pop(), state, order):
-                self.live_flops[key] = None
+                if key in self.flops:
+                    self.live_flops[key] = None
                 pending += self.inputs(self.cells[key])
-        return order
+                pending += self.outputs(self.cells[key])
+        return list(order)
 
     def is_kept(self, key):
         """The source names this register bit, and not only as a variable of a loop or of a task, of which nothing else is read."""
@@ -121,24 +150,29 @@ class Netlist:
         return not (net.get("signed") and len(net["bits"]) == 32)
 
     def reach(self, bit, state, order):
-        """Walks from a bit through gates depth first; appends these to the order, and gives the flip-flops that it meets."""
+        """Walks from a bit through gates and operators on words depth first; appends these to the order, and gives the flip-flops
+        and the operators that it meets first."""
         met, stack = [], [(bit, False)]
         while stack:
             bit, done = stack.pop()
-            key = self.driver.get(bit)
+            key = bit[0] if isinstance(bit, tuple) else self.driver.get(bit)
             if key is None or key in self.boxes:
                 continue
             if key in self.flops:
                 if key not in self.live_flops:
                     met.append(key)
             elif done:
-                state[key] = "done"
-                order.append(key)
-            elif state.get(key) == "open":
+                state[bit] = "done"
+                if key in self.words and key not in order:
+                    met.append(key)
+                order.setdefault(key)
+            elif state.get(bit) == "open":
+                bit = self.driven(self.cells[key])
                 source = place(self.cells[key]["attributes"], None) or place(self.nets[self.describe(bit)]["attributes"])
                 raise Fault(f"{source}: {self.describe(bit)} depends on itself within a clock cycle")
-            elif key not in state:
-                state[key] = "open"
+            elif bit not in state:
+                state[bit] = "open"
                 stack.append((bit, True))
-                stack += [(read, False) for read in reversed(self.inputs(self.cells[key]))]
+                reads = self.word_sources(key, bit) if key in self.words else self.inputs(self.cells[key])
+                stack += [(read, False) for read in reversed(reads)]
         return met

@@ -175,7 +175,9 @@ def spelt(expression):
         return f"{first}'h{expression[2]:x}"
     if kind == "not":
         return "~" * expression[2] + f"({spelt(first)})"
-    if kind == "chain":
+    if kind == "fold":
+        return f"{expression[2]}({spelt(first)})"
+    if kind in ("chain", "words"):
         parts = [f"({spelt(part)})" for part in first]
         return parts[0] + "".join(f" {operator} {part}" for operator, part in zip(expression[2], parts[1:]))
     if kind == "conditional":

@@ -6,9 +6,11 @@ from itertools import groupby
 from arrangement import Arrangement
 from language import written
 from marks import MARK
-from netlist import EDGES, GATES
+from netlist import EDGES, FOLDS, GATES, SUMS, WORDS
 from scripts import Fault
 from sources import UNKNOWN, place
+
+MOST_DIGITS = 128  # Of a number, as bbeq reads it.
 
 
 def counted(number, noun, plural=None):
@@ -105,8 +107,56 @@ class Writer:
         parts = [self.bit(bit, reader, source) for bit in reversed(bits)]
         return parts[0] if len(parts) == 1 else "{" + ", ".join(parts) + "}"
 
+    def parts(self, bits, reader, source):
+        """Several bits, the leftmost first: nets and runs of their bits as (name, first position, last position), and runs of
+        constants as digits."""
+        found = []
+        for bit in reversed(bits):
+            text = self.bit(bit, reader, source)
+            if text.startswith("1'b"):
+                if found and isinstance(found[-1], str) and len(found[-1]) < MOST_DIGITS:
+                    found[-1] += text[-1]
+                else:
+                    found.append(text[-1])
+                continue
+            name, position = self.net.name_of[bit]
+            if found and not isinstance(found[-1], str) and found[-1][0] == name and found[-1][2] == position + 1 and not {
+                    (name, position), (name, position + 1)} & self.split:
+                found[-1] = name, found[-1][1], position
+            else:
+                found.append((name, position, position))
+        return found
+
+    def run(self, name, first, last):
+        """Bits of a net that stand side by side."""
+        is_whole = (first, last) == (len(self.net.nets[name]["bits"]) - 1, 0)
+        if is_whole and not self.is_scalar(name) and (name, first) not in self.split:
+            return self.spelt(name)
+        if first != last:
+            return f"{self.spelt(name)}[{self.index(name, first)}:{self.index(name, last)}]"
+        return self.target(self.net.nets[name]["bits"][first])
+
+    def word(self, bits, reader="the design", source=UNKNOWN):
+        """Several bits as an operand or as a result: a net or bits of one, a number, or a concatenation."""
+        parts = [f"{len(part)}'h{int(part, 2):x}" if isinstance(part, str) else self.run(*part)
+                 for part in self.parts(bits, reader, source)]
+        return parts[0] if len(parts) == 1 else "{" + ", ".join(parts) + "}"
+
+    def operation(self, cell):
+        """An operator on words. Its result is assigned at its own width, to which narrower operands are filled with zeros; of wider
+        ones of a sum or a shift to the left the highest bits do not count."""
+        pins, source, kind = cell["connections"], place(cell["attributes"]), cell["type"]
+        most = len(pins["Y"]) if kind in SUMS or WORDS.get(kind) == "<<" else None
+        left = self.word(pins["A"][:most], pins["Y"][0], source)
+        if kind in FOLDS:
+            return f"assign {self.word(pins['Y'])} = {FOLDS[kind]}{left};"
+        right = self.word(pins["B"][:most if kind in SUMS else None], pins["Y"][0], source)
+        return f"assign {self.word(pins['Y'])} = {left} {WORDS[kind]} {right};"
+
     def gate(self, key):
         cell = self.net.cells[key]
+        if key in self.net.words:
+            return self.operation(cell)
         pins, source = cell["connections"], place(cell["attributes"])
         output = self.target(pins["Y"][0])
         read = {pin: self.bit(bits[0], pins["Y"][0], source) for pin, bits in pins.items() if pin != "Y"}
@@ -205,7 +255,9 @@ class Writer:
     def text(self, files):
         module_names = self.box_names()
         body = self.body(module_names)
-        count = ", ".join((counted(len(self.net.order), "gate"), counted(len(self.net.live_flops), "register bit"),
+        words = sum(key in self.net.words for key in self.net.order)
+        operators = [counted(words, "operator on words", "operators on words")] * (words > 0)
+        count = ", ".join((counted(len(self.net.order) - words, "gate"), *operators, counted(len(self.net.live_flops), "register bit"),
                            counted(len(self.net.boxes), "box", "boxes")))
         yield f"// {self.net.name}, made by gates from {', '.join(map(shown, files))}: {count}."
         if self.placed.ports != [(port, None) for port in self.net.ports]:
