@@ -1,5 +1,5 @@
--- The levels of precedence of the operators on words, the tightest first (IEEE 1364-2005, 5.1.2, table 5-4): sums, shifts,
--- comparisons by order, comparisons by equality, and, or. The bitwise operators &, ^ and | have theirs, 4 to 6, between.
+-- The levels of precedence of the operators on words, the tightest first (IEEE 1364-2005, 5.1.2, table 5-4): sums and differences,
+-- shifts, comparisons by order, comparisons by equality, &&, ||. The bitwise operators &, ^ and | have theirs, 4 to 6, between.
 use Rattle.std.specs.Prelude.{◌≡◌, ℕ}
 use Rattle.bb_ast.specs.declared.operators.WordOp.{WordOp}
 use Rattle.bb_ast.specs.declared.operators.WordOp.TheVariants as ops

@@ -16,8 +16,8 @@ use Rattle.bb_expr.specs.Terms.{Term, Const, Net, Not, And, Or, Xor, Mux, terms}
 use Rattle.bb_expr.specs.Cells.{Made, made, makes, net_terms, inverted, operated, chained, word_made, fold_made, any_from, any_bit, selected, arm_made, arms_made, part_bits, part_cells}
 use Rattle.bb_word.specs.Folds.{is_odd, fold_circuit}
 use Rattle.bb_word.specs.Words.{word_circuit}
-use Rattle.bb_word.specs.Laws.Each.{each_reverse}
-use Rattle.bb_word.specs.Laws.CircuitKept.{IsKept, kept_word, kept_fold}
+use Rattle.bb_lists.proofs.Each.{each_reverse}
+use Rattle.bb_word.specs.Laws.KeptLaws.{IsKept, kept_word, kept_fold}
 use Rattle.bb_lists.proofs.Members.{contains_here, contains_there, contains_cases, none_in_nil}
 
 -- each operator in a term is one of these cells

@@ -24,8 +24,8 @@ use Rattle.bb_design.specs.GateFunctions.{on_terms, joins, joined, inverts, gate
 use Rattle.bb_design.specs.Reading.{operand_terms, bit_itself}
 use Rattle.bb_word.specs.Folds.{is_odd, fold_circuit}
 use Rattle.bb_word.specs.Words.{word_circuit}
-use Rattle.bb_word.specs.Laws.Each.{each_reverse}
-use Rattle.bb_word.specs.Laws.CircuitKept.{IsKept, kept_word, kept_fold}
+use Rattle.bb_lists.proofs.Each.{each_reverse}
+use Rattle.bb_word.specs.Laws.KeptLaws.{IsKept, kept_word, kept_fold}
 use Rattle.bb_lists.proofs.Members.{from_map, contains_here, contains_there, contains_cases, none_in_nil}
 use Rattle.bb_lists.proofs.Ranges.{from_range}
 use Rattle.bb_design.proofs.Operators.{Each, each_nil, each_cons, each_append, each_replicate, each_copies}

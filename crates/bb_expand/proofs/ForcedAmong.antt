@@ -1,15 +1,13 @@
 -- Forced vectors among those that are held.
-use Rattle.std.proofs.Common.{◌*◌, ◌≡◌, ◌≢◌, ℕ, ◌≤◌, refl, suc, Bool, List, [], ◌∷◌, ◌++◌, length, get_or, All, sym, ap, ◌∙◌, subst, arith}
-use Rattle.std.specs.Prelude.{AllPairs, Contains, remove}
-use Rattle.std.proofs.lemmas.Grind.{in_remove}
-use Rattle.std.proofs.lemmas.List.{get_or_default, length-append}
-use Rattle.std.proofs.lemmas.List.Edits.{length-remove}
+use Rattle.std.proofs.Common.{◌*◌, ◌≡◌, ℕ, ◌≤◌, refl, Bool, List, [], ◌∷◌, ◌++◌, length, get_or, All, sym, ap, ◌∙◌, subst, arith}
+use Rattle.std.specs.Prelude.{Contains}
+use Rattle.std.proofs.lemmas.List.{length-append}
 use Rattle.std.proofs.lemmas.List.Elements.{All-append, All-cons, All-nil, All-contains, Contains-append_left, Contains-append_right, Contains-get_or}
 use Rattle.std.proofs.lemmas.Nat.{mul-le}
 use Rattle.bb_cnf.specs.Clauses.{Formula}
 use Rattle.bb_filled.specs.Forced.{AreForced}
 use Rattle.bb_filled.specs.Laws.ForcedLaws.{ForcedAreDistinct}
-use Rattle.bb_lists.proofs.Apart.{pairs_tail}
+use Rattle.bb_lists.proofs.Apart.{at_most_as_many}
 use Rattle.bb_net.specs.Agreement.{IsVector}
 use Rattle.bb_net.specs.Netlists.{Netlist}
 use Rattle.bb_expand.specs.ClauseCounts.{clauses_per_vector}
@@ -18,19 +16,6 @@ use Rattle.bb_expand.specs.Expansions.{expansion}
 use Rattle.bb_expand.specs.Inside.Failures.{AreDistinctWith}
 use Rattle.bb_expand.specs.Inside.Holding.{IsHeld, forced_vectors, held_vectors}
 use Rattle.bb_expand.specs.Laws.{ClausesAreCounted}
-
--- entries that differ and all stand in a second list are at most as many as that has
-pub fewer_among : {A : Type 0} (xs ys : List A) → AllPairs ◌≢◌ xs → All (Contains ys) xs → length xs ≤ length ys
-fewer_among [] ys apart among = omega arith
-fewer_among (x ∷ xs) ys apart among =
-    let here = among 0 x (omega arith) in
-    let rest = fewer_among xs (remove ys here.0) (pairs_tail ◌≢◌ x xs apart) (λ k d lt.
-    let there = among (suc k) d (omega (arith, lt)) in
-    let s = get_or xs k d in
-    let other : there.0 ≢ here.0 = λ same. apart 0 (suc k) d (omega arith) (omega (arith, lt))
-    (sym here.2 ∙ (get_or_default ys here.0 x s here.1 ∙ (ap (λ j. get_or ys j s) (sym same) ∙ there.2))) in
-    (in_remove ys here.0 there.0 s here.1 there.1 (sym there.2) other).1) in
-    omega (arith, rest, length-remove ys here.0 here.1)
 
 -- what holds of each entry of a list holds of those that stand in it
 pub all_among : {A : Type 0} (P : A → Type 0) (xs ys : List A) → All P ys → All (Contains ys) xs → All P xs
@@ -71,5 +56,6 @@ clauses_of_front counted spec imp kinds all xs ys is = clauses_of_fewer counted 
 -- so those over the forced ones fit where those over all held ones do
 pub forced_fit : ClausesAreCounted → ForcedAreDistinct → (spec imp : Netlist) (kinds : List ℕ) (budget : ℕ) (held : Held) → IsHeld spec imp kinds budget held → length (expansion spec imp kinds (forced_vectors held)).clauses ≤ budget
 forced_fit counted apart spec imp kinds budget held is =
-    let few = fewer_among (forced_vectors held) (held_vectors held) (apart spec imp kinds (forced_vectors held) is.forced) is.among in
+    let few = at_most_as_many (forced_vectors held) (held_vectors held) (apart spec imp kinds (forced_vectors held) is.forced)
+    (λ x has. All-contains (Contains (held_vectors held)) (forced_vectors held) x is.among has) in
     omega (arith, clauses_of_fewer counted spec imp kinds (forced_vectors held) (held_vectors held) few, is.within, ap (λ (f : Formula). length f.clauses) is.expands)

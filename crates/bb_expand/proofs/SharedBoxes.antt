@@ -4,14 +4,14 @@ use Rattle.std.specs.Prelude.{AllPairs, Contains, slice_index}
 use Rattle.std.specs.List.{range_with_len}
 use Rattle.std.proofs.lemmas.Bool.{cases_eq}
 use Rattle.std.proofs.lemmas.List.{get_or-map, get_or_append_left, get_or_default, length-map}
-use Rattle.std.proofs.lemmas.List.Elements.{All-get_or}
+use Rattle.std.proofs.lemmas.List.Elements.{All-contains, All-get_or}
 use Rattle.std.proofs.lemmas.List.FromFn.{length-map-range_with_len, get_or-map-range_with_len}
+use Rattle.bb_lists.proofs.Apart.{at_most_as_many}
 use Rattle.bb_net.specs.Completions.{table_bits}
 use Rattle.bb_net.specs.Kinds.{FitKinds, shown}
 use Rattle.bb_net.specs.Netlists.{Pins, box_at}
 use Rattle.bb_expand.specs.Inside.LawsBelow.{Sharing}
 use Rattle.bb_expand.proofs.BoxesThere.{box_there}
-use Rattle.bb_expand.proofs.ForcedAmong.{fewer_among}
 use Rattle.bb_expand.proofs.Pushed.{last_of}
 use Rattle.bb_expand.proofs.RowLemmas.{bits_fit, bits_more, box_read}
 
@@ -35,7 +35,7 @@ module _ (sharing : Sharing) (kinds : List ℕ) (boxes : List Pins) (fits : FitK
       let is : (k d : ℕ) → k < length numbers → get_or numbers k d ≡ k = λ k d h. get_or-map-range_with_len (λ (k : ℕ). k) 0 n k k d (omega (arith, h, long)) (omega arith) in
       let apart : AllPairs ◌≢◌ numbers = λ i j d less within same. absurd (omega (arith, less, sym (is i d (omega (arith, less, within))) ∙ (same ∙ is j d within))) in
       let among : All (Contains kinds) numbers = λ k d h. subst (Contains kinds) (sym (is k d h)) ((sharing.count kinds boxes k fits.ordered (sym fits.count)).0 (omega (arith, h, long))) in
-      omega (arith, long, fewer_among numbers kinds apart among, fits.count)
+      omega (arith, long, at_most_as_many numbers kinds apart (λ x has. All-contains (Contains kinds) numbers x among has), fits.count)
 
 -- the box at a place of a list of boxes by their numbers, and the bits of the tables before it
 module _ (boxes : List Pins) (numbers : List ℕ) (inside : All (λ n. n < length boxes) numbers) (k : ℕ) (there : k < length numbers) (pins : Pins) (read : pins ≡ get_or boxes (slice_index numbers k) pins) where

@@ -15,7 +15,7 @@ use Rattle.bb_names.specs.Widths.{Ranges, greatest, own_width, widths, Operand, 
 use Rattle.bb_word.specs.Folds.{fold_circuit, fold_cells}
 use Rattle.bb_word.specs.Meanings.{word_width}
 use Rattle.bb_word.specs.Words.{HaveOneWidth, word_circuit, word_cells}
-use Rattle.bb_word.specs.Laws.CircuitCounts.{word_count as circuit-cells, fold_count as reduction-cells, word_long, fold_long}
+use Rattle.bb_word.specs.Laws.CountLaws.{word_count as circuit-cells, fold_count as reduction-cells, word_long, fold_long}
 use Rattle.bb_expr.specs.Lists.{copies, bitwise}
 use Rattle.bb_expr.specs.Terms.{Term, Const, And, Or, Xor, terms}
 use Rattle.bb_expr.specs.Cells.{Made, made, makes, inverted, operated, chained, any_from, any_bit, selected, arm_made, arms_made, part_bits, part_cells, net_terms, word_made, word_count, op_cells, counts, cell_count}

@@ -3,6 +3,7 @@ use Rattle.std.proofs.Common.{◌≡◌, ℕ, zero, suc, ◌+◌, ◌≤◌, Boo
 use Rattle.std.proofs.lemmas.List.{length-map}
 use Rattle.std.specs.Prelude.{replicate, fold, reverse, not, ◌||◌, if◌then◌else◌}
 use Rattle.std.specs.List.{flat_map, list_any, range_with_len}
+use Rattle.bb_lists.proofs.Maps.{reverse-map}
 use Rattle.bb_ast.specs.declared.expr.Op.{Op}
 use Rattle.bb_ast.specs.declared.expr.Op.TheVariants as ops
 use Rattle.bb_ast.specs.Syntax.{Expression, Net, Bit, Part, Sized, Plain, Not, Fold, Chain, Words, Cond, Concat, Repeat, Operands, no_operand, operand, WordOperands, no_word, word, Arms, no_arm, arm, Parts, no_part, part}
@@ -16,7 +17,7 @@ use Rattle.bb_word.specs.Gates.{bits as bit_gates, IsMap, Made as Circuit}
 use Rattle.bb_word.specs.Folds.{fold_bit, fold_circuit}
 use Rattle.bb_word.specs.Meanings.{word_bits}
 use Rattle.bb_word.specs.Words.{HaveOneWidth, word_circuit}
-use Rattle.bb_word.specs.Laws.CircuitMaps.{reverse-map, word_map, fold_map}
+use Rattle.bb_word.specs.Laws.MapLaws.{word_map, fold_map}
 use Rattle.bb_word.specs.Laws.Numbers.{WordsHaveBits, FoldsGiveBits}
 use Rattle.bb_expr.specs.Lists.{extended, copies, bitwise}
 use Rattle.bb_expr.specs.Values.{Bits, value, values, op_bit, chosen, complemented, word_value}

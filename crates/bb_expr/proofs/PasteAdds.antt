@@ -8,14 +8,14 @@ use Rattle.std.proofs.lemmas.List.{get_or_append_left, get_or-append-add, get_or
 use Rattle.std.proofs.lemmas.List.Elements.{All-get_or, All-from_recursion}
 use Rattle.std.proofs.lemmas.List.Folds.{list_any_at}
 use Rattle.std.proofs.lemmas.List.Sorted.{IsPermutation-append_left}
+use Rattle.bb_lists.proofs.Maps.{reverse-map}
 use Rattle.bb_names.specs.declared.net.NetInfo.{NetInfo}
 use Rattle.bb_net.specs.declared.cell.Cell.{Cell}
 use Rattle.bb_net.specs.declared.cell.Cell.TheVariants as cells
 use Rattle.bb_net.specs.Netlists.{Netlist, cell_at}
-use Rattle.bb_word.specs.Formulas.{Formula, cell_formula, formula_at}
+use Rattle.bb_word.specs.Laws.Formulas.{Formula, cell_formula, formula_at}
 use Rattle.bb_word.specs.Gates.{Made as Circuit, mapped}
-use Rattle.bb_word.specs.Nets.{IsCircuit}
-use Rattle.bb_word.specs.Laws.CircuitMaps.{reverse-map}
+use Rattle.bb_word.specs.Inside.Nets.{IsCircuit}
 use Rattle.bb_expr.specs.declared.step.BitStep.{BitStep}
 use Rattle.bb_expr.specs.declared.step.BitStep.TheVariants as steps
 use Rattle.bb_expr.specs.Terms.{Term, Const}

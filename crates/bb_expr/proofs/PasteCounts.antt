@@ -10,10 +10,10 @@ use Rattle.bb_ast.specs.declared.operators.FoldOp.TheVariants as folds
 use Rattle.bb_net.specs.declared.cell.Cell.{Cell}
 use Rattle.bb_net.specs.declared.cell.Cell.TheVariants as cells
 use Rattle.bb_net.specs.Netlists.{Netlist, IsNetlist}
-use Rattle.bb_word.specs.Formulas.{Formula, Const, formulas, cell_formula, formula_at}
+use Rattle.bb_word.specs.Laws.Formulas.{Formula, Const, formulas, cell_formula, formula_at}
 use Rattle.bb_word.specs.Gates.{Made as Circuit}
 use Rattle.bb_word.specs.Meanings.{word_width}
-use Rattle.bb_word.specs.Nets.{IsCircuit, inputs_from}
+use Rattle.bb_word.specs.Inside.Nets.{IsCircuit, inputs_from}
 use Rattle.bb_word.specs.Words.{word_circuit, word_cells, AreWidths}
 use Rattle.bb_word.specs.Folds.{fold_circuit, fold_cells}
 use Rattle.bb_expr.specs.Inside.Pasting.{is_read, read_by, is_out, behind_inputs, is_needed, constant_steps, is_constant, reads_constant}

@@ -5,7 +5,7 @@ use Rattle.bb_ast.specs.declared.operators.WordOp.{WordOp}
 use Rattle.bb_ast.specs.declared.operators.WordOp.TheVariants as ops
 use Rattle.bb_ast.specs.declared.operators.FoldOp.{FoldOp}
 use Rattle.bb_ast.specs.declared.operators.FoldOp.TheVariants as folds
-use Rattle.bb_word.specs.Formulas.{Formula, formulas}
+use Rattle.bb_word.specs.Laws.Formulas.{Formula, formulas}
 use Rattle.bb_word.specs.Gates.{Made}
 use Rattle.bb_word.specs.Circuits.{complements, sum, alike, joined, joined_all, folded, inverted, equal, less, choices, up, down, shifted, truths}
 use Rattle.bb_word.specs.Words.{word_circuit}

@@ -1,7 +1,6 @@
 -- The cells of a netlist of one operator by their places: the constants, the inputs, and the cells behind them.
 use Rattle.std.proofs.Common.{◌≡◌, ℕ, zero, suc, ◌+◌, ◌-◌, ◌<◌, ◌≤◌, Bool, true, false, List, [], ◌∷◌, length, take, refl, sym, ap, ◌∙◌, subst, inl, inr, arith}
 use Rattle.std.specs.Prelude.{All, slice_index_or, nat_eq, nat_lt, if◌then◌else◌}
-use Rattle.std.proofs.Math.ListN.{get_or}
 use Rattle.std.proofs.lemmas.Bool.{eqb-true, lt-ltb}
 use Rattle.std.proofs.lemmas.Bool.Decides.{eqb_tells}
 use Rattle.std.proofs.lemmas.List.{get_or-drop, get_or-take, length-take, length-drop}
@@ -10,8 +9,8 @@ use Rattle.std.proofs.lemmas.List.FromFn.{length-map-range_with_len, get_or-map-
 use Rattle.bb_net.specs.declared.cell.Cell.{Cell}
 use Rattle.bb_net.specs.declared.cell.Cell.TheVariants as cells
 use Rattle.bb_net.specs.Netlists.{Netlist, IsNetlist, cell_at, first_cells, ReadsBefore}
-use Rattle.bb_word.specs.Formulas.{Const, Input, cell_formula, formula_at}
-use Rattle.bb_word.specs.Laws.NetFormulas.{formula_at-meets}
+use Rattle.bb_word.specs.Laws.Formulas.{Const, Input, cell_formula, formula_at}
+use Rattle.bb_word.specs.Laws.FormulaLaws.{formula_at-meets}
 use Rattle.bb_expr.specs.declared.circuits.Pasting.{Pasting}
 use Rattle.bb_expr.specs.Inside.Pasting.{is_out, behind_inputs, constant_steps, moved}
 use Rattle.bb_expr.proofs.Booleans.{or-cases}

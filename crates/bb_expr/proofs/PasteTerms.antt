@@ -7,9 +7,9 @@ use Rattle.bb_names.specs.declared.net.NetInfo.{NetInfo}
 use Rattle.bb_net.specs.Netlists.{ReadsBefore}
 use Rattle.bb_net.specs.declared.cell.Cell.{Cell}
 use Rattle.bb_net.specs.declared.cell.Cell.TheVariants as cells
-use Rattle.bb_word.specs.Formulas.{Formula, formulas, cell_formula}
+use Rattle.bb_word.specs.Laws.Formulas.{Formula, formulas, cell_formula}
 use Rattle.bb_word.specs.Gates.{IsMap}
-use Rattle.bb_word.specs.Nets.{inputs_from}
+use Rattle.bb_word.specs.Inside.Nets.{inputs_from}
 use Rattle.bb_expr.specs.Terms.{Term, Const, Not, And, Or, Xor, terms}
 use Rattle.bb_expr.specs.Lowered.{step_term, Reads, is_operator}
 use Rattle.bb_expr.specs.Inside.Pasting.{is_read, pasted, formula_term, is_gate}

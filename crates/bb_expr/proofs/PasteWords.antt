@@ -2,18 +2,19 @@
 use Rattle.std.proofs.Common.{◌≡◌, ℕ, ◌+◌, ◌≤◌, Bool, false, true, List, [], ◌∷◌, ◌++◌, map, length, drop, reverse, refl, sym, ap, ap₂, ◌∙◌, subst, arith, length-append, append-nil}
 use Rattle.std.proofs.lemmas.List.{length-map, length-drop, length-replicate}
 use Rattle.std.specs.Prelude.{replicate}
+use Rattle.bb_lists.proofs.Maps.{reverse-map}
 use Rattle.bb_ast.specs.declared.operators.WordOp.{WordOp}
 use Rattle.bb_ast.specs.declared.operators.FoldOp.{FoldOp}
 use Rattle.bb_names.specs.declared.net.NetInfo.{NetInfo}
 use Rattle.bb_net.specs.Netlists.{Netlist}
 use Rattle.bb_net.specs.Values.{bit_of, flat}
-use Rattle.bb_word.specs.Formulas.{Formula, formulas, cell_formula, formula_at}
+use Rattle.bb_word.specs.Laws.Formulas.{Formula, formulas, cell_formula, formula_at}
 use Rattle.bb_word.specs.Gates.{Made as Circuit, mapped}
 use Rattle.bb_word.specs.Meanings.{word_width}
-use Rattle.bb_word.specs.Nets.{IsCircuit, inputs_from}
+use Rattle.bb_word.specs.Inside.Nets.{IsCircuit, inputs_from}
 use Rattle.bb_word.specs.Words.{word_circuit, word_cells, AreWidths}
 use Rattle.bb_word.specs.Folds.{fold_circuit, fold_cells, fold_bit}
-use Rattle.bb_word.specs.Laws.CircuitMaps.{reverse-map, word_map, fold_map}
+use Rattle.bb_word.specs.Laws.MapLaws.{word_map, fold_map}
 use Rattle.bb_expr.specs.declared.step.BitStep.{BitStep}
 use Rattle.bb_expr.specs.Terms.{Term, terms}
 use Rattle.bb_expr.specs.Cells.{Made}

@@ -14,9 +14,9 @@ use Rattle.bb_names.specs.declared.net.NetInfo.{NetInfo}
 use Rattle.bb_word.specs.Words.{word_circuit, word_cells, AreWidths}
 use Rattle.bb_word.specs.Folds.{fold_circuit, fold_cells}
 use Rattle.bb_word.specs.Meanings.{word_width}
-use Rattle.bb_word.specs.Laws.Each.{Each, each_head, each_tail, each_reverse}
-use Rattle.bb_word.specs.Laws.CircuitGates.{With, IsGate, inverse, both, either, differ, choice, AreGates, Reads as ReadsKnown, word_built, fold_built}
-use Rattle.bb_word.specs.Laws.CircuitCounts.{word_count, fold_count, word_long, fold_long}
+use Rattle.bb_lists.proofs.Each.{Each, each_head, each_tail, each_reverse}
+use Rattle.bb_word.specs.Laws.GateLaws.{With, IsGate, inverse, both, either, differ, choice, AreGates, Reads as ReadsKnown, word_built, fold_built}
+use Rattle.bb_word.specs.Laws.CountLaws.{word_count, fold_count, word_long, fold_long}
 use Rattle.bb_expr.specs.declared.step.BitStep.{BitStep}
 use Rattle.bb_expr.specs.declared.step.BitStep.TheVariants as steps
 use Rattle.bb_expr.specs.Terms.{Term, Const, terms}

@@ -2,6 +2,7 @@
 
 ghost use Rattle.std.specs.Prelude.{◌≡◌, ◌≤◌, ◌+◌, ◌^◌, true, false, List, length, map, IfOk};
 ghost use Rattle.bb_ast.specs.Syntax.{Net, Part};
+ghost use Rattle.bb_bits.specs.Numbers.{bits_of};
 ghost use Rattle.bb_names.specs.declared.net.NetInfo.{NetInfo};
 ghost use Rattle.bb_names.specs.Inside.Checked.{module_facts};
 ghost use Rattle.bb_names.specs.Ranges.{has_bits, distance, range_width, place_of};
@@ -11,7 +12,7 @@ ghost use Rattle.bb_expr.specs.Inside.Growing.{Adds};
 ghost use Rattle.bb_expr.specs.Lists.{extended};
 ghost use Rattle.bb_expr.specs.Terms.{Const};
 
-use crate::rows::{constants, extended, net_bits};
+use crate::rows::{constants, extended, net_bits, number_bits};
 use crate::scope::{place_of, range_of};
 use crate::step::BitStep;
 use crate::width::range_width;
@@ -83,4 +84,20 @@ pub(crate) fn number(
 {
     let places = constants(alloc, steps, bits)?;
     extended(alloc, steps, &places, width)
+}
+
+/// A plain number is one of 32 bits.
+pub(crate) fn plain_number(
+    alloc: Global,
+    steps: &mut Vec<BitStep>,
+    value: u32,
+    width: u32,
+) -> Result<Vec<u32>, NoMemory>
+    requires own { 32 ≤ width }
+    requires room { length steps.old.items + width ≤ 2 ^ 32 }
+    ensures { (nets : List NetInfo) → IfOk result (λ places.
+        Adds nets (without_cells (extended (Const false) width (map Const (bits_of 32 value)))) steps.old.items steps.new.items places.items) }
+{
+    let bits = number_bits(alloc, value)?;
+    number(alloc, steps, &bits, width)
 }

@@ -21,10 +21,10 @@ ghost use Rattle.bb_expr.specs.Terms.{Const};
 use crate::cell_count::{cells, is_odd};
 use crate::circuits::{fold, word};
 use crate::laws;
-use crate::leaves::{net, number, part};
+use crate::leaves::{net, number, part, plain_number};
 use crate::operands::{taken_at, widths_at};
 use crate::operators::{any_bit, copied, inverted, operate, select};
-use crate::rows::{extended, number_bits};
+use crate::rows::extended;
 use crate::step::{BitStep, Lowered};
 use crate::width::{total_width, width_of};
 use bb_ast::{Expr, Op, WordOp};
@@ -88,10 +88,7 @@ fn lower_at(
         Expr::Bit(name, index) => part(alloc, scope, steps, name, *index, *index, width),
         Expr::Part(name, left, right) => part(alloc, scope, steps, name, *left, *right, width),
         Expr::Sized(bits) => number(alloc, steps, bits, width),
-        Expr::Plain(value) => {
-            let bits = number_bits(alloc, *value)?;
-            number(alloc, steps, &bits, width)
-        }
+        Expr::Plain(value) => plain_number(alloc, steps, *value, width),
         Expr::Not(count, operand) => {
             let bits = lower_at(alloc, scope, steps, operand, width)?;
             if is_odd(*count) {

@@ -1,8 +1,8 @@
 -- What holds of the elements of lists behind one another, and lists without repetition that are made from others.
-use Rattle.std.proofs.Common.{◌≡◌, ◌≢◌, ◌∙◌, ◌⊎◌, inl, inr, ℕ, zero, suc, ◌+◌, ◌-◌, ◌<◌, List, [], ◌∷◌, ◌++◌, length, map, reverse, refl, sym, ap, subst, arith}
+use Rattle.std.proofs.Common.{◌≡◌, ◌≢◌, ◌∙◌, ◌⊎◌, inl, inr, ℕ, zero, suc, ◌+◌, ◌-◌, ◌<◌, List, [], ◌∷◌, ◌++◌, length, map, reverse, refl, sym, subst, arith}
 use Rattle.std.specs.Prelude.{All, AllPairs, Contains}
 use Rattle.std.specs.List.{flat_map, range_with_len}
-use Rattle.std.proofs.lemmas.List.{get_or-reverse, length-reverse, map-append, reverse-append}
+use Rattle.std.proofs.lemmas.List.{get_or-reverse, length-reverse}
 use Rattle.std.proofs.lemmas.List.Elements.{All-cons, All-contains, All-nil, Contains-append_cases, Contains-append_left, Contains-append_right, Contains-get_or}
 use Rattle.std.proofs.lemmas.List.Kept.{AllPairs-cons}
 use Rattle.bb_lists.proofs.Apart.{pairs_tail}
@@ -25,10 +25,6 @@ pub all_reverse : {A : Type 0} (P : A → Type 0) (xs : List A) → All P xs →
 all_reverse P xs all k d within =
     let long = length-reverse xs in
     subst P (sym (get_or-reverse xs k d (omega (arith, within, long)))) (all (length xs - 1 - k) d (omega (arith, within, long)))
-
-pub reverse-map : {A B : Type 0} (f : A → B) (xs : List A) → map f (reverse xs) ≡ reverse (map f xs)
-reverse-map f [] = refl
-reverse-map f (x ∷ xs) = ap (map f) (reverse-append (x ∷ []) xs) ∙ map-append f (reverse xs) (x ∷ []) ∙ ap (λ l. l ++ f x ∷ []) (reverse-map f xs) ∙ sym (reverse-append (f x ∷ []) (map f xs))
 
 -- the first of a list without repetition stands nowhere else in it
 pub first_apart : {A : Type 0} (x : A) (xs : List A) → AllPairs ◌≢◌ (x ∷ xs) → (y : A) → Contains xs y → x ≢ y

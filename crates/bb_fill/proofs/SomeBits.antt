@@ -8,7 +8,7 @@ use Rattle.std.proofs.lemmas.List.Elements.{All-append, All-cons, All-map, All-n
 use Rattle.std.proofs.lemmas.List.FromFn.{length-range_with_len}
 use Rattle.bb_bits.specs.Earlier.{has_name}
 use Rattle.bb_bits.specs.Tables.{TableBits, table_bit}
-use Rattle.bb_lists.proofs.Maps.{map-twice}
+use Rattle.bb_lists.proofs.Maps.{map-twice, reverse-map}
 use Rattle.bb_lists.proofs.Orders.{less_or_not}
 use Rattle.bb_net.specs.declared.cell.Cell.{Cell}
 use Rattle.bb_net.specs.declared.cell.Cell.TheVariants as cells
@@ -26,7 +26,6 @@ use Rattle.bb_fill.specs.Laws.{AreMet, Gives, IsMet, IsReady, LinesCanBeMet, Tre
 use Rattle.bb_fill.proofs.ChoiceBits.{choice_bits, choice_bits-length, tree_met}
 use Rattle.bb_fill.proofs.LineBits.{word_past}
 use Rattle.bb_fill.proofs.LineParts.{all_parts, declarations}
-use Rattle.bb_fill.proofs.Lists.{reverse-map}
 use Rattle.bb_fill.proofs.MetCells.{TablesFit, lines_from_net, pin_tree, tables_fit, word_bit}
 use Rattle.bb_fill.proofs.NetNames.{bit_called, called-at, called-other, plain_apart, ports_apart}
 use Rattle.bb_fill.proofs.SizeLemmas.{column-length, pins-length}

@@ -1,7 +1,9 @@
 -- Lists in which nothing stands twice.
-use Rattle.std.proofs.Common.{◌++◌, ◌+◌, ◌∙◌, ◌∷◌, ◌≡◌, ◌≢◌, AllPairs, Contains, List, Some, [], ap, arith, get_or, length, length-append, refl, subst, suc, sym, zero, ℕ, ◌<◌, ◌⊎◌, map, inl, inr}
-use Rattle.std.specs.Prelude.{slice_get}
+use Rattle.std.proofs.Common.{◌++◌, ◌+◌, ◌∙◌, ◌∷◌, ◌≡◌, ◌≢◌, AllPairs, Contains, List, Some, [], ap, arith, get_or, length, length-append, refl, subst, suc, sym, zero, ℕ, ◌<◌, ◌≤◌, ◌⊎◌, map, inl, inr}
+use Rattle.std.specs.Prelude.{remove, slice_get}
+use Rattle.std.proofs.lemmas.Grind.{in_remove}
 use Rattle.std.proofs.lemmas.List.{get_or-append-add, get_or_append_left, length-append, get_or_default, get_or-map, length-map}
+use Rattle.std.proofs.lemmas.List.Edits.{length-remove}
 use Rattle.std.proofs.lemmas.List.Elements.{Contains-get_or}
 use Rattle.std.proofs.lemmas.List.Quantifiers.{all_pairs_push}
 use Rattle.bb_lists.proofs.Places.{some_same, there_at}
@@ -34,6 +36,19 @@ push_name names n apart other = all_pairs_push ◌≢◌ names n apart (λ k d l
 
 pub pairs_tail : {A : Type 0} (R : A → A → Type 0) (x : A) (xs : List A) → AllPairs R (x ∷ xs) → AllPairs R xs
 pairs_tail R x xs all i j d lt within = all (suc i) (suc j) d (omega (arith, lt)) (omega (arith, within))
+
+-- elements that differ and all stand in a second list are at most as many as that has
+pub at_most_as_many : {A : Type 0} (xs ys : List A) → AllPairs ◌≢◌ xs → ((x : A) → Contains xs x → Contains ys x) → length xs ≤ length ys
+at_most_as_many [] ys apart among = omega arith
+at_most_as_many (x ∷ xs) ys apart among =
+    let here = among x (0, omega arith, refl) in
+    let rest : length xs ≤ length (remove ys here.0) =
+    at_most_as_many xs (remove ys here.0) (pairs_tail ◌≢◌ x xs apart) (λ s has.
+    let there = among s (suc has.0, omega (arith, has.1), has.2) in
+    let other : there.0 ≢ here.0 = λ same. apart 0 (suc has.0) x (omega arith) (omega (arith, has.1))
+    (sym here.2 ∙ (get_or_default ys here.0 x s here.1 ∙ (ap (λ k. get_or ys k s) (sym same) ∙ (there.2 ∙ (sym has.2 ∙ get_or_default xs has.0 s x has.1))))) in
+    (in_remove ys here.0 there.0 s here.1 there.1 (sym there.2) other).1) in
+    omega (arith, rest, length-remove ys here.0 here.1)
 
 -- where nothing stands twice among what is seen of the elements, elements of which the same is seen are one
 pub one_by : {A B : Type 0} (f : A → B) (xs : List A) → AllPairs ◌≢◌ (map f xs) → (y z : A) → Contains xs y → Contains xs z → f y ≡ f z → y ≡ z

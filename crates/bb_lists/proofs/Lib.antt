@@ -1,6 +1,7 @@
 pub mod Apart
 pub mod AtPlaces
 pub mod Deciding
+pub mod Each
 pub mod Earlier
 pub mod Firsts
 pub mod FlatPlaces

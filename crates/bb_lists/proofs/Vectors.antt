@@ -1,5 +1,5 @@
 -- A list that is not too long is that of a vector.
-use Rattle.std.proofs.Common.{◌≡◌, ◌<◌, ◌^◌, ℕ, List, length, refl, arith, Global}
+use Rattle.std.proofs.Common.{◌<◌, ◌^◌, List, length, refl, arith, Global}
 use Rattle.std.specs.Prelude.{Vec}
 use denote.RawPtr.{null_ptr}
 

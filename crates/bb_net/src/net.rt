@@ -110,8 +110,8 @@ impl Net {
         })
     }
 
-    // What the type keeps.
-    pub(crate) fn keeps_its_order(&self)
+    /// What every netlist keeps; a call of it tells a proof, and does nothing.
+    pub fn keeps_its_order(&self)
         ensures { IsNetlist self.now }
     {
         let _ = &self.cells;

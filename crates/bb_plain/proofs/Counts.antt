@@ -1,8 +1,9 @@
 -- The sizes of the design of the filled text: it has the bits of nets and the cells that were counted for the text.
-use Rattle.std.proofs.Common.{◌≡◌, ◌∙◌, ℕ, ◌≤◌, List, length, map, Contains, ap, arith}
+use Rattle.std.proofs.Common.{◌∙◌, ◌≤◌, List, length, map, Contains, ap, arith}
 use Rattle.std.proofs.lemmas.List.{length-append, length-map}
 use Rattle.std.proofs.lemmas.List.Elements.{All-contains}
 use Rattle.bb_bits.specs.Tables.{TableBits}
+use Rattle.bb_lists.proofs.Apart.{at_most_as_many}
 use Rattle.bb_expr.specs.Laws.FitLaws.{NetNamesDiffer}
 use Rattle.bb_net.specs.Flats.{FlatNet, HaveClocks}
 use Rattle.bb_fill.specs.Laws.{IsReady, NetsAreDrivenOnce, WordsAreApart, WordsAreNets, WordsAreOfNetlist, all_nets}
@@ -12,7 +13,7 @@ use Rattle.bb_design.specs.Drivers.{driven_bits}
 use Rattle.bb_design.specs.Laws.{SoundBitsAreThere}
 use Rattle.bb_design.specs.NetBits.{net_order, top_inputs}
 use Rattle.bb_design.specs.Registers.{RegisterBit, registers}
-use Rattle.bb_plain.specs.Laws.Designs.{IsCalledAs, filled_design}
+use Rattle.bb_plain.specs.Laws.Designs.{filled_design}
 use Rattle.bb_plain.specs.Laws.{AreCounted, FilledDesignsAreCalledAlike, FilledDesignsAreCounted, FilledModulesAreSound}
 use Rattle.bb_plain.proofs.Bits.{are_driven_once, driven_bits_are}
 use Rattle.bb_plain.proofs.Called.{bits_are_there}
@@ -20,7 +21,6 @@ use Rattle.bb_plain.proofs.Cells.{cells_are_counted}
 use Rattle.bb_plain.proofs.Meanings.{bit_named, bit_of_word}
 use Rattle.bb_plain.proofs.NetNames.{nets_are_few}
 use Rattle.bb_plain.proofs.Nets.{no_instances, top_inputs_are}
-use Rattle.bb_plain.proofs.Sifted.{at_most_as_many}
 
 module _ (nets : NetsAreDrivenOnce) (word_nets : WordsAreNets) (of_netlist : WordsAreOfNetlist) (apart : WordsAreApart) (differ : NetNamesDiffer)
     (sound : FilledModulesAreSound) (called : FilledDesignsAreCalledAlike) (there : SoundBitsAreThere) where

@@ -5,6 +5,7 @@ use Rattle.std.proofs.lemmas.List.Elements.{All-contains, Contains-append_cases,
 use Rattle.bb_bits.specs.Earlier.{once}
 use Rattle.bb_bits.specs.Names.{same_name}
 use Rattle.bb_bits.specs.Tables.{TableBits}
+use Rattle.bb_lists.proofs.Apart.{at_most_as_many}
 use Rattle.bb_ast.specs.Names.{names_in}
 use Rattle.bb_ast.specs.Syntax.{PlainHead, PlainItem, PlainModule}
 use Rattle.bb_names.specs.declared.net.NetInfo.{NetInfo}
@@ -31,7 +32,7 @@ use Rattle.bb_plain.proofs.Meanings.{bit_named, bit_of_word}
 use Rattle.bb_plain.proofs.Nets.{net_order_is}
 use Rattle.bb_plain.proofs.Ports.{head_names}
 use Rattle.bb_plain.proofs.Said.{each_said}
-use Rattle.bb_plain.proofs.Sifted.{at_most_as_many, only_one_of}
+use Rattle.bb_plain.proofs.Sifted.{only_one_of}
 
 once_from : (names : List (List ℕ)) (n : List ℕ) → Contains (once names) n → Contains names n
 once_from [] n has = has

@@ -8,7 +8,6 @@ use Rattle.bb_ast.specs.Syntax.{Net, PlainModule}
 use Rattle.bb_names.specs.Ranges.{range_width}
 use Rattle.bb_expr.specs.Cells.{arm_made, net_terms, without_cells}
 use Rattle.bb_expr.specs.Lists.{extended}
-use Rattle.bb_expr.specs.Terms.{Term}
 use Rattle.bb_expr.specs.Terms as term
 use Rattle.bb_net.specs.Flats.{FlatNet}
 use Rattle.bb_fill.specs.Words.{Word, Bit, Named, CellNet, ChoiceNet, stem_of}

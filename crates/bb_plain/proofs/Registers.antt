@@ -26,7 +26,7 @@ use Rattle.bb_design.specs.Refusals.{AreApart}
 use Rattle.bb_design.specs.Refusals as refusals
 use Rattle.bb_design.specs.Registers.{RegisterBit, registers, stored, stored_at}
 use Rattle.bb_design.specs.Texts.{bit_text}
-use Rattle.bb_lists.proofs.Apart.{one_by}
+use Rattle.bb_lists.proofs.Apart.{at_most_as_many, one_by}
 use Rattle.bb_lists.proofs.Members.{all_from, contains-map, contains_here, from_filter_map, from_find, from_flat, from_map, into_flat, none_in_nil}
 use Rattle.bb_lists.proofs.Places.{some_at, there_at}
 use Rattle.bb_plain.specs.Laws.Designs.{IsRegisterOf, filled_design}
@@ -37,7 +37,7 @@ use Rattle.bb_plain.proofs.NetNames.{names_apart}
 use Rattle.bb_plain.proofs.Nets.{bit_text_is, net_order_is, top_inputs_are}
 use Rattle.bb_plain.proofs.Parts.{net_written, parts_give}
 use Rattle.bb_plain.proofs.RegisterLines.{IsOfRegister, register_there, storing_line}
-use Rattle.bb_plain.proofs.Sifted.{at_most_as_many, flat_same, only_one_of, pairs_sift}
+use Rattle.bb_plain.proofs.Sifted.{flat_same, only_one_of, pairs_sift}
 
 module _ (f : FlatNet) (tables : List TableBits) (ready : IsReady f tables) where
   abbrev design : Design

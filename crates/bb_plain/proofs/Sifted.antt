@@ -1,10 +1,8 @@
 -- Lists that are mapped, sifted and counted.
-use Rattle.std.proofs.Common.{◌≡◌, ◌≢◌, ◌∙◌, inl, inr, ◌≤◌, Bool, true, false, if◌then◌else◌, Option, Some, None, List, [], ◌∷◌, ◌++◌, get_or, length, map, filter, filter_map, flat_map, All, AllPairs, Contains, refl, sym, ap, ap₂, arith}
-use Rattle.std.specs.Prelude.{remove}
+use Rattle.std.proofs.Common.{◌≡◌, ◌≢◌, ◌∙◌, inl, inr, Bool, true, false, if◌then◌else◌, Option, Some, None, List, [], ◌∷◌, ◌++◌, map, filter, filter_map, flat_map, All, AllPairs, Contains, refl, ap, ap₂, arith}
 use Rattle.std.specs.List.{cons_option}
-use Rattle.std.proofs.lemmas.Grind.{flat_map-append, in_remove}
-use Rattle.std.proofs.lemmas.List.{get_or_default, map-append}
-use Rattle.std.proofs.lemmas.List.Edits.{length-remove}
+use Rattle.std.proofs.lemmas.Grind.{flat_map-append}
+use Rattle.std.proofs.lemmas.List.{map-append}
 use Rattle.std.proofs.lemmas.List.Elements.{All-contains, All-head, All-map, All-tail}
 use Rattle.std.proofs.lemmas.List.Kept.{AllPairs-cons}
 use Rattle.bb_lists.proofs.Apart.{pairs_tail}
@@ -65,15 +63,3 @@ pairs_told f (x ∷ xs) told pairs =
     All-contains (λ z. x ≢ z) xs y (first_all ◌≢◌ x xs pairs) has (told x y (contains_here x xs) (contains_there x xs y has) same)) in
     AllPairs-cons ◌≢◌ (f x) (map f xs) (All-map (λ z. f x ≢ z) f xs others)
     (pairs_told f xs (λ y z one other. told y z (contains_there x xs y one) (contains_there x xs z other)) (pairs_tail ◌≢◌ x xs pairs))
-
--- elements that differ and all stand in a second list are at most as many as that has
-pub at_most_as_many : {A : Type 0} (xs ys : List A) → AllPairs ◌≢◌ xs → ((x : A) → Contains xs x → Contains ys x) → length xs ≤ length ys
-at_most_as_many [] ys apart among = omega arith
-at_most_as_many (x ∷ xs) ys apart among =
-    let here = among x (contains_here x xs) in
-    let rest = at_most_as_many xs (remove ys here.0) (pairs_tail ◌≢◌ x xs apart) (λ s has.
-    let there = among s (contains_there x xs s has) in
-    let other : there.0 ≢ here.0 = λ same. All-contains (λ z. x ≢ z) xs s (first_all ◌≢◌ x xs apart) has
-    (sym here.2 ∙ get_or_default ys here.0 x s here.1 ∙ ap (λ k. get_or ys k s) (sym same) ∙ there.2) in
-    (in_remove ys here.0 there.0 s here.1 there.1 (sym there.2) other).1) in
-    omega (arith, rest, length-remove ys here.0 here.1)

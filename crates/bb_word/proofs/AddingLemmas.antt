@@ -9,9 +9,9 @@ use Rattle.bb_net.specs.declared.cell.Cell.TheVariants.{Const}
 use Rattle.std.specs.Prelude.{false}
 use Rattle.bb_net.specs.Netlists.{Netlist, cell_at}
 use Rattle.bb_word.specs.Gates.{Made, behind}
-use Rattle.bb_word.specs.Formulas.{Formula, cell_formula}
+use Rattle.bb_word.specs.Laws.Formulas.{Formula, cell_formula}
 use Rattle.bb_word.specs.Inside.Adding.{Meets, with_cells, nothing, ahead, Adds}
-use Rattle.bb_word.specs.Laws.CircuitMaps.{made_same}
+use Rattle.bb_word.specs.Laws.MapLaws.{made_same}
 
 pub meets_front : (cells more : List Cell) (part : ℕ → Formula) → Meets (cells ++ more) part → Meets cells part
 meets_front cells more part meets place below =

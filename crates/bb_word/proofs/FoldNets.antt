@@ -4,15 +4,16 @@ use Rattle.std.specs.Prelude.{All}
 use Rattle.std.specs.List.{range_with_len}
 use Rattle.std.proofs.lemmas.List.{append-nil, length-reverse}
 use Rattle.std.proofs.lemmas.List.FromFn.{length-range_with_len, get_or-range_with_len}
+use Rattle.bb_lists.proofs.Maps.{reverse-map}
 use Rattle.bb_net.specs.Netlists.{Netlist, IsNetlist, with_out}
 use Rattle.bb_net.specs.Values.{bit_of, flat}
 use Rattle.bb_ast.specs.declared.operators.FoldOp.{FoldOp}
 use Rattle.bb_word.specs.Gates.{bits, Made}
 use Rattle.bb_word.specs.Folds.{fold_circuit, fold_cells, fold_bit}
-use Rattle.bb_word.specs.Formulas.{Formula, formulas, formula_bit}
+use Rattle.bb_word.specs.Laws.Formulas.{Formula, formulas, formula_bit}
 use Rattle.bb_word.specs.Inside.Adding.{nothing, Adds}
-use Rattle.bb_word.specs.Nets.{inputs_from, IsCircuit}
-use Rattle.bb_word.specs.Laws.CircuitMaps.{reverse-map, fold_map}
+use Rattle.bb_word.specs.Inside.Nets.{inputs_from, IsCircuit}
+use Rattle.bb_word.specs.Laws.MapLaws.{fold_map}
 use Rattle.bb_word.proofs.FoldLemmas.{fold_is}
 use Rattle.bb_word.proofs.FoldSteps.{All-reversed}
 use Rattle.bb_word.proofs.FormulaLemmas.{OneValue, bits_map}

@@ -2,14 +2,14 @@
 use Rattle.std.proofs.Common.{◌≡◌, ◌∙◌, ◌-◌, ◌<◌, ℕ, List, [], ◌∷◌, map, length, get_or, reverse, refl, ap, arith}
 use Rattle.std.specs.Prelude.{All}
 use Rattle.std.proofs.lemmas.List.{length-reverse, get_or-reverse}
+use Rattle.bb_lists.proofs.Maps.{reverse-map}
 use Rattle.bb_net.specs.declared.cell.Cell.TheVariants as cell
 use Rattle.bb_net.specs.Netlists.{Netlist}
 use Rattle.bb_word.specs.declared.joint.Joint.{Joint}
 use Rattle.bb_word.specs.Gates.{Made, behind}
 use Rattle.bb_word.specs.Circuits.{folded, inverted, joined_all}
-use Rattle.bb_word.specs.Formulas.{Formula, formulas}
+use Rattle.bb_word.specs.Laws.Formulas.{Formula, formulas}
 use Rattle.bb_word.specs.Inside.Adding.{with_cells, nothing, Adds, joint_gate, joint_none}
-use Rattle.bb_word.specs.Laws.CircuitMaps.{reverse-map}
 use Rattle.bb_word.proofs.AddingLemmas.{Adds-chain}
 use Rattle.bb_word.proofs.SumSteps.{both_complements, IsComplemented-start, IsComplemented-step, IsComplemented-end}
 

@@ -9,8 +9,8 @@ use Rattle.bb_net.specs.declared.cell.Cell.TheVariants as cell
 use Rattle.bb_net.specs.Netlists.{Netlist, Pins, cell_at, ReadsBefore, IsOrdered, IsNetlist, IsPinAt}
 use Rattle.bb_net.specs.Values.{bit_of, gate, value_of, flat, free_bit, IsValue}
 use Rattle.bb_word.specs.Gates.{bits, IsMap}
-use Rattle.bb_word.specs.Formulas.{Formula, formulas, cell_formula, formula_at, formula_bit}
-use Rattle.bb_word.specs.Laws.NetFormulas.{formula_at-meets}
+use Rattle.bb_word.specs.Laws.Formulas.{Formula, formulas, cell_formula, formula_at, formula_bit}
+use Rattle.bb_word.specs.Laws.FormulaLaws.{formula_at-meets}
 
 pub bits_map : (x : List Bool) → IsMap formulas bits (formula_bit x)
 bits_map x = record {

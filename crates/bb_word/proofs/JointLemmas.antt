@@ -7,9 +7,9 @@ use Rattle.bb_net.specs.Netlists.{Netlist}
 use Rattle.bb_word.specs.declared.joint.Joint.{Joint}
 use Rattle.bb_word.specs.declared.joint.Joint.TheVariants as joints
 use Rattle.bb_word.specs.Circuits.{joined, joined_all}
-use Rattle.bb_word.specs.Formulas.{Formula, formulas, cell_formula}
+use Rattle.bb_word.specs.Laws.Formulas.{Formula, formulas, cell_formula}
 use Rattle.bb_word.specs.Inside.Adding.{Meets, with_cells, nothing, Adds, joint_gate, joint_none, joint_cell}
-use Rattle.bb_word.specs.Laws.CircuitMaps.{made_same}
+use Rattle.bb_word.specs.Laws.MapLaws.{made_same}
 use Rattle.bb_word.proofs.AddingLemmas.{meets_new, Adds-start, Adds-step, Adds-end}
 
 -- the first bits are joined

@@ -12,7 +12,7 @@ use Rattle.bb_word.specs.declared.shifts.Direction.{Direction}
 use Rattle.bb_word.specs.declared.shifts.Direction.TheVariants as ways
 use Rattle.bb_word.specs.Circuits.{up, down}
 use Rattle.bb_word.specs.Inside.Moving.{move}
-use Rattle.bb_word.specs.Laws.CircuitCounts.{length-up, length-down}
+use Rattle.bb_word.specs.Laws.CountLaws.{length-up, length-down}
 
 pub length-move : {A : Type 0} (d : Direction) (o : A) (n : ℕ) (xs : List A) → length (move d o n xs) ≡ length xs
 length-move ways.Up o n xs = length-up o n xs

@@ -7,18 +7,18 @@ use Rattle.std.proofs.lemmas.List.{length-append, get_or_append_left, get_or-app
 use Rattle.std.proofs.lemmas.List.Elements.{All-head, All-tail}
 use Rattle.std.proofs.lemmas.List.FromFn.{length-map-range_with_len, get_or-map-range_with_len}
 use Rattle.std.proofs.Math.Seq.{drop-append_seam}
+use Rattle.bb_lists.proofs.Maps.{reverse-map}
 use Rattle.bb_net.specs.declared.cell.Cell.{Cell}
 use Rattle.bb_net.specs.declared.cell.Cell.TheVariants as cell
 use Rattle.bb_net.specs.Netlists.{Netlist, cell_at, first_cells, IsNetlist}
 use Rattle.bb_net.specs.Values.{bit_of, flat}
 use Rattle.bb_word.specs.Gates.{Made, mapped}
-use Rattle.bb_word.specs.Formulas.{Formula, Input, cell_formula, formula_at, formula_bit}
+use Rattle.bb_word.specs.Laws.Formulas.{Formula, Input, cell_formula, formula_at, formula_bit}
 use Rattle.bb_word.specs.Inside.Adding.{Meets, nothing, Adds, HasConstants}
-use Rattle.bb_word.specs.Nets.{inputs_from, IsCircuit}
+use Rattle.bb_word.specs.Inside.Nets.{inputs_from, IsCircuit}
 use Rattle.bb_word.proofs.AddingLemmas.{Adds-bits, Adds-cells}
 use Rattle.bb_word.proofs.FormulaLemmas.{flat_formula, OneValue}
-use Rattle.bb_word.specs.Laws.NetFormulas.{formula_at-meets}
-use Rattle.bb_word.specs.Laws.CircuitMaps.{reverse-map}
+use Rattle.bb_word.specs.Laws.FormulaLaws.{formula_at-meets}
 
 abbrev pub started : ℕ → Netlist
 started n = record { inputs = n; cells = first_cells n; boxes = []; outs = [] }

@@ -3,13 +3,14 @@ use Rattle.std.proofs.Common.{◌≡◌, ◌∙◌, ◌+◌, ◌*◌, ◌<◌, �
 use Rattle.std.proofs.Math.Path.{ap₂}
 use Rattle.std.proofs.lemmas.List.{length-append, drop_all}
 use Rattle.std.proofs.lemmas.List.Elements.{All-nil, All-cons}
+use Rattle.bb_lists.proofs.Maps.{reverse-map}
 use Rattle.bb_net.specs.Netlists.{Netlist}
 use Rattle.bb_word.specs.declared.joint.Joint.TheVariants as joints
 use Rattle.bb_word.specs.Gates.{behind}
 use Rattle.bb_word.specs.Circuits.{alike, equal, less, joined_all}
-use Rattle.bb_word.specs.Formulas.{Formula, Xor, Not, Mux, formulas}
+use Rattle.bb_word.specs.Laws.Formulas.{Formula, Xor, Not, Mux, formulas}
 use Rattle.bb_word.specs.Inside.Adding.{with_cells, nothing, ahead, Adds, alike_cells, less_cells, HasConstants, joint_gate, joint_none}
-use Rattle.bb_word.specs.Laws.CircuitMaps.{made_same, reverse-map}
+use Rattle.bb_word.specs.Laws.MapLaws.{made_same}
 use Rattle.bb_word.proofs.AddingLemmas.{Adds-start, Adds-step, Adds-end, Adds-chain}
 use Rattle.bb_word.proofs.StepLemmas.{part_new, length_new, parts_more, part_zero, Adds-constants}
 

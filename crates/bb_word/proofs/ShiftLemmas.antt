@@ -8,7 +8,7 @@ use Rattle.std.proofs.lemmas.Nat.{div-mul-add, mul-mod_first, pow-add}
 use Rattle.std.proofs.lemmas.List.{length-append, length-replicate, length-take, take-append-drop, drop_all}
 use Rattle.bb_word.specs.Gates.{bits}
 use Rattle.bb_word.specs.Circuits.{choices, up, down, shifted}
-use Rattle.bb_word.specs.Laws.CircuitCounts.{length-up, length-down}
+use Rattle.bb_word.specs.Laws.CountLaws.{length-up, length-down}
 use Rattle.bb_word.proofs.NumberLemmas.{number_up, number_up-below, mod_is}
 
 pub number_up-append : (xs ys : List Bool) → number_up (xs ++ ys) ≡ number_up xs + 2 ^ length xs * number_up ys

@@ -10,10 +10,10 @@ use Rattle.bb_word.specs.declared.shifts.Direction.{Direction}
 use Rattle.bb_word.specs.declared.shifts.Direction.TheVariants as ways
 use Rattle.bb_word.specs.Gates.{Made, behind, bits}
 use Rattle.bb_word.specs.Circuits.{choices, shifted}
-use Rattle.bb_word.specs.Formulas.{Formula, Mux, formulas}
+use Rattle.bb_word.specs.Laws.Formulas.{Formula, Mux, formulas}
 use Rattle.bb_word.specs.Inside.Adding.{with_cells, nothing, Adds, HasConstants}
 use Rattle.bb_word.specs.Inside.Moving.{move, both_choices}
-use Rattle.bb_word.specs.Laws.CircuitMaps.{made_same, plain-up, plain-down}
+use Rattle.bb_word.specs.Laws.MapLaws.{made_same, plain-up, plain-down}
 use Rattle.bb_word.proofs.AddingLemmas.{Adds-start, Adds-step, Adds-end, Adds-bits, Adds-cells}
 use Rattle.bb_word.proofs.StepLemmas.{part_new, length_new, parts_more, part_zero, Adds-constants}
 use Rattle.bb_word.proofs.MoveLemmas.{move-far}

@@ -6,8 +6,8 @@ use Rattle.bb_net.specs.declared.cell.Cell.{Cell}
 use Rattle.bb_net.specs.declared.cell.Cell.TheVariants.{Const}
 use Rattle.bb_net.specs.Netlists.{Netlist, cell_at}
 use Rattle.bb_word.specs.Gates.{Made}
-use Rattle.bb_word.specs.Formulas.{Formula, cell_formula}
-use Rattle.bb_word.specs.Formulas as formula
+use Rattle.bb_word.specs.Laws.Formulas.{Formula, cell_formula}
+use Rattle.bb_word.specs.Laws.Formulas as formula
 use Rattle.bb_word.specs.Inside.Adding.{Meets, with_cells, Adds, HasConstants}
 use Rattle.bb_word.proofs.AddingLemmas.{meets_new}
 

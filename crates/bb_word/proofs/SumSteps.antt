@@ -7,9 +7,9 @@ use Rattle.bb_net.specs.declared.cell.Cell.TheVariants as cell
 use Rattle.bb_net.specs.Netlists.{Netlist}
 use Rattle.bb_word.specs.Gates.{Made, behind}
 use Rattle.bb_word.specs.Circuits.{complements, sum, difference}
-use Rattle.bb_word.specs.Formulas.{Formula, Xor, And, Or, Not, formulas}
+use Rattle.bb_word.specs.Laws.Formulas.{Formula, Xor, And, Or, Not, formulas}
 use Rattle.bb_word.specs.Inside.Adding.{with_cells, nothing, ahead, Adds, digit_cells, HasConstants}
-use Rattle.bb_word.specs.Laws.CircuitMaps.{made_same}
+use Rattle.bb_word.specs.Laws.MapLaws.{made_same}
 use Rattle.bb_word.proofs.AddingLemmas.{Adds-start, Adds-step, Adds-chain}
 use Rattle.bb_word.proofs.StepLemmas.{part_new, length_new, parts_more, part_one, Adds-constants}
 

@@ -4,16 +4,17 @@ use Rattle.std.specs.List.{range_with_len}
 use Rattle.std.proofs.Math.Path.{ap₂}
 use Rattle.std.proofs.lemmas.List.{append-nil, length-map, length-replicate, take_more}
 use Rattle.bb_bits.specs.Numbers.{number_of}
+use Rattle.bb_lists.proofs.Maps.{reverse-map}
 use Rattle.bb_net.specs.Netlists.{Netlist, IsNetlist}
 use Rattle.bb_net.specs.Values.{bit_of, flat}
 use Rattle.bb_ast.specs.declared.operators.WordOp.{WordOp}
 use Rattle.bb_word.specs.Gates.{bits, Made}
 use Rattle.bb_word.specs.Words.{word_circuit, word_cells, AreWidths, HaveOneWidth}
 use Rattle.bb_word.specs.Meanings.{word_number, word_width}
-use Rattle.bb_word.specs.Formulas.{Formula, formulas, formula_bit}
+use Rattle.bb_word.specs.Laws.Formulas.{Formula, formulas, formula_bit}
 use Rattle.bb_word.specs.Inside.Adding.{nothing, Adds, with_outs}
-use Rattle.bb_word.specs.Nets.{inputs_from, IsCircuit}
-use Rattle.bb_word.specs.Laws.CircuitMaps.{reverse-map, word_map}
+use Rattle.bb_word.specs.Inside.Nets.{inputs_from, IsCircuit}
+use Rattle.bb_word.specs.Laws.MapLaws.{word_map}
 use Rattle.bb_word.proofs.NumberLemmas.{Doubles}
 use Rattle.bb_word.proofs.WordLemmas.{word_is, word_long}
 use Rattle.bb_word.proofs.FormulaLemmas.{OneValue, bits_map}

@@ -5,9 +5,9 @@ use Rattle.bb_word.specs.declared.joint.Joint.{Joint}
 use Rattle.bb_word.specs.declared.joint.Joint.TheVariants as joints
 use Rattle.bb_word.specs.Gates.{Made, behind}
 use Rattle.bb_word.specs.Circuits.{sum, folded, joined_all, truths}
-use Rattle.bb_word.specs.Formulas.{Formula, formulas}
+use Rattle.bb_word.specs.Laws.Formulas.{Formula, formulas}
 use Rattle.bb_word.specs.Inside.Adding.{nothing, Adds, HasConstants, joint_gate, joint_none}
-use Rattle.bb_word.specs.Laws.CircuitMaps.{made_same}
+use Rattle.bb_word.specs.Laws.MapLaws.{made_same}
 use Rattle.bb_word.proofs.AddingLemmas.{Adds-chain}
 use Rattle.bb_word.proofs.StepLemmas.{part_zero, Adds-constants}
 

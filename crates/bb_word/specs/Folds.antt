@@ -30,7 +30,7 @@ abbrev pub is_odd : ℕ → Bool
 is_odd zero = false
 is_odd (suc n) = not (is_odd n)
 
--- all bits are 1, some bit is, an odd number of them is, or not
+-- all bits are 1, some bit is, an odd number of them is, or not (IEEE 1364-2005, 5.1.11, and 5.1.9 for no bit)
 abbrev pub fold_bit : FoldOp → List Bool → Bool
 fold_bit ops.None xs = not (list_any (λ x. x) xs)
 fold_bit ops.All xs = list_all (λ x. x) xs

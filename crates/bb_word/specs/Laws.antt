@@ -1,9 +1,9 @@
-pub mod CircuitCounts
-pub mod CircuitGates
-pub mod CircuitKept
-pub mod CircuitMaps
-pub mod Each
+pub mod CountLaws
 pub mod Counts
+pub mod FormulaLaws
+pub mod Formulas
+pub mod GateLaws
+pub mod KeptLaws
+pub mod MapLaws
 pub mod Maps
 pub mod Numbers
-pub mod NetFormulas

@@ -1,10 +1,8 @@
 pub use Rattle.bb_bits.specs.Numbers
 pub mod Circuits
 pub mod Folds
-pub mod Formulas
 pub mod Gates
 pub mod Meanings
-pub mod Nets
 pub mod Words
 pub mod Inside
 pub mod Laws

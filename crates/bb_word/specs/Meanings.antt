@@ -1,5 +1,5 @@
--- What the operators on two words mean. A word spells a number, its first bit the most significant one (IEEE 1364-2005, 5.1, for
--- unsigned operands).
+-- What the operators on two words mean. A word spells a number, its first bit the most significant one (IEEE 1364-2005, 5.1.5, 5.1.7
+-- to 5.1.9 and 5.1.12, for unsigned operands).
 use Rattle.std.specs.Prelude.{ℕ, ◌+◌, ◌-◌, ◌*◌, ◌/◌, ◌%◌, ◌^◌, Bool, not, ◌&&◌, ◌||◌, if◌then◌else◌, nat_eq, nat_lt, List, length}
 use Rattle.std.specs.List.{list_any}
 use Rattle.bb_bits.specs.Numbers.{number_of, bits_of}
@@ -25,8 +25,9 @@ word_width ops.Right left = left
 word_width ops.Both left = 1
 word_width ops.Either left = 1
 
--- the number that the result spells: sum and difference modulo 2 to the width, the comparison of the numbers, a product with a
--- power of two modulo 2 to the width or the quotient by it, rounded down, and the truth of "some bit is 1"
+-- the number that the result spells, of operands of one width where the operator needs it (HaveOneWidth): sum and difference modulo 2
+-- to the width, the comparison of the numbers, a product with a power of two modulo 2 to the width or the quotient by it, rounded down,
+-- and the truth of "some bit is 1"
 abbrev pub word_number : WordOp → List Bool → List Bool → ℕ
 word_number ops.Plus a b = (number_of a + number_of b) % 2 ^ length a
 word_number ops.Minus a b = (number_of a + 2 ^ length a - number_of b) % 2 ^ length a

@@ -3,7 +3,7 @@
 ghost use Rattle.std.specs.Prelude.{◌≡◌, ◌+◌, ◌-◌, ◌<◌, ◌≤◌, ◌^◌, ◌∷◌, [], All, length, map, IfOk, OnOk};
 ghost use Rattle.bb_word.specs.Circuits.{folded, inverted, truths};
 ghost use Rattle.bb_word.specs.Folds.{fold_circuit, fold_cells};
-ghost use Rattle.bb_word.specs.Formulas.{formulas};
+ghost use Rattle.bb_word.specs.Laws.Formulas.{formulas};
 ghost use Rattle.bb_word.specs.Inside.Adding.{Adds, nothing, joint_gate, joint_none};
 
 use crate::joint::{Joint, reduce};

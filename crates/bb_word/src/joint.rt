@@ -2,7 +2,7 @@
 
 ghost use Rattle.std.specs.Prelude.{◌≡◌, ◌+◌, ◌-◌, ◌<◌, ◌≤◌, ◌^◌, ◌∷◌, [], All, length, map, IfOk, OnOk};
 ghost use Rattle.bb_word.specs.Circuits.{joined_all};
-ghost use Rattle.bb_word.specs.Formulas.{formulas};
+ghost use Rattle.bb_word.specs.Laws.Formulas.{formulas};
 ghost use Rattle.bb_word.specs.Inside.Adding.{Adds, nothing, with_cells, joint_cell, joint_gate, joint_none};
 
 use bb_bits::NoMemory;

@@ -5,11 +5,11 @@ ghost use Rattle.std.specs.List.{range_with_len};
 ghost use Rattle.bb_bits.specs.Numbers.{number_of};
 ghost use Rattle.bb_net.specs.Values.{bit_of, flat};
 ghost use Rattle.bb_word.specs.Folds.{fold_circuit, fold_cells, fold_bit};
-ghost use Rattle.bb_word.specs.Formulas.{formulas};
+ghost use Rattle.bb_word.specs.Laws.Formulas.{formulas};
 ghost use Rattle.bb_word.specs.Inside.Adding.{with_outs};
 ghost use Rattle.bb_word.specs.Meanings.{word_number, word_width};
 ghost use Rattle.bb_word.specs.Words.{word_circuit, word_cells, AreWidths};
-ghost use Rattle.bb_word.specs.Nets.{IsCircuit, inputs_from};
+ghost use Rattle.bb_word.specs.Inside.Nets.{IsCircuit, inputs_from};
 
 use crate::folds::add_fold;
 use crate::words::add_word;
@@ -65,8 +65,7 @@ pub fn word(alloc: Global, op: WordOp, left: u32, right: u32) -> Result<Net, NoM
     let mut result = add_word(alloc, &mut net, op, &first, &second)?;
     result.reverse();
     add_outs(&mut net, &result)?;
-    // Asking tells what the netlist keeps, on which its value rests.
-    let _ = net.inputs();
+    net.keeps_its_order();
     Ok(net)
 }
 
@@ -86,7 +85,6 @@ pub fn fold(alloc: Global, op: FoldOp, width: u32) -> Result<Net, NoMemory>
     let word = operand(alloc, 2, width)?;
     let place = add_fold(alloc, &mut net, op, &word)?;
     net.add_out(place)?;
-    // Asking tells what the netlist keeps, on which its value rests.
-    let _ = net.inputs();
+    net.keeps_its_order();
     Ok(net)
 }

@@ -3,7 +3,7 @@
 ghost use Rattle.std.specs.Prelude.{◌≡◌, ◌+◌, ◌*◌, ◌<◌, ◌≤◌, ◌^◌, ◌∷◌, [], min, All, length, map, IfOk, OnOk};
 ghost use Rattle.bb_net.specs.declared.cell.Cell.TheVariants.{Mux};
 ghost use Rattle.bb_word.specs.Circuits.{shifted, up, down};
-ghost use Rattle.bb_word.specs.Formulas.{formulas};
+ghost use Rattle.bb_word.specs.Laws.Formulas.{formulas};
 ghost use Rattle.bb_word.specs.Inside.Adding.{Adds, HasConstants, nothing, with_cells};
 ghost use Rattle.bb_word.specs.Inside.Moving.{move, both_choices};
 

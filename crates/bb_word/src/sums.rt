@@ -3,7 +3,7 @@
 ghost use Rattle.std.specs.Prelude.{◌≡◌, ◌+◌, ◌*◌, ◌<◌, ◌^◌, ◌∷◌, [], All, length, map, IfOk, OnOk};
 ghost use Rattle.bb_net.specs.declared.cell.Cell.TheVariants.{Not};
 ghost use Rattle.bb_word.specs.Circuits.{complements, sum, difference};
-ghost use Rattle.bb_word.specs.Formulas.{formulas};
+ghost use Rattle.bb_word.specs.Laws.Formulas.{formulas};
 ghost use Rattle.bb_word.specs.Inside.Adding.{Adds, HasConstants, nothing, with_cells, digit_cells};
 
 use bb_bits::NoMemory;

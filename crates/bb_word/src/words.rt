@@ -2,7 +2,7 @@
 
 ghost use Rattle.std.specs.Prelude.{◌≡◌, ◌+◌, ◌-◌, ◌*◌, ◌<◌, ◌≤◌, ◌^◌, ◌∷◌, [], All, length, map, IfOk, OnOk};
 ghost use Rattle.bb_word.specs.Circuits.{sum, inverted, less, equal, truths};
-ghost use Rattle.bb_word.specs.Formulas.{formulas};
+ghost use Rattle.bb_word.specs.Laws.Formulas.{formulas};
 ghost use Rattle.bb_word.specs.Inside.Adding.{Adds, HasConstants, nothing, joint_gate};
 ghost use Rattle.bb_word.specs.Words.{word_circuit, word_cells, AreWidths};
 

@@ -4,8 +4,8 @@ use Rattle.std.specs.List.{list_any}
 use Rattle.bb_net.specs.declared.cell.Cell.{Cell}
 use Rattle.bb_net.specs.declared.cell.Cell.TheVariants as cells
 use Rattle.bb_net.specs.Netlists.{Netlist, IsNetlist}
-use Rattle.bb_word.specs.Formulas.{Formula}
-use Rattle.bb_word.specs.Formulas as formula
+use Rattle.bb_word.specs.Laws.Formulas.{Formula}
+use Rattle.bb_word.specs.Laws.Formulas as formula
 use Rattle.bb_expr.specs.declared.circuits.Pasting.{Pasting}
 use Rattle.bb_expr.specs.declared.step.BitStep.{BitStep}
 use Rattle.bb_expr.specs.declared.step.BitStep.TheVariants as steps

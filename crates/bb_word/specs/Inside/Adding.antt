@@ -6,7 +6,7 @@ use Rattle.bb_net.specs.Netlists.{Netlist, cell_at}
 use Rattle.bb_word.specs.declared.joint.Joint.{Joint}
 use Rattle.bb_word.specs.declared.joint.Joint.TheVariants as joints
 use Rattle.bb_word.specs.Gates.{Gates, Made}
-use Rattle.bb_word.specs.Formulas.{Formula, cell_formula}
+use Rattle.bb_word.specs.Laws.Formulas.{Formula, cell_formula}
 
 -- part gives for each place what its cell is made of
 abbrev pub Meets : List Cell → (ℕ → Formula) → Type 0

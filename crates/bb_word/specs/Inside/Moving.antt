@@ -4,7 +4,7 @@ use Rattle.bb_word.specs.declared.shifts.Direction.{Direction}
 use Rattle.bb_word.specs.declared.shifts.Direction.TheVariants as ways
 use Rattle.bb_word.specs.Gates.{Made}
 use Rattle.bb_word.specs.Circuits.{up, down, choices}
-use Rattle.bb_word.specs.Formulas.{Formula, formulas}
+use Rattle.bb_word.specs.Laws.Formulas.{Formula, formulas}
 
 abbrev pub move : {A : Type 0} → Direction → A → ℕ → List A → List A
 move ways.Up o = up o

@@ -2,7 +2,7 @@
 use Rattle.std.specs.Prelude.{◌≡◌, List, length}
 use Rattle.bb_ast.specs.declared.operators.WordOp.{WordOp}
 use Rattle.bb_ast.specs.declared.operators.FoldOp.{FoldOp}
-use Rattle.bb_word.specs.Formulas.{Formula, formulas}
+use Rattle.bb_word.specs.Laws.Formulas.{Formula, formulas}
 use Rattle.bb_word.specs.Words.{word_circuit, word_cells, HaveOneWidth}
 use Rattle.bb_word.specs.Folds.{fold_circuit, fold_cells}
 

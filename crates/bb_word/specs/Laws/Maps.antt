@@ -3,7 +3,7 @@ use Rattle.std.specs.Prelude.{◌≡◌, Bool, List, map}
 use Rattle.bb_ast.specs.declared.operators.WordOp.{WordOp}
 use Rattle.bb_ast.specs.declared.operators.FoldOp.{FoldOp}
 use Rattle.bb_word.specs.Gates.{IsMap, mapped, bits}
-use Rattle.bb_word.specs.Formulas.{Formula, formulas}
+use Rattle.bb_word.specs.Laws.Formulas.{Formula, formulas}
 use Rattle.bb_word.specs.Words.{word_circuit}
 use Rattle.bb_word.specs.Folds.{fold_circuit}
 

@@ -17,7 +17,6 @@ use Rattle.bb_expr.proofs.ReadyLemmas.{ready-step, asked-left, asked-ready, aske
 use Rattle.bb_expr.proofs.Loops.{rest-here}
 use Rattle.bb_ast.specs.Inside.Views.{expression, operand_view, arm_view}
 use Rattle.bb_ast.specs.declared.expr.Expr.{the_lemmas}
-use Rattle.bb_bits.specs.Numbers.{bits_of}
 use Rattle.bb_names.specs.Inside.Checked.{module_facts}
 use Rattle.bb_names.specs.Ranges.{distance, place_of}
 use Rattle.bb_names.specs.Widths.{own_width}
@@ -119,13 +118,11 @@ lower_at-returns-in-Sized t c =
     subst (λ x. IfOk c.number.result (λ bits. Adds nets (made (ranges_in (module_facts c.args.scope.now)) x c.args.width) c.args.steps.now.items c.number.new.steps.items bits.items))
     (sym (expression-sized c.args.expr.now c.in-Sized.bits c.in-Sized.is ∙ ap Sized (sym c.deref.ensures.value))) (c.number.ensures nets)
 
-pub lower_at-returns-in_ok-bits-in-Plain : goal.lower_at-returns-in_ok-bits-in-Plain
-lower_at-returns-in_ok-bits-in-Plain t c =
+pub lower_at-returns-in-Plain : goal.lower_at-returns-in-Plain
+lower_at-returns-in-Plain t c =
     let nets = c.args.scope.now.nets.items in
-    let bits : c.deref-in-Plain.result.now ≡ bits_of 32 c.in-Plain.value = c.deref-in-Plain.ensures.value ∙ c.in_ok-bits-in-Plain.ensures in
-    subst (λ x. IfOk c.number-in-Plain.result (λ places. Adds nets (made (ranges_in (module_facts c.args.scope.now)) x c.args.width) c.args.steps.now.items c.number-in-Plain.new.steps.items places.items))
-    (sym (expression-plain c.args.expr.now c.in-Plain.value c.in-Plain.is))
-    (subst (λ bs. IfOk c.number-in-Plain.result (λ places. Adds nets (without_cells (extended (Const false) c.args.width (map Const bs))) c.args.steps.now.items c.number-in-Plain.new.steps.items places.items)) bits (c.number-in-Plain.ensures nets))
+    subst (λ x. IfOk c.plain_number.result (λ bits. Adds nets (made (ranges_in (module_facts c.args.scope.now)) x c.args.width) c.args.steps.now.items c.plain_number.new.steps.items bits.items))
+    (sym (expression-plain c.args.expr.now c.in-Plain.value c.in-Plain.is)) (c.plain_number.ensures nets)
 
 -- chains
 pub lower_at-lower_at-requires-in-Chain : goal.lower_at-lower_at-requires-in-Chain

@@ -1,5 +1,5 @@
-use Rattle.bb_word.specs.Formulas.{formulas}
-use Rattle.bb_word.specs.Laws.CircuitCounts.{word_count, fold_count}
+use Rattle.bb_word.specs.Laws.Formulas.{formulas}
+use Rattle.bb_word.specs.Laws.CountLaws.{word_count, fold_count}
 use Rattle.bb_word.proofs.laws.cells_are_counted.Goals as goal
 
 pub returns-clause-words : goal.returns-clause-words

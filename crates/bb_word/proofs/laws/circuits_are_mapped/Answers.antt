@@ -1,6 +1,6 @@
-use Rattle.bb_word.specs.Formulas.{formulas}
+use Rattle.bb_word.specs.Laws.Formulas.{formulas}
 use Rattle.bb_word.specs.Gates.{bits}
-use Rattle.bb_word.specs.Laws.CircuitMaps.{word_map, fold_map}
+use Rattle.bb_word.specs.Laws.MapLaws.{word_map, fold_map}
 use Rattle.bb_word.proofs.laws.circuits_are_mapped.Goals as goal
 
 pub returns-clause-words : goal.returns-clause-words

@@ -6,12 +6,12 @@ use Rattle.bb_word.proofs.nets.fold.Goals as goal
 
 pub returns-clause-circuit : goal.returns-clause-circuit
 returns-clause-circuit c =
-    fold_net c.args.op c.args.width c.in_ok-net.net c.add_fold.new.net c.add_out.new.self c.deref.result.now c.in_ok-place.place c.in_ok-net.ensures.ok (c.deref.ensures.value ∙ c.in_ok-word.ensures) c.in_ok-place.ensures.made c.in_ok-add_out.ensures.ok c.inputs.ensures.kept
+    fold_net c.args.op c.args.width c.in_ok-net.net c.add_fold.new.net c.add_out.new.self c.deref.result.now c.in_ok-place.place c.in_ok-net.ensures.ok (c.deref.ensures.value ∙ c.in_ok-word.ensures) c.in_ok-place.ensures.made c.in_ok-add_out.ensures.ok c.keeps_its_order.ensures
 
 pub returns-clause-value : goal.returns-clause-value
 returns-clause-value c =
-    fold_net_value c.value_is_unique.ensures c.args.op c.args.width c.add_out.new.self c.requires.some c.inputs.ensures.kept
-    (fold_net c.args.op c.args.width c.in_ok-net.net c.add_fold.new.net c.add_out.new.self c.deref.result.now c.in_ok-place.place c.in_ok-net.ensures.ok (c.deref.ensures.value ∙ c.in_ok-word.ensures) c.in_ok-place.ensures.made c.in_ok-add_out.ensures.ok c.inputs.ensures.kept)
+    fold_net_value c.value_is_unique.ensures c.args.op c.args.width c.add_out.new.self c.requires.some c.keeps_its_order.ensures
+    (fold_net c.args.op c.args.width c.in_ok-net.net c.add_fold.new.net c.add_out.new.self c.deref.result.now c.in_ok-place.place c.in_ok-net.ensures.ok (c.deref.ensures.value ∙ c.in_ok-word.ensures) c.in_ok-place.ensures.made c.in_ok-add_out.ensures.ok c.keeps_its_order.ensures)
 
 pub returns-clause-count : goal.returns-clause-count
 returns-clause-count c =

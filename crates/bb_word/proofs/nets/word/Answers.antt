@@ -11,19 +11,19 @@ use Rattle.bb_word.proofs.nets.word.Goals as goal
 pub returns-clause-circuit : goal.returns-clause-circuit
 returns-clause-circuit c =
     word_net c.args.op c.args.left c.args.right c.in_ok-net.net c.add_word.new.net c.add_outs.new.net c.deref.result.now c.deref-2.result.now c.in_ok-result.result.items c.deref-3.result.now
-    c.in_ok-net.ensures.ok (c.deref.ensures.value ∙ c.in_ok-first.ensures) (c.deref-2.ensures.value ∙ c.in_ok-second.ensures) c.in_ok-result.ensures.made (c.deref-3.ensures.value ∙ c.reverse.ensures.items) c.in_ok-add_outs.ensures.ok c.inputs.ensures.kept
+    c.in_ok-net.ensures.ok (c.deref.ensures.value ∙ c.in_ok-first.ensures) (c.deref-2.ensures.value ∙ c.in_ok-second.ensures) c.in_ok-result.ensures.made (c.deref-3.ensures.value ∙ c.reverse.ensures.items) c.in_ok-add_outs.ensures.ok c.keeps_its_order.ensures
 
 pub returns-clause-value : goal.returns-clause-value
 returns-clause-value c =
-    word_net_value c.value_is_unique.ensures c.number_doubles.ensures c.args.op c.args.left c.args.right c.add_outs.new.net c.requires.widths c.inputs.ensures.kept
+    word_net_value c.value_is_unique.ensures c.number_doubles.ensures c.args.op c.args.left c.args.right c.add_outs.new.net c.requires.widths c.keeps_its_order.ensures
     (word_net c.args.op c.args.left c.args.right c.in_ok-net.net c.add_word.new.net c.add_outs.new.net c.deref.result.now c.deref-2.result.now c.in_ok-result.result.items c.deref-3.result.now
-    c.in_ok-net.ensures.ok (c.deref.ensures.value ∙ c.in_ok-first.ensures) (c.deref-2.ensures.value ∙ c.in_ok-second.ensures) c.in_ok-result.ensures.made (c.deref-3.ensures.value ∙ c.reverse.ensures.items) c.in_ok-add_outs.ensures.ok c.inputs.ensures.kept)
+    c.in_ok-net.ensures.ok (c.deref.ensures.value ∙ c.in_ok-first.ensures) (c.deref-2.ensures.value ∙ c.in_ok-second.ensures) c.in_ok-result.ensures.made (c.deref-3.ensures.value ∙ c.reverse.ensures.items) c.in_ok-add_outs.ensures.ok c.keeps_its_order.ensures)
 
 pub returns-clause-width : goal.returns-clause-width
 returns-clause-width c =
-    word_net_width c.value_is_unique.ensures c.number_doubles.ensures c.args.op c.args.left c.args.right c.add_outs.new.net c.requires.widths c.inputs.ensures.kept
+    word_net_width c.value_is_unique.ensures c.number_doubles.ensures c.args.op c.args.left c.args.right c.add_outs.new.net c.requires.widths c.keeps_its_order.ensures
     (word_net c.args.op c.args.left c.args.right c.in_ok-net.net c.add_word.new.net c.add_outs.new.net c.deref.result.now c.deref-2.result.now c.in_ok-result.result.items c.deref-3.result.now
-    c.in_ok-net.ensures.ok (c.deref.ensures.value ∙ c.in_ok-first.ensures) (c.deref-2.ensures.value ∙ c.in_ok-second.ensures) c.in_ok-result.ensures.made (c.deref-3.ensures.value ∙ c.reverse.ensures.items) c.in_ok-add_outs.ensures.ok c.inputs.ensures.kept)
+    c.in_ok-net.ensures.ok (c.deref.ensures.value ∙ c.in_ok-first.ensures) (c.deref-2.ensures.value ∙ c.in_ok-second.ensures) c.in_ok-result.ensures.made (c.deref-3.ensures.value ∙ c.reverse.ensures.items) c.in_ok-add_outs.ensures.ok c.keeps_its_order.ensures)
 
 pub returns-clause-count : goal.returns-clause-count
 returns-clause-count c =

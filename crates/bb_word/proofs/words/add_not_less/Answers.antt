@@ -1,6 +1,6 @@
 use Rattle.std.proofs.Common.{map}
 use Rattle.bb_word.specs.Circuits.{less}
-use Rattle.bb_word.specs.Formulas.{formulas}
+use Rattle.bb_word.specs.Laws.Formulas.{formulas}
 use Rattle.bb_word.proofs.FoldSteps.{IsInverted}
 use Rattle.bb_word.proofs.words.add_not_less.Goals as goal
 

@@ -1,6 +1,6 @@
 use Rattle.std.proofs.Common.{map}
 use Rattle.bb_word.specs.Circuits.{equal}
-use Rattle.bb_word.specs.Formulas.{formulas}
+use Rattle.bb_word.specs.Laws.Formulas.{formulas}
 use Rattle.bb_word.proofs.FoldSteps.{IsInverted}
 use Rattle.bb_word.proofs.words.add_unequal.Goals as goal
 

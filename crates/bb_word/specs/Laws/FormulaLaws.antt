@@ -4,7 +4,7 @@ use Rattle.std.proofs.Math.Path.{ap₂}
 use Rattle.bb_net.specs.declared.cell.Cell.{Cell}
 use Rattle.bb_net.specs.declared.cell.Cell.TheVariants as cell
 use Rattle.bb_net.specs.Netlists.{Netlist, Pins, cell_at, ReadsBefore, IsOrdered}
-use Rattle.bb_word.specs.Formulas.{Formula, Not, And, Or, Xor, cell_formula, formula_within, formula_at}
+use Rattle.bb_word.specs.Laws.Formulas.{Formula, Not, And, Or, Xor, cell_formula, formula_within, formula_at}
 use Rattle.bb_word.specs.Inside.Adding.{Meets}
 
 formula_same : (inputs : ℕ) (boxes : List Pins) (v w : ℕ → Formula) (place : ℕ) (c : Cell) → ReadsBefore inputs boxes place c → ((k : ℕ) → k < place → v k ≡ w k) → cell_formula v c ≡ cell_formula w c

@@ -1,9 +1,10 @@
 -- Maps of gates go through circuits. The laws hold for gates of every kind, also for those that no type of the code stands for: so they
 -- are proved here, and the function of the crate has them as contract for formulas and bits.
-use Rattle.std.proofs.Common.{◌≡◌, ◌∙◌, ◌+◌, ℕ, zero, suc, List, [], ◌∷◌, ◌++◌, map, length, reverse, take, drop, replicate, refl, sym, ap}
+use Rattle.std.proofs.Common.{◌≡◌, ◌∙◌, ◌+◌, ℕ, zero, List, [], ◌∷◌, ◌++◌, map, length, reverse, take, drop, replicate, refl, sym, ap}
 use Rattle.std.specs.Prelude.{min}
 use Rattle.std.proofs.Math.Path.{ap₂}
-use Rattle.std.proofs.lemmas.List.{length-map, map-append, take-map, drop-map, reverse-append}
+use Rattle.std.proofs.lemmas.List.{length-map, map-append, take-map, drop-map}
+use Rattle.bb_lists.proofs.Maps.{replicate-map, reverse-map}
 use Rattle.bb_ast.specs.declared.operators.WordOp.{WordOp}
 use Rattle.bb_ast.specs.declared.operators.WordOp.TheVariants as ops
 use Rattle.bb_ast.specs.declared.operators.FoldOp.{FoldOp}
@@ -15,14 +16,6 @@ use Rattle.bb_word.specs.Circuits.{complements, sum, difference, alike, joined, 
 
 pub made_same : {A : Type 0} (a b : Made A) → a.bits ≡ b.bits → a.cells ≡ b.cells → a ≡ b
 made_same {A} a b p q = ap₂ {C = Made A} (λ x y. record { bits = x; cells = y }) p q
-
-pub reverse-map : {A B : Type 0} (f : A → B) (xs : List A) → map f (reverse xs) ≡ reverse (map f xs)
-reverse-map f [] = refl
-reverse-map f (x ∷ xs) = ap (map f) (reverse-append (x ∷ []) xs) ∙ map-append f (reverse xs) (x ∷ []) ∙ ap (λ l. l ++ f x ∷ []) (reverse-map f xs) ∙ sym (reverse-append (f x ∷ []) (map f xs))
-
-pub replicate-map : {A B : Type 0} (f : A → B) (n : ℕ) (x : A) → map f (replicate n x) ≡ replicate n (f x)
-replicate-map f zero x = refl
-replicate-map f (suc n) x = ap (λ l. f x ∷ l) (replicate-map f n x)
 
 pub plain-up : {A B : Type 0} (f : A → B) (o : A) (n : ℕ) (xs : List A) → map f (up o n xs) ≡ up (f o) n (map f xs)
 plain-up f o n xs = sym (take-map f (length xs) (replicate n o ++ xs)) ∙ ap₂ take (sym (length-map xs f)) (map-append f (replicate n o) xs ∙ ap (λ l. l ++ map f xs) (replicate-map f n o))

@@ -13,8 +13,8 @@ use Rattle.bb_word.specs.Words.{word_circuit}
 use Rattle.bb_word.specs.Folds.{fold_circuit}
 use Rattle.bb_word.specs.Gates.{Gates, Made}
 use Rattle.bb_word.specs.Circuits.{complements, sum, difference, alike, joined, joined_all, folded, inverted, equal, less, choices, up, down, shifted, truths}
-use Rattle.bb_word.specs.Laws.Each.{Each, each_nil, each_cons, each_append, each_head, each_tail, each_replicate, each_take, each_drop, each_reverse}
-use Rattle.bb_word.specs.Laws.CircuitCounts.{count-alike, count-folded}
+use Rattle.bb_lists.proofs.Each.{Each, each_nil, each_cons, each_append, each_head, each_tail, each_replicate, each_take, each_drop, each_reverse}
+use Rattle.bb_word.specs.Laws.CountLaws.{count-alike, count-folded}
 
 module _ {A : Type 0} where
   -- these are known, and those are too

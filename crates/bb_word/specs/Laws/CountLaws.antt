@@ -1,5 +1,5 @@
--- How many cells the circuits make, and how many bits they give. The laws hold for gates of every kind, also for those that no type of the code stands for: so
--- they are proved here, and the function of the crate has them as contract for formulas.
+-- How many cells the circuits make, and how many bits they give. The laws hold for gates of every kind, also for those that no type of
+-- the code stands for: so they are proved here, and the function of the crate has them as contract for formulas.
 use Rattle.std.proofs.Common.{◌≡◌, ◌∙◌, ◌+◌, ◌*◌, ◌-◌, ℕ, suc, List, [], ◌∷◌, ◌++◌, length, reverse, drop, replicate, refl, sym, ap, arith}
 use Rattle.std.specs.Prelude.{min}
 use Rattle.std.proofs.lemmas.List.{length-reverse, length-append, length-map, length-replicate, length-drop, length-take}

@@ -8,8 +8,8 @@ use Rattle.bb_ast.specs.declared.operators.FoldOp.{FoldOp}
 use Rattle.bb_word.specs.Words.{word_circuit}
 use Rattle.bb_word.specs.Folds.{fold_circuit}
 use Rattle.bb_word.specs.Gates.{Gates, Made}
-use Rattle.bb_word.specs.Laws.Each.{Each, AreIn, each_nil, each_cons, each_head, each_tail}
-use Rattle.bb_word.specs.Laws.CircuitGates.{With, IsGate, inverse, both, either, differ, choice, AreGates, IsBuilt, Reads, word_built, fold_built}
+use Rattle.bb_lists.proofs.Each.{Each, AreIn, each_nil, each_cons, each_head, each_tail}
+use Rattle.bb_word.specs.Laws.GateLaws.{With, IsGate, inverse, both, either, differ, choice, AreGates, IsBuilt, Reads, word_built, fold_built}
 
 module _ {A : Type 0} where
   -- a property of the results of gates that are among the cells, where their operands have it
