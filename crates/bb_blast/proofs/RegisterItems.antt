@@ -1,5 +1,5 @@
 -- What a well-formed module says of a register: its clock is a net or one bit of a net, and its left side has a bit.
-use Rattle.std.proofs.Common.{◌≡◌, ℕ, ◌+◌, ◌≤◌, Bool, true, false, ◌&&◌, List, [], ◌∷◌, length, Contains, Option, None, Some, refl, sym, arith, true≢false, length-append}
+use Rattle.std.proofs.Common.{◌≡◌, ◌+◌, ◌≤◌, Bool, true, false, ◌&&◌, Contains, Option, None, Some, refl, sym, arith, true≢false, length-append}
 use Rattle.std.specs.List.{flat_map, list_all}
 use Rattle.bb_ast.specs.declared.module.Range.{Range}
 use Rattle.bb_ast.specs.Assignable.{assigning, is_assignable}
@@ -8,7 +8,6 @@ use Rattle.bb_ast.specs.Inside.Formed.{IsFormedExpression, IsFormedBody, IsForme
 use Rattle.bb_ast.specs.Syntax.{Expression, Net, Bit, Part, Sized, Plain, Not, Fold, Chain, Words, Cond, Concat, Repeat, no_part, part, PlainBody, Ports, Nets, Regs, Supply, Assign, Gates, Calls, Always, PlainItem, PlainModule}
 use Rattle.bb_names.specs.Declarations.{range_of}
 use Rattle.bb_names.specs.Ranges.{distance, range_width, place_of}
-use Rattle.bb_design.specs.Hierarchy.{Scope}
 use Rattle.bb_design.specs.NetBits.{assigned, written_bits, Bit as NetBit}
 use Rattle.bb_lists.proofs.Members.{each_of}
 use Rattle.bb_lists.proofs.Ranges.{length-run}

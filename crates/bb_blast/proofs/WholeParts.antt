@@ -1,19 +1,16 @@
 -- Parts as they were before steps were let go: what a part puts behind others is what all steps of its expression would put there.
-use Rattle.std.proofs.Common.{◌≡◌, ℕ, List, [], ◌∷◌, map, flat_map, length, Option, Some, None, refl, ap, ap₂, ◌∙◌}
-use Rattle.std.specs.List.{AllZip, fold}
+use Rattle.std.proofs.Common.{◌≡◌, ℕ, List, length, refl, ap₂}
 use Rattle.bb_ast.specs.Syntax.{PlainModule}
 use Rattle.bb_bits.specs.Bits.{low_bits}
 use Rattle.bb_expr.specs.declared.step.Lowered.{Lowered}
 use Rattle.bb_blast.specs.declared.outline.Part.{Part}
 use Rattle.bb_blast.specs.declared.outline.Part.TheVariants as part
 use Rattle.bb_net.specs.declared.loose.LooseCell.{LooseCell}
-use Rattle.bb_design.specs.Hierarchy.{Scope}
 use Rattle.bb_design.specs.NetBits.{written_bits}
 use Rattle.bb_design.specs.Contexts.{context_width}
-use Rattle.bb_design.specs.Constructs.{Construct, Assignment, GateInstance, Register, SupplyNet, InputConnection, OutputConnection, BoxContents}
+use Rattle.bb_design.specs.Constructs.{Construct, Assignment, GateInstance, Register, SupplyNet, InputConnection, OutputConnection}
 use Rattle.bb_blast.specs.Inside.Counting.{behind}
 use Rattle.bb_blast.specs.Inside.Listing.{Site, Sheet, beside, giving, giving_next, with_expression, with_part}
-use Rattle.bb_blast.specs.Inside.Logic.{IsLogicOf}
 use Rattle.bb_blast.specs.Inside.Outlines.{AreBitsIn, IsMadeIn, IsPartOf}
 use Rattle.bb_blast.specs.Inside.Steps.{bit_places}
 

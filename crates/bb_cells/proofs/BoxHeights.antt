@@ -1,7 +1,6 @@
 -- Each box of a sound design stands higher than those on which it depends: bits have levels, and a box stands above those of its
 -- inputs.
 use Rattle.std.proofs.Common.{◌≡◌, ◌⊎◌, ℕ, suc, ◌+◌, ◌<◌, ◌≤◌, max, List, [], ◌∷◌, map, Contains, refl, ap, inl, inr, arith}
-use Rattle.std.specs.Prelude.{All}
 use Rattle.std.specs.List.{enumerate_from}
 use Rattle.std.proofs.lemmas.List.Elements.{All-contains}
 use Rattle.bb_bits.specs.Closures.{Leads, One, More}

@@ -1,5 +1,5 @@
 -- The boxes of a netlist that stands for a design are scopes of it: names of their modules, and texts of their pins.
-use Rattle.std.proofs.Common.{◌≡◌, ℕ, ◌<◌, List, map, filter, length, Contains, sym, ap, ◌∙◌, subst, arith}
+use Rattle.std.proofs.Common.{◌≡◌, ℕ, ◌<◌, List, map, length, Contains, sym, ap, ◌∙◌, subst, arith}
 use Rattle.std.specs.Prelude.{slice_index}
 use Rattle.std.specs.List.{enumerate_from}
 use Rattle.std.proofs.lemmas.List.{length-map, get_or_default}

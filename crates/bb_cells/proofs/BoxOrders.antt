@@ -1,26 +1,26 @@
 -- Boxes stand in a netlist in the order of their dependence: a box needs another in the list of cells exactly where it depends on it,
 -- since walks from bit to bit go along dependence, and an output bit of a box is a copy of its pin.
-use Rattle.std.proofs.Common.{◌≡◌, ◌≢◌, ◌⊎◌, ℕ, zero, suc, ◌+◌, ◌<◌, ◌≤◌, Bool, true, false, List, [], ◌∷◌, ◌++◌, map, flat_map, find, length, get_or, take, drop, AllPairs, Contains, Option, Some, None, refl, sym, ap, ◌∙◌, subst, inl, inr, arith}
-use Rattle.std.specs.List.{enumerate_from, range_with_len}
+use Rattle.std.proofs.Common.{◌≡◌, ◌≢◌, ◌⊎◌, ℕ, suc, ◌+◌, ◌<◌, Bool, true, false, List, ◌++◌, map, flat_map, find, length, get_or, AllPairs, Contains, Option, Some, None, refl, sym, ap, ◌∙◌, subst, inl, inr, arith}
+use Rattle.std.specs.List.{enumerate_from}
 use Rattle.std.specs.Option.{option_map_or}
 use Rattle.std.proofs.lemmas.List.{get_or-map, length-map}
 use Rattle.std.proofs.lemmas.List.Elements.{All-contains, Contains-append_cases, Contains-append_right}
 use Rattle.bb_net.specs.declared.loose.LooseCell.TheVariants as cell
 use Rattle.bb_net.specs.Loose.{LooseList, Reaches, NeedsBox}
-use Rattle.bb_bits.specs.Closures.{Leads, IsFirst}
+use Rattle.bb_bits.specs.Closures.{Leads}
 use Rattle.bb_design.specs.Inside.Allowed.{IsBounded}
 use Rattle.bb_design.specs.Constructs.{BoxContents}
 use Rattle.bb_design.specs.Dependence.{dependences}
 use Rattle.bb_design.specs.Laws.DesignLaws.{DesignLaws}
 use Rattle.bb_design.specs.Drivers.{Source, Free, MadeOf, Box, Drive, driven, drives, driven_bits}
 use Rattle.bb_design.specs.Hierarchy.{Design, Scope, root, boxes}
-use Rattle.bb_design.specs.NetBits.{Bit, same_bit, net_order, input_bits, output_bits}
+use Rattle.bb_design.specs.NetBits.{Bit, same_bit, net_order, output_bits}
 use Rattle.bb_design.specs.Refusals.{AreDrivenOnce, box_paths}
 use Rattle.bb_design.specs.Registers.{cut_bits}
 use Rattle.bb_design.specs.Texts.{path_text}
 use Rattle.bb_design.specs.Laws.Wired.{IsWired}
 use Rattle.bb_cells.specs.BoxOrders.{DependsOnBox}
-use Rattle.bb_cells.specs.Places.{Place, Constant, Input, NetBit, BoxPin, Lowering, IsLowering, given_at, given_by_box, given, place_in, IsListOf}
+use Rattle.bb_cells.specs.Places.{Place, Constant, Input, NetBit, BoxPin, Lowering, IsLowering, given_by_box, given, place_in, IsListOf}
 use Rattle.bb_cells.specs.Stands.{box_number}
 use Rattle.bb_lists.proofs.Apart.{one_by}
 use Rattle.bb_lists.proofs.Members.{from_flat, from_map, from_find, contains-map, into_flat, find_there}

@@ -1,9 +1,8 @@
 -- The texts of a netlist that stands for a design are printable.
-use Rattle.std.proofs.Common.{◌≡◌, ℕ, ◌<◌, Bool, List, [], ◌∷◌, map, filter, flat_map, find, length, Contains, sym, ap, ◌∙◌, subst, arith}
-use Rattle.std.specs.Prelude.{All, slice_index}
-use Rattle.std.specs.List.{AllZip, enumerate_from}
-use Rattle.std.proofs.lemmas.List.{length-map, get_or_default}
-use Rattle.std.proofs.lemmas.List.Elements.{All-nil, All-cons, Contains-get_or}
+use Rattle.std.proofs.Common.{Bool, List, [], ◌∷◌, map, filter, flat_map, find, Contains, sym, subst}
+use Rattle.std.specs.Prelude.{All}
+use Rattle.std.specs.List.{AllZip}
+use Rattle.std.proofs.lemmas.List.Elements.{All-nil, All-cons}
 use Rattle.bb_bits.specs.Names.{IsPrintable}
 use Rattle.bb_names.specs.declared.net.NetInfo.{NetInfo}
 use Rattle.bb_names.specs.Nets.{nets_of}
@@ -17,10 +16,8 @@ use Rattle.bb_design.specs.NetBits.{Bit, same_bit, bits_of_net, net_order, scope
 use Rattle.bb_design.specs.Registers.{RegisterBit, registers, stored}
 use Rattle.bb_design.specs.Texts.{bit_text}
 use Rattle.bb_cells.specs.Laws.ListLaws.{StandingNetsArePrintable}
-use Rattle.bb_cells.specs.Places.{pins_of}
 use Rattle.bb_cells.specs.Stands.{IsRegister, StandsFor, box_number, box_texts}
 use Rattle.bb_lists.proofs.Members.{all_from, from_flat, from_map, from_filter, from_find, into_flat, contains_here, contains_there, kept_from}
-use Rattle.bb_lists.proofs.Numbered.{length-enumerated}
 use Rattle.bb_cells.proofs.BoxModules.{box_scope, module_printable}
 use Rattle.bb_cells.proofs.PrintableTexts.{bit_printable, box_printable}
 

@@ -1,13 +1,12 @@
 -- assignments, and models as lists of bits
-use Rattle.std.proofs.Common.{◌≡◌, ◌≤◌, ◌<◌, ◌↔◌, ℕ, zero, suc, ◌+◌, Bool, true, false, not, List, [], ◌∷◌, ◌++◌, length, map, get_or, All, refl, sym, ap, ◌∙◌, subst, arith, cond}
-use Rattle.std.specs.Prelude.{Contains}
+use Rattle.std.proofs.Common.{◌≡◌, ◌≤◌, ◌<◌, ℕ, zero, suc, ◌+◌, Bool, false, not, List, [], ◌∷◌, ◌++◌, length, map, get_or, All, refl, sym, ap, ◌∙◌, subst, arith, cond}
 use Rattle.std.specs.List.{range_with_len}
 use Rattle.std.proofs.lemmas.List.{length-map}
 use Rattle.std.proofs.lemmas.List.Elements.{All-append, All-head, All-tail, All-nil, All-cons, All-contains}
 use Rattle.std.proofs.lemmas.List.FromFn.{get_or-map-range_with_len, length-range_with_len}
 use Rattle.bb_cnf.specs.declared.clauses.Lit.{Lit}
-use Rattle.bb_cnf.specs.Clauses.{Formula, IsWithin}
-use Rattle.bb_cnf.specs.Truth.{literal_bit, Satisfies, assignment_of, IsModel, IsTrueClause}
+use Rattle.bb_cnf.specs.Clauses.{IsWithin}
+use Rattle.bb_cnf.specs.Truth.{literal_bit, Satisfies, assignment_of, IsTrueClause}
 use Rattle.bb_cnf.specs.Laws.{ModelLaws}
 
 -- assignments that agree from 1 to n

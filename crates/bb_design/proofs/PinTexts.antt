@@ -13,7 +13,7 @@ use Rattle.bb_names.specs.Ranges.{range_width}
 use Rattle.bb_design.specs.Hierarchy.{Path, Design, Scope, module_at, scopes}
 use Rattle.bb_design.specs.Inside.Allowed.{IsBounded}
 use Rattle.bb_design.specs.Laws.BitLaws.{PinTextsGoByModules}
-use Rattle.bb_design.specs.NetBits.{Bit, bits_of_net, input_bits, output_bits}
+use Rattle.bb_design.specs.NetBits.{bits_of_net}
 use Rattle.bb_design.specs.Texts.{net_bit_text, pin_text}
 use Rattle.bb_design.proofs.AllowedDesigns.{ends}
 use Rattle.bb_design.proofs.SoundModules.{sound_texts_have_modules_apart}

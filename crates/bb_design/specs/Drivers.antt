@@ -3,7 +3,7 @@
 -- a gate that is the bit; each place of it in the connection of an output port; and what is connected to it, where it is a bit of an
 -- input port of an instance (IEEE 1364-2005, 4.6.1, 6.1, 7.1 and 12.3.9). The standard resolves several drivers of a net; here a bit may
 -- have one. All drivers are one list, and a bit stands in it as often as it is driven.
-use Rattle.std.specs.Prelude.{ℕ, List, ◌++◌, map, length}
+use Rattle.std.specs.Prelude.{ℕ, List, ◌++◌, map}
 use Rattle.std.specs.List.{flat_map, zip, enumerate_from}
 use Rattle.bb_ast.specs.Syntax.{Expression}
 use Rattle.bb_expr.specs.Terms.{Term}

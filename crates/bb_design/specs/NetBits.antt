@@ -1,7 +1,7 @@
 -- The bits of a design: for each scope and each net of its module, the bits of the net, the leftmost, which is the most
 -- significant, first (IEEE 1364-2005, 4.3.1). Net order lists the bits of the top in the order of its nets, then those of each
 -- instance in elaboration order. The pins of a box are the bits of its ports, in the order of its header.
-use Rattle.std.specs.Prelude.{ℕ, ◌+◌, ◌&&◌, ◌==◌, Bool, not, List, [], map, option_to_list, length, take}
+use Rattle.std.specs.Prelude.{ℕ, ◌+◌, ◌&&◌, ◌==◌, Bool, not, List, [], map, option_to_list}
 use Rattle.std.specs.List.{filter, flat_map, list_any, range_with_len}
 use lib.Pointwise.{pointwise}
 use Rattle.bb_bits.specs.Names.{same_name}

@@ -1,6 +1,6 @@
 -- Registers (IEEE 1364-2005, 9.2.2, 9.7.2 and 9.9.2, in a profile): a register bit is a bit on the left of <=. At the edge that it
 -- names, it takes the bit of the right side that stands at its place among the low bits. Registers stand in net order.
-use Rattle.std.specs.Prelude.{ℕ, List, [], ◌++◌, map, length}
+use Rattle.std.specs.Prelude.{ℕ, List, [], ◌++◌, map}
 use Rattle.std.specs.List.{find, filter_map, flat_map, enumerate_from}
 use Rattle.bb_ast.specs.Syntax.{PlainAlways}
 use Rattle.bb_expr.specs.Terms.{Term}

@@ -1,17 +1,16 @@
 -- Marks along copies in a list of cells.
-use Rattle.std.proofs.Common.{◌≡◌, ◌≢◌, ◌⊎◌, ℕ, zero, suc, ◌+◌, ◌<◌, Bool, true, false, List, [], ◌∷◌, ◌++◌, map, length, get_or, set, All, Contains, refl, sym, ap, ◌∙◌, subst, inl, inr, arith, true≢false}
+use Rattle.std.proofs.Common.{◌≡◌, ◌≢◌, ◌⊎◌, ℕ, ◌+◌, ◌<◌, Bool, true, false, List, [], ◌∷◌, ◌++◌, length, get_or, set, All, Contains, refl, sym, ap, ◌∙◌, subst, inl, inr, arith, true≢false}
 use Rattle.std.specs.Prelude.{if◌then◌else◌, replicate, slice_index_or}
 use Rattle.std.proofs.lemmas.List.Elements.{All-contains, Contains-append_cases, Contains-append_left, Contains-append_right}
-use Rattle.std.specs.List.{enumerate_from, flat_map}
+use Rattle.std.specs.List.{flat_map}
 use Rattle.std.proofs.lemmas.List.{get_or_default, get_or-set_same, get_or-set_other, length-set}
 use Rattle.bb_net.specs.declared.loose.LooseCell.{LooseCell}
 use Rattle.bb_net.specs.declared.loose.LooseCell.TheVariants.{Const, Input, Not, And, Or, Xor, Mux, BoxOut, Copy}
 use Rattle.bb_bits.specs.Closures.{Leads, One, More}
-use Rattle.bb_cells.specs.Inside.ReadPlaces.{read_by, copied_by, copy_steps, read_places, FollowsAt, IsReadPlace, AreClosed}
+use Rattle.bb_cells.specs.Inside.ReadPlaces.{read_by, copy_steps, read_places, FollowsAt, IsReadPlace, AreClosed}
 use Rattle.bb_net.specs.Loose.{LooseList, loose_at, operands, IsLoose}
 use Rattle.bb_net.specs.Netlists.{Pins, box_at}
-use Rattle.bb_lists.proofs.Members.{from_flat, from_map, contains-map, into_flat, contains_here, contains_cases, none_in_nil}
-use Rattle.bb_lists.proofs.Numbered.{enumerated_from, numbered_at}
+use Rattle.bb_lists.proofs.Members.{from_flat, contains_here, contains_cases, none_in_nil}
 use Rattle.bb_lists.proofs.Orders.{less_or_same}
 use Rattle.bb_lists.proofs.Marks.{unmarked_at}
 use Rattle.bb_cells.specs.Laws.CellLaws.{CellLaws}

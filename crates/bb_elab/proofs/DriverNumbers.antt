@@ -23,7 +23,7 @@ use Rattle.bb_lists.proofs.AtPlaces.{at_append, at_below, zip_flat}
 use Rattle.bb_lists.proofs.Zips.{zip_all, zip_other, AreNumbered, zip_numbered}
 use Rattle.bb_elab.proofs.DrivenBits.{bits_driven, drivers_in, driven_are}
 use Rattle.bb_blast.specs.declared.outline.Part.TheVariants as part
-use Rattle.bb_lists.proofs.FlatPlaces.{at_flat, flat_longer, flat_fits}
+use Rattle.bb_lists.proofs.FlatPlaces.{at_flat}
 use Rattle.bb_design.specs.Laws.DesignLaws.{DesignLaws}
 
 module _ (d : Design) (all : List Placed) (placed : ArePlaced d all) (k : ℕ) (s : Scope) (p : Placed) (here : IsScopeAt d k s) (is : IsPlacedAt d k s p) where

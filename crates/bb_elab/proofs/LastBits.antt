@@ -1,26 +1,16 @@
 -- The last scope by its number: behind its bits there are none.
-use Rattle.std.proofs.Common.{◌≡◌, ◌+◌, ◌-◌, ◌<◌, ◌≤◌, ◌++◌, ℕ, zero, suc, List, [], ◌∷◌, length, take, drop, get_or, Some, refl, sym, ap, ap₂, ◌∙◌, subst, arith, append-nil, length-append}
-use Rattle.std.specs.Prelude.{slice_get, sum_by}
-use Rattle.std.specs.List.{flat_map, range_with_len}
-use Rattle.std.proofs.lemmas.Grind.{flat_map-append}
-use Rattle.std.proofs.lemmas.List.{length-map}
-use Rattle.std.proofs.lemmas.List.Concat.{length-flat_map}
-use Rattle.std.proofs.lemmas.List.FromFn.{length-range_with_len}
-use Rattle.std.proofs.lemmas.List.Sums.{sum_by-cons}
+use Rattle.std.proofs.Common.{◌≡◌, ◌+◌, ◌-◌, ◌<◌, ◌≤◌, ◌++◌, ℕ, zero, suc, List, [], ◌∷◌, length, take, drop, get_or, Some, refl, sym, ap, ap₂, ◌∙◌, arith, append-nil, length-append}
+use Rattle.std.specs.Prelude.{slice_get}
+use Rattle.std.specs.List.{flat_map}
 use Rattle.std.proofs.lemmas.Option.{slice_get_read}
-use Rattle.bb_names.specs.declared.net.NetInfo.{NetInfo}
 use Rattle.bb_names.specs.Nets.{nets_of}
-use Rattle.bb_names.specs.Ranges.{range_width}
 use Rattle.bb_blast.specs.declared.placed.Placed.{Placed}
-use Rattle.bb_design.specs.Hierarchy.{Design, Path, Scope, scopes}
-use Rattle.bb_design.specs.NetBits.{Bit, bits_of_net, scope_bits, net_order}
-use Rattle.bb_elab.specs.Inside.Placings.{bits_before}
+use Rattle.bb_design.specs.Hierarchy.{Design, Scope, scopes}
+use Rattle.bb_design.specs.NetBits.{scope_bits, net_order}
 use Rattle.bb_blast.specs.Inside.Placements.{IsScopeAt, ArePlaced, AreOutlined}
-use Rattle.bb_lists.proofs.Places.{got, some_at, split, take_at}
+use Rattle.bb_lists.proofs.Places.{got, some_at}
 use Rattle.bb_blast.specs.declared.outline.Outline.{Outline}
 use Rattle.bb_blast.specs.Inside.Outlines.{IsOutline}
-use Rattle.bb_bits.specs.Inside.Places.{AreAt, numbers_from}
-use Rattle.bb_lists.proofs.AtPlaces.{at_inside}
 use Rattle.bb_lists.proofs.FlatPlaces.{flat_around}
 use Rattle.bb_design.specs.Laws.DesignLaws.{DesignLaws}
 

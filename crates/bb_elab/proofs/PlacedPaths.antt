@@ -9,8 +9,6 @@ use Rattle.bb_elab.specs.Inside.PlacedPaths.{IsPathAt, Top, Below, AreRooted}
 use Rattle.bb_blast.specs.Inside.Placements.{IsScopeAt, IsInstanceAt, ArePlaced}
 use Rattle.bb_design.specs.Texts.{path_prefix, path_text}
 use Rattle.bb_lists.proofs.Places.{some_at}
-use Rattle.bb_lists.proofs.Members.{into_flat}
-use Rattle.bb_design.specs.NetBits.{scope_bits}
 use Rattle.bb_design.specs.Laws.DesignLaws.{DesignLaws}
 
 module _ (of_designs : DesignLaws) where

@@ -22,7 +22,7 @@ use Rattle.bb_bits.specs.Closures.{IsDistinct}
 use Rattle.bb_elab.proofs.Tallies.{test_same}
 use Rattle.bb_lists.proofs.Zips.{zip_all, zip_by, AreNumbered, zip_numbered, zip_flat_zip}
 use Rattle.bb_blast.specs.declared.outline.Part.TheVariants as part
-use Rattle.bb_lists.proofs.FlatPlaces.{at_flat, flat_longer, flat_fits}
+use Rattle.bb_lists.proofs.FlatPlaces.{at_flat}
 use Rattle.bb_design.specs.Laws.DesignLaws.{DesignLaws}
 
 flat_flat : {A B C : Type 0} (f : B → List C) (g : A → List B) (xs : List A) → flat_map f (flat_map g xs) ≡ flat_map (λ x. flat_map f (g x)) xs

@@ -24,7 +24,7 @@ use Rattle.bb_lists.proofs.Members.{contains_cases}
 use Rattle.bb_lists.proofs.Orders.{same_or_less, less_or_not}
 use Rattle.std.proofs.lemmas.Slice.Zip.{AllZip-long}
 use Rattle.bb_blast.specs.declared.placed.Instance as placed
-use Rattle.bb_lists.proofs.FlatPlaces.{at_flat, flat_longer, flat_fits}
+use Rattle.bb_lists.proofs.FlatPlaces.{flat_longer, flat_fits}
 use Rattle.bb_design.specs.Laws.DesignLaws.{DesignLaws}
 
 cut_off : (a b : ℕ) → a ≤ b → min a b ≡ a

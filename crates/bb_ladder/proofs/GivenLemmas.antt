@@ -1,13 +1,13 @@
 -- Where the reads are told, those of a call gave what its answer speaks of.
-use Rattle.std.proofs.Common.{◌≡◌, ◌<◌, ℕ, List, [], ◌∷◌, length, Option, Some, None, arith, refl, sym, ◌∙◌, subst, inl, inr}
+use Rattle.std.proofs.Common.{◌≡◌, ◌<◌, ℕ, List, [], ◌∷◌, length, Option, Some, arith, refl, sym, ◌∙◌, subst, inl, inr}
 use Rattle.bb_outside.specs.Counts.{FileRead, Reads}
 use Rattle.bb_texts.specs.declared.limit.TheConstants.{READ_LIMIT}
 use Rattle.bb_make.specs.Adders.{made_imp, made_spec}
 use Rattle.bb_words.specs.Asked.{Refutation, rup_asked}
 use Rattle.bb_words.specs.Laws.{WordsAskOnce}
 use Rattle.bb_ladder.specs.Answers.{Question, ImpUnread, ImpLong, BothRead, OfFiles, SpecUnread, SpecLong, SpecRead, MayAnswer, Usage, Asked, Making, Refuting, FileTexts, MadeTexts, question_of}
-use Rattle.bb_ladder.specs.CallRefusals.{AreTold, AreToldOf}
-use Rattle.bb_ladder.specs.GivenTexts.{AnsweredHaveGiven, Checked, Compared, HaveGiven, HaveTexts, IsVerdict}
+use Rattle.bb_ladder.specs.CallRefusals.{AreToldOf}
+use Rattle.bb_ladder.specs.GivenTexts.{AnsweredHaveGiven, Checked, Compared, HaveTexts, IsVerdict}
 use Rattle.bb_ladder.specs.MadePairs.{asked_of}
 use Rattle.bb_ladder.specs.Refutations.{Checks}
 use Rattle.bb_ladder.specs.Sources.{AreBytes, Given, read_of}

@@ -11,7 +11,7 @@ use Rattle.bb_parse.specs.Symbols.{Symbol, Identifier, Reserved, SizedNumber, Pl
 use Rattle.bb_parse.specs.Items.{edge_word, gate_word}
 use Rattle.bb_parse.specs.Sources.{ends}
 use Rattle.bb_fill.specs.Words.{Word, Bit, Named, CellNet, ChoiceNet}
-use Rattle.bb_fill.specs.Lines.{Line, Module, Input, Output, Reg, Gate, Assign, Always, End, Primitive, primitive_text}
+use Rattle.bb_fill.specs.Lines.{Line, Module, Input, Output, Reg, Gate, Assign, Always, End, Primitive}
 use Rattle.bb_fill.specs.Lines as lines
 use Rattle.bb_written.specs.Laws.Modules.{gate_of}
 use Rattle.bb_written.specs.Inside.Meanings.{symbols_of, meaning}

@@ -13,7 +13,7 @@ use Rattle.bb_blast.specs.declared.logic.Operator.{Operator}
 use Rattle.bb_blast.specs.declared.logic.Operator.TheVariants as operator
 use Rattle.bb_blast.specs.declared.logic.Logic.{Logic}
 use Rattle.bb_blast.specs.Inside.Counting.{behind}
-use Rattle.bb_blast.specs.Inside.Steps.{Numbered, IsNetBelow, HasNetsBelow, constant_place, net_bit_place, with_step, with_steps, bit_places}
+use Rattle.bb_blast.specs.Inside.Steps.{IsNetBelow, HasNetsBelow, constant_place, net_bit_place, with_step, with_steps, bit_places}
 
 -- what a step gives, where the next operator has a number
 abbrev pub result_of : ℕ → BitStep → Operand

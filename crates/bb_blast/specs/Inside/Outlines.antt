@@ -1,6 +1,6 @@
 -- By this file `outlines_of`, `list_cells` and laws of modules promise to crates above; no clause of `elaborate` rests on it.
 -- A module by numbers. A bit is told by its number among the bits of a scope of the module, which are the same for each scope.
-use Rattle.std.specs.Prelude.{◌≡◌, ℕ, ◌<◌, List, [], ◌∷◌, length, map, take, sum_by, Some, slice_get}
+use Rattle.std.specs.Prelude.{◌≡◌, ℕ, ◌<◌, List, [], ◌∷◌, length, take, sum_by, Some, slice_get}
 use Rattle.std.specs.List.{AllZip, flat_map}
 use Rattle.bb_ast.specs.Syntax.{Expression, PlainModule}
 use Rattle.bb_names.specs.declared.net.NetInfo.{NetInfo}

@@ -1,8 +1,7 @@
 -- By this file `outlines_of` and `list_cells` promise to crates above; no clause of `elaborate` rests on it.
 -- The scopes and the bits of a design by numbers: scopes in elaboration order, bits in net order.
-use Rattle.std.specs.Prelude.{◌≡◌, ℕ, ◌<◌, min, Bool, false, List, [], ◌∷◌, length, take, Option, Some, None, slice_get}
-use Rattle.std.specs.Bool.{Decides}
-use Rattle.std.specs.List.{AllZip, filter, flat_map, slice_index_or}
+use Rattle.std.specs.Prelude.{◌≡◌, ℕ, ◌<◌, List, [], ◌∷◌, length, take, Option, Some, None, slice_get}
+use Rattle.std.specs.List.{AllZip, flat_map}
 use Rattle.bb_ast.specs.Syntax.{PlainModule}
 use Rattle.bb_names.specs.Spots.{module_named}
 use Rattle.bb_blast.specs.declared.outline.Outline.{Outline}
@@ -10,12 +9,9 @@ use Rattle.bb_blast.specs.declared.placed.Instance as placed
 use Rattle.bb_blast.specs.declared.placed.Placed.{Placed}
 use Rattle.bb_blast.specs.declared.stored.Stored.{Stored}
 use Rattle.bb_design.specs.Hierarchy.{Design, Scope, Instance, path_to, instances_of, scopes, is_box}
-use Rattle.bb_design.specs.NetBits.{Bit, same_bit, net_order, scope_bits, written_bits}
-use Rattle.bb_design.specs.Drivers.{driven_bits}
-use Rattle.bb_design.specs.Reading.{IsRead}
+use Rattle.bb_design.specs.NetBits.{Bit, net_order, scope_bits, written_bits}
 use Rattle.bb_design.specs.Registers.{RegisterBit, registers}
 use Rattle.bb_blast.specs.Inside.Outlines.{IsOutline}
-use Rattle.bb_bits.specs.Inside.Places.{AreAt}
 
 -- the scope with a number
 abbrev pub IsScopeAt : Design → ℕ → Scope → Type 0

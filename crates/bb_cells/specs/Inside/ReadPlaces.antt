@@ -1,17 +1,12 @@
 -- By this file laws of copies and of cells promise to crates above; no clause of `elaborate` rests on it.
 -- Which places of a list of cells are read: where a cell that is no copy reads, at the input pins of boxes, at outputs and clocks,
 -- and, where a copy is read, the place of which it is a copy.
-use Rattle.std.specs.Prelude.{◌≡◌, ◌⊎◌, ◌↔◌, ◌<◌, ℕ, Bool, true, false, List, [], ◌∷◌, ◌++◌, map, length, Contains, Some, slice_get, slice_index_or}
+use Rattle.std.specs.Prelude.{◌≡◌, ◌⊎◌, ◌<◌, ℕ, Bool, true, false, List, [], ◌∷◌, ◌++◌, map, length, Contains, slice_index_or}
 use Rattle.std.specs.List.{enumerate_from, flat_map}
-use Rattle.bb_ast.specs.Syntax.{PlainAlways}
 use Rattle.bb_net.specs.declared.loose.LooseCell.{LooseCell}
 use Rattle.bb_net.specs.declared.loose.LooseCell.TheVariants.{Const, Input, Not, And, Or, Xor, Mux, BoxOut, Copy}
 use Rattle.bb_net.specs.Loose.{LooseList}
 use Rattle.bb_bits.specs.Closures.{Leads}
-use Rattle.bb_design.specs.Constructs.{Register, parts}
-use Rattle.bb_design.specs.Hierarchy.{Design, Scope}
-use Rattle.bb_design.specs.NetBits.{Bit, net_order, written_bits}
-use Rattle.bb_design.specs.Reading.{IsRead}
 
 -- what a cell that is no copy reads, but for the pins of its box
 abbrev pub read_by : LooseCell → List ℕ

@@ -1,5 +1,5 @@
 -- Laws of what drives a bit, of registers, and of worlds bit by bit.
-use Rattle.std.specs.Prelude.{◌≡◌, ℕ, Bool, List, ◌++◌, flat_map, length, map, Contains}
+use Rattle.std.specs.Prelude.{◌≡◌, Bool, List, ◌++◌, flat_map, length, map, Contains}
 use Rattle.bb_ast.specs.declared.module.Gate.{Gate}
 use Rattle.bb_ast.specs.Syntax.{PlainAlways, Always, PlainBody, PlainModule}
 use Rattle.bb_bits.specs.Bits.{low_bits}

@@ -1,6 +1,6 @@
 -- The driven bits of a design by their numbers, each as often as it is driven: those of the inputs of the top, and then those of
 -- the constructs, scope by scope.
-use Rattle.std.specs.Prelude.{◌≡◌, ℕ, ◌+◌, ◌<◌, ◌==◌, min, false, if◌then◌else◌, List, [], ◌∷◌, ◌++◌, map, length, All, Some, slice_get, slice_index_or, Bool}
+use Rattle.std.specs.Prelude.{◌≡◌, ℕ, ◌+◌, ◌<◌, ◌==◌, min, false, if◌then◌else◌, List, [], ◌∷◌, ◌++◌, length, All, Some, slice_get, slice_index_or, Bool}
 use Rattle.std.specs.List.{filter, flat_map}
 use Rattle.std.specs.Option.{option_map_or}
 use Rattle.bb_blast.specs.declared.outline.Part.{Part}

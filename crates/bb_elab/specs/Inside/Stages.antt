@@ -1,10 +1,9 @@
 -- The stages of elaboration, each with what holds of the design behind it.
-use Rattle.std.specs.Prelude.{◌≡◌, ℕ, List, Some, length, slice_get}
+use Rattle.std.specs.Prelude.{◌≡◌, ℕ, List, length}
 use Rattle.bb_ast.specs.Syntax.{PlainModule}
 use Rattle.bb_net.specs.Loose.{LooseList}
 use Rattle.bb_net.specs.Netlists.{Netlist, IsNetlist}
 use Rattle.bb_net.specs.Orders.{IsOrderOf}
-use Rattle.bb_design.specs.declared.fault.ElabFault.{ElabFault}
 use Rattle.bb_elab.specs.declared.growing.Grown.{Grown}
 use Rattle.bb_blast.specs.declared.outline.Outline.{Outline}
 use Rattle.bb_blast.specs.declared.placed.Placed.{Placed}
@@ -15,9 +14,8 @@ use Rattle.bb_design.specs.NetBits.{net_order}
 use Rattle.bb_blast.specs.Inside.Placements.{ArePlaced, AreOutlined, AreStored}
 use Rattle.bb_elab.specs.Inside.DrivenNumbers.{AreCounts}
 use Rattle.bb_cells.specs.Places.{Lowering, IsLowering, IsListOf}
-use Rattle.bb_design.specs.Refusals.{IsHierarchy, AreDrivenOnce, AreDriven, IsAcyclic, Cause, fault_of, IsTold, design_on}
-use Rattle.bb_design.specs.Laws.CauseLaws.{TellsOf}
-use Rattle.bb_hier.specs.Inside.Finite.{AtTop, IsFinite}
+use Rattle.bb_design.specs.Refusals.{AreDrivenOnce, AreDriven, IsAcyclic}
+use Rattle.bb_hier.specs.Inside.Finite.{IsFinite}
 
 -- its scopes, the constructs of its modules, its drivers and its registers are found, and no bit is driven twice
 pub record AreGrown (d : Design) (placed : List Placed) (outlines : List Outline) (counts : List ℕ) (stored : List Stored) : Type 0 where

@@ -1,6 +1,5 @@
 -- The boxes that were looked at have as many pins as the tables of their kinds.
 use Rattle.std.proofs.Common.{◌≡◌, ◌<◌, ℕ, length, get_or}
-use Rattle.bb_bits.specs.Tables.{HasAllBits}
 use Rattle.bb_net.specs.Netlists.{box_at}
 use Rattle.bb_net.specs.Values.{table_at}
 use Rattle.bb_building.proofs.fitting.fit_kinds.Given as goal
