@@ -272,6 +272,16 @@ fn the_longest_mark_is_read(rt: HostRuntime) -> Result<(), Fail> {
                 b"a /* b */ < c",
                 "name a 0-1 line 1; Less 10-11 line 1; name c 12-13 line 1; ",
             ),
+        ],
+    )
+}
+
+#[test]
+fn marks_of_one_byte_are_read(rt: HostRuntime) -> Result<(), Fail> {
+    reads_as(
+        &rt,
+        rt.alloc(),
+        &[
             (
                 b"()[]{}",
                 "LeftRound 0-1 line 1; RightRound 1-2 line 1; LeftSquare 2-3 line 1; RightSquare 3-4 line 1; LeftBrace 4-5 line 1; RightBrace 5-6 line 1; ",
