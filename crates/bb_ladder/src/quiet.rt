@@ -1,5 +1,5 @@
 //! `run` over files and a sink that never fail.
-ghost use Rattle.std.specs.Prelude.{◌≡◌, ◌≢◌, ◌<◌, ◌≤◌, ◌⊎◌, ℕ, List, None, Some, codes, length, map, string_bytes};
+ghost use Rattle.std.specs.Prelude.{◌≡◌, ◌≢◌, ◌<◌, ◌≤◌, ◌⊎◌, ℕ, true, List, None, Some, codes, length, map, string_bytes};
 ghost use Rattle.bb_cnf.specs.Clauses.{Formula};
 ghost use Rattle.bb_cnf.specs.declared.clauses.Lit.{Lit};
 ghost use Rattle.bb_outside.specs.Inside.QuietFiles.{holds_of, reads_of};
@@ -11,7 +11,7 @@ ghost use Rattle.bb_ladder.specs.declared.asked.Asked.{Asked as TextsAsked};
 ghost use Rattle.bb_ladder.specs.Refutations.{AreRead, FailsAt, IsRefutation, SaysWhether};
 ghost use Rattle.bb_ladder.specs.ShownMistakes.{AreShown};
 ghost use Rattle.bb_ladder.specs.Sources.{Held};
-ghost use Rattle.bb_ladder.specs.TextPairs.{AreDecided, AreFinished, AreLeftOpen, AreRefuted, AreStayingOpen};
+ghost use Rattle.bb_ladder.specs.TextPairs.{AreDecided, AreFinished, AreLeftOpen, AreRefuted, AreStayingOpen, IsFilled};
 
 use crate::running::run;
 use bb_outside::{QuietFiles, QuietSink};
@@ -39,6 +39,8 @@ pub fn run_quietly(
     // asked for at which it is 1.
     ensures repairable { result ≡ 0 → (asked : TextsAsked) (spec imp : List ℕ) → AreTexts (map string_bytes words.now) Held (holds_of files.old) (reads_of files.old) (reads_of files.new) asked spec imp
         → (text : List ℕ) × AreFinished asked spec imp text }
+    ensures filled { result ≡ 0 → (asked : TextsAsked) (spec imp : List ℕ) → AreTexts (map string_bytes words.now) Held (holds_of files.old) (reads_of files.old) (reads_of files.new) asked spec imp
+        → asked.fill ≡ true → (text : List ℕ) × IsFilled asked spec imp text }
 
     // No contents of the boxes make every output and every next state agree on every such vector, and a report shows how.
     ensures error { result ≡ 1 → (asked : TextsAsked) (spec imp : List ℕ) → AreTexts (map string_bytes words.now) Held (holds_of files.old) (reads_of files.old) (reads_of files.new) asked spec imp

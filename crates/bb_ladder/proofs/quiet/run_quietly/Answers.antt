@@ -8,6 +8,9 @@ returns-clause-whole c = λ small. let found = c.run.ensures.whole small in (fou
 pub returns-clause-repairable : goal.returns-clause-repairable
 returns-clause-repairable c = λ zero asked spec imp texts. let found = c.run.ensures.repairable zero Held asked spec imp texts in (found.0, found.2)
 
+pub returns-clause-filled : goal.returns-clause-filled
+returns-clause-filled c = λ zero asked spec imp texts fills. let found = c.run.ensures.filled zero Held asked spec imp texts fills in (found.0, found.2)
+
 pub returns-clause-error : goal.returns-clause-error
 returns-clause-error c = λ one asked spec imp texts. c.run.ensures.error one Held asked spec imp texts
 
