@@ -56,7 +56,7 @@ def sources_part(tally, _folder):
         if found:
             tally.note(f"{os.path.relpath(path, CRATES)}: want of memory is passed on and not made", False, f"lines {found}")
     tally.note("want of memory is looked for", True, "")
-    for status in ("0", "1", "2", "3", "shown", "rup", "answers"):
+    for status in ("0", "1", "2", "3", "fit", "shown", "rup", "answers"):
         told = subprocess.run([os.path.join(TOP, "contrib", "believed"), status], capture_output=True, text=True, check=False)
         files = re.findall(r"^  (\S+) \d+$", told.stdout, re.M)
         tally.note(f"believed {status}: files on which clauses rest", told.returncode == 0 and files, told.stderr[:200])

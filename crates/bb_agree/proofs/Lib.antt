@@ -1,5 +1,6 @@
 pub mod AlikePairs
 pub mod BitDecisions
+pub mod Comparable
 pub mod DesignAgreements
 pub mod DesignCauses
 pub mod DesignDecisions

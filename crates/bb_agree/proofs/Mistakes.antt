@@ -28,10 +28,10 @@ use Rattle.bb_agree.proofs.WorldOutputs.{bit_out, output_there, some_world}
 
 -- some contents fit: those of tables without a 1
 
-abbrev zero_of : Pins → TableBits
+abbrev pub zero_of : Pins → TableBits
 zero_of q = zero_table (length q.ins) (length q.outs)
 
-zeros_fit : (boxes : List Pins) → FitBoxes (map zero_of boxes) boxes
+pub zeros_fit : (boxes : List Pins) → FitBoxes (map zero_of boxes) boxes
 zeros_fit boxes = record {
   count = length-map boxes zero_of;
   inputs = λ b there. ap (λ (t : TableBits). t.inputs) (at b there);

@@ -51,7 +51,7 @@ module _ {d : Design} {f : FlatNet} {contents : Contents} {tables : List TableBi
     abbrev bit : ℕ → Bool
     bit place = bit_of (flat_with f.net (map x (cut_inputs f)) tables) place
 
-    out_bits : map (λ o. o.1) outs ≡ map bit f.net.outs
+    pub out_bits : map (λ o. o.1) outs ≡ map bit f.net.outs
     out_bits = laws.outputs d f filled.allowed filled.stands contents tables filled.fit filled.are x w is vector ∙ ap (λ v. map (bit_of (flat_with f.net v tables)) f.net.outs) (vector_bits_are d f filled.stands x)
 
     counted : length outs ≡ length f.net.outs

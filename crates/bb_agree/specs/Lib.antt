@@ -1,3 +1,4 @@
+pub mod Comparable
 pub mod DesignAgreement
 pub mod DesignFit
 pub mod Mistakes

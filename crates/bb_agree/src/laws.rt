@@ -2,6 +2,7 @@
 
 ghost use Rattle.bb_agree.specs.Inside.LowerLaws.{LowerLaws};
 ghost use Rattle.bb_agree.specs.Laws.AlikePairs.{PairsForDesignsAreAlike};
+ghost use Rattle.bb_agree.specs.Comparable.{FittingDesignsAreComparable};
 ghost use Rattle.bb_agree.specs.DesignAgreement.{CareOutputsAskForLess, DesignsAgreeWithThemselves, FittingTablesAreOfBoxes, NoTablesNoContents, PairsHaveBoxOrders, SharingNarrows, SpelledContentsAgree, SpelledContentsHaveTables, TablesAgreeAsContents, TablesSpellContents};
 ghost use Rattle.bb_agree.specs.Laws.DesignRefusals.{DesignRefusalsAreOne, FitOrRefused, FittingDesignsHavePairs, NetsAreTakenAsDesigns, NotFitAndRefused, PairsStandExactlyForFitting};
 ghost use Rattle.bb_agree.specs.Mistakes.{MistakesRefute, PairsAreNamed, WrongOutputsAreMistakes, WrongVectorsAreMistakes};
@@ -18,6 +19,7 @@ use bb_cells::naming_laws::{
     standing_nets_are_named_alike, standing_nets_have_box_orders,
 };
 use bb_cells::table_laws::{contents_have_tables, tables_give_outputs, tables_have_contents};
+use bb_design::laws::laws_of_designs;
 use bb_match::laws::{
     causes_are_ranked, compared_are_the_others, fitting_have_kept_pair, fitting_have_pair,
     fitting_nets_have_their_outputs, flat_nets_have_cuts_apart, pairs_are_kept, pairs_fit,
@@ -155,6 +157,16 @@ pub fn fitting_designs_have_pairs()
     standing_nets_are_printable();
     nets_are_taken_as_designs();
     fitting_have_kept_pair();
+}
+
+/// Two sound designs that fit can be compared, and some contents may fill the boxes.
+pub fn fitting_designs_are_comparable()
+    ensures { FittingDesignsAreComparable }
+{
+    laws_of_designs();
+    lower_laws();
+    fitting_designs_have_pairs();
+    tables_spell_contents();
 }
 
 /// Contents that fit may fill boxes that share nothing, and shared ones are some of these; where no contents agree no shared ones do.

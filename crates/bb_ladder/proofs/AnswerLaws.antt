@@ -2,6 +2,7 @@
 use Rattle.std.proofs.Common.{◌≡◌, ◌⊎◌, ℕ, Bool, true, false, if◌then◌else◌, List, ◌++◌, map, refl, sym, ap, subst, ◌∙◌, arith, inl, inr}
 use Rattle.std.specs.List.{AllZip, list_any}
 use Rattle.std.proofs.lemmas.List.Elements.{All-weaker}
+use Rattle.bb_agree.specs.Comparable.{FittingDesignsAreComparable}
 use Rattle.bb_agree.specs.DesignAgreement.{AreSpelled, FittingTablesAreOfBoxes, IsPairFor, IsTableOf, NoTablesNoContents, PairsHaveBoxOrders, SpelledContentsAgree, TablesSpellContents}
 use Rattle.bb_agree.specs.Laws.DesignRefusals.{PairsStandExactlyForFitting}
 use Rattle.bb_bits.specs.Tables.{TableBits}
@@ -23,9 +24,10 @@ use Rattle.bb_rungs.specs.Rungs.{is_error, is_repair}
 use Rattle.bb_ladder.specs.declared.asked.Asked.{Asked}
 use Rattle.bb_ladder.specs.FilledTexts.{MayFollow, NoTablesFollow}
 use Rattle.bb_texts.specs.RefusalLines.{refusal_line}
-use Rattle.bb_ladder.specs.TextAnswers.{Refused, Judged, ErrorsRefute, RepairsFinish, OpenAnswersLeaveOpen, DecidedAreAnswered, StayingOpenAreAnswered, RefusedAreAnsweredOnce}
+use Rattle.bb_ladder.specs.TextAnswers.{Refused, Judged, AnsweredFit, ErrorsRefute, RepairsFinish, OpenAnswersLeaveOpen, DecidedAreAnswered, StayingOpenAreAnswered, RefusedAreAnsweredOnce}
 use Rattle.bb_ladder.specs.TextPairs.{AreDesignsOf, AreFinished, StandsForTexts, DesignsAreAllowed, RefusalsAreOne, NotPairAndRefusal, TextPairsAreAlike}
 use Rattle.bb_ladder.proofs.FollowLaws.{nothing_unasked}
+use Rattle.bb_ladder.proofs.TextPairLaws.{reads_as}
 
 no_fourth : (v : Verdict) → status_of v ≡ 4 → ⊥
 no_fourth verdicts.Error e = omega (arith, e)
@@ -102,13 +104,20 @@ module _ (allowed : DesignsAreAllowed) (none_behind : NoTablesFollow) (spell : T
       let (tables, given, complete, ends) = repairs p asked.options lines for.kept climb (is_repairable (verdict_of lines) (sym same ∙ zero)) in
       finished asked spec imp text p lines s i are for rest follows t tables complete ends
 
-pub errors_refute : DesignsAreAllowed → ErrorsExcludeTables → NoTablesNoContents → PairsStandExactlyForFitting → ErrorsRefute
-errors_refute allowed excludes exactly fitting asked spec imp status text (Refused r is s t) one = absurd (omega (arith, s, one))
-errors_refute allowed excludes exactly fitting asked spec imp status text (Judged p lines s i are for climb same rest follows t) one =
+pub answered_fit : DesignsAreAllowed → PairsStandExactlyForFitting → AnsweredFit
+answered_fit allowed fitting asked spec imp status text (Refused r is s t) answered = absurd (answered s)
+answered_fit allowed fitting asked spec imp status text (Judged p lines s i are for climb same rest follows t) answered =
+    (s, i, are, (fitting asked.care asked.options.shared s i (allowed asked.spec_top spec s are.spec_design) (allowed asked.imp_top imp i are.imp_design)).fit p for)
+
+pub errors_refute : DesignsAreAllowed → ErrorsExcludeTables → NoTablesNoContents → PairsStandExactlyForFitting → FittingDesignsAreComparable → ErrorsRefute
+errors_refute allowed excludes exactly fitting comparable asked spec imp status text (Refused r is s t) one = absurd (omega (arith, s, one))
+errors_refute allowed excludes exactly fitting comparable asked spec imp status text (Judged p lines s i are for climb same rest follows t) one =
     let none = excludes p asked.options lines for.kept climb (status_error lines (sym same ∙ one)) in
     let good = allowed asked.spec_top spec s are.spec_design in
     let also = allowed asked.imp_top imp i are.imp_design in
-    (s, i, are, (fitting asked.care asked.options.shared s i good also).fit p for, (exactly asked.care asked.options.shared s i p good also for).0 none)
+    let fit = (fitting asked.care asked.options.shared s i good also).fit p for in
+    let can = comparable asked.care asked.options.shared s i good also fit in
+    (s, i, reads_as are.spec_design, reads_as are.imp_design, can.0, can.1, (exactly asked.care asked.options.shared s i p good also for).0 none)
 
 pub is_pair : (asked : Asked) (spec imp : List ℕ) (p : NetPair) → StandsForTexts asked spec imp p → IsPair p
 is_pair asked spec imp p (s, i, are, for) = for.kept

@@ -1,6 +1,6 @@
 -- What statuses 0, 1, 3 and 4 say of the two files: the tables of the report make the designs agree, no contents of the boxes do and
 -- its vectors show mistakes, each check leaves the question open, or a read failed.
-use Rattle.std.proofs.Common.{◌≡◌, ◌<◌, ℕ, ◌==◌, Bool, true, false, if◌then◌else◌, List, ◌++◌, length, Option, Some, None, arith, codes, option_map, refl, sym, ◌∙◌, ap, subst}
+use Rattle.std.proofs.Common.{◌⊎◌, inl, inr, ◌≡◌, ◌<◌, ℕ, ◌==◌, Bool, true, false, if◌then◌else◌, List, ◌++◌, length, Option, Some, None, arith, codes, option_map, refl, sym, ◌∙◌, ap, subst}
 use Rattle.bb_outside.specs.Counts.{IsRead, Reads, Rose}
 use Rattle.bb_texts.specs.declared.limit.TheConstants.{READ_LIMIT}
 use Rattle.bb_ladder.specs.declared.asked.Asked.{Asked as TextsAsked}
@@ -12,8 +12,8 @@ use Rattle.bb_ladder.specs.MadePairs.{JudgesMade, asked_of, head_by, head_of, ma
 use Rattle.bb_ladder.specs.Refutations.{CheckLaws, Checks, FailsAt, IsRefutation, no_line}
 use Rattle.bb_ladder.specs.ShownMistakes.{AreShown, ErrorsAreShown}
 use Rattle.bb_ladder.specs.Sources.{AreBytes, Source}
-use Rattle.bb_ladder.specs.TextAnswers.{Judges, Refused, Judged, ErrorsRefute, RepairsFill, RepairsFinish, OpenAnswersLeaveOpen}
-use Rattle.bb_ladder.specs.TextPairs.{AreRefuted, AreFinished, AreLeftOpen, IsFilled}
+use Rattle.bb_ladder.specs.TextAnswers.{Judges, Refused, Judged, AnsweredFit, ErrorsRefute, RepairsFill, RepairsFinish, OpenAnswersLeaveOpen}
+use Rattle.bb_ladder.specs.TextPairs.{AreRefuted, AreFinished, AreLeftOpen, DoFit, IsFilled}
 use Rattle.bb_ladder.proofs.SourceLemmas.{both_whole}
 use Rattle.bb_ladder.proofs.AnswerLaws.{report_status}
 
@@ -158,6 +158,20 @@ pub filled_sound : WordsAskOnce → RepairsFill → (words : List (List ℕ)) (f
 filled_sound once fills words from holds before after status text asked spec imp may zero texts filled =
     let found = answer_so once (λ asked spec imp text. asked.fill ≡ true → IsFilled asked spec imp text) 0 (λ e. omega (arith, e)) (λ e. omega (arith, e)) fills words from holds before after status text asked spec imp may zero texts in
     (found.0, found.1, found.2 filled)
+
+-- texts that are answered with one of these statuses fit
+module _ (once : WordsAskOnce) (fit : AnsweredFit) where
+  fit_at : (n : ℕ) → (n ≡ 2 → ⊥) → (n ≡ 4 → ⊥) → (words : List (List ℕ)) (from : Source) (holds : List ℕ → Option (List ℕ)) (before after : Reads) (status : ℕ) (text : List ℕ) (asked : TextsAsked) (spec imp : List ℕ) → MayAnswer words holds before after status text → status ≡ n
+      → AreTexts words from holds before after asked spec imp → DoFit asked spec imp
+  fit_at n not_refused not_unread words from holds before after status text asked spec imp may is texts =
+      (answer_so once (λ asked spec imp text. DoFit asked spec imp) n not_refused not_unread (λ asked spec imp status text judged same. fit asked spec imp status text judged (λ two. not_refused (sym same ∙ two)))
+      words from holds before after status text asked spec imp may is texts).2
+
+  pub fit_sound : (words : List (List ℕ)) (from : Source) (holds : List ℕ → Option (List ℕ)) (before after : Reads) (status : ℕ) (text : List ℕ) (asked : TextsAsked) (spec imp : List ℕ) → MayAnswer words holds before after status text → ((status ≡ 0) ⊎ (status ≡ 1)) ⊎ (status ≡ 3)
+      → AreTexts words from holds before after asked spec imp → DoFit asked spec imp
+  fit_sound words from holds before after status text asked spec imp may (inl (inl zero)) texts = fit_at 0 (λ e. omega (arith, e)) (λ e. omega (arith, e)) words from holds before after status text asked spec imp may zero texts
+  fit_sound words from holds before after status text asked spec imp may (inl (inr one)) texts = fit_at 1 (λ e. omega (arith, e)) (λ e. omega (arith, e)) words from holds before after status text asked spec imp may one texts
+  fit_sound words from holds before after status text asked spec imp may (inr three) texts = fit_at 3 (λ e. omega (arith, e)) (λ e. omega (arith, e)) words from holds before after status text asked spec imp may three texts
 
 pub error_sound : WordsAskOnce → ErrorsRefute → (words : List (List ℕ)) (from : Source) (holds : List ℕ → Option (List ℕ)) (before after : Reads) (status : ℕ) (text : List ℕ) (asked : TextsAsked) (spec imp : List ℕ) → MayAnswer words holds before after status text → status ≡ 1
     → AreTexts words from holds before after asked spec imp → AreRefuted asked spec imp

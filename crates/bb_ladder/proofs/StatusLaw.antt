@@ -2,6 +2,7 @@
 -- open every other does; and so they have one report.
 use Rattle.std.proofs.Common.{◌≡◌, ℕ, List, sym, ◌∙◌, subst}
 use Rattle.bb_agree.specs.DesignAgreement.{NoContentsAgree}
+use Rattle.bb_design.specs.Hierarchy.{Design}
 use Rattle.bb_rungs.specs.Laws.AlikePairs.{AlikeReportsAreOne, AlikeReportsBeginAsOne}
 use Rattle.bb_rungs.specs.Laws.{LeftOpenStaysOpen}
 use Rattle.bb_rungs.specs.declared.verdict.Verdict.{Verdict}
@@ -9,20 +10,29 @@ use Rattle.bb_rungs.specs.declared.verdict.Verdict.TheVariants as verdicts
 use Rattle.bb_rungs.specs.Reports.{status_of, verdict_of}
 use Rattle.bb_ladder.specs.declared.asked.Asked.{Asked}
 use Rattle.bb_ladder.specs.TextAnswers.{Judges, Refused, Judged, ErrorsRefute, RepairsFinish, OpenAnswersLeaveOpen, StayingOpenAreAnswered, AnswersMayDependOnSearch, StatusesAreOne, StatusesNeverClash, ReportsAreOne, ReportsBeginAsOne}
-use Rattle.bb_texts.specs.TextDesigns.{TextDesignsAreOne}
-use Rattle.bb_ladder.specs.TextPairs.{AreLeftOpen, AreStayingOpen, NotFinishedAndRefuted, NotPairAndRefusal, TextPairsAreAlike}
+use Rattle.bb_texts.specs.TextDesigns.{TextsReadAsOne}
+use Rattle.bb_ladder.specs.TextPairs.{AreDesignsOf, AreLeftOpen, AreRefuted, AreStayingOpen, FittingAreRefutedByDesigns, NotFinishedAndRefuted, NotPairAndRefusal, TextPairsAreAlike}
 use Rattle.bb_ladder.proofs.AnswerLaws.{is_pair}
+use Rattle.bb_ladder.proofs.TextPairLaws.{reads_as}
+
+-- what is refuted is so by the designs of the texts
+refuted_by : TextsReadAsOne → (asked : Asked) (spec imp : List ℕ) (s i : Design) → AreDesignsOf asked spec imp s i → AreRefuted asked spec imp → NoContentsAgree asked.care asked.options.shared s i
+refuted_by one asked spec imp s i are (t, j, spec_reads, imp_reads, comparable, some, none) =
+    let left : t ≡ s = one asked.spec_top spec t s spec_reads (reads_as are.spec_design) in
+    let right : j ≡ i = one asked.imp_top imp j i imp_reads (reads_as are.imp_design) in
+    subst (λ z. NoContentsAgree asked.care asked.options.shared z i) left (subst (λ z. NoContentsAgree asked.care asked.options.shared t z) right none)
 
 -- no two texts are both finished and refuted
-pub not_finished_and_refuted : TextDesignsAreOne → NotFinishedAndRefuted
-not_finished_and_refuted one asked spec imp text finished (s, i, are, stands, none) =
-    let left : s ≡ finished.s = one asked.spec_top spec s finished.s are.spec_design finished.designs.spec_design in
-    let right : i ≡ finished.i = one asked.imp_top imp i finished.i are.imp_design finished.designs.imp_design in
-    let refuted = subst (λ z. NoContentsAgree asked.care asked.options.shared z finished.i) left (subst (λ z. NoContentsAgree asked.care asked.options.shared s z) right none) in
+pub not_finished_and_refuted : TextsReadAsOne → NotFinishedAndRefuted
+not_finished_and_refuted one asked spec imp text finished refuted =
+    let none = refuted_by one asked spec imp finished.s finished.i finished.designs refuted in
     let c = finished.contents in
-    refuted c.0 c.1 (finished.agree c.0 c.1.fit c.2)
+    none c.0 c.1 (finished.agree c.0 c.1.fit c.2)
 
-pub statuses_never_clash : TextDesignsAreOne → RepairsFinish → ErrorsRefute → StatusesNeverClash
+pub fitting_are_refuted_by_designs : TextsReadAsOne → FittingAreRefutedByDesigns
+fitting_are_refuted_by_designs one asked spec imp (s, i, are, fit) refuted = (s, i, are, fit, refuted_by one asked spec imp s i are refuted)
+
+pub statuses_never_clash : TextsReadAsOne → RepairsFinish → ErrorsRefute → StatusesNeverClash
 statuses_never_clash one finish refute asked spec imp status other text told a b zero is_one = not_finished_and_refuted one asked spec imp text (finish asked spec imp status text a zero) (refute asked spec imp other told b is_one)
 
 -- where they are left open, the answer does not depend on the search

@@ -27,12 +27,16 @@ use Rattle.bb_ladder.specs.declared.pair_texts.Made.{Made}
 use Rattle.bb_ladder.specs.FilledTexts.{MayFollow, NotAsked}
 use Rattle.bb_ladder.specs.Inside.Made.{IsChecked, IsMade, KeptFollows}
 use Rattle.bb_ladder.specs.TextAnswers.{Judges, Refused, Judged}
-use Rattle.bb_texts.specs.TextDesigns.{IsDesignOf, IsSideFault, TextDesignsAreOne, SideFaultsAreOne, NotDesignAndFault}
+use Rattle.bb_texts.specs.TextDesigns.{IsDesignOf, IsReadAs, IsSideFault, TextDesignsAreOne, SideFaultsAreOne, NotDesignAndFault}
 use Rattle.bb_ladder.specs.TextPairs.{AreDesignsOf, IsRefusal, StandsForTexts, DesignsAreAllowed, RefusalsAreOne, NotPairAndRefusal, TextPairsAreAlike}
 use Rattle.bb_texts.specs.Inside.TextRefusals.{of_spec, of_imp, of_pair}
 
 pub designs_are_allowed : SourcesAreFormed → SoundTextsAreAllowed → DesignsAreAllowed
 designs_are_allowed formed allowed name text d is = allowed d.text name d.top (formed text d.text is.reads) is.faultless (d.top, is.top, is.sound) is.top
+
+-- a text reads as its design
+pub reads_as : {name : Option (List ℕ)} {text : List ℕ} {d : Design} → IsDesignOf name text d → IsReadAs name text d
+reads_as is = record { reads = is.reads; top = is.top }
 
 -- a fault of one side, or of the pair, is a refusal of the two texts
 

@@ -7,7 +7,7 @@ use Rattle.bb_ladder.specs.Refutations.{Checks}
 use Rattle.bb_ladder.specs.ShownMistakes.{AreShown}
 use Rattle.bb_ladder.specs.Sources.{AreBytes, Source}
 use Rattle.bb_ladder.specs.TextAnswers.{Judges}
-use Rattle.bb_ladder.specs.TextPairs.{AreFinished, AreLeftOpen, AreRefuted, IsFilled}
+use Rattle.bb_ladder.specs.TextPairs.{AreFinished, AreLeftOpen, AreRefuted, DoFit, IsFilled}
 use Rattle.bb_make.specs.Adders.{made_imp, made_spec}
 use Rattle.bb_ladder.specs.MadePairs.{JudgesMade, asked_of, head_of}
 use Rattle.bb_words.specs.Asked.{MadePair, Refutation, Request, asked, made_asked, rup_asked}
@@ -66,4 +66,4 @@ IsReport Says words asked spec imp text = (report : List ℕ) × (text ≡ head_
 abbrev pub AnswersSpeakOfTexts : Type 0
 AnswersSpeakOfTexts = (words : List (List ℕ)) (from : Source) (holds : List ℕ → Option (List ℕ)) (before after : Reads) (status : ℕ) (text : List ℕ) (asked : TextsAsked) (spec imp : List ℕ)
     → MayAnswer words holds before after status text → AreTexts words from holds before after asked spec imp
-    → (status ≡ 0 → IsReport AreFinished words asked spec imp text) × (status ≡ 0 → asked.fill ≡ true → IsReport IsFilled words asked spec imp text) × (status ≡ 1 → AreRefuted asked spec imp × IsReport AreShown words asked spec imp text) × (status ≡ 3 → AreLeftOpen asked spec imp)
+    → (status ≡ 0 → IsReport AreFinished words asked spec imp text) × (status ≡ 0 → asked.fill ≡ true → IsReport IsFilled words asked spec imp text) × (status ≡ 1 → AreRefuted asked spec imp × DoFit asked spec imp × IsReport AreShown words asked spec imp text) × (status ≡ 3 → AreLeftOpen asked spec imp)

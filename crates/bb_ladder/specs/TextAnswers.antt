@@ -14,7 +14,7 @@ use Rattle.bb_ladder.specs.declared.asked.Asked.{Asked}
 use Rattle.bb_texts.specs.declared.refusal.Refusal.{Refusal}
 use Rattle.bb_texts.specs.RefusalLines.{refusal_line}
 use Rattle.bb_ladder.specs.FilledTexts.{MayFollow}
-use Rattle.bb_ladder.specs.TextPairs.{AreDesignsOf, IsRefusal, StandsForTexts, AreRefuted, AreFinished, AreLeftOpen, AreStayingOpen, AreDecided, IsFilled}
+use Rattle.bb_ladder.specs.TextPairs.{AreDesignsOf, IsRefusal, StandsForTexts, DoFit, AreRefuted, AreFinished, AreLeftOpen, AreStayingOpen, AreDecided, IsFilled}
 
 pub data Judges (asked : Asked) (spec imp : List ℕ) (status : ℕ) (text : List ℕ) : Type 0 where
   Refused : (refusal : Refusal) → IsRefusal asked spec imp refusal → status ≡ 2 → text ≡ refusal_line refusal → Judges asked spec imp status text
@@ -22,6 +22,10 @@ pub data Judges (asked : Asked) (spec imp : List ℕ) (status : ℕ) (text : Lis
       → (rest : List ℕ) → MayFollow asked.fill pair.imp_net p.kinds lines rest → text ≡ report_text p asked.options lines ++ rest → Judges asked spec imp status text
 
 -- laws that a reader expects
+
+-- an answer that is no refusal is one to texts that fit
+abbrev pub AnsweredFit : Type 0
+AnsweredFit = (asked : Asked) (spec imp : List ℕ) (status : ℕ) (text : List ℕ) → Judges asked spec imp status text → (status ≡ 2 → ⊥) → DoFit asked spec imp
 
 -- an error is told only where no contents agree
 abbrev pub ErrorsRefute : Type 0

@@ -11,6 +11,7 @@ use Rattle.bb_cells.specs.Stands.{box_texts}
 use Rattle.bb_design.specs.Hierarchy.{Design, Scope}
 use Rattle.bb_design.specs.Inside.Allowed.{IsAllowed}
 use Rattle.bb_design.specs.Worlds.{FitDesign}
+use Rattle.bb_agree.specs.Comparable.{AreComparable}
 use Rattle.bb_agree.specs.DesignAgreement.{AreSpelled, ContentsAgree, IsPairFor, IsTableOf, MayFill, NoContentsAgree}
 use Rattle.bb_agree.specs.DesignFit.{DesignsFit, IsRefusalFor}
 use Rattle.bb_net.specs.Kinds.{AreKinds, shown}
@@ -21,7 +22,7 @@ use Rattle.bb_ladder.specs.FilledTexts.{HasNoLine, StandsBehind}
 use Rattle.bb_ladder.specs.declared.asked.Asked.{Asked}
 use Rattle.bb_texts.specs.declared.refusal.Refusal.{Refusal}
 use Rattle.bb_texts.specs.declared.refusal.Refusal.TheVariants.{Spec, Imp, Pair, NoMemory}
-use Rattle.bb_texts.specs.TextDesigns.{IsDesignOf, IsSideFault}
+use Rattle.bb_texts.specs.TextDesigns.{IsDesignOf, IsReadAs, IsSideFault}
 
 -- they are the designs of the two texts
 pub record AreDesignsOf (asked : Asked) (spec imp : List ℕ) (s i : Design) : Type 0 where
@@ -39,10 +40,15 @@ IsRefusal asked spec imp NoMemory = ⊥
 abbrev pub StandsForTexts : Asked → List ℕ → List ℕ → NetPair → Type 0
 StandsForTexts asked spec imp p = (s i : Design) × AreDesignsOf asked spec imp s i × IsPairFor asked.care asked.options.shared s i p
 
--- they fit, and no contents that may fill the boxes make the two agree where agreement is asked: everywhere or, with a care output, where
--- this is 1
+-- they have designs, in which nothing is at fault, and these fit
+abbrev pub DoFit : Asked → List ℕ → List ℕ → Type 0
+DoFit asked spec imp = (s i : Design) × AreDesignsOf asked spec imp s i × DesignsFit asked.care s i
+
+-- they read as designs that can be compared, some contents may fill the boxes, and none that may make the two agree where agreement is
+-- asked: everywhere or, with a care output, where this is 1
 abbrev pub AreRefuted : Asked → List ℕ → List ℕ → Type 0
-AreRefuted asked spec imp = (s i : Design) × AreDesignsOf asked spec imp s i × DesignsFit asked.care s i × NoContentsAgree asked.care asked.options.shared s i
+AreRefuted asked spec imp = (s i : Design) × IsReadAs asked.spec_top spec s × IsReadAs asked.imp_top imp i × AreComparable asked.care s i
+    × ((contents : Contents) × MayFill asked.options.shared i contents) × NoContentsAgree asked.care asked.options.shared s i
 
 -- a pair stands for the two, and for each such pair each check that is asked for leaves the question open
 pub record AreLeftOpen (asked : Asked) (spec imp : List ℕ) : Type 0 where
@@ -102,6 +108,11 @@ RefusalsAreOne = (asked : Asked) (spec imp : List ℕ) (e f : Refusal) → IsRef
 -- and no pair where they have one
 abbrev pub NotPairAndRefusal : Type 0
 NotPairAndRefusal = (asked : Asked) (spec imp : List ℕ) (p : NetPair) (refusal : Refusal) → StandsForTexts asked spec imp p → IsRefusal asked spec imp refusal → ⊥
+
+-- what fits and is refuted is so by one pair of designs
+abbrev pub FittingAreRefutedByDesigns : Type 0
+FittingAreRefutedByDesigns = (asked : Asked) (spec imp : List ℕ) → DoFit asked spec imp → AreRefuted asked spec imp
+    → (s i : Design) × AreDesignsOf asked spec imp s i × DesignsFit asked.care s i × NoContentsAgree asked.care asked.options.shared s i
 
 -- no two texts are both finished and refuted
 abbrev pub NotFinishedAndRefuted : Type 0

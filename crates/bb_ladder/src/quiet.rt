@@ -11,7 +11,7 @@ ghost use Rattle.bb_ladder.specs.declared.asked.Asked.{Asked as TextsAsked};
 ghost use Rattle.bb_ladder.specs.Refutations.{AreRead, FailsAt, IsRefutation, SaysWhether};
 ghost use Rattle.bb_ladder.specs.ShownMistakes.{AreShown};
 ghost use Rattle.bb_ladder.specs.Sources.{Held};
-ghost use Rattle.bb_ladder.specs.TextPairs.{AreDecided, AreFinished, AreLeftOpen, AreRefuted, AreStayingOpen, IsFilled};
+ghost use Rattle.bb_ladder.specs.TextPairs.{AreDecided, AreFinished, AreLeftOpen, AreRefuted, AreStayingOpen, DoFit, IsFilled};
 
 use crate::running::run;
 use bb_outside::{QuietFiles, QuietSink};
@@ -34,6 +34,10 @@ pub fn run_quietly(
 
     // The status is that of a report that may be answered, unless memory runs out.
     ensures whole { result < 5 → (text : List ℕ) × MayAnswer (map string_bytes words.now) (holds_of files.old) (reads_of files.old) (reads_of files.new) result text }
+
+    // Statuses 0, 1 and 3 come only of texts in which nothing is at fault and that fit.
+    ensures fit { ((result ≡ 0) ⊎ (result ≡ 1)) ⊎ (result ≡ 3) → (asked : TextsAsked) (spec imp : List ℕ) → AreTexts (map string_bytes words.now) Held (holds_of files.old) (reads_of files.old) (reads_of files.new) asked spec imp
+        → DoFit asked spec imp }
 
     // The design is finished by tables whose contents make every output and every next state agree on every vector, where a care output is
     // asked for at which it is 1.

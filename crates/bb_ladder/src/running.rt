@@ -15,7 +15,7 @@ ghost use Rattle.bb_ladder.specs.Refutations.{AreRead, FailsAt, IsRefutation, Sa
 ghost use Rattle.bb_ladder.specs.ShownMistakes.{AreShown};
 ghost use Rattle.bb_ladder.specs.Sources.{MayHaveFailed, Source};
 ghost use Rattle.bb_ladder.specs.Inside.Tasks.{IsBounded, judged_by};
-ghost use Rattle.bb_ladder.specs.TextPairs.{AreDecided, AreFinished, AreLeftOpen, AreRefuted, AreStayingOpen, IsFilled};
+ghost use Rattle.bb_ladder.specs.TextPairs.{AreDecided, AreFinished, AreLeftOpen, AreRefuted, AreStayingOpen, DoFit, IsFilled};
 
 use crate::answer::{Answer, say};
 use crate::judging::judge_pair;
@@ -124,6 +124,9 @@ pub fn run<F: Files, K: Sink>(alloc: Global, words: &[String], files: &mut F, ou
     ensures front { result ≡ 6 → (status : ℕ) × (text : List ℕ) × (n : ℕ) × (n < length text) × Appends (K.written out.old) (K.written out.new) (take n text)
         × MayAnswer (map string_bytes words.now) (F.holds files.old) (F.reads files.old) (F.reads files.new) status text }
 
+    // Statuses 0, 1 and 3 come only of texts in which nothing is at fault and that fit.
+    ensures fit { ((result ≡ 0) ⊎ (result ≡ 1)) ⊎ (result ≡ 3) → (from : Source) (asked : TextsAsked) (spec imp : List ℕ) → AreTexts (map string_bytes words.now) from (F.holds files.old) (F.reads files.old) (F.reads files.new) asked spec imp → DoFit asked spec imp }
+
     // The design is reported as repairable only with tables whose contents make every output and every next state agree on every vector,
     // where a care output is asked for at which it is 1.
     ensures repairable { result ≡ 0 → (from : Source) (asked : TextsAsked) (spec imp : List ℕ) → AreTexts (map string_bytes words.now) from (F.holds files.old) (F.reads files.old) (F.reads files.new) asked spec imp
@@ -135,7 +138,8 @@ pub fn run<F: Files, K: Sink>(alloc: Global, words: &[String], files: &mut F, ou
     ensures filled { result ≡ 0 → (from : Source) (asked : TextsAsked) (spec imp : List ℕ) → AreTexts (map string_bytes words.now) from (F.holds files.old) (F.reads files.old) (F.reads files.new) asked spec imp → asked.fill ≡ true
         → (text : List ℕ) × Appends (K.written out.old) (K.written out.new) (head_of (map string_bytes words.now) ++ text) × IsFilled asked spec imp text }
 
-    // An error is reported only where no contents of the boxes make every output and every next state agree on every such vector.
+    // An error is reported only where the two can be compared and no contents of the boxes make every output and every next state agree on every
+    // such vector.
     ensures error { result ≡ 1 → (from : Source) (asked : TextsAsked) (spec imp : List ℕ) → AreTexts (map string_bytes words.now) from (F.holds files.old) (F.reads files.old) (F.reads files.new) asked spec imp → AreRefuted asked spec imp }
 
     // And the report shows how: behind the line of a check that finds it at a vector stand the output that is wrong there, where

@@ -8,16 +8,16 @@ ghost use Rattle.bb_ladder.specs.GivenTexts.{AnsweredHaveGiven};
 ghost use Rattle.bb_ladder.specs.Inside.Made.{MadeCanBeFilled};
 ghost use Rattle.bb_ladder.specs.Laws.FilledNets.{FilledNetsStand};
 ghost use Rattle.bb_ladder.specs.ShownMistakes.{ErrorsAreShown, ShownMistakesRefute};
-ghost use Rattle.bb_ladder.specs.TextAnswers.{ErrorsRefute, FillingOnlyAdds, RepairsFill, RepairsFinish, OpenAnswersLeaveOpen, DecidedAreAnswered, StayingOpenAreAnswered, JudgedRefusalsAreFirst, RefusedAreAnsweredOnce, ReportsAreOne, ReportsBeginAsOne, StatusesAreOne, StatusesNeverClash};
-ghost use Rattle.bb_ladder.specs.TextPairs.{DesignsAreAllowed, NotFinishedAndRefuted, NotPairAndRefusal, RefusalsAreOne, TextPairsAreAlike};
+ghost use Rattle.bb_ladder.specs.TextAnswers.{AnsweredFit, ErrorsRefute, FillingOnlyAdds, RepairsFill, RepairsFinish, OpenAnswersLeaveOpen, DecidedAreAnswered, StayingOpenAreAnswered, JudgedRefusalsAreFirst, RefusedAreAnsweredOnce, ReportsAreOne, ReportsBeginAsOne, StatusesAreOne, StatusesNeverClash};
+ghost use Rattle.bb_ladder.specs.TextPairs.{DesignsAreAllowed, FittingAreRefutedByDesigns, NotFinishedAndRefuted, NotPairAndRefusal, RefusalsAreOne, TextPairsAreAlike};
 
 use crate::refuting::refutations_are_answered;
 use bb_agree::laws::{
-    design_refusals_are_one, fitting_tables_are_of_boxes, mistakes_refute, no_tables_no_contents,
-    not_fit_and_refused, pairs_are_named, pairs_for_designs_are_alike, pairs_have_box_orders,
-    pairs_stand_exactly_for_fitting, spelled_contents_agree, spelled_contents_have_tables,
-    tables_agree_as_contents, tables_spell_contents, wrong_outputs_are_mistakes,
-    wrong_vectors_are_mistakes,
+    design_refusals_are_one, fitting_designs_are_comparable, fitting_tables_are_of_boxes,
+    mistakes_refute, no_tables_no_contents, not_fit_and_refused, pairs_are_named,
+    pairs_for_designs_are_alike, pairs_have_box_orders, pairs_stand_exactly_for_fitting,
+    spelled_contents_agree, spelled_contents_have_tables, tables_agree_as_contents,
+    tables_spell_contents, wrong_outputs_are_mistakes, wrong_vectors_are_mistakes,
 };
 use bb_cells::list_laws::standing_nets_give_outputs;
 use bb_cells::naming_laws::followed_inputs_are_one;
@@ -64,6 +64,13 @@ pub fn no_pair_and_refusal()
     texts_have_designs();
     pairs_stand_exactly_for_fitting();
     not_fit_and_refused();
+}
+
+/// What fits and is refuted is so by one pair of designs.
+pub fn fitting_are_refuted_by_designs()
+    ensures { FittingAreRefutedByDesigns }
+{
+    texts_have_designs();
 }
 
 /// No two texts are both finished and refuted.
@@ -149,6 +156,8 @@ pub fn filling_only_adds()
 
 /// What is answered to two texts is meant so, and comes where it is due.
 pub fn answers_are_meant()
+    // What is not refused fits.
+    ensures fit { AnsweredFit }
     // An error is told only where no contents agree, and its vectors show mistakes; tables only where all that they spell agree.
     ensures errors { ErrorsRefute }
     ensures shown { ErrorsAreShown }
@@ -181,6 +190,7 @@ pub fn answers_are_meant()
     tables_spell_contents();
     spelled_contents_agree();
     pairs_stand_exactly_for_fitting();
+    fitting_designs_are_comparable();
     pairs_have_box_orders();
     fitting_tables_are_of_boxes();
     alike_pairs_are_left_open();

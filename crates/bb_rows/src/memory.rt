@@ -1,8 +1,8 @@
 //! One run of the top call over two texts in memory.
-ghost use Rattle.std.specs.Prelude.{◌≡◌, ◌<◌, ◌≤◌, ◌∷◌, [], ℕ, List, length, take, map, codes, string_bytes, IfOk};
+ghost use Rattle.std.specs.Prelude.{◌≡◌, ◌⊎◌, ◌<◌, ◌≤◌, ◌∷◌, [], ℕ, List, length, take, map, codes, string_bytes, IfOk};
 ghost use Rattle.bb_ladder.specs.Answers.{IsReport, question};
 ghost use Rattle.bb_ladder.specs.declared.asked.Asked.{Asked};
-ghost use Rattle.bb_ladder.specs.TextPairs.{AreFinished, AreLeftOpen, AreRefuted};
+ghost use Rattle.bb_ladder.specs.TextPairs.{AreFinished, AreLeftOpen, AreRefuted, DoFit};
 ghost use Rattle.bb_rows.specs.Memory.{AreNamed, IsRefusedSo, MayTell};
 ghost use Rattle.bb_words.specs.Laws.{files_alone};
 
@@ -82,6 +82,10 @@ pub fn run_in_memory(
         × (outcome.report.items ≡ take n text) × MayTell (map (λ text. text.now) texts.now) spec.now imp.now status text) }
     ensures silent { IfOk result (λ outcome. outcome.status ≡ 5 → outcome.report.items ≡ []) }
 
+    // Statuses 0, 1 and 3 come only of texts in which nothing is at fault and that fit.
+    ensures fit { IfOk result (λ outcome. ((outcome.status ≡ 0) ⊎ (outcome.status ≡ 1)) ⊎ (outcome.status ≡ 3) → (asked : Asked) (s i : List ℕ)
+        → AreNamed (map (λ text. text.now) texts.now) spec.now imp.now asked s i → DoFit asked s i) }
+
     // The design is reported as repairable only with tables whose contents make the two agree, an error only where no contents of the boxes
     // do, and the question is left open only where each check that the words ask for leaves it open.
     ensures repairable { IfOk result (λ outcome. outcome.status ≡ 0 → (asked : Asked) (s i : List ℕ)
@@ -97,7 +101,8 @@ pub fn run_in_memory(
 
     // So it is where the words are the two names.
     ensures refuted { IfOk result (λ outcome. outcome.status ≡ 1 → (program : List ℕ)
-        → map (λ text. text.now) texts.now ≡ program ∷ codes "s.v" ∷ codes "i.v" ∷ [] → AreRefuted (question (files_alone (codes "s.v") (codes "i.v"))).asked spec.now imp.now) }
+        → map (λ text. text.now) texts.now ≡ program ∷ codes "s.v" ∷ codes "i.v" ∷ [] → AreRefuted (question (files_alone (codes "s.v") (codes "i.v"))).asked spec.now imp.now
+        × DoFit (question (files_alone (codes "s.v") (codes "i.v"))).asked spec.now imp.now) }
 {
     plain_words_are_files();
     let words = words(alloc, texts)?;

@@ -25,14 +25,17 @@ use Rattle.bb_texts.specs.declared.side_fault.SideFault.{SideFault}
 use Rattle.bb_texts.specs.declared.side_fault.SideFault.TheVariants.{Token, Statement, Deep, Unended, Named, Elaborated, NoMemory}
 use Rattle.bb_texts.specs.Refusals.{HasFault}
 use Rattle.bb_texts.specs.Inside.SideFaults.{of_parse, of_elab}
-use Rattle.bb_texts.specs.TextDesigns.{IsDesignOf, IsSideFault, TextDesignsAreOne, SideFaultsAreOne, NotDesignAndFault, DesignOrFault}
+use Rattle.bb_texts.specs.TextDesigns.{IsDesignOf, IsSideFault, TextsReadAsOne, TextDesignsAreOne, SideFaultsAreOne, NotDesignAndFault, DesignOrFault}
 
-pub text_designs_are_one : TextsReadOnce → TextDesignsAreOne
-text_designs_are_one once name text d e f g =
+pub texts_read_as_one : TextsReadOnce → TextsReadAsOne
+texts_read_as_one once name text d e f g =
     let same : d.text ≡ e.text = once text d.text e.text f.reads g.reads in
     let tops : Some d.top ≡ Some e.top = sym f.top ∙ ap (λ t. top_of t name) same ∙ g.top in
     let top : d.top ≡ e.top = grind (arith, tops) in
     λ k. record { text = same k; top = top k }
+
+pub text_designs_are_one : TextsReadOnce → TextDesignsAreOne
+text_designs_are_one once name text d e f g = texts_read_as_one once name text d e (record { reads = f.reads; top = f.top }) (record { reads = g.reads; top = g.top })
 
 -- what is wrong with a text is wrong with its tokens, with its statements, with its names, or with its design
 data IsWrong (name : Option (List ℕ)) (text : List ℕ) (fault : SideFault) : Type 0 where

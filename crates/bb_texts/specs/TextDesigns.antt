@@ -13,7 +13,12 @@ use Rattle.bb_texts.specs.declared.side_fault.SideFault.{SideFault}
 use Rattle.bb_texts.specs.declared.side_fault.SideFault.TheVariants.{Token, Statement, Deep, Unended, Named, Elaborated, NoMemory}
 use Rattle.bb_texts.specs.Refusals.{HasFault}
 
--- it is the design of the text
+-- the text reads as the modules of the design, under its top, whatever may be at fault in it
+pub record IsReadAs (name : Option (List ℕ)) (text : List ℕ) (d : Design) : Type 0 where
+  pub reads : ReadsAs text d.text
+  pub top : top_of d.text name ≡ Some d.top
+
+-- it is the design of the text: nothing is at fault in it, and there is no cause to refuse it
 pub record IsDesignOf (name : Option (List ℕ)) (text : List ℕ) (d : Design) : Type 0 where
   pub reads : ReadsAs text d.text
   pub faultless : IsSound d.text
@@ -32,7 +37,11 @@ IsSideFault name text NoMemory = ⊥
 
 -- laws that a reader expects
 
--- a text has at most one design for a top
+-- a text reads as at most one design for a top
+abbrev pub TextsReadAsOne : Type 0
+TextsReadAsOne = (name : Option (List ℕ)) (text : List ℕ) (d e : Design) → IsReadAs name text d → IsReadAs name text e → d ≡ e
+
+-- so it has at most one design for a top
 abbrev pub TextDesignsAreOne : Type 0
 TextDesignsAreOne = (name : Option (List ℕ)) (text : List ℕ) (d e : Design) → IsDesignOf name text d → IsDesignOf name text e → d ≡ e
 

@@ -12,7 +12,7 @@ ghost use Rattle.bb_names.specs.Faults.{IsSound};
 ghost use Rattle.bb_parse.specs.Sources.{ReadsAs};
 ghost use Rattle.bb_texts.specs.declared.limit.TheConstants.{READ_LIMIT};
 ghost use Rattle.bb_texts.specs.declared.side_fault.SideFault.{SideFault};
-ghost use Rattle.bb_texts.specs.TextDesigns.{IsDesignOf, IsSideFault, TextDesignsAreOne, SideFaultsAreOne, NotDesignAndFault, DesignOrFault};
+ghost use Rattle.bb_texts.specs.TextDesigns.{IsDesignOf, IsSideFault, TextsReadAsOne, TextDesignsAreOne, SideFaultsAreOne, NotDesignAndFault, DesignOrFault};
 
 use crate::side_fault::SideFault;
 use bb_ast::Source;
@@ -67,6 +67,7 @@ pub fn flat_of(alloc: Global, text: &[u8], top: Option<&[u8]>) -> Result<Flat, S
 
 /// A text has one design or one first fault for a top, and not both.
 pub fn texts_have_designs()
+    ensures readings { TextsReadAsOne }
     ensures designs { TextDesignsAreOne }
     ensures faults { SideFaultsAreOne }
     ensures not_both { NotDesignAndFault }

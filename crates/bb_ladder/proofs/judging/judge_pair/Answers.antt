@@ -5,8 +5,14 @@ use Rattle.bb_texts.specs.declared.refusal.Refusal.{Refusal}
 use Rattle.bb_texts.specs.RefusalLines.{refusal_line}
 use Rattle.bb_ladder.specs.ShownMistakes.{AreShown}
 use Rattle.bb_ladder.specs.TextAnswers.{Judges}
-use Rattle.bb_ladder.specs.TextPairs.{AreDecided, AreFinished, AreLeftOpen, AreRefuted, AreStayingOpen, IsFilled, IsRefusal}
+use Rattle.bb_ladder.specs.TextPairs.{AreDecided, AreFinished, AreLeftOpen, AreRefuted, AreStayingOpen, DoFit, IsFilled, IsRefusal}
 use Rattle.bb_ladder.proofs.judging.judge_pair.Goals as goal
+
+pub returns-clause-fit : goal.returns-clause-fit
+returns-clause-fit c =
+    let so : (a : Answer) → Judges c.args.asked.now c.args.spec.now c.args.imp.now a.status a.report.items → (a.status ≡ 2 → ⊥) → DoFit c.args.asked.now c.args.spec.now c.args.imp.now =
+    λ a judged answered. c.answers_are_meant.ensures.fit c.args.asked.now c.args.spec.now c.args.imp.now a.status a.report.items judged answered in
+    IfOk-weaker _ _ _ so c.answer.ensures.answer
 
 pub returns-clause-repairable : goal.returns-clause-repairable
 returns-clause-repairable c =

@@ -5,6 +5,9 @@ use Rattle.bb_ladder.proofs.quiet.run_quietly.Goals as goal
 pub returns-clause-whole : goal.returns-clause-whole
 returns-clause-whole c = λ small. let found = c.run.ensures.whole small in (found.0, found.2)
 
+pub returns-clause-fit : goal.returns-clause-fit
+returns-clause-fit c = λ answered asked spec imp texts. c.run.ensures.fit answered Held asked spec imp texts
+
 pub returns-clause-repairable : goal.returns-clause-repairable
 returns-clause-repairable c = λ zero asked spec imp texts. let found = c.run.ensures.repairable zero Held asked spec imp texts in (found.0, found.2)
 

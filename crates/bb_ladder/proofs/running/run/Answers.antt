@@ -1,7 +1,7 @@
 use Rattle.std.proofs.Common.{inl}
 use Rattle.bb_ladder.proofs.CallRefusalLaws.{told_at_two}
 use Rattle.bb_ladder.proofs.CalmLemmas.{decided_sound, open_complete, refuted_sound}
-use Rattle.bb_ladder.proofs.HeadlineLemmas.{error_sound, filled_sound, made_is_read, no_sound, open_compares, open_sound, repair_sound, shown_sound, unread_rose, yes_sound}
+use Rattle.bb_ladder.proofs.HeadlineLemmas.{error_sound, filled_sound, fit_sound, made_is_read, no_sound, open_compares, open_sound, repair_sound, shown_sound, unread_rose, yes_sound}
 use Rattle.bb_ladder.proofs.running.run.Goals as goal
 
 pub returns-in-Ok-put_all-clause-whole : goal.returns-in-Ok-put_all-clause-whole
@@ -23,6 +23,9 @@ returns-in-Ok-put_all-clause-filled g c = λ zero from asked spec imp texts fill
     let written = rw c.deref.ensures.value at c.in-Ok-put_all.ensures.ok in
     let found = filled_sound c.words_ask_once.ensures c.answers_are_meant.ensures.fills _ from _ _ _ c.in-Ok.answer.status c.in-Ok.answer.report.items asked spec imp c.in-Ok.ensures.answer zero texts filled in
     (found.0, rw found.1 at written, found.2)
+
+pub returns-in-Ok-put_all-clause-fit : goal.returns-in-Ok-put_all-clause-fit
+returns-in-Ok-put_all-clause-fit g c = λ answered from asked spec imp texts. fit_sound c.words_ask_once.ensures c.answers_are_meant.ensures.fit _ from _ _ _ c.in-Ok.answer.status c.in-Ok.answer.report.items asked spec imp c.in-Ok.ensures.answer answered texts
 
 pub returns-in-Ok-put_all-clause-error : goal.returns-in-Ok-put_all-clause-error
 returns-in-Ok-put_all-clause-error g c = λ one from asked spec imp texts. error_sound c.words_ask_once.ensures c.answers_are_meant.ensures.errors _ from _ _ _ c.in-Ok.answer.status c.in-Ok.answer.report.items asked spec imp c.in-Ok.ensures.answer one texts

@@ -1,4 +1,4 @@
-use Rattle.bb_ladder.proofs.AnswerLaws.{decided_are_answered, errors_refute, open_answers_leave_open, refused_are_answered_once, repairs_finish, staying_open_are_answered}
+use Rattle.bb_ladder.proofs.AnswerLaws.{answered_fit, decided_are_answered, errors_refute, open_answers_leave_open, refused_are_answered_once, repairs_finish, staying_open_are_answered}
 use Rattle.bb_ladder.proofs.CallRefusalLaws.{judged_refusals_are_first}
 use Rattle.bb_ladder.proofs.FilledAnswers.{repairs_fill}
 use Rattle.bb_ladder.proofs.ShownLaw.{errors_are_shown}
@@ -6,7 +6,8 @@ use Rattle.bb_ladder.proofs.text_laws.answers_are_meant.Goals as goal
 
 pub returns : goal.returns
 returns c = record {
-  errors = errors_refute c.designs_are_allowed.ensures c.errors_exclude_tables.ensures c.no_tables_no_contents.ensures c.pairs_stand_exactly_for_fitting.ensures;
+  fit = answered_fit c.designs_are_allowed.ensures c.pairs_stand_exactly_for_fitting.ensures;
+  errors = errors_refute c.designs_are_allowed.ensures c.errors_exclude_tables.ensures c.no_tables_no_contents.ensures c.pairs_stand_exactly_for_fitting.ensures c.fitting_designs_are_comparable.ensures;
   shown = errors_are_shown c.designs_are_allowed.ensures c.found_vectors_are_mistakes.ensures c.wrong_outputs_are_mistakes.ensures c.wrong_vectors_are_mistakes.ensures c.pairs_are_named.ensures;
   repairs =
       repairs_finish c.designs_are_allowed.ensures c.no_tables_follow.ensures c.tables_spell_contents.ensures c.spelled_contents_agree.ensures c.pairs_stand_exactly_for_fitting.ensures

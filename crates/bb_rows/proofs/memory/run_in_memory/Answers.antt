@@ -1,4 +1,4 @@
-use Rattle.std.proofs.Common.{◌∙◌, ap, map, string_bytes}
+use Rattle.std.proofs.Common.{◌∙◌, ap, inl, inr, map, string_bytes}
 use Rattle.bb_ladder.specs.Sources.{Held}
 use Rattle.bb_ladder.specs.TextPairs.{AreFinished}
 use Rattle.bb_rows.proofs.Told.{all_told, asked, fresh, grown, named, names_ask, refused_so, report_so, told}
@@ -26,6 +26,10 @@ returns-clause-front c = λ six.
           (fresh c.in_ok-files.files c.in_ok-files.ensures.reads.0 c.in_ok-files.ensures.reads.1) answer.5,
     )
 
+pub returns-clause-fit : goal.returns-clause-fit
+returns-clause-fit c = λ answered ask s i texts. c.run-status.ensures.fit answered Held ask s i
+    (asked _ _ _ _ _ _ _ ask s i (ap (map string_bytes) c.deref.ensures.value ∙ c.in_ok-words.ensures) c.in_ok-files.ensures.files texts)
+
 pub returns-clause-repairable : goal.returns-clause-repairable
 returns-clause-repairable c = λ zero ask s i texts.
     let found = c.run-status.ensures.repairable zero Held ask s i (asked _ _ _ _ _ _ _ ask s i (ap (map string_bytes) c.deref.ensures.value ∙ c.in_ok-words.ensures) c.in_ok-files.ensures.files texts) in
@@ -41,8 +45,9 @@ returns-clause-left_open c = λ three ask s i texts. c.run-status.ensures.left_o
     (asked _ _ _ _ _ _ _ ask s i (ap (map string_bytes) c.deref.ensures.value ∙ c.in_ok-words.ensures) c.in_ok-files.ensures.files texts)
 
 pub returns-clause-refuted : goal.returns-clause-refuted
-returns-clause-refuted c = λ one program names. c.run-status.ensures.error one Held named.asked _ _
-    (asked _ _ _ _ _ _ _ named.asked _ _ (ap (map string_bytes) c.deref.ensures.value ∙ c.in_ok-words.ensures) c.in_ok-files.ensures.files (names_ask c.plain_words_are_files.ensures program _ _ _ names))
+returns-clause-refuted c = λ one program names.
+    let texts = asked _ _ _ _ _ _ _ named.asked _ _ (ap (map string_bytes) c.deref.ensures.value ∙ c.in_ok-words.ensures) c.in_ok-files.ensures.files (names_ask c.plain_words_are_files.ensures program _ _ _ names) in
+    (c.run-status.ensures.error one Held named.asked _ _ texts, c.run-status.ensures.fit (inl (inr one)) Held named.asked _ _ texts)
 
 pub returns-clause-refused : goal.returns-clause-refused
 returns-clause-refused c = λ two.
