@@ -117,8 +117,9 @@ fn make(alloc: Global, spec: &[u8], imp: &[u8], asked: &Asked) -> Result<Made, R
         Ok(flat) => flat,
         Err(refusal) => return Err(refusal),
     };
-    let Ok(imp) = kept(&of_imp, asked.fill) else {
-        return Err(Refusal::NoMemory);
+    let imp = match kept(&of_imp, asked.fill) {
+        Ok(imp) => imp,
+        Err(NoMemory) => return Err(Refusal::NoMemory),
     };
     match beside(alloc, of_spec, of_imp, asked) {
         Ok(pair) => Ok(Made { pair, imp }),
