@@ -23,6 +23,7 @@ mod tables;
 mod telling;
 #[cfg(test)]
 mod value_tests;
-pub mod values;
+#[cfg(test)]
+mod values;
 #[cfg(test)]
 mod word_value_tests;

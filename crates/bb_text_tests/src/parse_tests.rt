@@ -211,7 +211,7 @@ fn nested(
 fn nesting(rt: HostRuntime) -> Result<(), Fail> {
     let front = "module m;\nassign y = ";
     let back = ";\nendmodule";
-    for (before, after) in [
+    for &(before, after) in &[
         ("(", ")"),
         ("{", "}"),
         ("{1{", "}}"),
@@ -228,7 +228,7 @@ fn nesting(rt: HostRuntime) -> Result<(), Fail> {
         assert_eq!(rt; found.as_str(), "deep line 2");
     }
     // A run of arms does not nest, and neither do operators of one level and a run of signs.
-    for (before, after) in [
+    for &(before, after) in &[
         ("b ? c : ", ""),
         ("b & ", ""),
         ("~", ""),
@@ -245,7 +245,7 @@ fn nesting(rt: HostRuntime) -> Result<(), Fail> {
 
 #[test]
 fn the_first_statement_decides(rt: HostRuntime) -> Result<(), Fail> {
-    for (front, turn, back, expected) in [
+    for &(front, turn, back, expected) in &[
         // A header nests too, and what is too deep is `deep` whatever else is wrong with it.
         (
             "module m",
@@ -278,7 +278,7 @@ fn the_first_statement_decides(rt: HostRuntime) -> Result<(), Fail> {
 // Behind a lone [ no : counts, and a lone ] opens nothing.
 #[test]
 fn lone_brackets_open_nothing(rt: HostRuntime) -> Result<(), Fail> {
-    for (front, turn, back, expected) in [
+    for &(front, turn, back, expected) in &[
         (
             "module m;\nassign y = [",
             ("b ? c : ", 200, ""),

@@ -1,6 +1,7 @@
 //! Values of expressions, worked out by hand, each at its own width and in a wider context.
 
 use crate::reading::source_of;
+use crate::tables::{halves, is_row};
 use crate::values::tell_values;
 use bb_names::check;
 use std::alloc::Global;
@@ -26,50 +27,63 @@ fn told(
 const HEAD: &str =
     "module m(a, b, c, e, y); input [3:0] a; input [0:3] b; input c, e; output [31:0] y; ";
 
-#[test]
-fn values_at_two_widths(rt: HostRuntime) -> Result<(), Fail> {
+// Compares the values of the expression before an arrow with what stands behind it: the value at the own width, and the value at 8
+// bits, or the own width where that is greater.
+fn row(rt: &impl Abort, alloc: Global, row: &str) -> Result<(), Fail> {
     let nets: [&[bool]; 4] = [
         &[true, false, true, false],
         &[false, true, true, false],
         &[true],
         &[false],
     ];
-    for (expr, expected) in [
-        ("a", "1010 00001010 ; "),
-        ("a[3]", "1 00000001 ; "),
-        ("a[2:1]", "01 00000001 ; "),
-        ("b[1:3]", "110 00000110 ; "),
-        ("~a", "0101 11110101 ; "),
-        ("~~a", "1010 00001010 ; "),
-        ("~(~c)", "1 00000001 ; "),
-        ("a & b", "0010 00000010 ; "),
-        ("a ^ b", "1100 00001100 ; "),
-        ("a | c", "1011 00001011 ; "),
-        ("a ~^ b", "0011 11110011 ; "),
-        ("a ^~ c", "0100 11110100 ; "),
-        ("a & ~c", "1010 00001010 ; "),
-        ("c ? a : b", "1010 00001010 ; "),
-        ("e ? a : c ? b : a", "0110 00000110 ; "),
-        ("{e, e} ? c : ~c", "0 11111110 ; "),
-        ("a[3:2] ? c : ~c", "1 00000001 ; "),
-        ("{c, a[1:0], e}", "1100 00001100 ; "),
-        ("{2{a[3:2], c}}", "101101 00101101 ; "),
-        ("~{c, e}", "01 11111101 ; "),
-        ("{~a, c}", "01011 00001011 ; "),
-        ("a & b | c ^ e", "0011 00000011 ; "),
-        ("4'b1100 | 8'h0f", "00001111 00001111 ; "),
-        ("2'h7", "11 00000011 ; "),
-        (
-            "5",
-            "00000000000000000000000000000101 00000000000000000000000000000101 ; ",
-        ),
-    ] {
-        let mut text = String::new(rt.alloc());
-        write!(text, "{HEAD}assign y = {expr}; endmodule")?;
-        let found = told(&rt, rt.alloc(), text.as_bytes(), &nets, 8)?;
-        assert_eq!(&rt; found.as_str(), expected);
+    let (expr, expected) = halves(row);
+    let mut text = String::new(alloc);
+    write!(text, "{HEAD}assign y = {expr}; endmodule")?;
+    let found = told(rt, alloc, text.as_bytes(), &nets, 8)?;
+    assert_eq!(rt; found.as_str().trim(), expected, "{row}");
+    Ok(())
+}
+
+/// Compares each row of a table.
+pub(crate) fn rows(rt: &impl Abort, alloc: Global, table: &str) -> Result<(), Fail> {
+    for line in table.lines() {
+        if is_row(line) {
+            row(rt, alloc, line)?;
+        }
     }
     Ok(())
+}
+
+const VALUES: &str = r"
+a => 1010 00001010 ;
+a[3] => 1 00000001 ;
+a[2:1] => 01 00000001 ;
+b[1:3] => 110 00000110 ;
+~a => 0101 11110101 ;
+~~a => 1010 00001010 ;
+~(~c) => 1 00000001 ;
+a & b => 0010 00000010 ;
+a ^ b => 1100 00001100 ;
+a | c => 1011 00001011 ;
+a ~^ b => 0011 11110011 ;
+a ^~ c => 0100 11110100 ;
+a & ~c => 1010 00001010 ;
+c ? a : b => 1010 00001010 ;
+e ? a : c ? b : a => 0110 00000110 ;
+{e, e} ? c : ~c => 0 11111110 ;
+a[3:2] ? c : ~c => 1 00000001 ;
+{c, a[1:0], e} => 1100 00001100 ;
+{2{a[3:2], c}} => 101101 00101101 ;
+~{c, e} => 01 11111101 ;
+{~a, c} => 01011 00001011 ;
+a & b | c ^ e => 0011 00000011 ;
+4'b1100 | 8'h0f => 00001111 00001111 ;
+2'h7 => 11 00000011 ;
+5 => 00000000000000000000000000000101 00000000000000000000000000000101 ;";
+
+#[test]
+fn values_at_two_widths(rt: HostRuntime) -> Result<(), Fail> {
+    rows(&rt, rt.alloc(), VALUES)
 }
 
 #[test]

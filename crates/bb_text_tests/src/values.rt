@@ -12,7 +12,7 @@ use std::alloc::{AllocError, Global};
 
 /// Writes the value of each right side of an assignment of the first module, at its own width and at a width, or its own
 /// where that is greater, where the nets have these bits, each the leftmost first.
-pub fn tell_values(
+pub(crate) fn tell_values(
     alloc: Global,
     checked: &Checked,
     nets: &[&[bool]],

@@ -1,37 +1,8 @@
 //! Values of operators on words and of reductions, each at its own width and in a wider context, as a simulator gives them.
 
-use crate::reading::source_of;
-use crate::tables::{halves, is_row};
-use crate::values::tell_values;
-use bb_names::check;
-use std::alloc::Global;
-use std::process::Abort;
+use crate::value_tests::rows;
 use std::test::Fail;
 
-// a is 1010 and runs down, b is 0110 and runs up, c is 1 and e is 0.
-const HEAD: &str =
-    "module m(a, b, c, e, y); input [3:0] a; input [0:3] b; input c, e; output [31:0] y; ";
-
-fn row(rt: &impl Abort, alloc: Global, row: &str) -> Result<(), Fail> {
-    let nets: [&[bool]; 4] = [
-        &[true, false, true, false],
-        &[false, true, true, false],
-        &[true],
-        &[false],
-    ];
-    let (expr, expected) = halves(row);
-    let mut text = String::new(alloc);
-    write!(text, "{HEAD}assign y = {expr}; endmodule")?;
-    assert!(rt; text.len() <= 33_554_432);
-    let source = source_of(alloc, text.as_bytes())?;
-    let checked = check(alloc, source)?;
-    let mut found = String::new(alloc);
-    tell_values(alloc, &checked, &nets, 8, &mut found)?;
-    assert_eq!(rt; found.as_str().trim(), expected, "{row}");
-    Ok(())
-}
-
-// Behind the arrow the value at the own width, and the value at 8 bits, or the own width where that is greater.
 const VALUES: &str = r"
 a + b => 0000 00010000 ;
 a - b => 0100 00000100 ;
@@ -149,10 +120,5 @@ c + c == 2'd2 => 1 00000001 ;
 
 #[test]
 fn words_have_their_values(rt: HostRuntime) -> Result<(), Fail> {
-    for line in VALUES.lines() {
-        if is_row(line) {
-            row(&rt, rt.alloc(), line)?;
-        }
-    }
-    Ok(())
+    rows(&rt, rt.alloc(), VALUES)
 }
