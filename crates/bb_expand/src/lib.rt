@@ -11,8 +11,6 @@ mod free_cells;
 mod free_clauses;
 mod free_counting;
 mod free_laws;
-#[cfg(test)]
-mod free_tests;
 mod held;
 mod holding;
 mod laws;
@@ -22,8 +20,6 @@ mod seeking;
 mod sought;
 mod sweep;
 mod tables;
-#[cfg(test)]
-mod tests;
 mod turns;
 mod vectors;
 

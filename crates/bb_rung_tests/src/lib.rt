@@ -1,9 +1,11 @@
-//! Tests of the checks by diagrams, of the comparison of netlists without boxes, and of the words of a command line, through the public
-//! calls of their crates.
+//! Tests of the checks by diagrams and by expansion, of the comparison of netlists without boxes, and of the words of a command line,
+//! through the public calls of their crates.
 #![tactic(auto)]
 
 #[cfg(test)]
 mod diagram_tests;
+#[cfg(test)]
+mod expansion_tests;
 #[cfg(test)]
 mod miter_tests;
 #[cfg(test)]

@@ -85,13 +85,27 @@ pub fn net_of(alloc: Global, inputs: u32, parts: &[Part<'_>], out: u32) -> Resul
     Ok(net)
 }
 
-// The same text so many times.
-fn names(alloc: Global, text: &[u8], count: usize) -> Result<Vec<Name>, Fail>
+/// The same text so many times.
+pub fn names(alloc: Global, text: &[u8], count: usize) -> Result<Vec<Name>, Fail>
     ensures { IfOk result (λ names. length names.items ≡ count) }
 {
     let mut names = Vec::new(alloc);
     for _ in 0..count {
         names.push(Name::of(alloc, text)?)?;
+    }
+    Ok(names)
+}
+
+/// So many outputs.
+pub fn outputs(alloc: Global, count: usize) -> Result<Vec<OutName>, Fail>
+    ensures { IfOk result (λ names. length names.items ≡ count) }
+{
+    let mut names = Vec::new(alloc);
+    for _ in 0..count {
+        names.push(OutName {
+            next: false,
+            text: Name::of(alloc, b"y")?,
+        })?;
     }
     Ok(names)
 }
@@ -123,8 +137,8 @@ fn are_two(boxes: &[BoxPins]) -> bool
     }
 }
 
-// The texts of two boxes.
-fn box_names(alloc: Global, boxes: &[BoxPins]) -> Result<Vec<BoxName>, Fail>
+/// The texts of two boxes.
+pub fn box_names(alloc: Global, boxes: &[BoxPins]) -> Result<Vec<BoxName>, Fail>
     requires { length boxes.now ≡ 2 }
     ensures { IfOk result (λ texts. AllZip NamesPins texts.items boxes.now) }
 {
@@ -159,11 +173,7 @@ pub fn pair_of(alloc: Global, spec: Net, imp: Net) -> Result<Pair, Fail> {
         return Err(Fail::new("netlists that are no pair"));
     }
     let ins = names(alloc, b"a", imp.inputs() as usize)?;
-    let out = OutName {
-        next: false,
-        text: Name::of(alloc, b"y")?,
-    };
-    let outs = vec![in alloc; out]?;
+    let outs = outputs(alloc, 1)?;
     let boxes = box_names(alloc, imp.boxes())?;
     let kinds = own_kinds(alloc, 2)?;
     Ok(Pair::of(spec, imp, ins, outs, boxes, kinds))

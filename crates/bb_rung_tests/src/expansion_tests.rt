@@ -1,14 +1,13 @@
-//! Small pairs. Their counts and tables were found by hand.
+//! The check by expansion of two boxes, through public calls. Counts and tables were found by hand.
 
-ghost use Rattle.std.specs.Prelude.{◌≡◌, ◌+◌, ◌<◌, ◌∷◌, [], length, IfOk, OnOk};
-ghost use Rattle.std.specs.List.{AllZip};
+ghost use Rattle.std.specs.Prelude.{◌≡◌, ◌<◌, ◌∷◌, [], length, IfOk};
 ghost use Rattle.bb_net.specs.Kinds.{FitKinds};
-ghost use Rattle.bb_net.specs.Pairs.{NamesPins};
 
-use crate::{ExpandFault, Expanded, clause_count, expand};
-use bb_bits::{Name, Table};
+use crate::parts::{box_names, names, outputs};
+use bb_bits::Table;
 use bb_cnf::check;
-use bb_net::{BoxName, Cell, Net, OutName, Pair, kinds_may_differ, own_kinds};
+use bb_expand::{ExpandFault, Expanded, clause_count, expand};
+use bb_net::{Cell, Net, Pair, kinds_may_differ, own_kinds};
 use std::alloc::Global;
 use std::test::Fail;
 
@@ -44,61 +43,6 @@ fn implementation(alloc: Global) -> Result<Net, Fail>
     Ok(imp)
 }
 
-fn name(alloc: Global, text: &[u8]) -> Result<Vec<Name>, Fail>
-    ensures { IfOk result (λ names. length names.items ≡ 1) }
-{
-    Ok(vec![in alloc; Name::of(alloc, text)?]?)
-}
-
-// The texts of a box with two pins.
-fn box_name(alloc: Global, path: &[u8]) -> Result<BoxName, Fail>
-    ensures ins { IfOk result (λ texts. length texts.ins ≡ 1) }
-    ensures outs { IfOk result (λ texts. length texts.outs ≡ 1) }
-{
-    let path = Name::of(alloc, path)?;
-    let module = Name::of(alloc, b"m")?;
-    let ins = name(alloc, b"i")?;
-    let outs = name(alloc, b"o")?;
-    Ok(BoxName::of(path, module, ins, outs))
-}
-
-fn add_out_name(alloc: Global, names: &mut Vec<OutName>, text: &[u8]) -> Result<(), Fail>
-    ensures { OnOk result (length names.new.items ≡ length names.old.items + 1) }
-{
-    names.push(OutName {
-        next: false,
-        text: Name::of(alloc, text)?,
-    })?;
-    Ok(())
-}
-
-fn input_names(alloc: Global) -> Result<Vec<Name>, Fail>
-    ensures { IfOk result (λ names. length names.items ≡ 2) }
-{
-    let mut names = name(alloc, b"a")?;
-    names.push(Name::of(alloc, b"b")?)?;
-    Ok(names)
-}
-
-fn output_names(alloc: Global) -> Result<Vec<OutName>, Fail>
-    ensures { IfOk result (λ names. length names.items ≡ 2) }
-{
-    let mut names = Vec::new(alloc);
-    add_out_name(alloc, &mut names, b"y1")?;
-    add_out_name(alloc, &mut names, b"y2")?;
-    Ok(names)
-}
-
-fn box_names(alloc: Global) -> Result<Vec<BoxName>, Fail>
-    ensures { IfOk result (λ names. AllZip NamesPins names.items
-        (record { ins = 2 ∷ []; outs = 4 ∷ [] } ∷ record { ins = 3 ∷ []; outs = 5 ∷ [] } ∷ [])) }
-{
-    let mut names = Vec::new(alloc);
-    names.push(box_name(alloc, b"u1")?)?;
-    names.push(box_name(alloc, b"u2")?)?;
-    Ok(names)
-}
-
 // Two boxes of one kind, or each of its own.
 fn kinds_of_two(alloc: Global, shared: bool) -> Result<Vec<u32>, Fail>
     ensures { IfOk result (λ kinds. FitKinds kinds.items
@@ -117,11 +61,11 @@ fn kinds_of_two(alloc: Global, shared: bool) -> Result<Vec<u32>, Fail>
 fn two_boxes(alloc: Global, second: u32, shared: bool) -> Result<Pair, Fail>
     requires there { second < 4 }
 {
-    let ins = input_names(alloc)?;
-    let outs = output_names(alloc)?;
-    let boxes = box_names(alloc)?;
     let spec = specification(alloc, second)?;
     let imp = implementation(alloc)?;
+    let ins = names(alloc, b"a", 2)?;
+    let outs = outputs(alloc, 2)?;
+    let boxes = box_names(alloc, imp.boxes())?;
     let kinds = kinds_of_two(alloc, shared)?;
     Ok(Pair::of(spec, imp, ins, outs, boxes, kinds))
 }
