@@ -41,9 +41,9 @@ apart a b same long short = far (length a) (length b) READ_LIMIT (ap length same
 module _ (judged : List ℕ → List ℕ → ℕ → List ℕ → Type 0) (refuses : List ℕ → List ℕ → List ℕ → Type 0)
     (first_refusal : (spec imp : List ℕ) (status : ℕ) (text : List ℕ) → judged spec imp status text → status ≡ 2 → refuses spec imp text)
     (from : Source) (holds : List ℕ → Option (List ℕ)) (first second : List ℕ) (before after : Reads) (line : List ℕ) where
-  imp_refusal : (between : Reads) (spec imp bytes : List ℕ) → AreBytes from holds before after first second spec imp → length spec < READ_LIMIT → Gives (holds first) bytes → length bytes < READ_LIMIT → IsRead before between first (Some (Some bytes))
+  imp_refusal : (between : Reads) (spec imp bytes : List ℕ) → AreBytes from holds before after first second spec imp → length spec < READ_LIMIT → Gives (holds first) bytes → length bytes < READ_LIMIT → IsRead before between first READ_LIMIT (Some (Some bytes))
       → AfterSpec judged (holds second) second between after bytes 2 line → IsFilesRefusal refuses from holds before after first second line
-  imp_refusal between spec imp bytes both spec_short g short c (ImpUnread d rose s t) = absurd (omega (arith, s))
+  imp_refusal between spec imp bytes both spec_short g short c (ImpUnread d s t) = absurd (omega (arith, s))
   imp_refusal between spec imp bytes both spec_short g short c (ImpLong other h full d s t) =
       OfImpLength spec imp both spec_short (given_long from other imp (given_second holds first second from before between after spec imp other (Some bytes) both h c d) full) t
   imp_refusal between spec imp bytes both spec_short g short c (BothRead other h low d is) =
@@ -51,15 +51,15 @@ module _ (judged : List ℕ → List ℕ → ℕ → List ℕ → Type 0) (refus
       let texts = subst (λ z. judged z imp 2 line) whole.0 (subst (λ z. judged bytes z 2 line) whole.1 is) in
       OfTexts spec imp both spec_short (subst (λ z. length z < READ_LIMIT) whole.1 low) (first_refusal spec imp 2 line texts refl)
 
-  spec_refusal : (between : Reads) (spec bytes : List ℕ) (gave : Option (List ℕ)) → IsFirst from holds before after first spec → Gives (holds first) bytes → length bytes < READ_LIMIT → IsRead before between first (Some (Some bytes))
-      → IsRead between after second (Some gave) → length spec < READ_LIMIT
+  spec_refusal : (between : Reads) (spec bytes : List ℕ) (gave : Option (List ℕ)) → IsFirst from holds before after first spec → Gives (holds first) bytes → length bytes < READ_LIMIT → IsRead before between first READ_LIMIT (Some (Some bytes))
+      → IsRead between after second READ_LIMIT (Some gave) → length spec < READ_LIMIT
   spec_refusal between spec bytes gave there g short c d =
       subst (λ z. length z < READ_LIMIT) (given_whole from bytes spec (given_first holds first second from before between after spec bytes gave there g c d) short) short
 
   pub files_refusal : AreToldOf from holds before after first second → OfFiles judged holds first second before after 2 line → IsFilesRefusal refuses from holds before after first second line
-  files_refusal told (SpecUnread c rose s t) = absurd (omega (arith, s))
+  files_refusal told (SpecUnread c s t) = absurd (omega (arith, s))
   files_refusal (spec, there, rest) (SpecLong bytes g full c s t) = OfSpecLength spec there (given_long from bytes spec (given_alone holds first second from before after spec bytes there g c) full) t
-  files_refusal (spec, there, rest) (SpecRead bytes between g short c (ImpUnread d rose s t)) = absurd (omega (arith, s))
+  files_refusal (spec, there, rest) (SpecRead bytes between g short c (ImpUnread d s t)) = absurd (omega (arith, s))
   files_refusal (spec, there, rest) (SpecRead bytes between g short c (ImpLong other h full d s t)) =
       let low = spec_refusal between spec bytes (Some other) there g short c d in
       imp_refusal between spec (rest low).0 bytes (rest low).1 low g short c (ImpLong other h full d s t)
@@ -121,19 +121,19 @@ module _ (judged : List ℕ → List ℕ → ℕ → List ℕ → Type 0) (refus
   IsTold = (status ≡ 2) × (text ≡ line)
 
   -- the first read gave less than the limit
-  after_told : (between : Reads) (bytes : List ℕ) → Gives (holds first) bytes → length bytes < READ_LIMIT → IsRead before between first (Some (Some bytes))
+  after_told : (between : Reads) (bytes : List ℕ) → Gives (holds first) bytes → length bytes < READ_LIMIT → IsRead before between first READ_LIMIT (Some (Some bytes))
       → IsFilesRefusal refuses from holds before after first second line → AfterSpec judged (holds second) second between after bytes status text → IsTold
-  after_told between bytes g short c (OfSpecLength spec x long is) (ImpUnread d rose s t) =
+  after_told between bytes g short c (OfSpecLength spec x long is) (ImpUnread d s t) =
       absurd (given_never_short from bytes spec (given_first holds first second from before between after spec bytes None x g c d) short long)
   after_told between bytes g short c (OfSpecLength spec x long is) (ImpLong other h full d s t) =
       absurd (given_never_short from bytes spec (given_first holds first second from before between after spec bytes (Some other) x g c d) short long)
   after_told between bytes g short c (OfSpecLength spec x long is) (BothRead other h low d j) =
       absurd (given_never_short from bytes spec (given_first holds first second from before between after spec bytes (Some other) x g c d) short long)
-  after_told between bytes g short c (OfImpLength spec imp x low long is) (ImpUnread d rose s t) = absurd (calm (failed_second holds first second from before between after spec imp (Some bytes) x c d rose))
+  after_told between bytes g short c (OfImpLength spec imp x low long is) (ImpUnread d s t) = absurd (calm (failed_second holds first second from before between after spec imp (Some bytes) x c d))
   after_told between bytes g short c (OfImpLength spec imp x low long is) (ImpLong other h full d s t) = (s, t ∙ sym is)
   after_told between bytes g short c (OfImpLength spec imp x low long is) (BothRead other h less d j) =
       absurd (given_never_short from other imp (given_second holds first second from before between after spec imp other (Some bytes) x h c d) less long)
-  after_told between bytes g short c (OfTexts spec imp x low less is) (ImpUnread d rose s t) = absurd (calm (failed_second holds first second from before between after spec imp (Some bytes) x c d rose))
+  after_told between bytes g short c (OfTexts spec imp x low less is) (ImpUnread d s t) = absurd (calm (failed_second holds first second from before between after spec imp (Some bytes) x c d))
   after_told between bytes g short c (OfTexts spec imp x low less is) (ImpLong other h full d s t) =
       absurd (given_never_long from other imp (given_second holds first second from before between after spec imp other (Some bytes) x h c d) full less)
   after_told between bytes g short c (OfTexts spec imp x low less is) (BothRead other h few d j) =
@@ -147,7 +147,7 @@ module _ (judged : List ℕ → List ℕ → ℕ → List ℕ → Type 0) (refus
   first_there (OfTexts spec imp x low less is) = (spec, first_of_both holds first second from before after spec imp x)
 
   -- the first read gave as much as the limit
-  long_told : (bytes : List ℕ) → Gives (holds first) bytes → length bytes ≡ READ_LIMIT → IsRead before after first (Some (Some bytes)) → status ≡ 2 → text ≡ codes "refused spec toolong\n"
+  long_told : (bytes : List ℕ) → Gives (holds first) bytes → length bytes ≡ READ_LIMIT → IsRead before after first READ_LIMIT (Some (Some bytes)) → status ≡ 2 → text ≡ codes "refused spec toolong\n"
       → IsFilesRefusal refuses from holds before after first second line → IsTold
   long_told bytes g full c s t (OfSpecLength spec x long is) = (s, t ∙ sym is)
   long_told bytes g full c s t (OfImpLength spec imp x low long is) =
@@ -156,7 +156,7 @@ module _ (judged : List ℕ → List ℕ → ℕ → List ℕ → Type 0) (refus
       absurd (given_never_long from bytes spec (given_alone holds first second from before after spec bytes (first_of_both holds first second from before after spec imp x) g c) full low)
 
   pub files_told : IsFilesRefusal refuses from holds before after first second line → OfFiles judged holds first second before after status text → IsTold
-  files_told refusal (SpecUnread c rose s t) = let there = first_there refusal in absurd (calm (failed_alone holds first second from before after there.0 there.1 c rose))
+  files_told refusal (SpecUnread c s t) = let there = first_there refusal in absurd (calm (failed_alone holds first second from before after there.0 there.1 c))
   files_told refusal (SpecLong bytes g full c s t) = long_told bytes g full c s t refusal
   files_told refusal (SpecRead bytes between g short c next) = after_told between bytes g short c refusal next
 

@@ -7,7 +7,7 @@ use Rattle.bb_ladder.specs.declared.asked.Asked.{Asked as TextsAsked}
 use Rattle.bb_cnf.specs.Clauses.{Formula}
 use Rattle.bb_cnf.specs.declared.clauses.Lit.{Lit}
 use Rattle.bb_make.specs.Adders.{made_imp, made_spec}
-use Rattle.bb_words.specs.Asked.{Refutation, asked, made_asked, rup_asked}
+use Rattle.bb_words.specs.Asked.{Refutation, made_asked, rup_asked}
 use Rattle.bb_words.specs.Laws.{WordsAskOnce}
 use Rattle.bb_ladder.specs.Answers.{Question, AfterSpec, ImpUnread, ImpLong, BothRead, OfFiles, SpecUnread, SpecLong, SpecRead, MayAnswer, Usage, Asked, Making, Refuting, AreRefutationTexts, AreTexts, FileTexts, MadeTexts, Gives, question_of}
 use Rattle.bb_ladder.specs.MadePairs.{JudgesMade, asked_of}
@@ -22,9 +22,9 @@ use Rattle.bb_ladder.proofs.HeadlineLemmas.{asks_no_comparison, asks_no_pair, as
 module _ (judged : List ℕ → List ℕ → ℕ → List ℕ → Type 0) (spec imp : List ℕ) (S : ℕ → Type 0) (answered : (status : ℕ) (text : List ℕ) → judged spec imp status text → S status)
     (spec_short : length spec < READ_LIMIT) (imp_short : length imp < READ_LIMIT) (from : Source) (holds : List ℕ → Option (List ℕ)) (first second : List ℕ) (before after : Reads)
     (both : AreBytes from holds before after first second spec imp) (calm : MayHaveFailed from before after → ⊥) where
-  after_answered : (between : Reads) (bytes : List ℕ) (status : ℕ) (text : List ℕ) → Gives (holds first) bytes → length bytes < READ_LIMIT → IsRead before between first (Some (Some bytes))
+  after_answered : (between : Reads) (bytes : List ℕ) (status : ℕ) (text : List ℕ) → Gives (holds first) bytes → length bytes < READ_LIMIT → IsRead before between first READ_LIMIT (Some (Some bytes))
       → AfterSpec judged (holds second) second between after bytes status text → S status
-  after_answered between bytes status text g short c (ImpUnread d rose s t) = absurd (calm (failed_second holds first second from before between after spec imp (Some bytes) both c d rose))
+  after_answered between bytes status text g short c (ImpUnread d s t) = absurd (calm (failed_second holds first second from before between after spec imp (Some bytes) both c d))
   after_answered between bytes status text g short c (ImpLong long h l d s t) =
       absurd (given_never_long from long imp (given_second holds first second from before between after spec imp long (Some bytes) both h c d) l imp_short)
   after_answered between bytes status text g short c (BothRead read h low d j) =
@@ -32,8 +32,8 @@ module _ (judged : List ℕ → List ℕ → ℕ → List ℕ → Type 0) (spec 
       answered status text (subst (λ z. judged z imp status text) whole.0 (subst (λ z. judged bytes z status text) whole.1 j))
 
   pub files_answered : (status : ℕ) (text : List ℕ) → OfFiles judged holds first second before after status text → S status
-  files_answered status text (SpecUnread c rose s t) =
-      absurd (calm (failed_alone holds first second from before after spec (first_of_both holds first second from before after spec imp both) c rose))
+  files_answered status text (SpecUnread c s t) =
+      absurd (calm (failed_alone holds first second from before after spec (first_of_both holds first second from before after spec imp both) c))
   files_answered status text (SpecLong long g l c s t) =
       absurd (given_never_long from long spec (given_alone holds first second from before after spec long (first_of_both holds first second from before after spec imp both) g c) l spec_short)
   files_answered status text (SpecRead bytes between g short c a) = after_answered between bytes status text g short c a

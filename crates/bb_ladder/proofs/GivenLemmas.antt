@@ -34,18 +34,18 @@ not_less m n same less = omega (arith, same, less)
 module _ (judged : List ℕ → List ℕ → ℕ → List ℕ → Type 0) (holds : List ℕ → Option (List ℕ)) (first second : List ℕ) (before after : Reads) (status : ℕ) (text : List ℕ)
     (earlier : List FileRead) (known : before.told ≡ Some earlier) where
   pub files_gave : IsVerdict status → OfFiles judged holds first second before after status text → (a : List ℕ) × (b : List ℕ) × AreBytes Given holds before after first second a b
-  files_gave is (SpecUnread c rose s t) = absurd (no_failure status is s)
+  files_gave is (SpecUnread c s t) = absurd (no_failure status is s)
   files_gave is (SpecLong bytes g full c s t) = absurd (no_refusal status is s)
-  files_gave is (SpecRead bytes between g short c (ImpUnread d rose s t)) = absurd (no_failure status is s)
+  files_gave is (SpecRead bytes between g short c (ImpUnread d s t)) = absurd (no_failure status is s)
   files_gave is (SpecRead bytes between g short c (ImpLong other h full d s t)) = absurd (no_refusal status is s)
   files_gave is (SpecRead bytes between g short c (BothRead other h low d j)) =
       (bytes, other, (earlier, known, told_after_two before between after first second (Some bytes) (Some other) earlier c d known))
 
   pub files_told_of : status ≡ 2 → OfFiles judged holds first second before after status text → AreToldOf Given holds before after first second
-  files_told_of two (SpecUnread c rose s t) = absurd (no_unread status two s)
+  files_told_of two (SpecUnread c s t) = absurd (no_unread status two s)
   files_told_of two (SpecLong bytes g full c s t) =
       (bytes, ([], (earlier, known, told_after_one before after first (Some bytes) earlier c known)), λ low. absurd (not_less (length bytes) READ_LIMIT full low))
-  files_told_of two (SpecRead bytes between g short c (ImpUnread d rose s t)) = absurd (no_unread status two s)
+  files_told_of two (SpecRead bytes between g short c (ImpUnread d s t)) = absurd (no_unread status two s)
   files_told_of two (SpecRead bytes between g short c (ImpLong other h full d s t)) =
       let were : AreBytes Given holds before after first second bytes other = (earlier, known, told_after_two before between after first second (Some bytes) (Some other) earlier c d known) in
       (bytes, (read_of second other ∷ [], were), λ low. (other, were))

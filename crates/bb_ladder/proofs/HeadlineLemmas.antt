@@ -1,7 +1,7 @@
 -- What statuses 0, 1, 3 and 4 say of the two files: the tables of the report make the designs agree, no contents of the boxes do and
 -- its vectors show mistakes, each check leaves the question open, or a read failed.
 use Rattle.std.proofs.Common.{◌⊎◌, inl, inr, ◌≡◌, ◌<◌, ℕ, ◌==◌, Bool, true, false, if◌then◌else◌, List, ◌++◌, length, Option, Some, None, arith, codes, option_map, refl, sym, ◌∙◌, ap, subst}
-use Rattle.bb_outside.specs.Counts.{IsRead, Reads, Rose}
+use Rattle.bb_outside.specs.Counts.{IsRead, Reads, next_count}
 use Rattle.bb_texts.specs.declared.limit.TheConstants.{READ_LIMIT}
 use Rattle.bb_ladder.specs.declared.asked.Asked.{Asked as TextsAsked}
 use Rattle.bb_make.specs.Adders.{made_imp, made_spec}
@@ -96,8 +96,8 @@ same_refutation a b e = cc
 module _ (judged : List ℕ → List ℕ → ℕ → List ℕ → Type 0) (so : List ℕ → List ℕ → List ℕ → Type 0) (n : ℕ) (not_refused : n ≡ 2 → ⊥) (not_unread : n ≡ 4 → ⊥)
     (each : (spec imp : List ℕ) (status : ℕ) (text : List ℕ) → judged spec imp status text → status ≡ n → so spec imp text) where
   after_so : (from : Source) (holds : List ℕ → Option (List ℕ)) (first second : List ℕ) (before between after : Reads) (spec imp bytes text : List ℕ) (status : ℕ) → AreBytes from holds before after first second spec imp
-      → Gives (holds first) bytes → length bytes < READ_LIMIT → IsRead before between first (Some (Some bytes)) → AfterSpec judged (holds second) second between after bytes status text → status ≡ n → so spec imp text
-  after_so from holds first second before between after spec imp bytes text status both g short c (ImpUnread d r s t) is = absurd (not_unread (sym is ∙ s))
+      → Gives (holds first) bytes → length bytes < READ_LIMIT → IsRead before between first READ_LIMIT (Some (Some bytes)) → AfterSpec judged (holds second) second between after bytes status text → status ≡ n → so spec imp text
+  after_so from holds first second before between after spec imp bytes text status both g short c (ImpUnread d s t) is = absurd (not_unread (sym is ∙ s))
   after_so from holds first second before between after spec imp bytes text status both g short c (ImpLong other h l d s t) is = absurd (not_refused (sym is ∙ s))
   after_so from holds first second before between after spec imp bytes text status both g short c (BothRead other h low d j) is =
       let whole = both_whole holds first second from before between after spec imp bytes other both g short c h low d in
@@ -105,7 +105,7 @@ module _ (judged : List ℕ → List ℕ → ℕ → List ℕ → Type 0) (so : 
 
   pub files_so : (from : Source) (holds : List ℕ → Option (List ℕ)) (first second : List ℕ) (before after : Reads) (spec imp text : List ℕ) (status : ℕ) → AreBytes from holds before after first second spec imp
       → OfFiles judged holds first second before after status text → status ≡ n → so spec imp text
-  files_so from holds first second before after spec imp text status both (SpecUnread c r s t) is = absurd (not_unread (sym is ∙ s))
+  files_so from holds first second before after spec imp text status both (SpecUnread c s t) is = absurd (not_unread (sym is ∙ s))
   files_so from holds first second before after spec imp text status both (SpecLong other g l c s t) is = absurd (not_refused (sym is ∙ s))
   files_so from holds first second before after spec imp text status both (SpecRead other between g short c a) is =
       after_so from holds first second before between after spec imp other text status both g short c a is
@@ -201,22 +201,44 @@ never_unread : (asked : TextsAsked) (spec imp : List ℕ) (status : ℕ) (text :
 never_unread asked spec imp status text (Refused r is s t) four = omega (arith, s, four)
 never_unread asked spec imp status text (Judged p lines d i are for climb s rest follows t) four = report_status lines (sym s ∙ four)
 
--- a failed read is told only where one was counted
+-- a read that gave bytes counts no failure
+gave_bytes : (before after : Reads) (name : List ℕ) (limit : ℕ) (bytes : List ℕ) → IsRead before after name limit (Some (Some bytes)) → after.faults ≡ before.faults
+gave_bytes before after name limit bytes read = read.failed.1 (λ e. cc e)
+
+-- where a failed read is told, one was counted
 files_unread : (judged : List ℕ → List ℕ → ℕ → List ℕ → Type 0) → ((spec imp : List ℕ) (status : ℕ) (text : List ℕ) → judged spec imp status text → status ≡ 4 → ⊥)
-    → (holds : List ℕ → Option (List ℕ)) (first second : List ℕ) (before after : Reads) (status : ℕ) (text : List ℕ) → OfFiles judged holds first second before after status text → status ≡ 4 → Rose before.faults after.faults
-files_unread judged never holds first second before after status text (SpecUnread c rose s t) four = rose
+    → (holds : List ℕ → Option (List ℕ)) (first second : List ℕ) (before after : Reads) (status : ℕ) (text : List ℕ) → OfFiles judged holds first second before after status text → status ≡ 4 → after.faults ≡ next_count before.faults
+files_unread judged never holds first second before after status text (SpecUnread c s t) four = c.failed.0 refl
 files_unread judged never holds first second before after status text (SpecLong spec g l c s t) four = absurd (omega (arith, s, four))
-files_unread judged never holds first second before after status text (SpecRead spec between g short c (ImpUnread d rose s t)) four = omega (arith, c.later, rose)
+files_unread judged never holds first second before after status text (SpecRead spec between g short c (ImpUnread d s t)) four =
+    d.failed.0 refl ∙ ap next_count (gave_bytes before between first READ_LIMIT spec c)
 files_unread judged never holds first second before after status text (SpecRead spec between g short c (ImpLong imp h l d s t)) four = absurd (omega (arith, s, four))
 files_unread judged never holds first second before after status text (SpecRead spec between g short c (BothRead imp h low d j)) four = absurd (never spec imp status text j four)
 
-pub unread_rose : CheckLaws → (words : List (List ℕ)) (holds : List ℕ → Option (List ℕ)) (before after : Reads) (status : ℕ) (text : List ℕ) → MayAnswer words holds before after status text → status ≡ 4
-    → Rose before.faults after.faults
-unread_rose laws words holds before after status text (Usage none no_pair neither c s t) four = absurd (omega (arith, s, four))
-unread_rose laws words holds before after status text (Asked q e files) four = files_unread (Judges q.asked) (never_unread q.asked) holds q.spec q.imp before after status text files four
-unread_rose laws words holds before after status text (Making m e quiet judges) four = absurd (never_unread (asked_of m.fill m.options) (made_spec m.n) (made_imp m.n) status judges.0 judges.1 four)
-unread_rose laws words holds before after status text (Refuting f e files) four =
+pub unread_counted : CheckLaws → (words : List (List ℕ)) (holds : List ℕ → Option (List ℕ)) (before after : Reads) (status : ℕ) (text : List ℕ) → MayAnswer words holds before after status text → status ≡ 4
+    → after.faults ≡ next_count before.faults
+unread_counted laws words holds before after status text (Usage none no_pair neither c s t) four = absurd (omega (arith, s, four))
+unread_counted laws words holds before after status text (Asked q e files) four = files_unread (Judges q.asked) (never_unread q.asked) holds q.spec q.imp before after status text files four
+unread_counted laws words holds before after status text (Making m e quiet judges) four = absurd (never_unread (asked_of m.fill m.options) (made_spec m.n) (made_imp m.n) status judges.0 judges.1 four)
+unread_counted laws words holds before after status text (Refuting f e files) four =
     files_unread Checks (λ first second n line checks. (laws.small first second n line checks).1) holds f.cnf f.adds before after status text files four
+
+-- and elsewhere none is
+files_gave_bytes : (judged : List ℕ → List ℕ → ℕ → List ℕ → Type 0) (holds : List ℕ → Option (List ℕ)) (first second : List ℕ) (before after : Reads) (status : ℕ) (text : List ℕ) → OfFiles judged holds first second before after status text
+    → status < 4 → after.faults ≡ before.faults
+files_gave_bytes judged holds first second before after status text (SpecUnread c s t) small = absurd (omega (arith, s, small))
+files_gave_bytes judged holds first second before after status text (SpecLong spec g l c s t) small = gave_bytes before after first READ_LIMIT spec c
+files_gave_bytes judged holds first second before after status text (SpecRead spec between g short c (ImpUnread d s t)) small = absurd (omega (arith, s, small))
+files_gave_bytes judged holds first second before after status text (SpecRead spec between g short c (ImpLong imp h l d s t)) small =
+    gave_bytes between after second READ_LIMIT imp d ∙ gave_bytes before between first READ_LIMIT spec c
+files_gave_bytes judged holds first second before after status text (SpecRead spec between g short c (BothRead imp h low d j)) small =
+    gave_bytes between after second READ_LIMIT imp d ∙ gave_bytes before between first READ_LIMIT spec c
+
+pub none_counted : (words : List (List ℕ)) (holds : List ℕ → Option (List ℕ)) (before after : Reads) (status : ℕ) (text : List ℕ) → MayAnswer words holds before after status text → status < 4 → after.faults ≡ before.faults
+none_counted words holds before after status text (Usage none no_pair neither c s t) small = ap (λ (r : Reads). r.faults) c
+none_counted words holds before after status text (Asked q e files) small = files_gave_bytes (Judges q.asked) holds q.spec q.imp before after status text files small
+none_counted words holds before after status text (Making m e quiet judges) small = ap (λ (r : Reads). r.faults) quiet
+none_counted words holds before after status text (Refuting f e files) small = files_gave_bytes Checks holds f.cnf f.adds before after status text files small
 
 -- of a made pair none is told
 pub made_is_read : WordsAskOnce → (words : List (List ℕ)) (m : MadePair) (holds : List ℕ → Option (List ℕ)) (before after : Reads) (status : ℕ) (text : List ℕ) → made_asked words ≡ Some m → MayAnswer words holds before after status text → status ≡ 4 → ⊥
@@ -227,9 +249,9 @@ made_is_read once words m holds before after status text makes (Refuting f e fil
 
 -- no refutation is left open
 files_never_open : CheckLaws → (holds : List ℕ → Option (List ℕ)) (first second : List ℕ) (before after : Reads) (status : ℕ) (text : List ℕ) → OfFiles Checks holds first second before after status text → status ≡ 3 → ⊥
-files_never_open laws holds first second before after status text (SpecUnread c rose s t) three = omega (arith, s, three)
+files_never_open laws holds first second before after status text (SpecUnread c s t) three = omega (arith, s, three)
 files_never_open laws holds first second before after status text (SpecLong spec g l c s t) three = omega (arith, s, three)
-files_never_open laws holds first second before after status text (SpecRead spec between g short c (ImpUnread d rose s t)) three = omega (arith, s, three)
+files_never_open laws holds first second before after status text (SpecRead spec between g short c (ImpUnread d s t)) three = omega (arith, s, three)
 files_never_open laws holds first second before after status text (SpecRead spec between g short c (ImpLong imp h l d s t)) three = omega (arith, s, three)
 files_never_open laws holds first second before after status text (SpecRead spec between g short c (BothRead imp h low d j)) three = (laws.small spec imp status text j).0 three
 

@@ -1,7 +1,7 @@
 -- What the reads of a call gave is what the files hold, up to the limit, or what is told of the reads.
-use Rattle.std.proofs.Common.{◌≡◌, ◌<◌, ◌≤◌, ℕ, List, [], ◌∷◌, ◌++◌, length, take, Option, Some, None, option_map, arith, sym, ◌∙◌, ap, subst, append_assoc}
+use Rattle.std.proofs.Common.{◌≡◌, ◌<◌, ◌≤◌, ℕ, List, [], ◌∷◌, ◌++◌, length, take, Option, Some, None, option_map, arith, refl, sym, ◌∙◌, ap, subst, append_assoc}
 use Rattle.std.proofs.lemmas.List.{append_cancel_left, length-take, take_all}
-use Rattle.bb_outside.specs.Counts.{FileRead, IsRead, Reads, Rose}
+use Rattle.bb_outside.specs.Counts.{FileRead, IsRead, Reads}
 use Rattle.bb_texts.specs.declared.limit.TheConstants.{READ_LIMIT}
 use Rattle.bb_ladder.specs.Answers.{Gives}
 use Rattle.bb_ladder.specs.Sources.{AreBytes, Given, Held, IsFirst, MayHaveFailed, Source, WereRead, read_of}
@@ -42,15 +42,15 @@ given_never_short from bytes text g short long = never_both (length text) READ_L
 
 -- what is told after one read and after two
 
-pub told_after_one : (before after : Reads) (first : List ℕ) (gave : Option (List ℕ)) (earlier : List FileRead) → IsRead before after first (Some gave) → before.told ≡ Some earlier
-    → after.told ≡ Some (earlier ++ record { name = first; gave = gave } ∷ [])
-told_after_one before after first gave earlier read e = read.told ∙ ap (option_map (λ told. told ++ record { name = first; gave = gave } ∷ [])) e
+pub told_after_one : (before after : Reads) (first : List ℕ) (gave : Option (List ℕ)) (earlier : List FileRead) → IsRead before after first READ_LIMIT (Some gave) → before.told ≡ Some earlier
+    → after.told ≡ Some (earlier ++ record { name = first; limit = READ_LIMIT; gave = gave } ∷ [])
+told_after_one before after first gave earlier read e = read.told ∙ ap (option_map (λ told. told ++ record { name = first; limit = READ_LIMIT; gave = gave } ∷ [])) e
 
-pub told_after_two : (before between after : Reads) (first second : List ℕ) (gave other : Option (List ℕ)) (earlier : List FileRead) → IsRead before between first (Some gave) → IsRead between after second (Some other) → before.told ≡ Some earlier
-    → after.told ≡ Some (earlier ++ record { name = first; gave = gave } ∷ record { name = second; gave = other } ∷ [])
+pub told_after_two : (before between after : Reads) (first second : List ℕ) (gave other : Option (List ℕ)) (earlier : List FileRead) → IsRead before between first READ_LIMIT (Some gave) → IsRead between after second READ_LIMIT (Some other) → before.told ≡ Some earlier
+    → after.told ≡ Some (earlier ++ record { name = first; limit = READ_LIMIT; gave = gave } ∷ record { name = second; limit = READ_LIMIT; gave = other } ∷ [])
 told_after_two before between after first second gave other earlier read more e =
-    told_after_one between after second other (earlier ++ record { name = first; gave = gave } ∷ []) more (told_after_one before between first gave earlier read e)
-    ∙ ap (λ z. Some z) (append_assoc earlier (record { name = first; gave = gave } ∷ []) (record { name = second; gave = other } ∷ []))
+    told_after_one between after second other (earlier ++ record { name = first; limit = READ_LIMIT; gave = gave } ∷ []) more (told_after_one before between first gave earlier read e)
+    ∙ ap (λ z. Some z) (append_assoc earlier (record { name = first; limit = READ_LIMIT; gave = gave } ∷ []) (record { name = second; limit = READ_LIMIT; gave = other } ∷ []))
 
 -- the reads of a call are one list
 one_list : (before after : Reads) (earlier reads : List FileRead) → before.told ≡ Some earlier → after.told ≡ Some (earlier ++ reads) → (others : List FileRead) → WereRead before after others → reads ≡ others
@@ -69,11 +69,11 @@ same_head r q rs qs e = cc e
 same_tail : (r q : FileRead) (rs qs : List FileRead) → r ∷ rs ≡ q ∷ qs → rs ≡ qs
 same_tail r q rs qs e = cc e
 
-first_gave : (first a : List ℕ) (gave : Option (List ℕ)) (rs qs : List FileRead) → record { name = first; gave = gave } ∷ rs ≡ read_of first a ∷ qs → gave ≡ Some a
-first_gave first a gave rs qs e = ap (λ (r : FileRead). r.gave) (same_head (record { name = first; gave = gave }) (read_of first a) rs qs e)
+first_gave : (first a : List ℕ) (gave : Option (List ℕ)) (rs qs : List FileRead) → record { name = first; limit = READ_LIMIT; gave = gave } ∷ rs ≡ read_of first a ∷ qs → gave ≡ Some a
+first_gave first a gave rs qs e = ap (λ (r : FileRead). r.gave) (same_head (record { name = first; limit = READ_LIMIT; gave = gave }) (read_of first a) rs qs e)
 
-second_gave : (first second a b : List ℕ) (gave other : Option (List ℕ)) → record { name = first; gave = gave } ∷ record { name = second; gave = other } ∷ [] ≡ read_of first a ∷ read_of second b ∷ [] → other ≡ Some b
-second_gave first second a b gave other e = first_gave second b other [] [] (same_tail (record { name = first; gave = gave }) (read_of first a) _ _ e)
+second_gave : (first second a b : List ℕ) (gave other : Option (List ℕ)) → record { name = first; limit = READ_LIMIT; gave = gave } ∷ record { name = second; limit = READ_LIMIT; gave = other } ∷ [] ≡ read_of first a ∷ read_of second b ∷ [] → other ≡ Some b
+second_gave first second a b gave other e = first_gave second b other [] [] (same_tail (record { name = first; limit = READ_LIMIT; gave = gave }) (read_of first a) _ _ e)
 
 gave_same : (bytes text : List ℕ) → Some bytes ≡ Some text → bytes ≡ text
 gave_same bytes text e = cc
@@ -90,42 +90,42 @@ module _ (holds : List ℕ → Option (List ℕ)) (first second : List ℕ) wher
   first_of_both Given before after a b were = (read_of second b ∷ [], were)
 
   -- after the first read
-  pub given_alone : (from : Source) (before after : Reads) (a bytes : List ℕ) → IsFirst from holds before after first a → Gives (holds first) bytes → IsRead before after first (Some (Some bytes)) → IsGiven from bytes a
+  pub given_alone : (from : Source) (before after : Reads) (a bytes : List ℕ) → IsFirst from holds before after first a → Gives (holds first) bytes → IsRead before after first READ_LIMIT (Some (Some bytes)) → IsGiven from bytes a
   given_alone Held before after a bytes held gives read = rw held at gives
   given_alone Given before after a bytes (later, (earlier, e, f)) gives read =
       gave_same bytes a (first_gave first a (Some bytes) [] later (one_list before after earlier _ e (told_after_one before after first (Some bytes) earlier read e) _ (earlier, e, f)))
 
   -- after both
   pub given_first : (from : Source) (before between after : Reads) (a bytes : List ℕ) (other : Option (List ℕ)) → IsFirst from holds before after first a → Gives (holds first) bytes
-      → IsRead before between first (Some (Some bytes)) → IsRead between after second (Some other) → IsGiven from bytes a
+      → IsRead before between first READ_LIMIT (Some (Some bytes)) → IsRead between after second READ_LIMIT (Some other) → IsGiven from bytes a
   given_first Held before between after a bytes other held gives read more = rw held at gives
   given_first Given before between after a bytes other (later, (earlier, e, f)) gives read more =
-      gave_same bytes a (first_gave first a (Some bytes) (record { name = second; gave = other } ∷ []) later (one_list before after earlier _ e (told_after_two before between after first second (Some bytes) other earlier read more e) _ (earlier, e, f)))
+      gave_same bytes a (first_gave first a (Some bytes) (record { name = second; limit = READ_LIMIT; gave = other } ∷ []) later (one_list before after earlier _ e (told_after_two before between after first second (Some bytes) other earlier read more e) _ (earlier, e, f)))
 
   pub given_second : (from : Source) (before between after : Reads) (a b bytes : List ℕ) (gave : Option (List ℕ)) → AreBytes from holds before after first second a b → Gives (holds second) bytes
-      → IsRead before between first (Some gave) → IsRead between after second (Some (Some bytes)) → IsGiven from bytes b
+      → IsRead before between first READ_LIMIT (Some gave) → IsRead between after second READ_LIMIT (Some (Some bytes)) → IsGiven from bytes b
   given_second Held before between after a b bytes gave held gives read more = rw held.1 at gives
   given_second Given before between after a b bytes gave (earlier, e, f) gives read more =
       gave_same bytes b (second_gave first second a b gave (Some bytes) (one_list before after earlier _ e (told_after_two before between after first second gave (Some bytes) earlier read more e) _ (earlier, e, f)))
 
   -- two reads that are shorter than the limit gave both texts whole
-  pub both_whole : (from : Source) (before between after : Reads) (a b bytes more : List ℕ) → AreBytes from holds before after first second a b → Gives (holds first) bytes → length bytes < READ_LIMIT → IsRead before between first (Some (Some bytes))
-      → Gives (holds second) more → length more < READ_LIMIT → IsRead between after second (Some (Some more)) → (bytes ≡ a) × (more ≡ b)
+  pub both_whole : (from : Source) (before between after : Reads) (a b bytes more : List ℕ) → AreBytes from holds before after first second a b → Gives (holds first) bytes → length bytes < READ_LIMIT → IsRead before between first READ_LIMIT (Some (Some bytes))
+      → Gives (holds second) more → length more < READ_LIMIT → IsRead between after second READ_LIMIT (Some (Some more)) → (bytes ≡ a) × (more ≡ b)
   both_whole from before between after a b bytes more both gives short read also less next = (
     given_whole from bytes a (given_first from before between after a bytes (Some more) (first_of_both from before after a b both) gives read next) short,
     given_whole from more b (given_second from before between after a b more (Some bytes) both also read next) less,
   )
 
   -- a read that failed
-  pub failed_alone : (from : Source) (before after : Reads) (a : List ℕ) → IsFirst from holds before after first a → IsRead before after first (Some None) → Rose before.faults after.faults → MayHaveFailed from before after
-  failed_alone Held before after a held read rose = rose
-  failed_alone Given before after a (later, (earlier, e, f)) read rose =
+  pub failed_alone : (from : Source) (before after : Reads) (a : List ℕ) → IsFirst from holds before after first a → IsRead before after first READ_LIMIT (Some None) → MayHaveFailed from before after
+  failed_alone Held before after a held read = omega (arith, read.failed.0 refl)
+  failed_alone Given before after a (later, (earlier, e, f)) read =
       gave_none a (first_gave first a None [] later (one_list before after earlier _ e (told_after_one before after first None earlier read e) _ (earlier, e, f)))
 
-  pub failed_second : (from : Source) (before between after : Reads) (a b : List ℕ) (gave : Option (List ℕ)) → AreBytes from holds before after first second a b → IsRead before between first (Some gave)
-      → IsRead between after second (Some None) → Rose between.faults after.faults → MayHaveFailed from before after
-  failed_second Held before between after a b gave held read more rose = omega (arith, read.later, rose)
-  failed_second Given before between after a b gave (earlier, e, f) read more rose =
+  pub failed_second : (from : Source) (before between after : Reads) (a b : List ℕ) (gave : Option (List ℕ)) → AreBytes from holds before after first second a b → IsRead before between first READ_LIMIT (Some gave)
+      → IsRead between after second READ_LIMIT (Some None) → MayHaveFailed from before after
+  failed_second Held before between after a b gave held read more = omega (arith, read.later, more.failed.0 refl)
+  failed_second Given before between after a b gave (earlier, e, f) read more =
       gave_none b (second_gave first second a b gave None (one_list before after earlier _ e (told_after_two before between after first second gave None earlier read more e) _ (earlier, e, f)))
 
   -- the bytes of a call are one

@@ -1,6 +1,6 @@
 -- What the program may answer: a status and a text, given the words, what the files hold, and the reads before and after.
 use Rattle.std.specs.Prelude.{◌≡◌, ℕ, ◌<◌, true, List, ◌++◌, length, take, Option, None, Some, option_map, codes, IfSome}
-use Rattle.bb_outside.specs.Counts.{IsRead, Reads, Rose}
+use Rattle.bb_outside.specs.Counts.{IsRead, Reads}
 use Rattle.bb_texts.specs.declared.limit.TheConstants.{READ_LIMIT}
 use Rattle.bb_ladder.specs.declared.asked.Asked.{Asked as TextsAsked}
 use Rattle.bb_ladder.specs.Refutations.{Checks}
@@ -31,15 +31,15 @@ Gives held bytes = IfSome held (λ h. bytes ≡ take READ_LIMIT h)
 
 -- what may be answered after the first file was read: the second is read, and the two texts are judged
 pub data AfterSpec (judged : List ℕ → List ℕ → ℕ → List ℕ → Type 0) (held : Option (List ℕ)) (second : List ℕ) (before after : Reads) (spec : List ℕ) (status : ℕ) (text : List ℕ) : Type 0 where
-  ImpUnread : IsRead before after second (Some None) → Rose before.faults after.faults → status ≡ 4 → text ≡ codes "unread impl\n" → AfterSpec judged held second before after spec status text
-  ImpLong : (imp : List ℕ) → Gives held imp → length imp ≡ READ_LIMIT → IsRead before after second (Some (Some imp)) → status ≡ 2 → text ≡ codes "refused impl toolong\n" → AfterSpec judged held second before after spec status text
-  BothRead : (imp : List ℕ) → Gives held imp → length imp < READ_LIMIT → IsRead before after second (Some (Some imp)) → judged spec imp status text → AfterSpec judged held second before after spec status text
+  ImpUnread : IsRead before after second READ_LIMIT (Some None) → status ≡ 4 → text ≡ codes "unread impl\n" → AfterSpec judged held second before after spec status text
+  ImpLong : (imp : List ℕ) → Gives held imp → length imp ≡ READ_LIMIT → IsRead before after second READ_LIMIT (Some (Some imp)) → status ≡ 2 → text ≡ codes "refused impl toolong\n" → AfterSpec judged held second before after spec status text
+  BothRead : (imp : List ℕ) → Gives held imp → length imp < READ_LIMIT → IsRead before after second READ_LIMIT (Some (Some imp)) → judged spec imp status text → AfterSpec judged held second before after spec status text
 
 -- what may be answered to the names of two files, whatever is judged of their texts: the first is read first
 pub data OfFiles (judged : List ℕ → List ℕ → ℕ → List ℕ → Type 0) (holds : List ℕ → Option (List ℕ)) (first second : List ℕ) (before after : Reads) (status : ℕ) (text : List ℕ) : Type 0 where
-  SpecUnread : IsRead before after first (Some None) → Rose before.faults after.faults → status ≡ 4 → text ≡ codes "unread spec\n" → OfFiles judged holds first second before after status text
-  SpecLong : (spec : List ℕ) → Gives (holds first) spec → length spec ≡ READ_LIMIT → IsRead before after first (Some (Some spec)) → status ≡ 2 → text ≡ codes "refused spec toolong\n" → OfFiles judged holds first second before after status text
-  SpecRead : (spec : List ℕ) (between : Reads) → Gives (holds first) spec → length spec < READ_LIMIT → IsRead before between first (Some (Some spec)) → AfterSpec judged (holds second) second between after spec status text → OfFiles judged holds first second before after status text
+  SpecUnread : IsRead before after first READ_LIMIT (Some None) → status ≡ 4 → text ≡ codes "unread spec\n" → OfFiles judged holds first second before after status text
+  SpecLong : (spec : List ℕ) → Gives (holds first) spec → length spec ≡ READ_LIMIT → IsRead before after first READ_LIMIT (Some (Some spec)) → status ≡ 2 → text ≡ codes "refused spec toolong\n" → OfFiles judged holds first second before after status text
+  SpecRead : (spec : List ℕ) (between : Reads) → Gives (holds first) spec → length spec < READ_LIMIT → IsRead before between first READ_LIMIT (Some (Some spec)) → AfterSpec judged (holds second) second between after spec status text → OfFiles judged holds first second before after status text
 
 -- what may be answered to words, given what the files hold and the reads before the call and after it
 pub data MayAnswer (words : List (List ℕ)) (holds : List ℕ → Option (List ℕ)) (before after : Reads) (status : ℕ) (text : List ℕ) : Type 0 where

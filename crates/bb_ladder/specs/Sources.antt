@@ -2,15 +2,16 @@
 -- memory do. Of the files of the system nothing is known beforehand; but what keeps a list of the reads tells the bytes that each gave.
 use Rattle.std.specs.Prelude.{◌≡◌, ℕ, List, [], ◌∷◌, ◌++◌, Option, Some}
 use Rattle.bb_outside.specs.Counts.{FileRead, Reads, Rose}
+use Rattle.bb_texts.specs.declared.limit.TheConstants.{READ_LIMIT}
 
 -- what the files hold under their names, or what the reads of the call gave
 pub data Source : Type 0 where
   Held : Source
   Given : Source
 
--- a read of the file of this name that gave these bytes
+-- a read of the file of this name, up to the limit, that gave these bytes
 abbrev pub read_of : List ℕ → List ℕ → FileRead
-read_of name bytes = record { name = name; gave = Some bytes }
+read_of name bytes = record { name = name; limit = READ_LIMIT; gave = Some bytes }
 
 -- the reads are told, and from before to after they are these
 abbrev pub WereRead : Reads → Reads → List FileRead → Type 0

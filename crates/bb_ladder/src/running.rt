@@ -1,7 +1,7 @@
 //! The top call: the words are read, then the two files, or two texts are made, and the report is made whole before its first byte is written.
 ghost use Rattle.std.specs.Prelude.{◌≡◌, ◌≤◌, ◌<◌, ◌⊎◌, ◌++◌, ℕ, true, List, None, Some, codes, length, map, take, string_bytes, IfOk};
 ghost use Rattle.std.specs.Io.KnownBytes.{Appends, Keeps};
-ghost use Rattle.bb_outside.specs.Counts.{FileRead, Rose};
+ghost use Rattle.bb_outside.specs.Counts.{CountsWhere, FileRead, Rose, next_count};
 ghost use Rattle.bb_cnf.specs.Clauses.{Formula};
 ghost use Rattle.bb_cnf.specs.declared.clauses.Lit.{Lit};
 ghost use Rattle.bb_words.specs.Asked.{MadePair, Refutation, made_asked, rup_asked};
@@ -196,10 +196,12 @@ pub fn run<F: Files, K: Sink>(alloc: Global, words: &[String], files: &mut F, ou
     // Of a made pair no file is read, and none is blamed.
     ensures reads_nothing { (m : MadePair) → made_asked (map string_bytes words.now) ≡ Some m → (F.reads files.new ≡ F.reads files.old) × (result ≡ 4 → ⊥) }
 
-    // What the files hold stays, and a file or the sink is blamed only where a failure was counted in this call.
+    // What the files hold stays. One failed read was counted where a file is blamed, and none where the status says anything else of the
+    // texts; one failed write was counted exactly where the sink is blamed.
     ensures kept { (n : List ℕ) → F.holds files.new n ≡ F.holds files.old n }
-    ensures unread { result ≡ 4 → Rose (F.reads files.old).faults (F.reads files.new).faults }
-    ensures failed { result ≡ 6 → Rose (K.faults out.old) (K.faults out.new) }
+    ensures unread { result ≡ 4 → (F.reads files.new).faults ≡ next_count (F.reads files.old).faults }
+    ensures readable { result < 4 → (F.reads files.new).faults ≡ (F.reads files.old).faults }
+    ensures failed { CountsWhere (result ≡ 6) (K.faults out.old) (K.faults out.new) }
     ensures reads_never_fall { (F.reads files.old).faults ≤ (F.reads files.new).faults }
     ensures faults_never_fall { K.faults out.old ≤ K.faults out.new }
 {

@@ -22,9 +22,10 @@ CountsWhere failed before now = (failed → now ≡ next_count before) × ((fail
 abbrev pub RoseIsGrowth : Type 0
 RoseIsGrowth = (before now : ℕ) → before ≤ now → now < 2 ^ 64 → Rose before now ↔ ((before < now) ⊎ (now ≡ 2 ^ 64 - 1))
 
--- a read: the name of its file, and the bytes that it gave, or None where it failed
+-- a read: the name of its file, how many bytes it asked for at most, and the bytes that it gave, or None where it failed
 pub record FileRead : Type 0 where
   pub name : List ℕ
+  pub limit : ℕ
   pub gave : Option (List ℕ)
 
 -- what a read gave; None where memory was wanting, since a list of the reads may not have found room either
@@ -39,8 +40,10 @@ pub record Reads : Type 0 where
   pub faults : ℕ
   pub told : Option (List FileRead)
 
--- from before to after there was one read of the file of this name, which gave bytes or failed; after want of memory what is told is left open
-pub record IsRead (before after : Reads) (name : List ℕ) (outcome : Option (Option (List ℕ))) : Type 0 where
+-- from before to after there was one read of the file of this name, of at most so many bytes, which gave bytes or failed. A failure was
+-- counted exactly where it failed; after want of memory what is told is left open
+pub record IsRead (before after : Reads) (name : List ℕ) (limit : ℕ) (outcome : Option (Option (List ℕ))) : Type 0 where
   pub counted : after.count ≡ next_count before.count
-  pub told : IfSome outcome (λ gave. after.told ≡ option_map (λ told. told ++ record { name = name; gave = gave } ∷ []) before.told)
+  pub told : IfSome outcome (λ gave. after.told ≡ option_map (λ told. told ++ record { name = name; limit = limit; gave = gave } ∷ []) before.told)
   pub later : before.faults ≤ after.faults
+  pub failed : CountsWhere (outcome ≡ Some None) before.faults after.faults

@@ -1,7 +1,7 @@
 //! Files that are read by name.
-ghost use Rattle.std.specs.Prelude.{◌≡◌, ◌≤◌, ℕ, Option, List, take, IfOk, IfSome, IsErrOf, vec_len};
+ghost use Rattle.std.specs.Prelude.{◌≡◌, ◌≤◌, ℕ, Option, List, take, IfOk, IfSome, vec_len};
 ghost use Rattle.bb_outside.specs.declared.files.FileFault.TheVariants.{NoMemory};
-ghost use Rattle.bb_outside.specs.Counts.{IsRead, Reads, Rose, outcome_of};
+ghost use Rattle.bb_outside.specs.Counts.{IsRead, Reads, outcome_of};
 
 use std::alloc::{AllocError, AllocFailed, Global};
 use std::rc::Rc;
@@ -37,8 +37,8 @@ pub trait Files {
     ghost holds: { Self → List ℕ → Option (List ℕ) };
 
     /// How many reads there were so far, how many of them failed, each up to the last 64-bit number, and of which name
-    /// each was and the bytes that it gave or that it failed, where the object tells it. What it tells after a read that found no memory
-    /// is left open.
+    /// each was, its limit, and the bytes that it gave or that it failed, where the object tells it. What it tells after a read that
+    /// found no memory is left open.
     ghost reads: { Self → Reads };
 
     /// The first `limit` bytes of the file of this name, or all where there are fewer. They are shared, so that who keeps what was read
@@ -48,10 +48,8 @@ pub trait Files {
         ensures bytes { IfOk result (λ bytes. IfSome (holds self.old name.now)
             (λ held. bytes.value.items ≡ take limit held)) }
 
-        // What is held stays as it is, and each call is one read of this name, whatever it answers.
+        // What is held stays as it is, and each call is one read of this name, whatever it answers; a failure is counted exactly where it
+        // answers one.
         ensures holds { (n : List ℕ) → holds self.new n ≡ holds self.old n }
-        ensures reads { IsRead (reads self.old) (reads self.new) name.now (outcome_of result) }
-
-        // A failure is told only where one was counted in this call.
-        ensures failed { IsErrOf result FileFault.Failed → Rose (reads self.old).faults (reads self.new).faults };
+        ensures reads { IsRead (reads self.old) (reads self.new) name.now limit (outcome_of result) };
 }

@@ -1,6 +1,6 @@
 //! Files that keep what was read.
-ghost use Rattle.std.specs.Prelude.{◌≡◌, ◌≤◌, ◌++◌, ◌∷◌, [], ℕ, List, take, IfOk, IfSome, IsErrOf, OnOk, OnErr, option_map, vec_len};
-ghost use Rattle.bb_outside.specs.Counts.{IsRead, Rose, outcome_of};
+ghost use Rattle.std.specs.Prelude.{◌≡◌, ◌<◌, ◌≤◌, ◌^◌, ◌++◌, ◌∷◌, [], ℕ, List, take, IfOk, IfSome, IsErrOf, OnOk, OnErr, option_map, vec_len};
+ghost use Rattle.bb_outside.specs.Counts.{IsRead, outcome_of};
 ghost use Rattle.bb_outside.specs.Inside.KeptFiles.{entries, reads_of};
 
 use crate::{FileFault, Files};
@@ -13,6 +13,8 @@ use std::rc::Rc;
 pub struct KeptRead {
     /// The name of its file.
     pub name: String,
+    /// How many bytes it asked for at most.
+    pub limit: u64,
     /// The bytes that it gave, or nothing where it failed.
     pub gave: Option<Rc<Vec<u8>>>,
 }
@@ -57,33 +59,34 @@ fn keep(
     alloc: Global,
     reads: &mut Vec<KeptRead>,
     name: &str,
+    limit: u64,
     gave: Option<Rc<Vec<u8>>>,
 ) -> Result<(), AllocError>
-    ensures ok { OnOk result (entries reads.new.items ≡ entries reads.old.items ++ record { name = name.now; gave = option_map (λ bytes. bytes.value.items) gave } ∷ []) }
+    ensures ok { OnOk result (entries reads.new.items ≡ entries reads.old.items ++ record { name = name.now; limit = limit; gave = option_map (λ bytes. bytes.value.items) gave } ∷ []) }
     ensures err { OnErr result (reads.new.items ≡ reads.old.items) }
+    ensures short { vec_len reads.new < 2 ^ 64 }
 {
     let name = String::from_str(alloc, name)?;
-    reads.push(KeptRead { name, gave })?;
+    reads.push(KeptRead { name, limit, gave })?;
     Ok(())
 }
 
 impl<F: Files + Drop> Files for KeptFiles<F> {
     ghost holds = { λ k name. F.holds k.files name };
 
-    ghost reads = { λ k. reads_of (F.reads k.files) k.told };
+    ghost reads = { λ k. reads_of (F.reads k.files).count k.told };
 
     fn read(&mut self, alloc: Global, name: &str, limit: u64) -> Result<Rc<Vec<u8>>, FileFault>
         ensures within { IfOk result (λ bytes. vec_len bytes.value ≤ limit) }
         ensures bytes { IfOk result (λ bytes. IfSome (F.holds self.old.files name.now) (λ held. bytes.value.items ≡ take limit held)) }
 
         // The list has this read more, or is the same where memory was wanting.
-        ensures told { IfSome (outcome_of result) (λ gave. self.new.told ≡ self.old.told ++ record { name = name.now; gave = gave } ∷ []) }
+        ensures told { IfSome (outcome_of result) (λ gave. self.new.told ≡ self.old.told ++ record { name = name.now; limit = limit; gave = gave } ∷ []) }
         ensures untold { IsErrOf result FileFault.NoMemory → self.new.told ≡ self.old.told }
 
         // What a caller over any files sees.
         ensures holds { (n : List ℕ) → F.holds self.new.files n ≡ F.holds self.old.files n }
-        ensures reads { IsRead (reads_of (F.reads self.old.files) self.old.told) (reads_of (F.reads self.new.files) self.new.told) name.now (outcome_of result) }
-        ensures failed { IsErrOf result FileFault.Failed → Rose (F.reads self.old.files).faults (F.reads self.new.files).faults }
+        ensures reads { IsRead (reads_of (F.reads self.old.files).count self.old.told) (reads_of (F.reads self.new.files).count self.new.told) name.now limit (outcome_of result) }
     {
         let answer = self.files.read(alloc, name, limit);
         let gave = match &answer {
@@ -91,7 +94,7 @@ impl<F: Files + Drop> Files for KeptFiles<F> {
             Err(FileFault::Failed) => None,
             Err(FileFault::NoMemory) => return Err(FileFault::NoMemory),
         };
-        keep(alloc, &mut self.reads, name, gave)?;
+        keep(alloc, &mut self.reads, name, limit, gave)?;
         answer
     }
 }

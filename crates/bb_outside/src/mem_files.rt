@@ -1,6 +1,6 @@
 //! Files in memory, which fail by a list.
 ghost use Rattle.std.specs.Prelude.{◌≡◌, ◌≤◌, ◌↔◌, ℕ, List, Option, Some, take, map, length, Contains, IfOk, IfSome, IsErrOf, vec_len, string_bytes};
-ghost use Rattle.bb_outside.specs.Counts.{IsRead, Rose, outcome_of};
+ghost use Rattle.bb_outside.specs.Counts.{IsRead, outcome_of};
 ghost use Rattle.bb_outside.specs.Inside.MemFiles.{text_under, is_failing, after_read, entries, reads_of};
 
 use crate::held::front;
@@ -55,8 +55,7 @@ impl Files for MemFiles {
 
         // What a caller over any files sees.
         ensures holds { (n : List ℕ) → Some (text_under self.new.files n) ≡ Some (text_under self.old.files n) }
-        ensures reads { IsRead (reads_of self.old) (reads_of self.new) name.now (outcome_of result) }
-        ensures failed { IsErrOf result FileFault.Failed → Rose self.old.faults self.new.faults }
+        ensures reads { IsRead (reads_of self.old) (reads_of self.new) name.now limit (outcome_of result) }
     {
         let number = self.reads;
         self.reads = number.saturating_add(1);

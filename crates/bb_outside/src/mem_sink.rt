@@ -1,7 +1,7 @@
 //! A sink in memory, which takes and fails by a plan.
 ghost use Rattle.std.specs.Prelude.{◌≡◌, ◌<◌, ◌≤◌, take, ◌+◌, ◌↔◌, [], ◌++◌, Some, max, length, drop, IfOk, OnOk, OnErr, IsOk, IsErr, vec_len, vec_capacity};
 ghost use Rattle.std.specs.Io.KnownBytes.{WriteAppends};
-ghost use Rattle.bb_outside.specs.Counts.{Rose};
+ghost use Rattle.bb_outside.specs.Counts.{CountsWhere};
 ghost use Rattle.bb_outside.specs.Inside.MemSink.{wanted, Refuses, after_put, after_refusal};
 
 use crate::{Failed, NoMemory, Sink};
@@ -121,7 +121,7 @@ impl Sink for MemSink {
         ensures at_least { 0 < length piece.now → IfOk result (λ n. 1 ≤ n) }
         ensures bytes { WriteAppends (Some self.old.bytes) (Some self.new.bytes) result piece.now }
         ensures never_falls { self.old.faults ≤ self.new.faults }
-        ensures failed { OnErr result (Rose self.old.faults self.new.faults) }
+        ensures counted { CountsWhere (IsErr result) self.old.faults self.new.faults }
     {
         let share = share(&self.plan[self.next..], piece.len());
         self.next = index_after(&self.plan, self.next);

@@ -1,6 +1,6 @@
 //! Files in memory that never fail.
 ghost use Rattle.std.specs.Prelude.{◌≡◌, ◌≤◌, ℕ, List, Some, take, IfOk, IsErrOf, vec_len};
-ghost use Rattle.bb_outside.specs.Counts.{IsRead, Rose, next_count, outcome_of};
+ghost use Rattle.bb_outside.specs.Counts.{IsRead, next_count, outcome_of};
 ghost use Rattle.bb_outside.specs.Inside.MemFiles.{entries, text_under};
 ghost use Rattle.bb_outside.specs.Inside.QuietFiles.{holds_of, reads_of};
 
@@ -51,8 +51,7 @@ impl Files for QuietFiles {
 
         // What a caller over any files sees.
         ensures holds { (n : List ℕ) → holds_of self.new n ≡ holds_of self.old n }
-        ensures reads { IsRead (reads_of self.old) (reads_of self.new) name.now (outcome_of result) }
-        ensures failed { IsErrOf result FileFault.Failed → Rose (reads_of self.old).faults (reads_of self.new).faults }
+        ensures reads { IsRead (reads_of self.old) (reads_of self.new) name.now limit (outcome_of result) }
     {
         self.reads = self.reads.saturating_add(1);
         Ok(front(alloc, &self.files, name, limit)?)

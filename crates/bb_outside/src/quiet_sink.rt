@@ -1,7 +1,7 @@
 //! A sink that never fails.
-ghost use Rattle.std.specs.Prelude.{◌≡◌, ◌+◌, ◌-◌, ◌^◌, ◌<◌, ◌≤◌, None, length, min, IfOk, IsOk, OnErr};
+ghost use Rattle.std.specs.Prelude.{◌≡◌, ◌+◌, ◌-◌, ◌^◌, ◌<◌, ◌≤◌, None, length, min, IfOk, IsErr, IsOk};
 ghost use Rattle.std.specs.Io.KnownBytes.{WriteAppends};
-ghost use Rattle.bb_outside.specs.Counts.{Rose};
+ghost use Rattle.bb_outside.specs.Counts.{CountsWhere};
 
 use crate::{Failed, Sink};
 use std::marker::Model;
@@ -52,7 +52,7 @@ impl Sink for QuietSink {
         ensures at_least { 0 < length piece.now → IfOk result (λ n. 1 ≤ n) }
         ensures bytes { WriteAppends None None result piece.now }
         ensures never_falls { 0 ≤ 0 }
-        ensures failed { OnErr result (Rose 0 0) }
+        ensures counted { CountsWhere (IsErr result) 0 0 }
     {
         self.taken = self.taken.saturating_add(piece.len() as u64);
         Ok(piece.len())

@@ -1,6 +1,6 @@
 //! The files of the system.
 ghost use Rattle.std.specs.Prelude.{◌≡◌, ◌≤◌, take, IfOk, IfSome, IsErr, IsErrOf, None, vec_len};
-ghost use Rattle.bb_outside.specs.Counts.{CountsWhere, IsRead, Rose, outcome_of};
+ghost use Rattle.bb_outside.specs.Counts.{CountsWhere, IsRead, outcome_of};
 
 use crate::{FileFault, Files};
 use std::alloc::Global;
@@ -91,8 +91,7 @@ impl<R: rt::Files + Drop> Files for StdFiles<R> {
         ensures counted { CountsWhere (IsErrOf result FileFault.Failed) self.old.faults self.new.faults }
 
         // What a caller over any files sees.
-        ensures reads { IsRead self.old self.new name.now (outcome_of result) }
-        ensures failed { IsErrOf result FileFault.Failed → Rose self.old.faults self.new.faults }
+        ensures reads { IsRead self.old self.new name.now limit (outcome_of result) }
     {
         self.reads = self.reads.saturating_add(1);
         match read_opened(alloc, fs::open(&self.files, name), limit) {

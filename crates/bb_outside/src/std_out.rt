@@ -1,7 +1,7 @@
 //! Standard output.
-ghost use Rattle.std.specs.Prelude.{◌≡◌, ◌<◌, ◌≤◌, length, IfOk, IsErr, OnErr};
+ghost use Rattle.std.specs.Prelude.{◌≡◌, ◌<◌, ◌≤◌, length, IfOk, IsErr};
 ghost use Rattle.std.specs.Io.KnownBytes.{WriteAppends};
-ghost use Rattle.bb_outside.specs.Counts.{CountsWhere, Rose};
+ghost use Rattle.bb_outside.specs.Counts.{CountsWhere};
 
 use crate::{Failed, Sink};
 use std::io::Write;
@@ -38,15 +38,12 @@ impl<W: Write + Drop> Sink for StdOut<W> {
 
     // A write that takes nothing of a piece is a failure, since it would never end.
     fn put(&mut self, piece: &[u8]) -> Result<usize, Failed>
-        // A failure is counted where it is told, and only there.
-        ensures counted { CountsWhere (IsErr result) self.old.faults self.new.faults }
-
         // What a caller over any sink sees.
         ensures at_most { IfOk result (λ n. n ≤ length piece.now) }
         ensures at_least { 0 < length piece.now → IfOk result (λ n. 1 ≤ n) }
         ensures bytes { WriteAppends self.old.held self.new.held result piece.now }
         ensures never_falls { self.old.faults ≤ self.new.faults }
-        ensures failed { OnErr result (Rose self.old.faults self.new.faults) }
+        ensures counted { CountsWhere (IsErr result) self.old.faults self.new.faults }
     {
         match self.stream.write(piece) {
             Ok(count) if count > 0 || piece.is_empty() => Ok(count),

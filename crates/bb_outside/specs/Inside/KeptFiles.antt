@@ -1,5 +1,6 @@
 -- Files that keep a list of their reads, over any others.
-use Rattle.std.specs.Prelude.{List, Some, option_map, map, string_bytes}
+use Rattle.std.specs.Prelude.{ℕ, List, Some, is_none, option_map, map, string_bytes}
+use Rattle.std.specs.List.{count_by}
 use Rattle.bb_outside.specs.Counts.{FileRead, Reads}
 use Rattle.bb_outside.specs.declared.kept_files.KeptRead.{KeptRead}
 
@@ -10,8 +11,13 @@ pub record Kept (F : Type 0) : Type 0 where
 
 -- reads with names and texts as bytes
 abbrev pub entries : List KeptRead → List FileRead
-entries reads = map (λ read. record { name = string_bytes read.name; gave = option_map (λ bytes. bytes.value.items) read.gave }) reads
+entries reads = map (λ read. record { name = string_bytes read.name; limit = read.limit; gave = option_map (λ bytes. bytes.value.items) read.gave }) reads
 
--- what a caller over any files sees of the reads: the counts of the other files, and the list
-abbrev pub reads_of : Reads → List FileRead → Reads
-reads_of counts told = record { count = counts.count; faults = counts.faults; told = Some told }
+-- how many of the reads failed
+abbrev pub failures : List FileRead → ℕ
+failures reads = count_by (λ read. is_none read.gave) reads
+
+-- what a caller over any files sees of the reads: the count of the other files, how many of the list failed, and the list. A failure of the
+-- other files for which the list finds no room is answered as want of memory, and is no failure here
+abbrev pub reads_of : ℕ → List FileRead → Reads
+reads_of count told = record { count = count; faults = failures told; told = Some told }

@@ -1,7 +1,7 @@
 use Rattle.std.proofs.Common.{inl}
 use Rattle.bb_ladder.proofs.CallRefusalLaws.{told_at_two}
 use Rattle.bb_ladder.proofs.CalmLemmas.{decided_sound, open_complete, refuted_sound}
-use Rattle.bb_ladder.proofs.HeadlineLemmas.{error_sound, filled_sound, fit_sound, made_is_read, no_sound, open_compares, open_sound, repair_sound, shown_sound, unread_rose, yes_sound}
+use Rattle.bb_ladder.proofs.HeadlineLemmas.{error_sound, filled_sound, fit_sound, made_is_read, no_sound, none_counted, open_compares, open_sound, repair_sound, shown_sound, unread_counted, yes_sound}
 use Rattle.bb_ladder.proofs.running.run.Goals as goal
 
 pub returns-in-Ok-put_all-clause-whole : goal.returns-in-Ok-put_all-clause-whole
@@ -40,7 +40,10 @@ pub returns-in-Ok-put_all-clause-left_open : goal.returns-in-Ok-put_all-clause-l
 returns-in-Ok-put_all-clause-left_open g c = λ three from asked spec imp texts. open_sound c.words_ask_once.ensures c.answers_are_meant.ensures.opens _ from _ _ _ c.in-Ok.answer.status c.in-Ok.answer.report.items asked spec imp c.in-Ok.ensures.answer three texts
 
 pub returns-in-Ok-put_all-clause-unread : goal.returns-in-Ok-put_all-clause-unread
-returns-in-Ok-put_all-clause-unread g c = λ four. unread_rose c.refutations_are_answered.ensures _ _ _ _ c.in-Ok.answer.status c.in-Ok.answer.report.items c.in-Ok.ensures.answer four
+returns-in-Ok-put_all-clause-unread g c = λ four. unread_counted c.refutations_are_answered.ensures _ _ _ _ c.in-Ok.answer.status c.in-Ok.answer.report.items c.in-Ok.ensures.answer four
+
+pub returns-in-Ok-put_all-clause-readable : goal.returns-in-Ok-put_all-clause-readable
+returns-in-Ok-put_all-clause-readable g c = λ small. none_counted _ _ _ _ c.in-Ok.answer.status c.in-Ok.answer.report.items c.in-Ok.ensures.answer small
 
 pub returns-in-Ok-put_all-clause-decided : goal.returns-in-Ok-put_all-clause-decided
 returns-in-Ok-put_all-clause-decided g c = λ from asked spec imp texts spec_short imp_short decided calm quiet. inl
