@@ -21,6 +21,7 @@ from check_parts import parts_part  # noqa: E402
 from check_reports import reports_part  # noqa: E402
 from check_program import program_part  # noqa: E402
 from check_refutations import refutations_part  # noqa: E402
+from check_rows import rows_part  # noqa: E402
 from check_run import run_part  # noqa: E402
 from check_scripts import drat_part, fill_part, order_part, refuse_part, wave_part  # noqa: E402
 from check_sources import sources_part  # noqa: E402
@@ -34,7 +35,7 @@ PARTS = {"gates": gates_part, "cells": cells_part, "async": async_part, "message
          "refutations": refutations_part, "made": made_part, "refuse": refuse_part, "limits": limits_part, "reports": reports_part, "bad": bad_part,
          "hostile": hostile_part, "ended": ended_part, "program": program_part, "manual": manual_part, "install": install_part, "documents": documents_part,
          "unused": unused_part, "unfinished": unfinished_part, "sources": sources_part, "parts": parts_part, "run": run_part,
-         "words": words_part}
+         "words": words_part, "rows": rows_part}
 
 
 def main():

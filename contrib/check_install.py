@@ -92,7 +92,7 @@ def build_part(tally, folder):
     tally.note("./bbeq ends what it began where it is ended", *interrupted(os.path.join(top, "bbeq"), folder, env))
     done = run([install, prefix], env=env)
     tally.note("install builds what is not built", done.status == 0 and done.out.split("\n")[0] == program
-               and "bb_net is proved" in done.err and "bb_rows" not in done.err, done.why())
+               and "bb_net is proved" in done.err and "bb_run_tests" not in done.err, done.why())
     done = run([install, prefix], env=env)
     tally.note("install takes what is built", done.status == 0 and os.path.exists(program) and not done.err, done.why())
     write(os.path.join(top, "crates", "bb_net", "src"), "lib.rt", "")

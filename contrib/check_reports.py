@@ -1,9 +1,10 @@
-"""Reports of small pairs against what `evaluate` finds by trying everything: the pairs by hand, which stand with their reports
-in a crate for tests, and $CHECK_PAIRS pairs that are drawn. What the crates for tests have from `evaluate` is found anew."""
+"""Reports of small pairs against what `evaluate` finds by trying everything: the pairs by hand, which are rows of crates/bb_cases,
+and $CHECK_PAIRS pairs that are drawn. What the crates for tests have from `evaluate` is found anew."""
 import os
 import random
 import re
 
+from check_rows import all_rows
 from drawn import drawn_cared, drawn_pair, drawn_shared
 from nesting import drawn_nested
 from language import Reader, top_of
@@ -12,7 +13,7 @@ from tries import TOP, bbeq, example, is_told, read, run, script, write
 from truths import CHECKS, MOST_CONTENTS, by_rows, climb, in_order, pair_of, vectors
 from values import Design, World
 
-BY_HAND = os.path.join(TOP, "crates", "bb_rows", "src", "pairs.rt")
+OR = "or with the tables "
 DESIGNS = os.path.join(TOP, "crates", "bb_design_tests", "src", "designs.rt")
 DRAWN = int(os.environ.get("CHECK_PAIRS", "300"))
 STATUSES = {"verdict repairable": 0, "verdict error": 1, "verdict open": 3}
@@ -81,8 +82,19 @@ def try_design(tally, name, text, rows):
 # Pairs by hand.
 
 def pairs_by_hand():
-    for block in blocks_in(BY_HAND):
-        yield re.fullmatch(r"spec (.*)\nimpl (.*)\nanswer ([^\n]*)\n(.*)", block, re.DOTALL).groups()
+    """Each with its answer and the reports that it may have: that of its row, and those with the tables in a comment."""
+    for row in all_rows():
+        if row.place == "pairs":
+            report = row.report.rstrip("\n")
+            others = [comment.removeprefix(OR).split(", ") for comment in row.comments if comment.startswith(OR)]
+            yield row.files["s.v"], row.files["i.v"], row.name, [report, *(with_tables(report, other) for other in others)]
+
+
+def with_tables(report, tables_due):
+    lines = report.split("\n")
+    first = next(at for at, line in enumerate(lines) if line.startswith("table "))
+    rest = [line for line in lines[first:] if not line.startswith("table ")]
+    return "\n".join([*lines[:first], *(f"table {table}" for table in tables_due), *rest])
 
 
 def all_reports(pair):
@@ -112,7 +124,7 @@ def try_by_hand(tally, folder, texts, answer, reports):
     agree = some_agree(pair)
     tally.note(f"by hand, {answer}", agree == answer.startswith("yes: "), "evaluate finds another answer")
     due = ["\n".join(lines) for lines in all_reports(pair)]
-    tally.note("  its reports are those that are due", sorted(due) == sorted(reports.split("\nor\n")), "\n".join(due))
+    tally.note("  its reports are those that are due", sorted(due) == sorted(reports), "\n".join(due))
     done = report_of(folder, texts)
     tally.note("  and the program says one of them", done.out.rstrip("\n") in due and done.status == 1 - agree, done.why())
     try_deciders(tally, folder, "  and so do the checks that decide", texts, pair)

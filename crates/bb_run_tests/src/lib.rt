@@ -1,17 +1,14 @@
-//! Tests of what a run refuses, of files and sinks that fail, and of refutations, through the top call.
+//! Tests of the top call that are no rows of data: files and sinks that fail, texts and reports that are too long, and a call without
+//! a report.
 #![tactic(auto)]
 
 #[cfg(test)]
-mod fault_tests;
+mod in_memory;
 #[cfg(test)]
-mod kept_tests;
+mod long_tests;
 #[cfg(test)]
 mod outside_tests;
 #[cfg(test)]
 mod quiet_tests;
-#[cfg(test)]
-mod refusal_tests;
-#[cfg(test)]
-mod refutation_tests;
 #[cfg(test)]
 mod stop_tests;

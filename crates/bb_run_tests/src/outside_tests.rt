@@ -1,28 +1,20 @@
 //! Files and sinks, in memory and of the system.
+use crate::in_memory::held;
 use bb_outside::{
-    Failed, FileFault, Files, KeptFiles, KeptRead, MemFiles, MemSink, Sink, StdFiles, StdOut, Take,
-    put_all,
+    Failed, FileFault, Files, KeptFiles, KeptRead, MemFiles, MemSink, QuietFiles, QuietSink, Sink,
+    StdFiles, StdOut, Take, put_all,
 };
-use std::alloc::Global;
 use std::fs;
 use std::process::Abort;
 use std::test::Fail;
 
-/// Three files, of which two have one name.
-pub fn held(alloc: Global) -> Result<Vec<(String, Vec<u8>)>, Fail> {
-    let mut files = Vec::new(alloc);
-    for (name, text) in [("a", b"first"), ("b", b"other"), ("a", b"twice")] {
-        files.push((String::from_str(alloc, name)?, text.to_vec(alloc)?))?;
-    }
-    Ok(files)
-}
+// Three files, of which two have one name.
+const THREE: [(&str, &[u8]); 3] = [("a", b"first"), ("b", b"other"), ("a", b"twice")];
 
 #[test]
 fn files_in_memory_fail_by_the_number_of_the_call(rt: HostRuntime) -> Result<(), Fail> {
     let alloc = rt.alloc();
-    let mut failing = Vec::new(alloc);
-    failing.push(1)?;
-    let mut files = MemFiles::new(held(alloc)?, failing);
+    let mut files = MemFiles::new(held(alloc, &THREE)?, [1].to_vec(alloc)?);
     for (name, limit, want) in [
         ("a", 9, Some("first")),
         ("a", 9, None),
@@ -31,12 +23,28 @@ fn files_in_memory_fail_by_the_number_of_the_call(rt: HostRuntime) -> Result<(),
         ("b", 0, Some("")),
         ("none", 9, Some("")),
     ] {
+        match (files.read(alloc, name, limit), want) {
+            (Ok(bytes), Some(text)) => assert!(rt; bytes.as_slice() == text.as_bytes(), "{name}"),
+            (Err(FileFault::Failed), None) => {}
+            _ => assert!(rt; false, "{name}"),
+        }
+    }
+    Ok(())
+}
+
+#[test]
+fn quiet_files_give_what_they_hold(rt: HostRuntime) -> Result<(), Fail> {
+    let alloc = rt.alloc();
+    let mut files = QuietFiles::new(held(alloc, &THREE)?);
+    for (name, limit, want) in [
+        ("a", 9, "first"),
+        ("b", 2, "ot"),
+        ("b", 0, ""),
+        ("none", 9, ""),
+    ] {
         match files.read(alloc, name, limit) {
-            Ok(bytes) => assert_eq!(rt; Some(bytes.as_slice()), want.map(|text| text.as_bytes())),
-            Err(fault) => {
-                assert_eq!(rt; fault, FileFault::Failed);
-                assert!(rt; want.is_none());
-            }
+            Ok(bytes) => assert!(rt; bytes.as_slice() == want.as_bytes(), "{name}"),
+            Err(_) => assert!(rt; false, "{name}"),
         }
     }
     Ok(())
@@ -45,10 +53,7 @@ fn files_in_memory_fail_by_the_number_of_the_call(rt: HostRuntime) -> Result<(),
 #[test]
 fn a_sink_in_memory_follows_its_plan(rt: HostRuntime) -> Result<(), Fail> {
     let alloc = rt.alloc();
-    let mut plan = Vec::new(alloc);
-    for entry in [Take::Some(5), Take::Some(0), Take::Fail] {
-        plan.push(entry)?;
-    }
+    let plan = [Take::Some(5), Take::Some(0), Take::Fail].to_vec(alloc)?;
     let mut sink = MemSink::new(alloc, plan);
     sink.reserve(12)?;
     assert_eq!(rt; put_all(&mut sink, b"rung ternary"), Err(Failed));
@@ -61,12 +66,26 @@ fn a_sink_in_memory_follows_its_plan(rt: HostRuntime) -> Result<(), Fail> {
     Ok(())
 }
 
-// Compares what reads gave that were kept.
-fn expect_kept<R: Abort>(rt: &R, reads: &[KeptRead], want: &[Option<&str>]) {
+#[test]
+fn a_quiet_sink_counts_what_it_takes(rt: HostRuntime) {
+    let mut sink = QuietSink::new();
+    assert_eq!(rt; sink.put(b"rung "), Ok(5));
+    assert_eq!(rt; sink.put(b""), Ok(0));
+    assert_eq!(rt; put_all(&mut sink, b"ternary"), Ok(()));
+    assert_eq!(rt; sink.taken(), 12);
+}
+
+/// Compares reads that were kept with the names, the limits and with what each gave.
+pub fn expect_reads<R: Abort>(rt: &R, reads: &[KeptRead], want: &[(&str, u64, Option<&[u8]>)]) {
     assert_eq!(rt; reads.len(), want.len());
-    for (found, gave) in reads.iter().zip(want) {
-        let bytes = found.gave.as_ref().map(|bytes| bytes.as_slice());
-        assert_eq!(rt; bytes, gave.map(|text| text.as_bytes()));
+    for (found, (name, limit, gave)) in reads.iter().zip(want) {
+        assert!(rt; found.name.as_str() == *name, "{name}");
+        assert_eq!(rt; found.limit, *limit);
+        match (&found.gave, gave) {
+            (Some(bytes), Some(text)) => assert!(rt; bytes.as_slice() == *text, "{name}"),
+            (None, None) => {}
+            _ => assert!(rt; false, "{name}"),
+        }
     }
 }
 
@@ -84,8 +103,14 @@ fn a_real_file_is_read_up_to_the_limit_and_kept(rt: HostRuntime) -> Result<(), F
     assert!(rt; whole.is_ok() && front.is_ok());
     assert_eq!(rt; missing.err(), Some(FileFault::Failed));
     assert_eq!(rt; directory.err(), Some(FileFault::Failed));
-    let want = [Some("module top;"), Some("module"), None, None];
-    expect_kept(&rt, files.reads(), &want);
+    let (all, six) = (b"module top;".as_slice(), b"module".as_slice());
+    let want = [
+        (path, 100, Some(all)),
+        (path, 6, Some(six)),
+        (path, 100, None),
+        (".", 100, None),
+    ];
+    expect_reads(&rt, files.reads(), &want);
     Ok(())
 }
 

@@ -1,0 +1,34 @@
+//! Runs the top call once for each row of the files that the command line names, over files in memory, and writes its
+//! name, the report and the status. docs/ARCHITECTURE.md says how rows are written.
+#![tactic(auto)]
+
+mod row;
+
+use anyhow::{Result, bail};
+use bb_outside::{Sink, StdOut};
+use row::Row;
+use std::alloc::Global;
+use std::{env, fs};
+
+// Runs the rows of a text. Each is run where the next one begins, or the text ends.
+fn run_all<K: Sink>(alloc: Global, text: &str, out: &mut K) -> Result<()> {
+    let mut row = Row::new(alloc);
+    for line in text.split('\n') {
+        if line.starts_with("row ") {
+            row.run(alloc, out)?;
+        }
+        if !row.takes(alloc, line)? {
+            bail!("{line}");
+        }
+    }
+    row.run(alloc, out)
+}
+
+fn main(rt: HostRuntime) -> Result<()> {
+    let mut out = StdOut::new(rt.stdout());
+    for name in env::args(&rt)?.skip(1) {
+        let text = fs::read_to_string(&rt, &name)?;
+        run_all(rt.alloc(), &text, &mut out)?;
+    }
+    Ok(())
+}
