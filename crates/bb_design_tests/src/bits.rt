@@ -1,7 +1,7 @@
 //! Bits as digits, and the outputs of a netlist for a list of bits.
 
+use crate::fitting::fit_kinds;
 use bb_bits::Table;
-use bb_building::fit_kinds;
 use bb_net::{Net, own_kinds};
 use std::alloc::{AllocError, Global};
 use std::process::Abort;

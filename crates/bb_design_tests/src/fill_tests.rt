@@ -2,10 +2,10 @@
 
 ghost use Rattle.std.specs.Prelude.{◌≡◌, true, All, IsSome};
 
-use crate::telling::{flat_of, tell_name, tell_named};
+use crate::fitting::fit_kinds;
+use crate::telling::{flat_of, tell_name};
 use crate::value_tests::tables;
 use bb_bits::{Name, Table};
-use bb_building::fit_kinds;
 use bb_fill::{FillFault, fill};
 use bb_net::{Flat, Reg, own_kinds};
 use std::alloc::Global;
@@ -34,7 +34,10 @@ fn told<R: Abort>(rt: &R, alloc: Global, flat: &Flat, tables: &[Table]) -> Resul
     let mut out = String::new(alloc);
     match fill(alloc, flat, tables, &kinds) {
         Ok(text) => tell_name(&mut out, &Name::of(alloc, &text)?)?,
-        Err(FillFault::Clash { name }) => tell_named(&mut out, "clash", &name)?,
+        Err(FillFault::Clash { name }) => {
+            out.push_str("clash ")?;
+            tell_name(&mut out, &name)?;
+        }
         Err(FillFault::TooLarge) => out.push_str("toolarge")?,
         Err(FillFault::NoMemory) => out.push_str("no memory")?,
     }
@@ -126,38 +129,28 @@ module t(a, \a[0] ); input [0:0] a; output \a[0] ; buf(\a[0] , a[0]); endmodule
 
 clash a[0]";
 
-// Compares what is told of a design.
-fn row<R: Abort>(rt: &R, alloc: Global, block: &str) -> Result<(), Fail> {
-    let (text, rest) = block.split_once("\n").unwrap_or((block, ""));
-    let (rows, expected) = rest.split_once("\n").unwrap_or((rest, ""));
-    let flat = flat_of(rt, alloc, text.as_bytes(), Some(b"t"))?;
-    let found = told(rt, alloc, &flat, &tables(alloc, &flat, rows)?)?;
-    assert_eq!(rt; found.as_str(), expected, "{text}");
-    Ok(())
-}
-
 #[test]
 fn texts_of_filled_designs(rt: HostRuntime) -> Result<(), Fail> {
     for block in FILLED.split("\n---\n") {
-        row(&rt, rt.alloc(), block)?;
+        let (text, rest) = block.split_once("\n").unwrap_or((block, ""));
+        let (rows, expected) = rest.split_once("\n").unwrap_or((rest, ""));
+        let flat = flat_of(&rt, rt.alloc(), text.as_bytes(), Some(b"t"))?;
+        let found = told(&rt, rt.alloc(), &flat, &tables(rt.alloc(), &flat, rows)?)?;
+        assert_eq!(&rt; found.as_str(), expected, "{text}");
     }
     Ok(())
 }
 
+const TREE: &[u8] =
+    b"module t(a, y); input a; output y; bx u({20{a}}, y); endmodule module bx(i, o); input [19:0] i; output o; endmodule";
+
+// A tree with too many nets, and six hundred gates that read an input with a name of 65,536 bytes.
 #[test]
-fn a_tree_with_too_many_nets(rt: HostRuntime) -> Result<(), Fail> {
-    let text =
-        b"module t(a, y); input a; output y; bx u({20{a}}, y); endmodule module bx(i, o); input [19:0] i; output o; endmodule";
-    let flat = flat_of(&rt, rt.alloc(), text, Some(b"t"))?;
+fn texts_that_are_too_large(rt: HostRuntime) -> Result<(), Fail> {
+    let flat = flat_of(&rt, rt.alloc(), TREE, Some(b"t"))?;
     let tables = vec![in rt.alloc(); Table::zeros(rt.alloc(), 20, 1)?]?;
     let found = told(&rt, rt.alloc(), &flat, &tables)?;
     assert_eq!(&rt; found.as_str(), "toolarge");
-    Ok(())
-}
-
-// Six hundred gates that read an input with a name of 65,536 bytes.
-#[test]
-fn a_text_with_too_many_bytes(rt: HostRuntime) -> Result<(), Fail> {
     let mut name = String::new(rt.alloc());
     for _ in 0..65_536 {
         name.push('n')?;

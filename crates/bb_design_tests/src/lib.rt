@@ -1,4 +1,4 @@
-//! Tests of elaboration and of pairs of designs, through their public calls.
+//! Tests of netlists and pairs of designs that need calls below the top one. What a report can show is a row of bb_cases.
 #![tactic(auto)]
 
 #[cfg(test)]
@@ -8,17 +8,15 @@ mod designs;
 #[cfg(test)]
 mod fill_tests;
 #[cfg(test)]
+mod fitting;
+#[cfg(test)]
+mod miter_tests;
+#[cfg(test)]
+mod order_tests;
+#[cfg(test)]
 mod pair_tests;
 #[cfg(test)]
 mod reading;
-#[cfg(test)]
-mod refusal_tests;
-#[cfg(test)]
-mod size_tests;
-#[cfg(test)]
-mod sound_tests;
-#[cfg(test)]
-mod tables;
 #[cfg(test)]
 mod telling;
 #[cfg(test)]

@@ -2,21 +2,13 @@
 
 use crate::bits::{bits, outputs};
 use crate::designs::{DESIGNS, parts};
-use crate::telling::{flat_of, tell_name};
-use bb_bits::{Name, Table};
-use bb_building::table_of;
+use crate::fitting::table_of;
+use crate::telling::{flat_of, tell_name, tell_names};
+use bb_bits::Table;
 use bb_net::Flat;
 use std::alloc::{AllocError, Global};
 use std::process::Abort;
 use std::test::Fail;
-
-fn tell_names(out: &mut String, names: &[Name]) -> Result<(), AllocError> {
-    for name in names {
-        out.push(' ')?;
-        tell_name(out, name)?;
-    }
-    Ok(())
-}
 
 // The names of a flat netlist in one line.
 fn names(alloc: Global, flat: &Flat) -> Result<String, AllocError> {

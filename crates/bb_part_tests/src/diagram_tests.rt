@@ -1,13 +1,37 @@
 //! Diagrams, quantifiers and least points, through public calls.
 
-use crate::diagram_answers::tables;
-use crate::diagram_calls::{operation, start, variable};
+use crate::diagram_calls::{operation, rows, start, variable};
 use bb_uniq::Ref;
 use std::alloc::Global;
 use std::test::Fail;
 
-// Calls and what they answer.
+// Calls and what they answer, table by table with an empty line between two.
 const CALLS: &str = "\
+diagrams 2 1 1 in a store of one node: one for equal triples, and no room for a new one
+node 1 0 1 => 2
+node 1 0 1 => 2
+node 0 0 1 => full
+node 0 1 1 => 1
+len => 1
+view 1 => leaf 1
+view 0 => leaf 0
+
+diagrams 2048 0 1 in a store of no room
+node 2047 1 0 => full
+len => 0
+
+diagrams 2 2 1 in a store of two nodes
+node 1 0 1 => 2
+node 0 1 0 => 3
+node 1 1 0 => full
+node 0 1 0 => 3
+len => 2
+
+diagrams 0 5 1 of no variable: leaves alone
+node 0 0 1 => missing
+view 1 => leaf 1
+len => 0
+
 diagrams 2 3 4 of two variables: three nodes hold them and their conjunction
 var 0 => 2
 var 1 => 3
@@ -87,7 +111,10 @@ least 4 1 1 01 => false 01";
 
 #[test]
 fn calls_have_their_answers(rt: HostRuntime) -> Result<(), Fail> {
-    tables(&rt, rt.alloc(), CALLS)
+    for table in CALLS.split("\n\n") {
+        rows(&rt, rt.alloc(), table)?;
+    }
+    Ok(())
 }
 
 // How many nodes the exclusive disjunction of all variables and those of its parts have.

@@ -1,26 +1,14 @@
-//! Tests of tables, nets, diagrams, clauses and the solver, through the public calls of their crates.
+//! Tests of names, tables, patterns, diagrams, clauses and the solver, through the public calls of their crates.
 #![tactic(auto)]
 
 #[cfg(test)]
 mod clause_tests;
 #[cfg(test)]
-mod diagram_answers;
-#[cfg(test)]
 mod diagram_calls;
 #[cfg(test)]
 mod diagram_tests;
 #[cfg(test)]
-mod net_tests;
-#[cfg(test)]
-mod net_texts;
-#[cfg(test)]
-mod operator_tests;
-#[cfg(test)]
-mod order_tests;
-#[cfg(test)]
 mod pattern_tests;
-#[cfg(test)]
-mod rup_tests;
 #[cfg(test)]
 mod solver_tests;
 #[cfg(test)]

@@ -8,7 +8,6 @@ use bb_cdcl::{Outcome, Solved, Solver, solve};
 use bb_cnf::{Cnf, Lit, check};
 use smallvec::SmallVec;
 use std::alloc::Global;
-use std::process::Abort;
 use std::test::Fail;
 
 // What the solver says of clauses: a model by its bits, or that they are refuted, where its refutation is accepted.
@@ -58,25 +57,6 @@ const FORMULAS: &str = "\
 // three pigeons have no place in two holes: pigeon i sits in hole j where variable 2i + j - 2 is true
 6: 1 2 0 3 4 0 5 6 0 -1 -3 0 -1 -5 0 -3 -5 0 -2 -4 0 -2 -6 0 -4 -6 0 => refuted";
 
-// Compares what the solver says of a row.
-fn row<R: Abort>(rt: &R, alloc: Global, row: &str) -> Result<(), Fail> {
-    let (formula, expected) = halves(row);
-    let (vars, lists) = formula.split_once(':').unwrap_or((formula, ""));
-    let found = told(alloc, number(vars, 0), clauses(alloc, lists)?)?;
-    assert!(rt; fits(&found, expected), "{row}");
-    Ok(())
-}
-
-#[test]
-fn formulas_have_a_model_or_a_refutation(rt: HostRuntime) -> Result<(), Fail> {
-    for line in FORMULAS.lines() {
-        if !line.starts_with("//") {
-            row(&rt, rt.alloc(), line)?;
-        }
-    }
-    Ok(())
-}
-
 // Two chains of clauses i or i + 1, over the variables 1 to 100 and 103 to 202, and between them all four clauses over two more.
 fn chains(alloc: Global) -> Result<Vec<SmallVec<Lit, 4>>, Fail> {
     let mut all = clauses(alloc, "101 102 0 -101 102 0 101 -102 0 -101 -102 0")?;
@@ -94,9 +74,17 @@ fn chains(alloc: Global) -> Result<Vec<SmallVec<Lit, 4>>, Fail> {
     Ok(all)
 }
 
-// Without learning each assignment of one side or the other would be visited.
 #[test]
-fn a_contradiction_between_two_chains_is_learned(rt: HostRuntime) -> Result<(), Fail> {
+fn formulas_have_a_model_or_a_refutation(rt: HostRuntime) -> Result<(), Fail> {
+    for line in FORMULAS.lines() {
+        if !line.starts_with("//") {
+            let (formula, expected) = halves(line);
+            let (vars, lists) = formula.split_once(':').unwrap_or((formula, ""));
+            let found = told(rt.alloc(), number(vars, 0), clauses(rt.alloc(), lists)?)?;
+            assert!(rt; fits(&found, expected), "{line}");
+        }
+    }
+    // Without learning each assignment of one side or the other would be visited.
     let found = told(rt.alloc(), 202, chains(rt.alloc())?)?;
     assert_eq!(rt; found.as_str(), "refuted");
     Ok(())

@@ -1,23 +1,10 @@
-//! Stores of nodes, through public calls.
+//! A store of many nodes, through public calls. Small ones are tables of diagram_tests.
 
-ghost use Rattle.std.specs.Prelude.{◌≡◌, ◌<◌, ◌≤◌, true};
+ghost use Rattle.std.specs.Prelude.{◌≡◌, ◌<◌, true};
 ghost use Rattle.bb_uniq.specs.Inside.Nodes.{IsBelow};
 
-use crate::diagram_answers::told_view;
-use crate::words::{halves, number, word};
 use bb_uniq::{Ref, Store, StoreFault, View};
-use std::alloc::{AllocError, Global};
-use std::process::Abort;
 use std::test::Fail;
-
-// A node by its number, or why it is not made.
-fn made(alloc: Global, made: Option<Result<Ref, StoreFault>>) -> Result<String, AllocError> {
-    match made {
-        Some(Ok(f)) => format!(in alloc; "{}", f.0),
-        Some(Err(StoreFault::Full)) => String::from_str(alloc, "full"),
-        None => String::from_str(alloc, "missing"),
-    }
-}
 
 // Whether a diagram stands below a variable: a leaf, or a node of a later one.
 fn is_below(store: &Store, v: u32, f: Ref) -> bool
@@ -41,118 +28,6 @@ fn node(store: &mut Store, v: u32, lo: Ref, hi: Ref) -> Option<Result<Ref, Store
         return None;
     }
     Some(store.make(v, lo, hi))
-}
-
-// What a call that is written as words answers.
-fn answer(alloc: Global, store: &mut Store, call: &str) -> Result<String, AllocError> {
-    let (a, b, c) = (number(call, 1), number(call, 2), number(call, 3));
-    match word(call, 0) {
-        "len" => format!(in alloc; "{}", store.len()),
-        "vars" => format!(in alloc; "{}", store.vars()),
-        "view" if a < 2 => told_view(alloc, store.view(Ref(a))),
-        _ => made(alloc, node(store, a, Ref(b), Ref(c))),
-    }
-}
-
-// Compares what a call answers.
-fn row<R: Abort>(rt: &R, alloc: Global, store: &mut Store, row: &str) -> Result<(), Fail> {
-    let (call, expected) = halves(row);
-    let found = answer(alloc, store, call)?;
-    assert_eq!(rt; found.as_str(), expected, "{call}");
-    Ok(())
-}
-
-// Compares what calls of a store of so many variables and nodes answer one after another.
-fn rows<R: Abort>(rt: &R, alloc: Global, vars: u32, nodes: u32, table: &str) -> Result<(), Fail>
-    requires vars { vars ≤ 2048 }
-    requires nodes { nodes ≤ 50000000 }
-{
-    let mut store = Store::start(alloc, vars, nodes)?;
-    for line in table.lines() {
-        row(rt, alloc, &mut store, line)?;
-    }
-    Ok(())
-}
-
-const ONE_NODE: &str = "\
-node 1 0 1 => 2
-node 1 0 1 => 2
-node 0 0 1 => full
-node 0 1 1 => 1
-len => 1
-vars => 2
-view 1 => leaf 1
-view 0 => leaf 0";
-
-#[test]
-fn one_node_for_equal_triples_and_full_for_a_new_one(rt: HostRuntime) -> Result<(), Fail> {
-    rows(&rt, rt.alloc(), 2, 1, ONE_NODE)
-}
-
-const NO_ROOM: &str = "\
-node 2047 1 0 => full
-len => 0";
-
-#[test]
-fn a_store_of_no_room_is_full_at_once(rt: HostRuntime) -> Result<(), Fail> {
-    rows(&rt, rt.alloc(), 2048, 0, NO_ROOM)
-}
-
-const TWO_NODES: &str = "\
-node 1 0 1 => 2
-node 0 1 0 => 3
-node 1 1 0 => full
-node 0 1 0 => 3
-len => 2";
-
-#[test]
-fn two_nodes_fill_a_store_of_two(rt: HostRuntime) -> Result<(), Fail> {
-    rows(&rt, rt.alloc(), 2, 2, TWO_NODES)
-}
-
-const NO_VARIABLE: &str = "\
-vars => 0
-node 0 0 1 => missing
-view 1 => leaf 1
-len => 0";
-
-#[test]
-fn a_store_of_no_variable_has_leaves_alone(rt: HostRuntime) -> Result<(), Fail> {
-    rows(&rt, rt.alloc(), 0, 5, NO_VARIABLE)
-}
-
-// The nodes of the first variables, and again: the numbers follow the leaves.
-fn fill<R: Abort>(rt: &R, store: &mut Store, count: u32)
-    requires count { count ≤ 2048 }
-{
-    for _ in 0..2 {
-        for v in 0..count {
-            assert!(rt;
-                node(store, v, Ref(0), Ref(1)) == Some(Ok(Ref(v + 2))),
-                "{v}"
-            );
-        }
-    }
-}
-
-// A store holds its limit of nodes, finds each of them, and is full then.
-fn holds_its_limit<R: Abort>(rt: &R, alloc: Global, limit: u32) -> Result<(), Fail>
-    requires limit { limit ≤ 2047 }
-{
-    let mut store = Store::start(alloc, 2048, limit)?;
-    fill(rt, &mut store, limit);
-    assert!(rt; node(&mut store, limit, Ref(0), Ref(1)) == Some(Err(StoreFault::Full)));
-    assert_eq!(rt; store.len(), limit);
-    Ok(())
-}
-
-// The places double with node 513, and again with node 1,025.
-#[test]
-fn limits_stand_before_at_and_behind_a_doubling(rt: HostRuntime) -> Result<(), Fail> {
-    holds_its_limit(&rt, rt.alloc(), 512)?;
-    holds_its_limit(&rt, rt.alloc(), 513)?;
-    holds_its_limit(&rt, rt.alloc(), 514)?;
-    holds_its_limit(&rt, rt.alloc(), 2047)
 }
 
 fn at(list: &[Ref], place: usize) -> Ref {

@@ -18,6 +18,7 @@ fn a_name_is_its_bytes(rt: HostRuntime) -> Result<(), Fail> {
     Ok(())
 }
 
+// The first pin is the most significant one, and a table without outputs has any number of inputs.
 #[test]
 fn a_row_is_found_by_its_inputs(rt: HostRuntime) -> Result<(), Fail> {
     let mut table = Table::zeros(rt.alloc(), 1, 1)?;
@@ -27,11 +28,6 @@ fn a_row_is_found_by_its_inputs(rt: HostRuntime) -> Result<(), Fail> {
     assert_eq!(rt; out, [true]);
     table.row(&[false], &mut out);
     assert_eq!(rt; out, [false]);
-    Ok(())
-}
-
-#[test]
-fn the_first_pin_is_most_significant(rt: HostRuntime) -> Result<(), Fail> {
     let mut table = Table::zeros(rt.alloc(), 3, 2)?;
     table.set(4, 1, true);
     assert!(rt; table.bit(4, 1));
@@ -41,11 +37,6 @@ fn the_first_pin_is_most_significant(rt: HostRuntime) -> Result<(), Fail> {
     assert_eq!(rt; out, [false, true]);
     table.row(&[false, false, true], &mut out);
     assert_eq!(rt; out, [false, false]);
-    Ok(())
-}
-
-#[test]
-fn a_table_without_outputs_has_any_number_of_inputs(rt: HostRuntime) -> Result<(), Fail> {
     let table = Table::zeros(rt.alloc(), 2048, 0)?;
     assert_eq!(rt; table.inputs(), 2048);
     assert_eq!(rt; table.outputs(), 0);

@@ -2,7 +2,7 @@
 
 use crate::tables::{halves, is_row, with_breaks};
 use bb_cnf::Lit;
-use bb_rup::{RupFault, additions, dimacs};
+use bb_rup::{additions, dimacs};
 use smallvec::SmallVec;
 use std::alloc::{AllocError, Global};
 use std::process::Abort;
@@ -20,32 +20,30 @@ fn tell_clauses(out: &mut String, clauses: &[SmallVec<Lit, 4>]) -> Result<(), Al
     Ok(())
 }
 
-fn told_formula(rt: &impl Abort, alloc: Global, text: &[u8]) -> Result<String, Fail> {
+// The number of variables and the clauses of a formula, or the additions over two variables, or the fault.
+fn told(rt: &impl Abort, alloc: Global, text: &[u8], formula: bool) -> Result<String, Fail> {
     assert!(rt; text.len() <= 33_554_432);
     let mut out = String::new(alloc);
-    match dimacs(alloc, text) {
-        Ok(cnf) => {
-            write!(out, "{}:", cnf.vars)?;
-            tell_clauses(&mut out, &cnf.clauses)?;
+    let fault = if formula {
+        match dimacs(alloc, text) {
+            Ok(cnf) => {
+                write!(out, "{}:", cnf.vars)?;
+                tell_clauses(&mut out, &cnf.clauses)?;
+                return Ok(out);
+            }
+            Err(fault) => fault,
         }
-        Err(RupFault::NoMemory) => return Err(Fail::new("no memory")),
-        Err(fault) => write!(out, "{fault:?}")?,
-    }
-    Ok(out)
-}
-
-// Over two variables.
-fn told_additions(rt: &impl Abort, alloc: Global, text: &[u8]) -> Result<String, Fail> {
-    assert!(rt; text.len() <= 33_554_432);
-    let mut out = String::new(alloc);
-    match additions(alloc, text, 2) {
-        Ok(adds) => {
-            out.push_str(":")?;
-            tell_clauses(&mut out, &adds)?;
+    } else {
+        match additions(alloc, text, 2) {
+            Ok(adds) => {
+                out.push_str(":")?;
+                tell_clauses(&mut out, &adds)?;
+                return Ok(out);
+            }
+            Err(fault) => fault,
         }
-        Err(RupFault::NoMemory) => return Err(Fail::new("no memory")),
-        Err(fault) => write!(out, "{fault:?}")?,
-    }
+    };
+    write!(out, "{fault:?}")?;
     Ok(out)
 }
 
@@ -114,44 +112,27 @@ p cnf 2 1 => Token { line: 1 }
 a\u{1}\u{2} => Token { line: 1 }
 0 0 0 => : 0 0 0";
 
-// Compares what is told of a row.
-fn row(rt: &impl Abort, alloc: Global, line: &str, formula: bool) -> Result<(), Fail> {
-    let (written, expected) = halves(line);
-    let text = with_breaks(alloc, written)?;
-    let found = if formula {
-        told_formula(rt, alloc, text.as_bytes())?
-    } else {
-        told_additions(rt, alloc, text.as_bytes())?
-    };
-    assert_eq!(rt; found.as_str(), expected, "{line}");
-    Ok(())
-}
-
 // Compares each row of a table.
-fn rows(rt: &impl Abort, alloc: Global, table: &str, formulas: bool) -> Result<(), Fail> {
+fn rows(rt: &impl Abort, alloc: Global, table: &str, formula: bool) -> Result<(), Fail> {
     for line in table.lines() {
         if is_row(line) {
-            row(rt, alloc, line, formulas)?;
+            let (written, expected) = halves(line);
+            let text = with_breaks(alloc, written)?;
+            let found = told(rt, alloc, text.as_bytes(), formula)?;
+            assert_eq!(rt; found.as_str(), expected, "{line}");
         }
     }
     Ok(())
 }
 
 #[test]
-fn formulas_are_read(rt: HostRuntime) -> Result<(), Fail> {
-    rows(&rt, rt.alloc(), FORMULAS, true)
-}
-
-#[test]
-fn additions_are_read(rt: HostRuntime) -> Result<(), Fail> {
-    rows(&rt, rt.alloc(), ADDITIONS, false)
-}
-
-#[test]
-fn a_carriage_return_ends_no_line(rt: HostRuntime) -> Result<(), Fail> {
-    let comment = told_formula(&rt, rt.alloc(), b"c x\rp cnf 1 1\r1 0")?;
+fn formulas_and_additions_are_read(rt: HostRuntime) -> Result<(), Fail> {
+    rows(&rt, rt.alloc(), FORMULAS, true)?;
+    rows(&rt, rt.alloc(), ADDITIONS, false)?;
+    // A carriage return ends no line.
+    let comment = told(&rt, rt.alloc(), b"c x\rp cnf 1 1\r1 0", true)?;
     assert_eq!(rt; comment.as_str(), "Header { line: 1 }");
-    let formula = told_formula(&rt, rt.alloc(), b"p cnf 1 2\r1 0\r-1 0")?;
+    let formula = told(&rt, rt.alloc(), b"p cnf 1 2\r1 0\r-1 0", true)?;
     assert_eq!(rt; formula.as_str(), "1: 1 0 -1 0");
     Ok(())
 }

@@ -19,23 +19,19 @@ fn tell_bits(out: &mut String, bits: &[bool]) -> Result<(), AllocError> {
     Ok(())
 }
 
-fn tell_bit(out: &mut String, name: &Name, i: u32) -> Result<(), AllocError> {
-    tell_name(out, name)?;
-    write!(out, "[{i}]")
-}
-
-fn tell_part(out: &mut String, name: &Name, i: u32, j: u32) -> Result<(), AllocError> {
-    tell_name(out, name)?;
-    write!(out, "[{i}:{j}]")
-}
-
 /// Writes an expression with parentheses around the operators of each level and around each conditional.
 #[cycle(tell)]
 pub(crate) fn tell(out: &mut String, e: &Expr) -> Result<(), AllocError> {
     match e {
         Expr::Net(name) => tell_name(out, name),
-        Expr::Bit(name, i) => tell_bit(out, name, *i),
-        Expr::Part(name, i, j) => tell_part(out, name, *i, *j),
+        Expr::Bit(name, i) => {
+            tell_name(out, name)?;
+            write!(out, "[{}]", *i)
+        }
+        Expr::Part(name, i, j) => {
+            tell_name(out, name)?;
+            write!(out, "[{}:{}]", *i, *j)
+        }
         Expr::Sized(bits) => tell_bits(out, bits),
         Expr::Plain(n) => write!(out, "{n}"),
         Expr::Not(k, inner) => {

@@ -1,4 +1,5 @@
-//! Tests of the crates that read texts, from tokens to the values of expressions and clauses, through their public calls.
+//! Tests of the crates that read texts and words, through their public calls: tokens, sources, nets, clauses, what words ask for, and the
+//! texts of made pairs. What a report can show, as each first fault, is a row of bb_cases.
 #![tactic(auto)]
 
 #[cfg(test)]
@@ -6,13 +7,11 @@ mod dimacs_tests;
 #[cfg(test)]
 mod expression_telling;
 #[cfg(test)]
-mod fault_tests;
-#[cfg(test)]
-mod grouping_tests;
-#[cfg(test)]
 mod lex_tests;
 #[cfg(test)]
 mod make_tests;
+#[cfg(test)]
+mod net_tests;
 #[cfg(test)]
 mod parse_tests;
 #[cfg(test)]
@@ -22,8 +21,4 @@ mod tables;
 #[cfg(test)]
 mod telling;
 #[cfg(test)]
-mod value_tests;
-#[cfg(test)]
-mod values;
-#[cfg(test)]
-mod word_value_tests;
+mod word_tests;

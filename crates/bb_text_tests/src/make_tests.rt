@@ -1,18 +1,7 @@
 //! The texts of made pairs of the smallest widths, as a program outside wrote them down from their description.
 
-use bb_make::{input_count, texts};
-use std::alloc::Global;
-use std::process::Abort;
+use bb_make::texts;
 use std::test::Fail;
-
-// Compares the two texts of a width.
-fn pair<R: Abort>(rt: &R, alloc: Global, n: u32, spec: &str, imp: &str) -> Result<(), Fail> {
-    assert!(rt; 1 <= n && n <= 256);
-    let (full, holed) = texts(alloc, n)?;
-    assert_eq!(rt; full.as_slice(), spec.as_bytes());
-    assert_eq!(rt; holed.as_slice(), imp.as_bytes());
-    Ok(())
-}
 
 const SPEC_1: &str = "\
 module add(a0,b0,ci,s0,co);
@@ -118,16 +107,11 @@ endmodule
 
 #[test]
 fn made_texts_are_as_described(rt: HostRuntime) -> Result<(), Fail> {
-    let alloc = rt.alloc();
-    pair(&rt, alloc, 1, SPEC_1, IMP_1)?;
-    pair(&rt, alloc, 2, SPEC_2, IMP_2)?;
-    pair(&rt, alloc, 3, SPEC_3, IMP_3)
-}
-
-#[test]
-fn inputs_are_counted_with_the_carry(rt: HostRuntime) -> Result<(), Fail> {
-    assert_eq!(rt; input_count(1), 3);
-    assert_eq!(rt; input_count(16), 33);
-    assert_eq!(rt; input_count(256), 513);
+    for (n, spec, imp) in [(1, SPEC_1, IMP_1), (2, SPEC_2, IMP_2), (3, SPEC_3, IMP_3)] {
+        assert!(rt; 1 <= n && n <= 256);
+        let (full, holed) = texts(rt.alloc(), n)?;
+        assert_eq!(rt; full.as_slice(), spec.as_bytes());
+        assert_eq!(rt; holed.as_slice(), imp.as_bytes());
+    }
     Ok(())
 }

@@ -1,25 +1,19 @@
-//! Texts and the sources that they read as, or their first faults.
+//! Texts and the sources that they read as.
 
 use crate::tables::{halves, is_row, with_breaks};
 use crate::telling::told;
-use std::alloc::{AllocError, Global};
+use std::alloc::Global;
 use std::process::Abort;
 use std::test::Fail;
 
-// Compares what the text before an arrow reads as with what stands behind it.
-fn row(rt: &impl Abort, alloc: Global, row: &str) -> Result<(), Fail> {
-    let (written, expected) = halves(row);
-    let text = with_breaks(alloc, written)?;
-    let found = told(rt, alloc, text.as_bytes())?;
-    assert_eq!(rt; found.as_str(), expected, "{row}");
-    Ok(())
-}
-
-// Compares each row of a table.
+// Compares what the texts before the arrows of a table read as with what stands behind them.
 fn rows(rt: &impl Abort, alloc: Global, table: &str) -> Result<(), Fail> {
     for line in table.lines() {
         if is_row(line) {
-            row(rt, alloc, line)?;
+            let (written, expected) = halves(line);
+            let text = with_breaks(alloc, written)?;
+            let found = told(rt, alloc, text.as_bytes())?;
+            assert_eq!(rt; found.as_str(), expected, "{line}");
         }
     }
     Ok(())
@@ -35,11 +29,6 @@ module m(input [3:0] a, output reg [0:1] q, input wire b, c); endmodule => <1 m 
 module m(a);\ninput [0:7] a,\nb; output reg c;\nendmodule => <1 m a,; 2 in [0:7] a,b,; 3 out reg c,>
 module m; wire a; wire [1:0] b, c = 2'b10, d; reg [7:0] q, r; supply0 z; supply1 [1:0] o, p; endmodule => <1 m ; 1 wire a=-,; 1 wire [1:0] b=-,c='10,d=-,; 1 reg [7:0] q,r,; 1 zero z,; 1 one [1:0] o,p,>";
 
-#[test]
-fn headers_and_declarations(rt: HostRuntime) -> Result<(), Fail> {
-    rows(&rt, rt.alloc(), HEADERS_AND_DECLARATIONS)
-}
-
 const ITEMS: &str = r"
 module m; assign a = b, c[1] = d, {e, f[3:0], {g}} = h; endmodule => <1 m ; 1 a=b,c[1]=d,{e,f[3:0],{g,},}=h,>
 module m; nand (a, b, c), g1(d, e); not n(f, g); buf(a,b,c,d,e,f); xnor(a, b & c); endmodule => <1 m ; 1 Nand (a,b,c,)g1(d,e,); 1 Not n(f,g,); 1 Buf (a,b,c,d,e,f,); 1 Xnor (a,(b And c),)>
@@ -47,11 +36,6 @@ module m; and(a, b, c); or(a, b); nor(a, b); xor g(a, b, c); endmodule => <1 m ;
 module m; box u(), v(a), w(a, , b[2]), x(,), y(.p(a), .q()), z(.r(a & b)); endmodule => <1 m ; 1 box u()v(a,)w(a,-,b[2],)x(-,-,)y(p=a,q=-,)z(r=(a And b),)>
 module m; always @(posedge c) q <= d; always @(negedge c[2]) {q, r[3:0]} <= d & e; endmodule => <1 m ; 1 rise c q=d; 1 fall c[2] {q,r[3:0],}=(d And e)>
 module m; always @(negedge c) q[2] <= d; always @(posedge c) q[3:0] <= {d, e}; endmodule => <1 m ; 1 fall c q[2]=d; 1 rise c q[3:0]={d,e,}>";
-
-#[test]
-fn items(rt: HostRuntime) -> Result<(), Fail> {
-    rows(&rt, rt.alloc(), ITEMS)
-}
 
 const EXPRESSIONS: &str = r"
 module m; assign y = a | b ^ c & d; assign y = a & b ^ c | d; endmodule => <1 m ; 1 y=(a Or (b Xor (c And d))),; 1 y=(((a And b) Xor c) Or d),>
@@ -61,252 +45,64 @@ module m; assign y = a ? b : c ? d : e; assign y = a ? b : (c ? d : e); assign y
 module m; assign y = a | b ? c ? d : e : f & g; endmodule => <1 m ; 1 y=((a Or b) ? (c ? d : e) : (f And g)),>
 module m; assign y = {a, b[1], {c}, 2'b01, 7}; assign y = {3{a, b}}; assign y = {3, {2{a}}}; assign y = ((a)); endmodule => <1 m ; 1 y={a,b[1],{c,},'01,7,},; 1 y=3{a,b,},; 1 y={3,2{a,},},; 1 y=a,>";
 
-#[test]
-fn expressions(rt: HostRuntime) -> Result<(), Fail> {
-    rows(&rt, rt.alloc(), EXPRESSIONS)
-}
-
-const STATEMENTS_OUT_OF_THEIR_PLACE: &str = r"
-module m(a); => unended
-module m(a);\ninput a;\ninitial a;\nendmodule => statement line 3
-module m(a);\ninput a;\nendmodule\nmodule n(b); output b => unended
-module m; endmodule\nx => unended
-endmodule => statement line 1
-module m;\nmodule n;\nendmodule => statement line 2
-wire a; => statement line 1
-\nassign a\n= b; => statement line 2
-module m; wire\na\nb; endmodule => statement line 1
-module m;\nendmodule; => statement line 2
-module m; wire a\nendmodule => statement line 1
-module m(a, input b); endmodule => statement line 1
-primitive p(a, b); => statement line 1";
-
-#[test]
-fn statements_out_of_their_place(rt: HostRuntime) -> Result<(), Fail> {
-    rows(&rt, rt.alloc(), STATEMENTS_OUT_OF_THEIR_PLACE)
-}
-
-const EXPRESSIONS_AT_FAULT: &str = r"
-module m; assign y = {2{a}, b}; endmodule => statement line 1
-module m; assign y = {2 {a}; endmodule => statement line 1
-module m; assign y = a ? b; endmodule => statement line 1
-module m; assign y = a[b]; endmodule => statement line 1
-module m; assign y = a[1][0]; endmodule => statement line 1
-module m; assign y = a ~& b; endmodule => statement line 1";
-
-#[test]
-fn expressions_at_fault(rt: HostRuntime) -> Result<(), Fail> {
-    rows(&rt, rt.alloc(), EXPRESSIONS_AT_FAULT)
-}
-
-const GATES_AND_INSTANCES_AT_FAULT: &str = r"
-module m; and g(a); endmodule => statement line 1
-module m; and (strong0, strong1) g(a, b); endmodule => statement line 1
-module m; and g[3:0](a, b); endmodule => statement line 1
-module m; bufif0(a, b, c); endmodule => statement line 1
-module m; notif1(a, b, c); endmodule => statement line 1
-module m; nmos(a, b, c); endmodule => statement line 1
-module m; tran(a, b); endmodule => statement line 1
-module m; pullup(a); endmodule => statement line 1
-module m; box (a); endmodule => statement line 1
-module m; box u[3:0](a); endmodule => statement line 1
-module m; box u(a, .p(b)); endmodule => statement line 1
-module m; box u(.p(a),); endmodule => statement line 1";
-
-#[test]
-fn gates_and_instances_at_fault(rt: HostRuntime) -> Result<(), Fail> {
-    rows(&rt, rt.alloc(), GATES_AND_INSTANCES_AT_FAULT)
-}
-
-const DECLARATIONS_AT_FAULT: &str = r"
-module m; assign (y) = a; endmodule => statement line 1
-module m; inout a; endmodule => statement line 1
-module m; tri a; endmodule => statement line 1
-module m; wand a; endmodule => statement line 1
-module m; supply0 wire a; endmodule => statement line 1
-module m; wire signed a; endmodule => statement line 1
-module m; input signed [3:0] a; endmodule => statement line 1
-module m; reg q = 1; endmodule => statement line 1
-module m(output reg q = 1'b0); endmodule => statement line 1
-module m; parameter p = 1; endmodule => statement line 1";
+// How operators on words and reductions are grouped.
+const GROUPINGS: &str = r"
+module m; assign y = a << b + c; endmodule => <1 m ; 1 y=(a Left (b Plus c)),>
+module m; assign y = a + b << c; endmodule => <1 m ; 1 y=((a Plus b) Left c),>
+module m; assign y = a < b << c; endmodule => <1 m ; 1 y=(a Less (b Left c)),>
+module m; assign y = a << b < c; endmodule => <1 m ; 1 y=((a Left b) Less c),>
+module m; assign y = a == b < c; endmodule => <1 m ; 1 y=(a Equal (b Less c)),>
+module m; assign y = a < b == c; endmodule => <1 m ; 1 y=((a Less b) Equal c),>
+module m; assign y = a & b == c; endmodule => <1 m ; 1 y=(a And (b Equal c)),>
+module m; assign y = a == b & c; endmodule => <1 m ; 1 y=((a Equal b) And c),>
+module m; assign y = a && b | c; endmodule => <1 m ; 1 y=(a Both (b Or c)),>
+module m; assign y = a | b && c; endmodule => <1 m ; 1 y=((a Or b) Both c),>
+module m; assign y = a || b && c; endmodule => <1 m ; 1 y=(a Either (b Both c)),>
+module m; assign y = a && b || c; endmodule => <1 m ; 1 y=((a Both b) Either c),>
+module m; assign y = a || b ? c : d || e; endmodule => <1 m ; 1 y=((a Either b) ? c : (d Either e)),>
+module m; assign y = a || b && c | d ^ e & f == g < h << i + j; endmodule => <1 m ; 1 y=(a Either (b Both (c Or (d Xor (e And (f Equal (g Less (h Left (i Plus j))))))))),>
+module m; assign y = a + b << c < d == e & f ^ g | h && i || j; endmodule => <1 m ; 1 y=(((((((((a Plus b) Left c) Less d) Equal e) And f) Xor g) Or h) Both i) Either j),>
+module m; assign y = a + b - c + d; endmodule => <1 m ; 1 y=(a Plus b Minus c Plus d),>
+module m; assign y = a - (b - c); endmodule => <1 m ; 1 y=(a Minus (b Minus c)),>
+module m; assign y = (a - b) - c; endmodule => <1 m ; 1 y=((a Minus b) Minus c),>
+module m; assign y = a << b >> c; endmodule => <1 m ; 1 y=(a Left b Right c),>
+module m; assign y = a < b <= c > d >= e; endmodule => <1 m ; 1 y=(a Less b LessEqual c Greater d GreaterEqual e),>
+module m; assign y = a == b != c; endmodule => <1 m ; 1 y=(a Equal b NotEqual c),>
+module m; assign y = a && b && c; endmodule => <1 m ; 1 y=(a Both b Both c),>
+module m; assign y = a || b || c; endmodule => <1 m ; 1 y=(a Either b Either c),>
+module m; assign y = !a; endmodule => <1 m ; 1 y=None a,>
+module m; assign y = &a; endmodule => <1 m ; 1 y=All a,>
+module m; assign y = ~&a; endmodule => <1 m ; 1 y=NotAll a,>
+module m; assign y = |a; endmodule => <1 m ; 1 y=Any a,>
+module m; assign y = ~|a; endmodule => <1 m ; 1 y=NotAny a,>
+module m; assign y = ^a; endmodule => <1 m ; 1 y=Odd a,>
+module m; assign y = ~^a; endmodule => <1 m ; 1 y=NotOdd a,>
+module m; assign y = ^~a; endmodule => <1 m ; 1 y=NotOdd a,>
+module m; assign y = ~!a; endmodule => <1 m ; 1 y=~1 None a,>
+module m; assign y = !~a; endmodule => <1 m ; 1 y=None ~1 a,>
+module m; assign y = ~~&~~~a; endmodule => <1 m ; 1 y=~1 NotAll ~3 a,>
+module m; assign y = ~ &a; endmodule => <1 m ; 1 y=~1 All a,>
+module m; assign y = a & &b; endmodule => <1 m ; 1 y=(a And All b),>
+module m; assign y = a &&& b; endmodule => <1 m ; 1 y=(a Both All b),>
+module m; assign y = a ||| b; endmodule => <1 m ; 1 y=(a Either Any b),>
+module m; assign y = a & ~&b; endmodule => <1 m ; 1 y=(a And NotAll b),>
+module m; assign y = a ^ ^b; endmodule => <1 m ; 1 y=(a Xor Odd b),>
+module m; assign y = a ^ ~b; endmodule => <1 m ; 1 y=(a Xor ~1 b),>
+module m; assign y = a ^~b; endmodule => <1 m ; 1 y=(a Xnor b),>
+module m; assign y = &a & |b; endmodule => <1 m ; 1 y=(All a And Any b),>
+module m; assign y = !a == b; endmodule => <1 m ; 1 y=(None a Equal b),>
+module m; assign y = !(a == b); endmodule => <1 m ; 1 y=None (a Equal b),>
+module m; assign y = !(!a); endmodule => <1 m ; 1 y=None None a,>
+module m; assign y = &{a, b}; endmodule => <1 m ; 1 y=All {a,b,},>
+module m; assign y = {2{&a}}; endmodule => <1 m ; 1 y=2{All a,},>
+module m; assign y = a <= b; endmodule => <1 m ; 1 y=(a LessEqual b),>
+// the first sign of a clocked assignment is no operator
+module m; always @(posedge c) q <= a <= b; always @(posedge c) q <= a < b; endmodule => <1 m ; 1 rise c q=(a LessEqual b); 1 rise c q=(a Less b)>";
 
 #[test]
-fn declarations_at_fault(rt: HostRuntime) -> Result<(), Fail> {
-    rows(&rt, rt.alloc(), DECLARATIONS_AT_FAULT)
-}
-
-const CONSTRUCTS_LEFT_OUT: &str = r"
-module m;\nlocalparam p = 1; endmodule => statement line 2
-module m; box u(a);\ndefparam u.p = 1; endmodule => statement line 2
-module m;\ngenerate wire a; endgenerate endmodule => statement line 2
-module m;\nfunction f; input a; f = a; endfunction endmodule => statement line 2
-module m;\ntask t; input a; b = a; endtask endmodule => statement line 2
-module m;\nspecify specparam t = 1; endspecify endmodule => statement line 2";
-
-#[test]
-fn constructs_left_out(rt: HostRuntime) -> Result<(), Fail> {
-    rows(&rt, rt.alloc(), CONSTRUCTS_LEFT_OUT)
-}
-
-const REGISTERS_AT_FAULT: &str = r"
-module m; always @(posedge c or negedge r) q <= d; endmodule => statement line 1
-module m; always @(posedge c) begin q <= d; end endmodule => statement line 1
-module m; always @(posedge c) if (e) q <= d; endmodule => statement line 1
-module m; always @(c) q <= d; endmodule => statement line 1
-module m; always @(c or d) q <= d; endmodule => statement line 1
-module m; always @(posedge c) q = d; endmodule => statement line 1";
-
-#[test]
-fn registers_at_fault(rt: HostRuntime) -> Result<(), Fail> {
-    rows(&rt, rt.alloc(), REGISTERS_AT_FAULT)
-}
-
-const BYTES_OF_NO_TOKEN: &str = r#"
-module m;\nand #1 (a, b); endmodule => token line 2
-module m;\nbox #(4) u(a); endmodule => token line 2
-module m\n#(parameter p = 1) (a); endmodule => token line 2
-module m;\nalways @(*) q <= d; endmodule => token line 2
-module m;\nassign y = "a"; endmodule => token line 2
-module m;\nassign y = 4'b10x0; endmodule => token line 2
-module m;\nassign y = 1'hz; endmodule => token line 2
-module m;\nassign y = 4'b1?; endmodule => token line 2
-module m;\nassign y = 'b1; endmodule => token line 2"#;
-
-#[test]
-fn bytes_of_no_token(rt: HostRuntime) -> Result<(), Fail> {
-    rows(&rt, rt.alloc(), BYTES_OF_NO_TOKEN)
-}
-
-const OPERATORS_OF_NO_TOKEN: &str = r"
-module m;\nassign y = a * b; endmodule => token line 2
-module m;\nassign y = a / b; endmodule => token line 2
-module m;\nassign y = a % b; endmodule => token line 2
-module m;\nassign y = a ** b; endmodule => token line 2";
-
-#[test]
-fn operators_of_no_token(rt: HostRuntime) -> Result<(), Fail> {
-    rows(&rt, rt.alloc(), OPERATORS_OF_NO_TOKEN)
-}
-
-/// Something so many times before and after `a`, with what stands in front of all that and behind it.
-fn nested(
-    alloc: Global,
-    front: &str,
-    (before, count, after): (&str, usize, &str),
-    back: &str,
-) -> Result<String, AllocError> {
-    let mut text = String::from_str(alloc, front)?;
-    for _ in 0..count {
-        text.push_str(before)?;
-    }
-    text.push_str("a")?;
-    for _ in 0..count {
-        text.push_str(after)?;
-    }
-    text.push_str(back)?;
-    Ok(text)
-}
-
-#[test]
-fn nesting(rt: HostRuntime) -> Result<(), Fail> {
-    let front = "module m;\nassign y = ";
-    let back = ";\nendmodule";
-    for &(before, after) in &[
-        ("(", ")"),
-        ("{", "}"),
-        ("{1{", "}}"),
-        ("b ? ", " : c"),
-        ("~(", ")"),
-    ] {
-        let most = if before == "{1{" { 100 } else { 200 };
-        let text = nested(rt.alloc(), front, (before, most, after), back)?;
-        let found = told(&rt, rt.alloc(), text.as_bytes())?;
-        assert_ne!(rt; found.as_str(), "deep line 2");
-        assert_ne!(rt; found.as_str(), "statement line 2");
-        let text = nested(rt.alloc(), front, (before, most + 1, after), back)?;
-        let found = told(&rt, rt.alloc(), text.as_bytes())?;
-        assert_eq!(rt; found.as_str(), "deep line 2");
-    }
-    // A run of arms does not nest, and neither do operators of one level and a run of signs.
-    for &(before, after) in &[
-        ("b ? c : ", ""),
-        ("b & ", ""),
-        ("~", ""),
-        ("b[3:2] ^ ", ""),
-        ("b + ", ""),
-    ] {
-        let text = nested(rt.alloc(), front, (before, 300, after), back)?;
-        let found = told(&rt, rt.alloc(), text.as_bytes())?;
-        assert_ne!(rt; found.as_str(), "deep line 2");
-        assert_ne!(rt; found.as_str(), "statement line 2");
-    }
-    Ok(())
-}
-
-#[test]
-fn the_first_statement_decides(rt: HostRuntime) -> Result<(), Fail> {
-    for &(front, turn, back, expected) in &[
-        // A header nests too, and what is too deep is `deep` whatever else is wrong with it.
-        (
-            "module m",
-            ("(", 200, ")"),
-            ";\nendmodule",
-            "statement line 1",
-        ),
-        ("module m", ("(", 201, ")"), ";\nendmodule", "deep line 1"),
-        // What comes first is told, too deep or not.
-        (
-            "module m;\nassign y = ",
-            ("(", 201, ")"),
-            ";\nx;\nendmodule",
-            "deep line 2",
-        ),
-        (
-            "module m;\nx;\nassign y = ",
-            ("(", 201, ")"),
-            ";\nendmodule",
-            "statement line 2",
-        ),
-    ] {
-        let text = nested(rt.alloc(), front, turn, back)?;
-        let found = told(&rt, rt.alloc(), text.as_bytes())?;
-        assert_eq!(rt; found.as_str(), expected);
-    }
-    Ok(())
-}
-
-// Behind a lone [ no : counts, and a lone ] opens nothing.
-#[test]
-fn lone_brackets_open_nothing(rt: HostRuntime) -> Result<(), Fail> {
-    for &(front, turn, back, expected) in &[
-        (
-            "module m;\nassign y = [",
-            ("b ? c : ", 200, ""),
-            ";\nendmodule",
-            "statement line 2",
-        ),
-        (
-            "module m;\nassign y = [",
-            ("b ? c : ", 201, ""),
-            ";\nendmodule",
-            "deep line 2",
-        ),
-        (
-            "module m;\nassign y = []",
-            ("b ? c : ", 201, ""),
-            ";\nendmodule",
-            "statement line 2",
-        ),
-        (
-            "module m;\nassign y = ]",
-            ("b ? c : ", 201, ""),
-            ";\nendmodule",
-            "statement line 2",
-        ),
-    ] {
-        let text = nested(rt.alloc(), front, turn, back)?;
-        let found = told(&rt, rt.alloc(), text.as_bytes())?;
-        assert_eq!(rt; found.as_str(), expected);
-    }
-    Ok(())
+fn texts_read_as_sources(rt: HostRuntime) -> Result<(), Fail> {
+    rows(&rt, rt.alloc(), HEADERS_AND_DECLARATIONS)?;
+    rows(&rt, rt.alloc(), ITEMS)?;
+    rows(&rt, rt.alloc(), EXPRESSIONS)?;
+    rows(&rt, rt.alloc(), GROUPINGS)
 }

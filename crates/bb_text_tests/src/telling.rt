@@ -1,14 +1,12 @@
-//! What a source says, in words: its modules with their items, or its first fault.
+//! What a source says, in words: its modules with their items.
 
 use crate::expression_telling::{tell, tell_name, tell_optional, tell_parts};
-use bb_ast::{
-    Always, Body, Call, Conns, Dir, Expr, GateCall, Head, Item, Module, Port, PortKind, Range,
-    Source,
-};
+use bb_ast::{Body, Call, Conns, Dir, Expr, GateCall, Head, Item, Module, Port, PortKind, Range};
 use bb_bits::Name;
-use bb_parse::{ParseFault, source};
+use bb_parse::source;
 use std::alloc::{AllocError, Global};
 use std::process::Abort;
+use std::test::Fail;
 
 fn tell_range(out: &mut String, range: Option<Range>) -> Result<(), AllocError> {
     match range {
@@ -96,15 +94,6 @@ fn tell_calls(out: &mut String, all: &[Call]) -> Result<(), AllocError> {
     Ok(())
 }
 
-fn tell_always(out: &mut String, always: &Always) -> Result<(), AllocError> {
-    out.push_str(if always.falling { "fall " } else { "rise " })?;
-    tell(out, &always.clock)?;
-    out.push_str(" ")?;
-    tell(out, &always.left)?;
-    out.push_str("=")?;
-    tell(out, &always.right)
-}
-
 fn tell_item(out: &mut String, item: &Item) -> Result<(), AllocError> {
     let line = item.line;
     write!(out, "{line} ")?;
@@ -138,7 +127,14 @@ fn tell_item(out: &mut String, item: &Item) -> Result<(), AllocError> {
             out.push_str(" ")?;
             tell_calls(out, all)
         }
-        Body::Always(always) => tell_always(out, always),
+        Body::Always(always) => {
+            out.push_str(if always.falling { "fall " } else { "rise " })?;
+            tell(out, &always.clock)?;
+            out.push_str(" ")?;
+            tell(out, &always.left)?;
+            out.push_str("=")?;
+            tell(out, &always.right)
+        }
     }
 }
 
@@ -174,24 +170,12 @@ fn tell_modules(out: &mut String, modules: &[Module]) -> Result<(), AllocError> 
     Ok(())
 }
 
-fn tell_result(out: &mut String, found: &Result<Source, ParseFault>) -> Result<(), AllocError> {
-    match found {
-        Ok(source) => tell_modules(out, &source.modules),
-        Err(ParseFault::Statement { line }) => write!(out, "statement line {line}"),
-        Err(ParseFault::Unended) => out.push_str("unended"),
-        Err(ParseFault::Deep { line }) => write!(out, "deep line {line}"),
-        Err(ParseFault::NoMemory) => out.push_str("no memory"),
-    }
-}
-
 /// What a text reads as.
-pub(crate) fn told(rt: &impl Abort, alloc: Global, text: &[u8]) -> Result<String, AllocError> {
+pub(crate) fn told(rt: &impl Abort, alloc: Global, text: &[u8]) -> Result<String, Fail> {
     let mut out = String::new(alloc);
     assert!(rt; text.len() <= 33_554_432);
-    match bb_lex::tokens(alloc, text) {
-        Ok(tokens) => tell_result(&mut out, &source(alloc, &tokens, text))?,
-        Err(bb_lex::LexFault::Bad { line }) => write!(out, "token line {line}")?,
-        Err(bb_lex::LexFault::NoMemory) => out.push_str("no memory")?,
-    }
+    let tokens = bb_lex::tokens(alloc, text)?;
+    let source = source(alloc, &tokens, text)?;
+    tell_modules(&mut out, &source.modules)?;
     Ok(out)
 }
