@@ -1,10 +1,8 @@
-"""The tries of the manual page, of the installation and of the build."""
+"""The tries of the manual page and of the installation."""
 import os
 import shutil
-import signal
-import subprocess
-import time
 
+from stand_in import environment, make_sources
 from tries import BBEQ, TOP, example, is_told, read, run, write
 
 
@@ -42,78 +40,27 @@ def install_part(tally, folder):
     build_part(tally, folder)
 
 
-STANDS_FOR_RT = """#!/bin/sh
-# Each crate of the copy is proved but $NOT_PROVED, the program is $BUILT, and with $NUMBER no end comes.
-[ "$*" = ci ] || exit 2
-if [ -n "${NUMBER-}" ]; then
-    echo $$ >"$NUMBER"
-    exec sleep 60
-fi
-while IFS=: read -r crate _; do
-    if [ "$crate" = "${NOT_PROVED-}" ]; then
-        printf '== %s\\nit does not hold\\nrt: %s NOT PROVED\\n1 passed, 1 failed\\n' "$crate" "$crate"
-        exit 1
-    fi
-    echo "rt: $crate proved"
-done <crates.txt
-mkdir -p crates/bbeq/out && cp "$BUILT" crates/bbeq/out/bbeq
-"""
-TOOLS = "awk cat chmod cp date dirname env find head mkdir mktemp mv readlink rm sed sh sleep tail tar touch wc".split()
-
-
-def sources(folder):
-    """A copy of what ./bbeq and install read, with crates that are empty, and a folder of tools with rt and one without."""
-    top = os.path.join(folder, "sources")
-    for line in read(os.path.join(TOP, "crates.txt")).splitlines():
-        if line and not line.startswith("#"):
-            os.makedirs(os.path.join(top, "crates", line.split(":")[0], "src"))
-    os.makedirs(os.path.join(top, "docs"))
-    for name in ("bbeq", "install", "crates.txt", "HANDLES", "docs/bbeq.1"):
-        shutil.copy(os.path.join(TOP, name), os.path.join(top, name))
-    for name in ("with", "without"):
-        os.makedirs(os.path.join(folder, name))
-        for tool in TOOLS:
-            os.symlink(shutil.which(tool), os.path.join(folder, name, tool))
-    os.chmod(write(os.path.join(folder, "with"), "rt", STANDS_FOR_RT), 0o755)
-    return top
-
-
 def build_part(tally, folder):
-    """Installs from sources where nothing is built, with a script in the place of rt, so that nothing is proved."""
-    top, prefix = sources(folder), os.path.join(folder, "built")
+    """Installs from sources where nothing is built, with a kit that proves nothing."""
+    top, prefix, env = make_sources(folder), os.path.join(folder, "built"), environment(folder)
     program, install = os.path.join(prefix, "bin", "bbeq"), os.path.join(top, "install")
-    env = {"PATH": os.path.join(folder, "without"), "BUILT": BBEQ}
-    done = run([install, prefix], env=env)
+    done = run([install, prefix], env={**env, "PATH": os.path.join(folder, "without")})
     tally.note("install without rt", done.status == 1 and not os.path.exists(program) and "PATH" in done.err, done.why())
-    env["PATH"] = os.path.join(folder, "with")
+    done = run([install, "--unproved", prefix], env=env)
+    tally.note("install --unproved PREFIX", done.status == 0 and done.out == program + "-unproved\n"
+               and not os.path.exists(program), done.why())
     done = run([install, prefix], env={**env, "NOT_PROVED": "bb_net"})
     tally.note("install where a crate is not proved", done.status == 1 and not os.path.exists(program)
                and "it does not hold\n" in done.err and "bb_net is not proved" in done.err, done.why())
-    tally.note("./bbeq ends what it began where it is ended", *interrupted(os.path.join(top, "bbeq"), folder, env))
     done = run([install, prefix], env=env)
-    tally.note("install builds what is not built", done.status == 0 and done.out.split("\n")[0] == program
+    tally.note("install proves what is not proved", done.status == 0 and done.out.split("\n")[0] == program
                and "bb_net is proved" in done.err and "bb_run_tests" not in done.err, done.why())
     done = run([install, prefix], env=env)
-    tally.note("install takes what is built", done.status == 0 and os.path.exists(program) and not done.err, done.why())
-    write(os.path.join(top, "crates", "bb_net", "src"), "lib.rt", "")
+    tally.note("install takes what is proved", done.status == 0 and os.path.exists(program) and not done.err, done.why())
+    write(os.path.join(top, "crates", "bb_net", "src"), "lib.rt", "// other\n")
     done = run([install, prefix], env=env)
-    tally.note("install builds again where a source is newer", done.status == 0 and "building the program" in done.err,
-               done.why())
+    tally.note("install proves again where a source is another", done.status == 0 and "bb_net is proved" in done.err, done.why())
     done = run([os.path.join(top, "bbeq"), "spec.v", "impl.v"], example("nor"), env=env)
     tally.note("./bbeq runs in the caller's folder", done.status == 1 and done.out.endswith("verdict error\n"), done.why())
-
-
-def interrupted(program, folder, env):
-    """Ends the script while it builds: the status is the signal's, its copy is gone, and so is what it started."""
-    place, number = os.path.join(folder, "place"), os.path.join(folder, "number")
-    os.makedirs(place)
-    running = subprocess.Popen([program], env={**env, "TMPDIR": place, "NUMBER": number}, stdin=subprocess.DEVNULL,
-                               stdout=subprocess.DEVNULL, stderr=subprocess.DEVNULL)
-    for _ in range(100):
-        time.sleep(0.1)
-        if os.path.exists(number) and read(number).endswith("\n"):
-            break
-    running.send_signal(signal.SIGTERM)
-    status, left = running.wait(30), os.listdir(place)
-    is_gone = not os.path.exists(f"/proc/{read(number).strip()}")
-    return status == 128 + signal.SIGTERM and not left and is_gone, f"status {status}; left: {left}"
+    done = run([install, "--remove", prefix], env=env)
+    tally.note("install --remove takes both away", done.status == 0 and not os.listdir(os.path.dirname(program)), done.why())

@@ -6,6 +6,7 @@ import signal
 import subprocess
 import time
 
+from check_first import first_part
 from drawn import drawn_pair
 from tries import BBEQ, LIMIT, bbeq, example, read, run, write
 
@@ -125,7 +126,7 @@ def mutated_part(tally, folder):
 
 
 def program_part(tally, folder):
-    for part in (streams_part, texts_part, limits_part, moments_part, mutated_part):
+    for part in (first_part, streams_part, texts_part, limits_part, moments_part, mutated_part):
         inner = os.path.join(folder, part.__name__)
         os.mkdir(inner)
         part(tally, inner)

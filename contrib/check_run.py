@@ -111,7 +111,7 @@ def list_try(tally, folder):
     path = write(folder, "list", text)
     for counted in ("0 kept, 3 run", "3 kept, 0 run"):
         done = run([script("run"), path])
-        tally.note(f"a list: {counted}", done.status == 0 and done.out.endswith("3 pairs: 3 as listed, 0 not\n")
+        tally.note(f"a list: {counted}", done.status == 0 and "\n3 pairs: 3 as listed, 0 not; by " in done.out
                    and counts(done) == counted
                    and [line.split()[0] for line in done.out.splitlines()[:3]] == ["repairable", "error", "repairable"],
                    done.why())
@@ -119,7 +119,7 @@ def list_try(tally, folder):
                                      text + f"{pairs[0][0]} {pairs[0][1]} = error\n{pairs[0][0]} nowhere.v\n"), "--kept",
                                      path + ".kept"])
     tally.note("a list with a verdict that is not due, and a file that is not there", done.status == 7
-               and "listed as error" in done.out and done.out.endswith("5 pairs: 3 as listed, 2 not\n"), done.why())
+               and "listed as error" in done.out and "\n5 pairs: 3 as listed, 2 not; by " in done.out, done.why())
     done = run([script("run"), write(folder, "list", f"{pairs[0][0]} {pairs[1][1]} = refused pair port a\n")])
     tally.note("a list with a refusal that is due", "refused pair" in done.out, done.why())
     for shown, line in (("one file", "spec.v"), ("a quote", "'spec.v impl.v"), ("nothing due", "spec.v impl.v ="),

@@ -4,6 +4,7 @@ import os
 import tempfile
 from typing import NamedTuple, Optional
 
+from program import kind_of
 from scripts import Fault
 from timed import OVER
 
@@ -68,11 +69,13 @@ def contents(path):
 
 
 class Kept:
-    """A folder with a file for each report, named by the hash of the texts, the words and the program's bytes. A file has a
-    line with the status, the seconds, the memory and a hash of the report, and the report."""
+    """A folder with a file for each report, named by the hash of the texts, the words and the program's kind and bytes. A file
+    has a line with the status, the seconds, the memory, whether the program is proved and a hash of all this and the report, and
+    the report."""
 
     def __init__(self, folder, program):
-        self.folder, self.program = folder, digest(contents(program)).encode()
+        self.kind = kind_of(program)
+        self.folder, self.program = folder, digest(self.kind.encode(), contents(program)).encode()
         os.makedirs(folder, exist_ok=True)
 
     def path(self, job):
@@ -87,15 +90,15 @@ class Kept:
         except FileNotFoundError:
             return None
         words = header.split(" ")
-        due = digest(" ".join(words[1:4]).encode(), report.encode("latin-1"))
-        if len(words) != 5 or words[0] != HEADER or words[4] != due:
+        due = digest(" ".join(words[1:5]).encode(), report.encode("latin-1"))
+        if len(words) != 6 or words[0] != HEADER or words[5] != due:
             return None
         return answer_of(words[1:4], report)._replace(is_kept=True)
 
     def keep(self, job, answer):
         if answer.status not in KEPT_STATUSES:
             return
-        words = f"{answer.status} {answer.seconds:.2f} {answer.memory}"
+        words = f"{answer.status} {answer.seconds:.2f} {answer.memory} {self.kind}"
         report = answer.report.encode("latin-1", "replace")
         handle, beside = tempfile.mkstemp(prefix=".", dir=self.folder)
         with open(handle, "wb") as file:
