@@ -11,22 +11,23 @@ import os
 import re
 import shutil
 import subprocess
-import sys
 import tempfile
 
+from bbeq_tools.cli import Words
 from gate_tools.kinds import EDITS, SEED, by_work
 from gate_tools.processes import watched
 from gate_tools.tried import Tried, crates_with_edits, edits_of, read_tried, sum_of, write_tried
 
 TOP = os.path.dirname(os.path.dirname(os.path.dirname(os.path.realpath(__file__))))
-SAID = re.compile(r"rt: must-fail (\w+)/(\S+)\.edit: ([A-Za-z ]+?)(?:, as it must be)?(?:: (.*)| \((.*)|$)")
+SAID = re.compile(
+    r"rt: must-fail (\w+)/(\S+)\.edit: ([A-Za-z ]+?)(?:, as it must be)?(?:: (.*)| \((.*)|$)")
 REFUSED = "refused"
 NOT_TRIED = "NOT TRIED"
 
 
 def parse_words():
-    parser = argparse.ArgumentParser(prog="edits", description=__doc__,
-                                     formatter_class=argparse.RawDescriptionHelpFormatter)
+    parser = Words(prog="edits", description=__doc__,
+                   formatter_class=argparse.RawDescriptionHelpFormatter)
     parser.add_argument("crates", metavar="CRATE", nargs="*", help="crates with a folder must-fail")
     parser.add_argument("--all", action="store_true", help="all crates that have edits")
     words = parser.parse_args()
@@ -57,7 +58,8 @@ def put_edits(to, crate):
     for name in os.listdir(source):
         edit, _, end = name.rpartition(".")
         with open(os.path.join(source, name), encoding="utf-8") as file:
-            lines = [line for line in file if end == "edit" or line.startswith(("file: ", "old: ", "new:"))]
+            lines = [line for line in file if end == "edit"
+                     or line.startswith(("file: ", "old: ", "new:"))]
         with open(os.path.join(folder, f"{edit}.edit"), "w", encoding="utf-8") as file:
             file.writelines(lines)
 
@@ -81,15 +83,17 @@ def tried(to, crate, before):
     works, results = by_work(watch), results_of(lines)
     seconds = {work.edit: sum(it.seconds for it in processes) for work, processes in works.items()
                if (work.crate, work.kind) == (crate, EDITS)}
-    seed = sum(it.seconds for work, processes in works.items() if (work.crate, work.kind) == (crate, SEED)
-               for it in processes)
+    seed = sum(it.seconds for work, processes in works.items()
+               if (work.crate, work.kind) == (crate, SEED) for it in processes)
     now = datetime.datetime.now(datetime.timezone.utc).strftime("%Y-%m-%d %H:%M")
     records = []
     for number, edit in enumerate(edits_of(TOP, crate)):
         result, reason = results.get(edit, (NOT_TRIED, ""))
-        record = Tried(crate, edit, sum_of(TOP, crate, edit), now, round(seconds.get(number, 0.0), 1), result, reason)
+        record = Tried(crate, edit, sum_of(TOP, crate, edit), now,
+                       round(seconds.get(number, 0.0), 1), result, reason)
         older = before.get((crate, edit))
-        is_kept = record.seconds == 0 and older and (older.sum, older.result) == (record.sum, result)
+        is_kept = record.seconds == 0 and older and (older.sum, older.result) == (record.sum,
+                                                                                  result)
         records.append(older if is_kept else record)
     return records, seed, lines
 
@@ -104,7 +108,8 @@ def main():
             write_tried(TOP, {**table, **{(it.crate, it.edit): it for it in records}})
             for it in records:
                 print(f"{it.result:12} {it.seconds:6.1f} s  {it.crate}/{it.edit}: {it.reason}")
-            print(f"{crate}: {len(records)} edits, {seed:.1f} s for the check that they begin with", flush=True)
+            print(f"{crate}: {len(records)} edits, {seed:.1f} s for the check that they begin with",
+                  flush=True)
             lost = sum(it.result != REFUSED for it in records)
             if any(it.result == NOT_TRIED for it in records):
                 print("\n".join(["what rt said at the end:", *lines[-12:]]))

@@ -1,11 +1,14 @@
-"""Logs of `rt ci` with the times of its processes: lines `minutes: ..` after those that rt wrote."""
+"""Logs of `rt ci` with the times of its processes: lines `minutes: ..` after those that rt
+wrote."""
 import re
 from dataclasses import dataclass
 
 from gate_tools.kinds import PROOF, Work
 
-LINE = re.compile(r"minutes: (\S+) (\w+) (-?\d+) took ([\d.]+) s, (\d+) MB, from ([\d.]+) to ([\d.]+)$")
-WHOLE = re.compile(r"minutes: rt (.*) took ([\d.]+) s by the clock and ([\d.]+) s of (\d+) processors$")
+LINE = re.compile(
+    r"minutes: (\S+) (\w+) (-?\d+) took ([\d.]+) s, (\d+) MB, from ([\d.]+) to ([\d.]+)$")
+WHOLE = re.compile(
+    r"minutes: rt (.*) took ([\d.]+) s by the clock and ([\d.]+) s of (\d+) processors$")
 NONE = "-"
 
 
@@ -51,7 +54,8 @@ class Gate:
 
 def lines_of(works):
     """The lines for what each work took."""
-    for work, processes in sorted(works.items(), key=lambda it: (it[0].crate, it[0].kind, it[0].edit)):
+    for work, processes in sorted(works.items(),
+                                  key=lambda it: (it[0].crate, it[0].kind, it[0].edit)):
         seconds = sum(process.seconds for process in processes)
         peak = max(process.peak for process in processes) // 1_000_000
         began = min(process.began for process in processes)
@@ -67,7 +71,8 @@ def read_gate(lines):
         found = LINE.match(line)
         if found:
             crate, kind, edit, seconds, peak, began, ended = found.groups()
-            works[Work(crate, kind, int(edit))] = Taken(float(seconds), int(peak), float(began), float(ended))
+            works[Work(crate, kind, int(edit))] = Taken(float(seconds), int(peak), float(began),
+                                                        float(ended))
         elif WHOLE.match(line):
             whole = WHOLE.match(line).groups()
         elif re.match(r"\d+ passed, \d+ failed", line):
@@ -79,7 +84,8 @@ def read_gate(lines):
 
 
 def longest_chain(gate, below):
-    """The crates, lowest first, whose proofs have to follow each other and take longest, with their sum."""
+    """The crates, lowest first, whose proofs have to follow each other and take longest, with their
+    sum."""
     seconds = {crate: gate.of(crate, PROOF).seconds for crate in below}
     best = {}
 

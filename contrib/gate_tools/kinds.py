@@ -1,4 +1,5 @@
-"""What a process of `rt ci` is for: a crate's proof, its tests, an edit or the seed of its edits."""
+"""What a process of `rt ci` is for: a crate's proof, its tests, an edit or the seed of its
+edits."""
 import os
 import re
 from dataclasses import dataclass
@@ -30,13 +31,14 @@ def work_of(process):
 
 
 def check_of(process):
-    """rt proves a crate in its folder, and tries edits in a copy under rt-edit-; the folder over which
-    an edit is tried ends in the edit's number, that of the seed in `seed`."""
+    """rt proves a crate in its folder, and tries edits in a copy under rt-edit-; the folder over
+    which an edit is tried ends in the edit's number, that of the seed in `seed`."""
     words = process.words
     crate = words[words.index("--crate-name") + 1]
     if "/rt-edit-" not in process.folder:
         return Work(crate, TESTS if "--test" in words else PROOF)
-    over = os.path.basename(words[words.index("--incremental") + 1]) if "--incremental" in words else ""
+    over = os.path.basename(words[words.index("--incremental")
+                                  + 1]) if "--incremental" in words else ""
     if over == "seed":
         return Work(crate, SEED)
     return Work(crate, EDITS, int(over) if over.isdigit() else -1)

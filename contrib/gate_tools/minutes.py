@@ -1,15 +1,17 @@
-"""Runs the gate and keeps what each of its checks takes, or prints what is kept of one run or of two.
+"""Runs the gate and keeps what each of its checks takes, or prints what is kept of one run or of
+two.
 
 The table has the processor minutes of each crate: its proof, its tests, the seed of its edits (the
-check that they begin with), the edits, and runs of its program or tests; then the greatest memory of
-one process. Below it are the sums, the longest chain of proofs that wait for each other, and the last
-line of the gate."""
+check that they begin with), the edits, and runs of its program or tests; then the greatest memory
+of one process. Below it are the sums, the longest chain of proofs that wait for each other, and the
+last line of the gate."""
 import argparse
 import os
 import resource
 import sys
 import time
 
+from bbeq_tools.cli import Words
 from gate_tools.gate_log import lines_of, longest_chain, read_gate
 from gate_tools.kinds import EDITS, KINDS, PROOF, RUN, SEED, TESTS, by_work
 from gate_tools.processes import watched
@@ -20,13 +22,15 @@ SHOWN = (PROOF, TESTS, SEED, EDITS, RUN)
 
 
 def parse_words():
-    parser = argparse.ArgumentParser(prog="minutes", description=__doc__,
-                                     formatter_class=argparse.RawDescriptionHelpFormatter)
+    parser = Words(prog="minutes", description=__doc__,
+                   formatter_class=argparse.RawDescriptionHelpFormatter)
     parser.add_argument("log", metavar="LOG", nargs="?", help="the log of a gate")
     parser.add_argument("after", metavar="LOG", nargs="?", help="that of another, to compare with")
-    parser.add_argument("--run", action="store_true", help="run the gate first, and write its log to LOG")
+    parser.add_argument("--run", action="store_true",
+                        help="run the gate first, and write its log to LOG")
     parser.add_argument("--anew", action="store_true", help="with --run: prove all from nothing")
-    parser.add_argument("--edits", action="store_true", help="print when each wrong body was last tried")
+    parser.add_argument("--edits", action="store_true",
+                        help="print when each wrong body was last tried")
     words = parser.parse_args()
     if not words.edits and words.log is None or words.run and words.after:
         parser.error("give one log, or two to compare")
@@ -37,11 +41,13 @@ def below_of(top):
     """The libraries of the repository on which each crate depends directly."""
     with open(os.path.join(top, "crates.txt"), encoding="utf-8") as file:
         lines = [line.split("#")[0] for line in file]
-    return {name.split()[0]: rest.split() for name, _, rest in (it.partition(":") for it in lines) if name.strip()}
+    return {name.split()[0]: rest.split()
+            for name, _, rest in (it.partition(":") for it in lines) if name.strip()}
 
 
 def run_gate(path, anew):
-    """Runs `rt ci` at the top; its lines go to standard output and to the log, the times after them."""
+    """Runs `rt ci` at the top; its lines go to standard output and to the log, the times after
+    them."""
     words = ["rt", "ci", *["--anew"] * anew]
     began = time.monotonic()
     with open(path, "w", encoding="utf-8") as log:
@@ -54,7 +60,8 @@ def run_gate(path, anew):
         for line in lines_of(by_work(watch)):
             print(line, file=log)
         print(f"minutes: {' '.join(words)} took {time.monotonic() - began:.1f} s by the clock and "
-              f"{used.ru_utime + used.ru_stime:.1f} s of {len(os.sched_getaffinity(0))} processors", file=log)
+              f"{used.ru_utime + used.ru_stime:.1f} s of {len(os.sched_getaffinity(0))} processors",
+              file=log)
     return status
 
 
@@ -97,8 +104,8 @@ def print_comparison(before, after):
 def print_summary(gate):
     seconds, chain = longest_chain(gate, below_of(TOP))
     print(f"longest chain: {seconds / 60:.1f} minutes: {' '.join(chain)}")
-    print(f"rt {gate.words}: {gate.seconds / 60:.1f} processor minutes, {gate.clock / 60:.1f} by the clock on "
-          f"{gate.processors} processors; {gate.last or 'it did not end'}")
+    print(f"rt {gate.words}: {gate.seconds / 60:.1f} processor minutes, {gate.clock / 60:.1f} by "
+          f"the clock on {gate.processors} processors; {gate.last or 'it did not end'}")
 
 
 def main():

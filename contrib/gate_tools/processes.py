@@ -25,7 +25,8 @@ class Process:
 
 
 def status_of(pid):
-    """The fields of /proc/PID/stat after the name: parent 1, user time 11, system time 12, start 19."""
+    """The fields of /proc/PID/stat after the name: parent 1, user time 11, system time 12, start
+    19."""
     with open(f"/proc/{pid}/stat", encoding="utf-8", errors="replace") as file:
         text = file.read()
     return text[text.rindex(")") + 2:].split()
@@ -90,7 +91,8 @@ class Watch:
 
 
 def watched(words, on_line, **how):
-    """Runs a command, gives each line that it writes to on_line, and returns its status and the watch."""
+    """Runs a command, gives each line that it writes to on_line, and returns its status and the
+    watch."""
     running = subprocess.Popen(words, stdin=subprocess.DEVNULL, stdout=subprocess.PIPE,
                                stderr=subprocess.STDOUT, **how)
     watch, rest = Watch(running.pid), b""

@@ -28,7 +28,8 @@ def edits_of(top, crate):
 
 
 def crates_with_edits(top):
-    return [crate for crate in sorted(os.listdir(os.path.join(top, "crates"))) if edits_of(top, crate)]
+    return [crate
+            for crate in sorted(os.listdir(os.path.join(top, "crates"))) if edits_of(top, crate)]
 
 
 def is_in_gate(top, crate, edit):
@@ -36,7 +37,8 @@ def is_in_gate(top, crate, edit):
 
 
 def sum_of(top, crate, edit):
-    """A hash of what a try depends on in the crate: the edit, the code, the definitions and the proofs."""
+    """A hash of what a try depends on in the crate: the edit, the code, the definitions and the
+    proofs."""
     found, folder = hashlib.sha256(), os.path.join(top, "crates", crate)
     end = ".edit" if is_in_gate(top, crate, edit) else ".md"
     paths = [os.path.join(folder, "must-fail", edit + end)]
@@ -70,7 +72,8 @@ def write_tried(top, table):
 
 
 def last_tried(top):
-    """A line for each edit: where it is tried, when it was tried last, and whether of these sources."""
+    """A line for each edit: where it is tried, when it was tried last, and whether of these
+    sources."""
     table = read_tried(top)
     for crate in crates_with_edits(top):
         for edit in edits_of(top, crate):
@@ -79,6 +82,7 @@ def last_tried(top):
             if tried is None:
                 when = "never tried by contrib/edits"
             else:
-                changed = "" if tried.sum == sum_of(top, crate, edit) else ", sources have changed since"
+                changed = "" if tried.sum == sum_of(top, crate,
+                                                    edit) else ", sources have changed since"
                 when = f"{tried.when}, {tried.result}{changed}"
             yield f"{where} {crate}/{edit}: {when}"

@@ -1,0 +1,1 @@
+"""Scripts between bbeq and RTL, simulators, other checkers and editors (contrib/README.md)."""

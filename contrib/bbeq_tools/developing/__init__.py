@@ -1,0 +1,1 @@
+"""Tools of those who change bbeq: drawn texts, refused allocations, believed definitions."""

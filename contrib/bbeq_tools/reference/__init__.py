@@ -1,0 +1,1 @@
+"""What is true of two small texts, by trying everything."""

@@ -1,0 +1,267 @@
+"""Shows a vector of a report in both netlists, as waves.
+
+A report names the vector at which the implementation is wrong. This script writes a testbench that
+applies it to both netlists, runs it by iverilog and leaves a VCD file for a wave viewer. Registers
+hold the bits of the vector, and the value that each takes next stands beside it under its name with
+`.next`. The outputs of boxes are x. A table compares what both netlists give: x is what a box
+leaves open."""
+import os
+import shutil
+import subprocess
+import tempfile
+
+from bbeq_tools.cli import Fault, Output, Words, run_script
+from bbeq_tools.report.reports import OTHER, read_report, vectors, verdict
+from bbeq_tools.verilog.language import bit_text, read_modules, top_of, written
+
+
+def parse_words():
+    parser = Words(prog="wave", description=__doc__.split("\n\n")[0], epilog="Needs iverilog.")
+    parser.add_argument("report", metavar="REPORT",
+                        help="a file with what bbeq printed; - is standard input")
+    parser.add_argument("specification", metavar="SPEC", help="the specification that bbeq read")
+    parser.add_argument("implementation", metavar="IMPL", help="the implementation that bbeq read")
+    parser.add_argument("--top-spec", help="the top module, as for bbeq")
+    parser.add_argument("--top-impl", help="the top module, as for bbeq")
+    parser.add_argument("--vector", type=int, default=1, metavar="N",
+                        help="which input line of the report, from 1 (default 1)")
+    parser.add_argument("--vcd", default="wave.vcd", metavar="FILE",
+                        help="where the waves go (default wave.vcd)")
+    parser.add_argument("--testbench", metavar="FOLDER",
+                        help="keep the testbench and the two netlists there")
+    return parser.parse_args()
+
+
+def chosen(path, number):
+    lines = read_report(path)
+    found = vectors(lines)
+    if not found:
+        raise Fault(f"{path}: {no_vector(lines)}")
+    if not 1 <= number <= len(found):
+        raise Fault(f"{path}: the report has {len(found)} vectors, and no number {number}")
+    return found[number - 1]
+
+
+def no_vector(lines):
+    """Why a report shows no vector."""
+    if verdict(lines) != "error":
+        return f"the verdict is {verdict(lines)}, so there is no wrong vector to show"
+    return ("the report shows no vector: its check found that no contents suit all vectors "
+            "together, and shows no single one")
+
+
+class Side:
+    """One of the two netlists: its copy for the testbench, and how its bits are reached there."""
+
+    def __init__(self, side, path, top):
+        self.side = side
+        self.text, self.modules = read_modules(path)
+        self.top = top_of(path, self.modules, top)
+        self.registers, self.nexts = {}, {}
+        self.walk(self.top, side, "")
+
+    def bits(self, direction):
+        return {bit_text(net.name, index): net for net, index in self.top.pins(direction)}
+
+    def walk(self, module, scope, path):
+        """Finds the registers below an instance, by their texts."""
+        for number, register in enumerate(module.registers):
+            bits = module.left_bits(register.left)
+            for at, (name, index) in enumerate(bits):
+                text = bit_text(f"{path}.{name}" if path else name, index)
+                self.registers[text] = f"{scope}.{bit_text(written(name), index)}"
+                self.nexts[
+                    text] = f"{scope}.{written(next_name(bits, number))}[{len(bits) - 1 - at}]"
+        for instance in module.instances:
+            if instance.module not in self.modules:
+                raise Fault(f"line {instance.token.line}: there is no module {instance.module}")
+            self.walk(self.modules[instance.module], f"{scope}.{written(instance.name)}",
+                      f"{path}.{instance.name}" if path else instance.name)
+
+    def copy(self):
+        """The text with its modules' names changed, its boxes giving x, and what each register
+        takes next as a net."""
+        edits = []
+        for module in self.modules.values():
+            edits.append((module.token.start, module.token.end, self.named(module.name)))
+            edits += {(instance.token.start, instance.token.end, self.named(instance.module))
+                      for instance in module.instances}
+            for number, register in enumerate(module.registers):
+                edits.append((*register.place, self.next_line(module, number, register)))
+            if module.is_box():
+                end = module.end - len("endmodule")
+                edits.append((end, end, "".join(unknown(net) for net in module.nets.values()
+                                                if net.direction == "output")))
+        text, place = [], 0
+        for start, end, new in sorted(edits):
+            text += [self.text[place:start], new]
+            place = end
+        return "".join(text) + self.text[place:]
+
+    def named(self, module):
+        return written(f"{self.side}_{module}")
+
+    def next_line(self, module, number, register):
+        bits = module.left_bits(register.left)
+        value = self.text[slice(*register.value_place)]
+        return f"wire [{len(bits) - 1}:0] {written(next_name(bits, number))}= {value} ;"
+
+    def instance(self):
+        pins = []
+        for port in self.top.ports:
+            net = self.top.nets[port]
+            if net.direction == "input":
+                bits = [written(bit_text(port, index)) for index in net.indices()]
+                pins.append(f".{written(port)}({{{', '.join(bits)}}})")
+            else:
+                pins.append(f".{written(port)}({written(f'{port}_{self.side}')})")
+        return f"  {self.named(self.top.name)} {self.side}({', '.join(pins)});"
+
+    def output_nets(self):
+        for port in self.top.ports:
+            net = self.top.nets[port]
+            if net.direction == "output":
+                yield f"  wire {bounds(net)}{written(f'{port}_{self.side}')};"
+
+    def outputs(self):
+        """How each output bit is reached, by its text."""
+        return {text: self.output(net, text) for text, net in self.bits("output").items()}
+
+    def output(self, net, text):
+        return written(f"{net.name}_{self.side}") + text[len(net.name):]
+
+
+def next_name(bits, number):
+    """The net that shows what a register takes next; parts of one register get a number each."""
+    names = dict.fromkeys(name for name, _ in bits)
+    return f"{'_'.join(names)}.next" + (f".{number}" if len(bits) == 1 and bits[0][1] is not None
+                                        or len(names) > 1 else "")
+
+
+def unknown(net):
+    return ("" if net.kind == "reg"
+            else f"assign {written(net.name)} = {{{len(net.indices())}{{1'bx}}}}; ")
+
+
+def bounds(net):
+    return f"[{net.range[0]}:{net.range[1]}] " if net.range else ""
+
+
+def check_names(vector, spec, impl):
+    """The vector has a bit for each input and each register of both, and for nothing else."""
+    for side in (spec, impl):
+        names = [*side.bits("input"), *side.registers]
+        for name in names:
+            if name not in vector:
+                raise Fault(f"the report gives no bit to {name}; {OTHER}")
+        for name in vector:
+            if name not in names:
+                raise Fault(f"the report gives a bit to {name}, which one of the netlists "
+                            f"lacks; {OTHER}")
+
+
+def testbench(vector, spec, impl, vcd):
+    """The text of the testbench: nothing is driven up to time 10, and from then on the vector."""
+    yield "`timescale 1ns/1ns"
+    yield "module testbench;"
+    for name in spec.bits("input"):
+        yield f"  reg {written(name)};"
+    for port in spec.top.ports:
+        net = spec.top.nets[port]
+        if net.direction == "input" and net.range:
+            bits = ", ".join(written(bit_text(port, index)) for index in net.indices())
+            yield f"  wire {bounds(net)}{written(port)} = {{{bits}}};"
+    for side in (spec, impl):
+        yield from side.output_nets()
+        yield side.instance()
+    yield "  initial begin"
+    yield '    $dumpfile("' + vcd.replace("\\", "\\\\").replace('"', '\\"') + '");'
+    yield "    $dumpvars(0, testbench);"
+    yield "    #10;"
+    for name, bit in vector.items():
+        for place in [written(name)] if name not in spec.registers else [spec.registers[name],
+                                                                         impl.registers[name]]:
+            yield f"    {place} = 1'b{bit};"
+    yield "    #10;"
+    pairs = [("output", name, place, impl.outputs()[name])
+             for name, place in spec.outputs().items() if name in impl.outputs()]
+    pairs += [("next", name, place, impl.nexts[name]) for name, place in spec.nexts.items()]
+    for kind, name, left, right in pairs:
+        shown = name.replace("\\", "\\\\").replace("%", "%%").replace('"', '\\"')
+        yield f'    $display("{kind} {shown} %b %b", {left}, {right});'
+    yield "    #10 $finish;"
+    yield "  end"
+    yield "endmodule"
+
+
+def simulate(folder, spec, impl, vector, vcd):
+    """Runs the testbench; gives its lines and its waves."""
+    files = {"spec.v": spec.copy(), "impl.v": impl.copy(),
+             "testbench.v": "\n".join(testbench(vector, spec, impl, vcd)) + "\n"}
+    for name, text in files.items():
+        with open(os.path.join(folder, name), "w", encoding="latin-1") as file:
+            file.write(text)
+    paths = [os.path.join(folder, name) for name in files]
+    program = os.path.join(folder, "testbench.vvp")
+    run(["iverilog", "-g2005", "-s", "testbench", "-o", program, *paths])
+    lines = run(["vvp", "-n", program]).splitlines()
+    with open(vcd, encoding="latin-1") as file:
+        return lines, file.read()
+
+
+def run(command):
+    done = subprocess.run(command, capture_output=True, text=True, errors="replace", check=False)
+    if done.returncode:
+        raise Fault(f"{command[0]}: {(done.stderr + done.stdout).strip().splitlines()[0]}")
+    return done.stdout
+
+
+def compared(lines, wrong):
+    """The rows of the comparison; one that the report calls wrong, if it names one, may not have a
+    known bit that both give."""
+    rows = [line.split(" ") for line in lines if line.startswith(("output ", "next "))]
+    suspects = [row for row in rows if wrong in (None, (row[0], row[1]))]
+    if not suspects:
+        raise Fault(f"the report names {' '.join(wrong)}, which the netlists lack; {OTHER}")
+    if all(left == right and left in ("0", "1") for _, _, left, right in suspects):
+        named = f"for {' '.join(wrong)} " if wrong else ""
+        raise Fault(f"both netlists give the same {named}at this vector; {OTHER}")
+    return rows
+
+
+def show(rows, wrong, vector):
+    """The vector, and a line for each output and each register, with what is wrong marked; x is
+    what a box leaves open."""
+    print("input " + " ".join(f"{name}={bit}" for name, bit in vector.items()))
+    width = max([len(f"{kind} {name}") for kind, name, _, _ in rows], default=0)
+    print(f"{'':{width}}  spec  impl")
+    for kind, name, left, right in rows:
+        note = ("  wrong" if "x" not in left + right and "z" not in left + right and left != right
+                else "")
+        note += "  (named by the report)" if wrong == (kind, name) else ""
+        print(f"{kind + ' ' + name:{width}}  {left:4}  {right}{'   ' * bool(note)}{note}")
+
+
+def command():
+    words = parse_words()
+    output = Output(words.vcd, [words.report, words.specification, words.implementation])
+    check, wrong, vector = chosen(words.report, words.vector)
+    spec = Side("spec", words.specification, words.top_spec)
+    impl = Side("impl", words.implementation, words.top_impl)
+    check_names(vector, spec, impl)
+    for tool in ("iverilog", "vvp"):
+        if not shutil.which(tool):
+            raise Fault(f"{tool} is not installed (Debian: apt-get install iverilog)")
+    with tempfile.TemporaryDirectory(prefix="wave") as folder:
+        if words.testbench:
+            os.makedirs(words.testbench, exist_ok=True)
+        lines, waves = simulate(words.testbench or folder, spec, impl, vector,
+                                os.path.join(folder, "wave.vcd"))
+    rows = compared(lines, wrong)
+    output.write(waves)
+    print(f"{words.vcd} has the vector that the check {check} shows, from time 10 on.")
+    show(rows, wrong, vector)
+
+
+def main():
+    run_script("wave", command)

@@ -1,0 +1,1 @@
+"""From RTL to that language, by yosys."""

@@ -1,0 +1,1 @@
+"""Parts of pairs, and runs of the program on many pairs."""

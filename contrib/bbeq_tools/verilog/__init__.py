@@ -1,0 +1,1 @@
+"""Texts of the language that bbeq reads (docs/LANGUAGE.md)."""

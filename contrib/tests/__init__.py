@@ -1,0 +1,1 @@
+"""The tries of the commands and of the program."""
