@@ -7,7 +7,10 @@ from bbeq_tools.report.reports import tables
 
 STATUSES = {"repairable": 0, "error": 1, "open": 3}
 MOST_TABLE_BITS = 1 << 24
-DOCUMENT = os.path.join(os.path.dirname(__file__), "REPORT.md")  # In a checkout a link to docs.
+HERE = os.path.dirname(os.path.realpath(__file__))
+# ./install puts the page beside this module; a checkout has it in docs.
+DOCUMENTS = (os.path.join(HERE, "REPORT.md"),
+             os.path.join(HERE, "..", "..", "..", "docs", "REPORT.md"))
 PRINTED = 2  # A status: the program refused its words.
 
 
@@ -94,9 +97,9 @@ def open_lines(left):
 def advice_on(rung):
     """What the document's table of open verdicts says of a report whose last check is this."""
     try:
-        with open(DOCUMENT, encoding="utf-8") as file:
+        with open(next(filter(os.path.exists, DOCUMENTS)), encoding="utf-8") as file:
             text = file.read()
-    except OSError:
+    except (OSError, StopIteration):
         return []
     section = text.partition("\n## Where the verdict is open\n")[2].partition("\n## ")[0]
     rows = [line.split("|")[1:4] for line in section.splitlines() if line.startswith("| `rung ")]

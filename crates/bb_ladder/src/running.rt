@@ -196,8 +196,8 @@ pub fn run<F: Files, K: Sink>(alloc: Global, words: &[String], files: &mut F, ou
     // Of a made pair no file is read, and none is blamed.
     ensures reads_nothing { (m : MadePair) → made_asked (map string_bytes words.now) ≡ Some m → (F.reads files.new ≡ F.reads files.old) × (result ≡ 4 → ⊥) }
 
-    // What the files hold stays. One failed read was counted where a file is blamed, and none where the status says anything else of the
-    // texts; one failed write was counted exactly where the sink is blamed.
+    // What the files hold stays. One failed read was counted where a file is blamed, and none with a lower status; one failed write was
+    // counted exactly where the sink is blamed.
     ensures kept { (n : List ℕ) → F.holds files.new n ≡ F.holds files.old n }
     ensures unread { result ≡ 4 → (F.reads files.new).faults ≡ next_count (F.reads files.old).faults }
     ensures readable { result < 4 → (F.reads files.new).faults ≡ (F.reads files.old).faults }

@@ -19,8 +19,8 @@ pub struct KeptRead {
     pub gave: Option<Rc<Vec<u8>>>,
 }
 
-/// Files over others, which keep a list of the reads, and so tell what each gave. The bytes are those that the others gave, and no copy
-/// of them. A read for which the list finds no room answers want of memory.
+/// Files over others, which keep a list of the reads since then, and so tell what each gave. The bytes are those that the others gave, and
+/// no copy of them. A read for which the list finds no room answers want of memory, and is no failure even where the others failed.
 #[derive(Debug, Drop)]
 pub struct KeptFiles<F: Files + Drop> {
     files: F,
@@ -46,7 +46,7 @@ impl<F: Files + Drop> KeptFiles<F> {
         }
     }
 
-    /// The reads so far.
+    /// The reads since these files were wrapped.
     pub fn reads(&self) -> &[KeptRead]
         ensures { entries result.now ≡ self.now.told }
     {
@@ -83,6 +83,9 @@ impl<F: Files + Drop> Files for KeptFiles<F> {
         // The list has this read more, or is the same where memory was wanting.
         ensures told { IfSome (outcome_of result) (λ gave. self.new.told ≡ self.old.told ++ record { name = name.now; limit = limit; gave = gave } ∷ []) }
         ensures untold { IsErrOf result FileFault.NoMemory → self.new.told ≡ self.old.told }
+
+        // Bytes or a failure are what the other files answered to a read of this name and limit.
+        ensures passed { IfSome (outcome_of result) (λ gave. IsRead (F.reads self.old.files) (F.reads self.new.files) name.now limit (Some gave)) }
 
         // What a caller over any files sees.
         ensures holds { (n : List ℕ) → F.holds self.new.files n ≡ F.holds self.old.files n }
