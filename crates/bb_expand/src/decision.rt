@@ -8,7 +8,7 @@ ghost use Rattle.bb_expand.specs.declared.expanded.ExpandFault.TheVariants as fa
 ghost use Rattle.bb_expand.specs.Expanded.{IsExpanded};
 ghost use Rattle.bb_expand.specs.GivenUp.{NeedsMoreClauses};
 
-use crate::counting::is_within_budget;
+use crate::counting::{is_within_budget, per_vector};
 use crate::expanded::{ExpandFault, Expanded};
 use crate::held::{Held, nothing_held};
 use crate::holding::hold_failures;
@@ -21,6 +21,19 @@ use std::alloc::Global;
 
 // What the numbers of turns are mixed with to draw patterns.
 const SEED: u64 = 0x9e37_79b9_7f4a_7c15;
+
+// How many vectors are sought in the first turn at most.
+const FIRST: u64 = 128;
+
+// How many vectors a turn seeks: at first one for each bit of the tables, as long as these take a quarter of the budget, and later as many
+// as are held, so that they double. Most vectors are easy, and with few at a time the solver has to guess what many would tell it.
+fn wanted(pair: &Pair, bits: u32, clauses: u32, held: usize) -> usize
+    ensures { 1 ≤ result }
+{
+    let room = u64::from(clauses) / 4 / per_vector(pair.imp()).max(1);
+    let first = room.min(FIRST).min(u64::from(bits)).max(1);
+    held.max(first as usize)
+}
 
 // The number of bits of tables for all kinds, where they are not too many.
 fn admit(pair: &Pair, clauses: u32) -> Result<u32, ExpandFault>
@@ -62,7 +75,7 @@ pub fn expand(alloc: Global, pair: &Pair, clauses: u32) -> Result<Expanded, Expa
     let mut tables = zero_tables(alloc, pair, bits)?;
     loop {
         let seed = held.forced.len() as u64 ^ SEED;
-        let wanted = held.vectors.len().max(1);
+        let wanted = wanted(pair, bits, clauses, held.vectors.len());
         let failing = failing_vectors(alloc, pair, &tables, clauses, seed, wanted)?;
         if failing.is_empty() {
             return Ok(Expanded::Repair(tables));

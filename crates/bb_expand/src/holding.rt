@@ -154,8 +154,8 @@ fn make_room(
     Ok(alone)
 }
 
-// Holds vectors at which tables fail that agree at all held ones. The first is forced. With the others at most as many are held as
-// were before, so that few stay few.
+// Holds vectors at which tables fail that agree at all held ones: the first, which is forced, and of the others as many as there is room
+// for.
 pub(crate) fn hold_failures(
     alloc: Global,
     pair: &Pair,
@@ -183,8 +183,7 @@ pub(crate) fn hold_failures(
     forced_are_distinct();
     let _ = tables;
     let held = make_room(alloc, pair, bits, clauses, held)?;
-    let most = failures.len().min(held.vectors.len().max(1));
     let held = hold_forced(alloc, pair, clauses, held, &failures[0])?;
-    let held = hold_others(alloc, pair, clauses, held, &failures[1..most])?;
+    let held = hold_others(alloc, pair, clauses, held, &failures[1..])?;
     Ok(held)
 }

@@ -44,10 +44,10 @@ hold_others-requires-clause-each c =
     let kinds = c.args.pair.now.kinds in
     let tables = c.args.tables.now in
     let held = held_vectors c.in_ok-held.held in
-    let behind = c.min-most.result - 1 in
+    let others = length c.args.failures.now - 1 in
     let agree = all_among (AgreeAt spec imp (spread kinds tables)) held (held_vectors c.args.held) c.requires.agree c.in_ok-held.ensures.among in
-    subst (λ l. AreDistinctWith (IsVector imp) (l ++ map vec_items (take behind (drop 1 c.args.failures.now)))) (sym (c.in_ok-held-2.ensures.vectors ∙ ap (λ x. held ++ x ∷ []) (c.deref.ensures.value ∙ ap vec_items c.index-failures-0.is)))
-    (others_beside spec imp kinds tables c.requires.fit held agree c.in_ok-held.ensures.held.each c.args.failures.now c.requires.some c.requires.failures c.index-failures-0.result behind)
+    subst (λ l. AreDistinctWith (IsVector imp) (l ++ map vec_items (take others (drop 1 c.args.failures.now)))) (sym (c.in_ok-held-2.ensures.vectors ∙ ap (λ x. held ++ x ∷ []) (c.deref.ensures.value ∙ ap vec_items c.index-failures-0.is)))
+    (others_beside spec imp kinds tables c.requires.fit held agree c.in_ok-held.ensures.held.each c.args.failures.now c.requires.some c.requires.failures c.index-failures-0.result others)
 
 pub returns-in_err-held-clause-clauses : goal.returns-in_err-held-clause-clauses
 returns-in_err-held-clause-clauses c e =
