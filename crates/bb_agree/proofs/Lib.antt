@@ -16,6 +16,7 @@ pub mod NamedPairs
 pub mod NamedVectors
 pub mod OneBit
 pub mod PairBoxes
+pub mod Runs
 pub mod SeenDesigns
 pub mod SeenPairs
 pub mod SharedContents

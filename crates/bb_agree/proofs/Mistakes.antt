@@ -2,6 +2,7 @@
 use Rattle.std.proofs.Common.{◌≡◌, ◌≢◌, ◌<◌, ◌*◌, ◌^◌, ◌∙◌, ℕ, Bool, true, false, true≢false, not, List, [], map, length, get_or, Contains, None, Option, Some, refl, sym, ap, subst, arith}
 use Rattle.std.specs.Prelude.{slice_get}
 use Rattle.std.proofs.lemmas.List.{get_or-map, length-map, length-replicate}
+use Rattle.std.proofs.lemmas.List.Elements.{All-contains}
 use Rattle.std.proofs.lemmas.Option.{slice_get-get_or, slice_get_within}
 use Rattle.bb_bits.specs.Contents.{Contents}
 use Rattle.bb_bits.specs.Tables.{TableBits, HasAllBits, zero_table}
@@ -9,6 +10,7 @@ use Rattle.bb_net.specs.Agreement.{IsVector, IsOutput, IsWrong, SomeWrong}
 use Rattle.bb_net.specs.Conditions.{IsAlwaysWrong, HasAlwaysWrong}
 use Rattle.bb_net.specs.CutPoints.{CutOutput, TopOutput, cut_inputs, cut_outputs}
 use Rattle.bb_net.specs.Flats.{FlatNet}
+use Rattle.bb_net.specs.Kinds.{spread}
 use Rattle.bb_net.specs.Netlists.{Pins, box_at}
 use Rattle.bb_net.specs.Pairs.{NetPair}
 use Rattle.bb_net.specs.Values.{flat_with, table_at, tabled_bit, value_of, FitBoxes}
@@ -18,12 +20,13 @@ use Rattle.bb_design.specs.Inside.Allowed.{IsAllowed}
 use Rattle.bb_design.specs.Hierarchy.{Design}
 use Rattle.bb_design.specs.Refusals.{BoxTexts}
 use Rattle.bb_design.specs.Worlds.{World, Vector, HasVector, IsWorld, FitDesign, outputs_in}
-use Rattle.bb_agree.specs.Mistakes.{inputs_of, outputs_of, DifferAt, DifferAtTold, HasWorld, IsMistakeAt, WrongOutputsAreMistakes, WrongVectorsAreMistakes}
+use Rattle.bb_agree.specs.Mistakes.{inputs_of, outputs_of, DifferAt, DifferAtTold, DifferWith, FailingVectorsAreMistakes, HasWorld, IsMistakeAt, WrongOutputsAreMistakes, WrongVectorsAreMistakes}
 use Rattle.bb_agree.proofs.SeenDesigns.{IsSeen, asked_is, imp_filled, in_count, in_spec, other_place, out_count, out_is, pair_seen, spec_filled, wanted_is}
 use Rattle.bb_agree.proofs.FreeOutputs.{free_outputs}
 use Rattle.bb_agree.specs.Inside.LowerLaws.{LowerLaws}
 use Rattle.bb_agree.proofs.NamedPairs.{inputs_are, outputs_are}
 use Rattle.bb_agree.proofs.NamedVectors.{vector_of, vector_is}
+use Rattle.bb_agree.proofs.SharedContents.{SharedLaws, tables_of_kinds}
 use Rattle.bb_agree.proofs.WorldOutputs.{bit_out, output_there, some_world}
 
 -- some contents fit: those of tables without a 1
@@ -108,22 +111,26 @@ module _ {care : Option (List ℕ)} {shared : Bool} {spec imp : Design} {p : Net
     IsWrongWith told tables = (j : ℕ) × (o : CutOutput) × IsOutput p.imp j × (slice_get (cut_outputs h) j ≡ Some o) × IsWrong p.spec p.imp xs (flat_with p.imp xs tables) j
         × ((w v : World) → DifferAt care spec imp w v o → DifferAtTold care spec imp w v told)
 
+    differ_with : (told : Option CutOutput) (contents : Contents) (tables : List TableBits) → FitDesign imp contents → AreTablesOf g contents tables → IsWrongWith told tables → DifferWith care spec imp contents x told
+    differ_with told contents tables fit are (j, o, there, at, is, tell) =
+        let below = wrong_below xs (tabled_bit tables) j there is in
+        record {
+          worlds = both_worlds contents fit;
+          asked = λ w is_w has_w. (asked_is s x contents w is_w has_w).1 below.0;
+          differ = λ w v is_w has_w is_v has_v. tell w v (worlds_differ contents tables fit are w v is_w has_w is_v has_v j o at below.1);
+        }
+
     mistake : (told : Option CutOutput) → ((tables : List TableBits) → IsWrongWith told tables) → IsMistakeAt care spec imp x told
     mistake told wrong = record {
       fit = some_fit s.laws imp g s.imp_allowed s.pair.imp_stands;
-      worlds = both_worlds;
-      asked = λ contents fit w is_w has_w. (asked_is s x contents w is_w has_w).1 (on contents fit);
-      differ = λ contents fit w v is_w has_w is_v has_v.
-          let t = s.laws.tables imp g s.pair.imp_stands contents fit in
-          let (j, o, there, at, is, tell) = wrong t.0 in
-          tell w v (worlds_differ contents t.0 fit t.1 w v is_w has_w is_v has_v j o at (wrong_below xs (tabled_bit t.0) j there is).1);
+      each = λ contents fit. let t = s.laws.tables imp g s.pair.imp_stands contents fit in differ_with told contents t.0 fit t.1 (wrong t.0);
     }
-      where
-        on : (contents : Contents) → FitDesign imp contents → s.view.asked xs ≡ true
-        on contents fit =
-            let t = s.laws.tables imp g s.pair.imp_stands contents fit in
-            let (j, o, there, at, is, tell) = wrong t.0 in
-            (wrong_below xs (tabled_bit t.0) j there is).0
+
+    -- some output is wrong with the tables of contents
+    pub failing_mistake : (contents : Contents) (tables : List TableBits) → FitDesign imp contents → AreTablesOf g contents tables → SomeWrong p.spec p.imp xs (flat_with p.imp xs tables) → DifferWith care spec imp contents x None
+    failing_mistake contents tables fit are (j, there, is) =
+        let o = get_or (cut_outputs h) j (TopOutput []) in
+        differ_with None contents tables fit are (j, o, there, place_of j there, is, λ w v differ. (o, differ))
 
     -- the outputs of boxes that hold tables are some outputs
 
@@ -168,3 +175,15 @@ wrong_vectors_are_mistakes laws care shared spec imp p spec_allowed imp_allowed 
     let s = pair_seen laws spec imp p spec_allowed imp_allowed pair in
     let x = vector_with s bits vector in
     (x, has_inputs s bits vector, vector_mistake s x (subst (HasAlwaysWrong p.spec p.imp) (sym (has_bits s bits vector)) wrong))
+
+pub failing_vectors_are_mistakes : SharedLaws → FailingVectorsAreMistakes
+failing_vectors_are_mistakes rules care shared spec imp p spec_allowed imp_allowed pair vectors whole fail contents fill =
+    let s = pair_seen rules.laws spec imp p spec_allowed imp_allowed pair in
+    let (tables, fit, are) = tables_of_kinds rules spec imp p spec_allowed imp_allowed pair contents fill in
+    let (bits, among, wrong) = fail tables fit in
+    let vector = All-contains (IsVector p.imp) vectors bits whole among in
+    let x = vector_with s bits vector in (
+      x,
+      subst (Contains vectors) (sym (has_inputs s bits vector)) among,
+      failing_mistake s x contents (spread p.kinds tables) fill.fit are (subst (λ xs. SomeWrong p.spec p.imp xs (flat_with p.imp xs (spread p.kinds tables))) (sym (has_bits s bits vector)) wrong),
+    )

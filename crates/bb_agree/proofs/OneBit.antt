@@ -29,22 +29,22 @@ apart a b e = cc e
 
 -- where no text stands twice, an output has one bit in a world
 module _ (d : Design) (sound : IsSoundDesign d) (w : World) (o : CutOutput) where
-  abbrev of_top : Bit → CutOutput × Bool
+  abbrev pub of_top : Bit → CutOutput × Bool
   of_top b = (TopOutput (bit_text d b), bit_in w b)
 
-  abbrev of_register : RegisterBit → CutOutput × Bool
+  abbrev pub of_register : RegisterBit → CutOutput × Bool
   of_register r = (NextState (bit_text d r.bit), next_bit w r)
 
-  abbrev Place : Bool → Type 0
+  abbrev pub Place : Bool → Type 0
   Place b = ((t : Bit) × Contains (top_outputs d) t × (of_top t ≡ (o, b))) ⊎ ((r : RegisterBit) × Contains (registers d) r × (of_register r ≡ (o, b)))
 
-  place : (b : Bool) → Contains (outputs_in d w) (o, b) → Place b
+  pub place : (b : Bool) → Contains (outputs_in d w) (o, b) → Place b
   place b has = elim (Contains-append_cases (map of_top (top_outputs d)) (map of_register (registers d)) (o, b) has) [
     | inl top ↦ inl (from_map of_top (top_outputs d) (o, b) top)
     | inr register ↦ inr (from_map of_register (registers d) (o, b) register)
   ]
 
-  one_bit : (b c : Bool) → Place b → Place c → b ≡ c
+  pub one_bit : (b c : Bool) → Place b → Place c → b ≡ c
   one_bit b c (inl (s, in_s, is)) (inl (t, in_t, also)) =
       let text = one_top (bit_text d s) (bit_text d t) (called is ∙ sym (called also)) in
       let same : s ≡ t = one_by (bit_text d) (top_outputs d) (sound PortTexts).1 s t in_s in_t text in
@@ -66,9 +66,10 @@ told_somewhere care spec imp w v None differ = differ
 
 pub mistakes_refute : MistakesRefute
 mistakes_refute care shared spec imp x told allowed mistake contents fill agree =
-    let (spec_world, imp_world) = mistake.worlds contents fill.fit in
+    let with = mistake.each contents fill.fit in
+    let (spec_world, imp_world) = with.worlds in
     let (w, is_w, has_w) = spec_world in
     let (v, is_v, has_v) = imp_world in
-    let (o, differ) = told_somewhere care spec imp w v told (mistake.differ contents fill.fit w v is_w has_w is_v has_v) in
-    let also = (agree x w v is_w has_w is_v has_v (mistake.asked contents fill.fit w is_w has_w) o differ.bit differ.counts).0 differ.spec_has in
+    let (o, differ) = told_somewhere care spec imp w v told (with.differ w v is_w has_w is_v has_v) in
+    let also = (agree x w v is_w has_w is_v has_v (with.asked w is_w has_w) o differ.bit differ.counts).0 differ.spec_has in
     turned differ.bit (one_bit imp allowed.sound v o differ.bit (not differ.bit) (place imp allowed.sound v o differ.bit also) (place imp allowed.sound v o (not differ.bit) differ.imp_has))

@@ -146,13 +146,19 @@ module _ {care : Option (List ℕ)} {shared : Bool} (rules : SharedLaws) (spec i
         let c = laws.contents imp g (imp_allowed.sound BoxCause) pair.imp_stands (spread p.kinds tables) (from_pair boxes_of (spread p.kinds tables) (spread_fit fit)) in
         (c.0, filled c.0 c.1 c.2, c.2)
 
+  -- contents that may fill have tables, one for each kind
+  pub tables_of_kinds : (contents : Contents) → MayFill shared imp contents → (tables : List TableBits) × FitBoxes tables (shown p.kinds p.imp.boxes) × AreTablesOf g contents (spread p.kinds tables)
+  tables_of_kinds contents fill =
+      let t = laws.tables imp g pair.imp_stands contents fill.fit in
+      let fit = to_pair boxes_of t.0 t.1.fit in
+      let same = rules.back p.kinds p.imp.boxes t.0 is fit (one_table contents t.0 fill t.1) in
+      (shown p.kinds t.0, rules.shown_fit p.kinds p.imp.boxes t.0 is fit, subst (AreTablesOf g contents) (sym same) t.1)
+
   pub no_tables_no_contents : NoSharedTablesAgree p.spec p.imp p.kinds ↔ NoContentsAgree care shared spec imp
   no_tables_no_contents = (
     (λ none contents fill agree.
-        let t = laws.tables imp g pair.imp_stands contents fill.fit in
-        let fit = to_pair boxes_of t.0 t.1.fit in
-        let same = rules.back p.kinds p.imp.boxes t.0 is fit (one_table contents t.0 fill t.1) in
-        none (shown p.kinds t.0) (rules.shown_fit p.kinds p.imp.boxes t.0 is fit) (subst (TablesAgree p.spec p.imp) (sym same) (contents_to_tables pair_is_seen contents t.0 fill.fit t.1 agree))),
+        let (tables, fit, are) = tables_of_kinds contents fill in
+        none tables fit (contents_to_tables pair_is_seen contents (spread p.kinds tables) fill.fit are agree)),
     (λ none tables fit agree.
         let c = found tables fit in
         none c.0 c.1 (tables_to_contents pair_is_seen c.0 (spread p.kinds tables) c.1.fit c.2 agree)),

@@ -3,18 +3,22 @@
 -- gives a bit to each bit of an input port of the top and to each register bit, which has it as its present state; an output is a bit
 -- of an output port of the top, or what a register bit is to become. Where a care output is asked for, it is 1 at such a vector, and it
 -- is none of the outputs at which the two differ.
-use Rattle.std.specs.Prelude.{◌≡◌, ◌++◌, ℕ, Bool, not, List, map, Contains, Option, None, Some, slice_get}
+use Rattle.std.specs.Prelude.{◌≡◌, ◌++◌, ℕ, Bool, not, List, map, All, Contains, Option, None, Some, slice_get}
 use Rattle.bb_bits.specs.Contents.{Contents}
+use Rattle.bb_bits.specs.Tables.{TableBits}
+use Rattle.bb_filled.specs.Forced.{FailAt}
 use Rattle.bb_net.specs.Agreement.{IsVector, IsOutput}
 use Rattle.bb_net.specs.Conditions.{IsAlwaysWrong, HasAlwaysWrong}
 use Rattle.bb_net.specs.CutPoints.{CutInput, TopInput, State, CutOutput, TopOutput, NextState}
+use Rattle.bb_net.specs.Kinds.{shown, spread}
 use Rattle.bb_net.specs.Pairs.{NetPair}
+use Rattle.bb_net.specs.Values.{FitBoxes}
 use Rattle.bb_design.specs.Inside.Allowed.{IsAllowed}
 use Rattle.bb_design.specs.Hierarchy.{Design}
 use Rattle.bb_design.specs.Refusals.{input_texts, output_texts, register_texts}
 use Rattle.bb_design.specs.Worlds.{World, Vector, HasVector, IsWorld, FitDesign, outputs_in}
 use Rattle.bb_match.specs.Pairing.{input_text, output_name}
-use Rattle.bb_agree.specs.DesignAgreement.{IsAsked, IsCompared, IsPairFor, NoContentsAgree}
+use Rattle.bb_agree.specs.DesignAgreement.{IsAsked, IsCompared, IsPairFor, MayFill, NoContentsAgree}
 use Rattle.bb_match.specs.Refusals.{compared}
 
 -- the inputs of a design and the outputs that are compared, in net order: those of the top, and then the register bits
@@ -40,14 +44,24 @@ DifferAtTold care spec imp w v None = (o : CutOutput) × DifferAt care spec imp 
 abbrev pub HasWorld : Design → Contents → Vector → Type 0
 HasWorld d contents x = (w : World) × IsWorld d contents w × HasVector d x w
 
--- the vector shows a mistake: for all contents that fit the boxes of the implementation, and some do, both designs have worlds with it,
--- and in all such worlds of the two agreement is asked and they differ
+-- with these contents the vector shows a mistake: both designs have worlds with it, and in all such worlds of the two agreement is asked
+-- and they differ
+pub record DifferWith (care : Option (List ℕ)) (spec imp : Design) (contents : Contents) (x : Vector) (told : Option CutOutput) : Type 0 where
+  pub worlds : HasWorld spec contents x × HasWorld imp contents x
+  pub asked : (w : World) → IsWorld spec contents w → HasVector spec x w → IsAsked care (outputs_in spec w)
+  pub differ : (w v : World) → IsWorld spec contents w → HasVector spec x w → IsWorld imp contents v → HasVector imp x v
+      → DifferAtTold care spec imp w v told
+
+-- the vector shows a mistake with all contents that fit the boxes of the implementation, and some do
 pub record IsMistakeAt (care : Option (List ℕ)) (spec imp : Design) (x : Vector) (told : Option CutOutput) : Type 0 where
   pub fit : (contents : Contents) × FitDesign imp contents
-  pub worlds : (contents : Contents) → FitDesign imp contents → HasWorld spec contents x × HasWorld imp contents x
-  pub asked : (contents : Contents) → FitDesign imp contents → (w : World) → IsWorld spec contents w → HasVector spec x w → IsAsked care (outputs_in spec w)
-  pub differ : (contents : Contents) → FitDesign imp contents → (w v : World) → IsWorld spec contents w → HasVector spec x w → IsWorld imp contents v → HasVector imp x v
-      → DifferAtTold care spec imp w v told
+  pub each : (contents : Contents) → FitDesign imp contents → DifferWith care spec imp contents x told
+
+-- whatever contents may fill the boxes, with them one of these vectors shows a mistake; a vector has a bit for each input of the
+-- specification, in their order
+abbrev pub AreMistakesAmong : Option (List ℕ) → Bool → Design → Design → List (List Bool) → Type 0
+AreMistakesAmong care shared spec imp vectors = (contents : Contents) → MayFill shared imp contents
+    → (x : Vector) × Contains vectors (map x (inputs_of spec)) × DifferWith care spec imp contents x None
 
 -- laws that a reader expects
 
@@ -73,3 +87,10 @@ PairsAreNamed = (care : Option (List ℕ)) (shared : Bool) (spec imp : Design) (
 -- where a vector shows a mistake, no contents agree, whether boxes share theirs or not
 abbrev pub MistakesRefute : Type 0
 MistakesRefute = (care : Option (List ℕ)) (shared : Bool) (spec imp : Design) (x : Vector) (told : Option CutOutput) → IsAllowed imp → IsMistakeAt care spec imp x told → NoContentsAgree care shared spec imp
+
+-- where with all tables, one for each kind of boxes, some output is wrong at one of some vectors, these show mistakes of the designs
+abbrev pub FailingVectorsAreMistakes : Type 0
+FailingVectorsAreMistakes = (care : Option (List ℕ)) (shared : Bool) (spec imp : Design) (p : NetPair) → IsAllowed spec → IsAllowed imp
+    → IsPairFor care shared spec imp p → (vectors : List (List Bool)) → All (IsVector p.imp) vectors
+    → ((tables : List TableBits) → FitBoxes tables (shown p.kinds p.imp.boxes)
+    → (xs : List Bool) × Contains vectors xs × FailAt p.spec p.imp (spread p.kinds tables) xs) → AreMistakesAmong care shared spec imp vectors

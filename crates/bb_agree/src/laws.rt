@@ -5,7 +5,8 @@ ghost use Rattle.bb_agree.specs.Laws.AlikePairs.{PairsForDesignsAreAlike};
 ghost use Rattle.bb_agree.specs.Comparable.{FittingDesignsAreComparable};
 ghost use Rattle.bb_agree.specs.DesignAgreement.{CareOutputsAskForLess, DesignsAgreeWithThemselves, FittingTablesAreOfBoxes, NoTablesNoContents, PairsHaveBoxOrders, SharingNarrows, SpelledContentsAgree, SpelledContentsHaveTables, TablesAgreeAsContents, TablesSpellContents};
 ghost use Rattle.bb_agree.specs.Laws.DesignRefusals.{DesignRefusalsAreOne, FitOrRefused, FittingDesignsHavePairs, NetsAreTakenAsDesigns, NotFitAndRefused, PairsStandExactlyForFitting};
-ghost use Rattle.bb_agree.specs.Mistakes.{MistakesRefute, PairsAreNamed, WrongOutputsAreMistakes, WrongVectorsAreMistakes};
+ghost use Rattle.bb_agree.specs.Mistakes.{FailingVectorsAreMistakes, MistakesRefute, PairsAreNamed, WrongOutputsAreMistakes, WrongVectorsAreMistakes};
+ghost use Rattle.bb_agree.specs.Runs.{AgreeingDesignsRunAlike, ComparableDesignsHaveRuns};
 
 use bb_alike::laws::rearranged_stay_alike;
 use bb_bits::rows_are_tables;
@@ -214,6 +215,16 @@ pub fn wrong_vectors_are_mistakes()
     lower_laws();
 }
 
+/// Where with all tables of kinds some output is wrong at one of some vectors, these show mistakes of the designs.
+pub fn failing_vectors_are_mistakes()
+    ensures { FailingVectorsAreMistakes }
+{
+    lower_laws();
+    rows_are_tables();
+    standing_nets_have_box_orders();
+    tables_are_spread();
+}
+
 /// In such a pair inputs and outputs have the names of those of the specification that are compared.
 pub fn pairs_are_named()
     ensures { PairsAreNamed }
@@ -224,4 +235,14 @@ pub fn pairs_are_named()
 /// Where a vector shows a mistake, no contents agree.
 pub fn mistakes_refute()
     ensures { MistakesRefute }
+{}
+
+/// Contents that make two designs agree at each vector make them run alike, whatever events come; with a care output, as long as it is 1.
+pub fn agreeing_designs_run_alike()
+    ensures { AgreeingDesignsRunAlike }
+{}
+
+/// Two designs that can be compared have runs, whatever events come.
+pub fn comparable_designs_have_runs()
+    ensures { ComparableDesignsHaveRuns }
 {}

@@ -8,7 +8,9 @@ use Rattle.std.proofs.lemmas.List.Sums.{sum_by-cons}
 use Rattle.std.proofs.lemmas.List.{length-append, length-take}
 use Rattle.bb_bits.specs.Numbers.{bits_of}
 use Rattle.bb_bits.specs.Tables.{TableBits}
-use Rattle.bb_cnf.specs.Laws.{ModelLaws, RefutationsExist}
+use Rattle.bb_cnf.specs.Chains.{IsRefutation}
+use Rattle.bb_cnf.specs.Clauses.{Formula}
+use Rattle.bb_cnf.specs.Laws.{ModelLaws, RefutationsExist, SoundnessLaws}
 use Rattle.bb_cnf.specs.Truth.{HaveNoModel, assignment_of}
 use Rattle.bb_cdcl.specs.Inside.Outcomes.{HasModel}
 use Rattle.bb_filled.specs.Forced.{AgreeAt, AreForced, FailAt}
@@ -28,7 +30,7 @@ use Rattle.bb_expand.specs.ClauseCounts.{cell_clause_count, clauses_per_vector, 
 use Rattle.bb_expand.specs.Expanded.{IsExpanded}
 use Rattle.bb_expand.specs.GivenUp.{NeedsMoreClauses}
 use Rattle.bb_expand.specs.Expansions.{expansion, all_vectors}
-use Rattle.bb_expand.specs.Laws.{AllVectorsDecide, AnswersExist, ClausesAreCounted, ExpansionsAreRefuted, HaveShortRefutations, ModelsAreTables, SomeTablesSuit, VariablesAreWithin, VectorsAreAll}
+use Rattle.bb_expand.specs.Laws.{AllVectorsDecide, AnswersExist, ClausesAreCounted, ExpansionsAreRefuted, HaveShortRefutations, ModelsAreTables, RefutationsShowVectors, SomeTablesSuit, VariablesAreWithin, VectorsAreAll}
 use Rattle.bb_expand.specs.Inside.LawsBelow.{Numbering, Sharing}
 use Rattle.bb_expand.proofs.AllVectors.{agree_from_all}
 use Rattle.bb_expand.proofs.HeldVectors.{forced_push}
@@ -40,6 +42,18 @@ expansions_are_refuted exist models decide within spec imp kinds kept fits none 
     let formula = expansion spec imp kinds (all_vectors imp.inputs) in
     let inside = within spec imp kinds kept fits (all_vectors imp.inputs) in
     exist formula inside (λ v satisfied. (let some = (decide spec imp kinds kept fits).0 (models.has_list v formula inside satisfied) in none some.0 some.1 some.2))
+
+-- tables that are right at all vectors of a refuted expansion would give a model
+pub refutations_show_vectors : SoundnessLaws → ModelsAreTables → RefutationsShowVectors
+refutations_show_vectors sound suit spec imp kinds budget vectors cnf steps kept fits error tables fit =
+    let all = spread kinds tables in
+    elim (all_or_one (AgreeAt spec imp all) (FailAt spec imp all) (agree_or_fail spec imp all) vectors) [
+      | inl agree ↦
+          let (model, holds) = (suit spec imp kinds kept fits vectors).1 (tables, fit, agree) in
+          let refuted = subst (λ (f : Formula). IsRefutation f.clauses steps) error.expands error.refuted in
+          absurd (sound.refutation (expansion spec imp kinds vectors).clauses steps refuted (assignment_of model) holds.1)
+      | inr one ↦ one
+    ]
 
 -- a netlist has a cell, and so a vector a clause
 some_clause : (imp : Netlist) → IsNetlist imp → 1 ≤ clauses_per_vector imp

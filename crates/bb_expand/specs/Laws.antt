@@ -9,14 +9,14 @@ use Rattle.bb_net.specs.Kinds.{FitKinds, shown, spread, NoSharedTablesAgree, Som
 use Rattle.bb_net.specs.Netlists.{Netlist, Pins, IsNetlist}
 use Rattle.bb_net.specs.Values.{gate, flat_with, FitBoxes}
 use Rattle.bb_cnf.specs.Chains.{IsRefutation}
-use Rattle.bb_cnf.specs.Clauses.{IsWithin}
+use Rattle.bb_cnf.specs.Clauses.{Formula, IsWithin}
 use Rattle.bb_cnf.specs.declared.refutation.Step.{Step}
 use Rattle.bb_cnf.specs.Truth.{HaveNoModel, Satisfies}
-use Rattle.bb_filled.specs.Forced.{AreForced}
+use Rattle.bb_filled.specs.Forced.{AreForced, FailAt}
 use Rattle.bb_cdcl.specs.Inside.Outcomes.{HasModel}
 use Rattle.bb_expand.specs.ClauseCounts.{clauses_per_vector}
 use Rattle.bb_expand.specs.declared.expanded.Expanded.{Expanded}
-use Rattle.bb_expand.specs.Expanded.{IsExpanded}
+use Rattle.bb_expand.specs.Expanded.{IsError, IsExpanded}
 use Rattle.bb_expand.specs.GivenUp.{NeedsMoreClauses}
 use Rattle.bb_expand.specs.Expansions.{table_variable, cell_clauses, expansion, all_vectors}
 
@@ -60,6 +60,13 @@ VectorsAreAll = (x : List Bool) → Contains (all_vectors (length x)) x
 -- where no tables agree, one for each kind, the expansion over all vectors has a refutation
 abbrev pub ExpansionsAreRefuted : Type 0
 ExpansionsAreRefuted = (spec imp : Netlist) (kinds : List ℕ) → IsNetlist imp → FitKinds kinds imp.boxes → NoSharedTablesAgree spec imp kinds → (steps : List Step) × IsRefutation (expansion spec imp kinds (all_vectors imp.inputs)).clauses steps
+
+-- where the expansion over some vectors is refuted, all tables, one for each kind, are wrong at one of them
+abbrev pub RefutationsShowVectors : Type 0
+RefutationsShowVectors = (spec imp : Netlist) (kinds : List ℕ) (budget : ℕ) (vectors : List (List Bool)) (cnf : Formula) (steps : List Step)
+    → IsNetlist imp → FitKinds kinds imp.boxes → IsError spec imp kinds budget vectors cnf steps
+    → (tables : List TableBits) → FitBoxes tables (shown kinds imp.boxes)
+    → (x : List Bool) × Contains vectors x × FailAt spec imp (spread kinds tables) x
 
 -- an expansion over vectors that are forced, within the budget and without a model has a refutation whose steps a list in memory may
 -- hold: one of many variables may have no shorter one than a list may be long

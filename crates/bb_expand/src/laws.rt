@@ -1,6 +1,6 @@
 //! Laws of expansions. Each public function has laws as its contract and does nothing.
 
-ghost use Rattle.bb_expand.specs.Laws.{CellClausesSayGate, ModelsAreTables, AllVectorsDecide, ClausesAreCounted, VariablesAreWithin, VectorsRise, VectorsAreAll, ExpansionsAreRefuted, AnswersExist};
+ghost use Rattle.bb_expand.specs.Laws.{CellClausesSayGate, ModelsAreTables, AllVectorsDecide, ClausesAreCounted, VariablesAreWithin, VectorsRise, VectorsAreAll, ExpansionsAreRefuted, RefutationsShowVectors, AnswersExist};
 ghost use Rattle.bb_expand.specs.Inside.LawsBelow.{Numbering, Sharing, ValueExists, ValueIsUnique};
 
 use bb_bits::{number_is_below, number_spelled, number_spelled_once};
@@ -40,6 +40,14 @@ pub fn answers_exist()
     vectors_are_few();
     expansions_and_tables();
     laws_below();
+}
+
+/// Where the expansion over some vectors is refuted, with all tables, one for each kind, some output is wrong at one of them.
+pub fn refutations_show_vectors()
+    ensures { RefutationsShowVectors }
+{
+    laws::refutations();
+    expansions_and_tables();
 }
 
 // The laws of numbers, of values and of kinds on which these rest.

@@ -27,4 +27,4 @@ pub use counting::clause_count;
 pub use decision::expand;
 pub use expanded::{ExpandFault, Expanded};
 pub use free_laws::models_are_differences;
-pub use laws::{answers_exist, expansions_and_tables};
+pub use laws::{answers_exist, expansions_and_tables, refutations_show_vectors};

@@ -5,6 +5,7 @@ use Rattle.std.proofs.lemmas.List.Elements.{All-weaker}
 use Rattle.bb_agree.specs.Comparable.{FittingDesignsAreComparable}
 use Rattle.bb_agree.specs.DesignAgreement.{AreSpelled, FittingTablesAreOfBoxes, IsPairFor, IsTableOf, NoTablesNoContents, PairsHaveBoxOrders, SpelledContentsAgree, TablesSpellContents}
 use Rattle.bb_agree.specs.Laws.DesignRefusals.{PairsStandExactlyForFitting}
+use Rattle.bb_agree.specs.Runs.{AgreeingDesignsRunAlike}
 use Rattle.bb_bits.specs.Tables.{TableBits}
 use Rattle.bb_cells.specs.BoxOrders.{IsBoxOrder}
 use Rattle.bb_cells.specs.Stands.{box_texts}
@@ -24,10 +25,10 @@ use Rattle.bb_rungs.specs.Rungs.{is_error, is_repair}
 use Rattle.bb_ladder.specs.declared.asked.Asked.{Asked}
 use Rattle.bb_ladder.specs.FilledTexts.{MayFollow, NoTablesFollow}
 use Rattle.bb_texts.specs.RefusalLines.{refusal_line}
-use Rattle.bb_ladder.specs.TextAnswers.{Refused, Judged, AnsweredFit, ErrorsRefute, RepairsFinish, OpenAnswersLeaveOpen, DecidedAreAnswered, StayingOpenAreAnswered, RefusedAreAnsweredOnce}
+use Rattle.bb_ladder.specs.TextAnswers.{Refused, Judged, AnsweredFit, ErrorsRefute, RepairsFinish, RepairsRun, OpenAnswersLeaveOpen, DecidedAreAnswered, StayingOpenAreAnswered, RefusedAreAnsweredOnce}
 use Rattle.bb_ladder.specs.TextPairs.{AreDesignsOf, AreFinished, StandsForTexts, DesignsAreAllowed, RefusalsAreOne, NotPairAndRefusal, TextPairsAreAlike}
 use Rattle.bb_ladder.proofs.FollowLaws.{nothing_unasked}
-use Rattle.bb_ladder.proofs.TextPairLaws.{reads_as}
+use Rattle.bb_ladder.proofs.TextPairLaws.{are_read_as}
 
 no_fourth : (v : Verdict) → status_of v ≡ 4 → ⊥
 no_fourth verdicts.Error e = omega (arith, e)
@@ -48,7 +49,7 @@ is_open verdicts.Error e = absurd (omega (arith, e))
 is_open verdicts.Repairable e = absurd (omega (arith, e))
 is_open verdicts.Open e = refl
 
-status_error : (lines : List Line) → status_of (verdict_of lines) ≡ 1 → list_any is_error lines ≡ true
+pub status_error : (lines : List Line) → status_of (verdict_of lines) ≡ 1 → list_any is_error lines ≡ true
 status_error lines e = by (list_any is_error lines) (list_any is_repair lines) e
   where
     by : (a b : Bool) → status_of (if a then verdicts.Error else (if b then verdicts.Repairable else verdicts.Open)) ≡ 1 → a ≡ true
@@ -58,7 +59,7 @@ status_error lines e = by (list_any is_error lines) (list_any is_repair lines) e
 
 -- what a report says whose verdict is that the design can be finished, with tables that agree
 module _ (allowed : DesignsAreAllowed) (none_behind : NoTablesFollow) (spell : TablesSpellContents) (agree : SpelledContentsAgree) (exactly : PairsStandExactlyForFitting)
-    (have_orders : PairsHaveBoxOrders) (of_boxes : FittingTablesAreOfBoxes) where
+    (comparable : FittingDesignsAreComparable) (have_orders : PairsHaveBoxOrders) (of_boxes : FittingTablesAreOfBoxes) where
   module _ (asked : Asked) (spec imp text : List ℕ) (p : NetPair) (lines : List Line) (s i : Design) (are : AreDesignsOf asked spec imp s i) (for : IsPairFor asked.care asked.options.shared s i p)
       (rest : List ℕ) (follows : MayFollow asked.fill for.imp_net p.kinds lines rest) (whole : text ≡ report_text p asked.options lines ++ rest)
       (tables : List TableBits) (complete : AreSharedCompletion p.spec p.imp p.kinds tables) (ends : EndsWithTables asked.options.shared (shown p.kinds p.boxes) (report_text p asked.options lines) tables) where
@@ -80,10 +81,10 @@ module _ (allowed : DesignsAreAllowed) (none_behind : NoTablesFollow) (spell : T
         record {
           s = s;
           i = i;
-          designs = are;
-          fit = (exactly asked.care shared s i s_allowed i_allowed).fit p for;
+          reads = are_read_as asked spec imp s i are;
+          comparable = (comparable asked.care shared s i s_allowed i_allowed ((exactly asked.care shared s i s_allowed i_allowed).fit p for)).0;
           order = order.0;
-          ordered = order.1;
+          all = order.1.all;
           kinds = p.kinds;
           keyed = subst (λ l. AreKinds (map (box_key shared) l) p.kinds) order.2 order.3;
           tables = tables;
@@ -92,8 +93,8 @@ module _ (allowed : DesignsAreAllowed) (none_behind : NoTablesFollow) (spell : T
           rest = rest;
           whole = whole;
           lines = subst (λ l. EndsWithTables shared (shown p.kinds l) (report_text p asked.options lines) tables) order.2 ends;
-          behind = none_behind asked.fill for.imp_net p.kinds lines rest for.imp_flat follows;
-          nothing = nothing_unasked follows;
+          no_more = none_behind asked.fill for.imp_net p.kinds lines rest for.imp_flat follows;
+          alone = nothing_unasked follows;
           contents = (spelled.0, spelled.1, subst (λ l. AreSpelled l p.kinds tables spelled.0) order.2 spelled.2);
           agree = λ contents fits spells. agree asked.care shared s i p s_allowed i_allowed for tables complete.fit complete.agree contents fits (subst (λ l. AreSpelled l p.kinds tables contents) (sym order.2) spells);
         }
@@ -103,6 +104,13 @@ module _ (allowed : DesignsAreAllowed) (none_behind : NoTablesFollow) (spell : T
   repairs_finish repairs asked spec imp status text (Judged p lines s i are for climb same rest follows t) zero =
       let (tables, given, complete, ends) = repairs p asked.options lines for.kept climb (is_repairable (verdict_of lines) (sym same ∙ zero)) in
       finished asked spec imp text p lines s i are for rest follows t tables complete ends
+
+  pub repairs_run : RepairsAgree → AgreeingDesignsRunAlike → RepairsRun
+  repairs_run repairs run asked spec imp status text (Refused r is s t) zero = absurd (omega (arith, s, zero))
+  repairs_run repairs run asked spec imp status text (Judged p lines s i are for climb same rest follows t) zero =
+      let (tables, given, complete, ends) = repairs p asked.options lines for.kept climb (is_repairable (verdict_of lines) (sym same ∙ zero)) in
+      let done = finished asked spec imp text p lines s i are for rest follows t tables complete ends in
+      (done, λ contents fills. run asked.care s i contents (i_allowed asked spec imp text p lines s i are for rest follows t tables complete ends) done.comparable fills.0 (done.agree contents fills.0 fills.1))
 
 pub answered_fit : DesignsAreAllowed → PairsStandExactlyForFitting → AnsweredFit
 answered_fit allowed fitting asked spec imp status text (Refused r is s t) answered = absurd (answered s)
@@ -117,7 +125,14 @@ errors_refute allowed excludes exactly fitting comparable asked spec imp status 
     let also = allowed asked.imp_top imp i are.imp_design in
     let fit = (fitting asked.care asked.options.shared s i good also).fit p for in
     let can = comparable asked.care asked.options.shared s i good also fit in
-    (s, i, reads_as are.spec_design, reads_as are.imp_design, can.0, can.1, (exactly asked.care asked.options.shared s i p good also for).0 none)
+    record {
+      s = s;
+      i = i;
+      reads = are_read_as asked spec imp s i are;
+      comparable = can.0;
+      some = can.1;
+      none = (exactly asked.care asked.options.shared s i p good also for).0 none;
+    }
 
 pub is_pair : (asked : Asked) (spec imp : List ℕ) (p : NetPair) → StandsForTexts asked spec imp p → IsPair p
 is_pair asked spec imp p (s, i, are, for) = for.kept

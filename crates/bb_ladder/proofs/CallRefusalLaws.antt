@@ -9,6 +9,7 @@ use Rattle.bb_texts.specs.declared.limit.TheConstants.{READ_LIMIT}
 use Rattle.bb_make.specs.Adders.{made_imp, made_spec}
 use Rattle.bb_words.specs.Asked.{MadePair, Refutation, made_asked, rup_asked}
 use Rattle.bb_words.specs.Laws.{WordsAskOnce}
+use Rattle.bb_ladder.specs.Calls.{Call}
 use Rattle.bb_ladder.specs.declared.asked.Asked.{Asked as TextsAsked}
 use Rattle.bb_ladder.specs.Answers.{Question, AfterSpec, ImpUnread, ImpLong, BothRead, OfFiles, SpecUnread, SpecLong, SpecRead, MayAnswer, Usage, Asked, Making, Refuting, Gives, question_of}
 use Rattle.bb_ladder.specs.MadePairs.{asked_of}
@@ -68,19 +69,19 @@ module _ (judged : List ℕ → List ℕ → ℕ → List ℕ → Type 0) (refus
       imp_refusal between spec (rest low).0 bytes (rest low).1 low g short c (BothRead other h less d is)
 
 pub refusals_are_told : CheckLaws → RefusalsAreTold
-refusals_are_told laws words from holds before after line (Usage none no_pair neither same s t) told = OfWords none no_pair neither t
-refusals_are_told laws words from holds before after line (Asked q asks files) told =
-    OfComparison q asks (files_refusal (Judges q.asked) (IsPairRefusal q.asked) (judged_refusals_are_first q.asked) from holds q.spec q.imp before after line (told.comparison q asks) files)
-refusals_are_told laws words from holds before after line (Making m makes quiet judges) told =
+refusals_are_told laws call from line (Usage none no_pair neither same s t) told = OfWords none no_pair neither t
+refusals_are_told laws call from line (Asked q asks files) told =
+    OfComparison q asks (files_refusal (Judges q.asked) (IsPairRefusal q.asked) (judged_refusals_are_first q.asked) from call.holds q.spec q.imp call.before call.after line (told.comparison q asks) files)
+refusals_are_told laws call from line (Making m makes quiet judges) told =
     let first = judged_refusals_are_first (asked_of m.fill m.options) (made_spec m.n) (made_imp m.n) 2 judges.0 judges.1 refl in
     OfMadePair m makes (first.0, first.1, alone_at_two m.n 2 judges.0 line refl judges.2 ∙ first.2)
-refusals_are_told laws words from holds before after line (Refuting f asks files) told =
-    OfRefutation f asks (files_refusal Checks IsCheckRefusal laws.refused from holds f.cnf f.adds before after line (told.refutation f asks) files)
+refusals_are_told laws call from line (Refuting f asks files) told =
+    OfRefutation f asks (files_refusal Checks IsCheckRefusal laws.refused from call.holds f.cnf f.adds call.before call.after line (told.refutation f asks) files)
 
 -- the same of a status that is 2
-pub told_at_two : RefusalsAreTold → (words : List (List ℕ)) (from : Source) (holds : List ℕ → Option (List ℕ)) (before after : Reads) (status : ℕ) (line : List ℕ)
-    → MayAnswer words holds before after status line → status ≡ 2 → AreTold words from holds before after → IsCallRefusal words from holds before after line
-told_at_two law words from holds before after status line may two told = law words from holds before after line (subst (λ n. MayAnswer words holds before after n line) two may) told
+pub told_at_two : RefusalsAreTold → (call : Call) (from : Source) (status : ℕ) (line : List ℕ)
+    → MayAnswer call status line → status ≡ 2 → AreTold call from → IsCallRefusal call from line
+told_at_two law call from status line may two told = law call from line (subst (λ n. MayAnswer call n line) two may) told
 
 -- two refusals of the same files are one
 
@@ -172,51 +173,51 @@ check_one laws first second line other is also = (laws.stays_refused first secon
 
 -- the refusal of words that ask nothing, or for a comparison of files, a made pair or a refutation
 
-module _ (once : WordsAskOnce) (words : List (List ℕ)) (from : Source) (holds : List ℕ → Option (List ℕ)) (before after : Reads) (line : List ℕ) where
-  words_refused : question_of words ≡ None → made_asked words ≡ None → rup_asked words ≡ None → IsCallRefusal words from holds before after line → line ≡ codes "refused usage\n"
+module _ (once : WordsAskOnce) (call : Call) (from : Source) (line : List ℕ) where
+  words_refused : question_of call.words ≡ None → made_asked call.words ≡ None → rup_asked call.words ≡ None → IsCallRefusal call from line → line ≡ codes "refused usage\n"
   words_refused none no_pair neither (OfWords also unmade nor is) = is
-  words_refused none no_pair neither (OfComparison q asks refusal) = absurd (asks_no_comparison q (question_of words) none asks)
-  words_refused none no_pair neither (OfMadePair m makes refusal) = absurd (asks_no_pair m (made_asked words) no_pair makes)
-  words_refused none no_pair neither (OfRefutation f asks refusal) = absurd (asks_no_refutation f (rup_asked words) neither asks)
+  words_refused none no_pair neither (OfComparison q asks refusal) = absurd (asks_no_comparison q (question_of call.words) none asks)
+  words_refused none no_pair neither (OfMadePair m makes refusal) = absurd (asks_no_pair m (made_asked call.words) no_pair makes)
+  words_refused none no_pair neither (OfRefutation f asks refusal) = absurd (asks_no_refutation f (rup_asked call.words) neither asks)
 
-  comparison_refused : (q : Question) → question_of words ≡ Some q → IsCallRefusal words from holds before after line → IsFilesRefusal (IsPairRefusal q.asked) from holds before after q.spec q.imp line
-  comparison_refused q asks (OfWords none unmade nor is) = absurd (asks_no_comparison q (question_of words) none asks)
+  comparison_refused : (q : Question) → question_of call.words ≡ Some q → IsCallRefusal call from line → IsFilesRefusal (IsPairRefusal q.asked) from call.holds call.before call.after q.spec q.imp line
+  comparison_refused q asks (OfWords none unmade nor is) = absurd (asks_no_comparison q (question_of call.words) none asks)
   comparison_refused q asks (OfComparison p also refusal) =
-      subst (λ (z : Question). IsFilesRefusal (IsPairRefusal z.asked) from holds before after z.spec z.imp line) (same_question p q (sym also ∙ asks)) refusal
-  comparison_refused q asks (OfMadePair m makes refusal) = absurd (never_files_and_made once words q m asks makes)
-  comparison_refused q asks (OfRefutation f also refusal) = absurd (never_both once words q f asks also)
+      subst (λ (z : Question). IsFilesRefusal (IsPairRefusal z.asked) from call.holds call.before call.after z.spec z.imp line) (same_question p q (sym also ∙ asks)) refusal
+  comparison_refused q asks (OfMadePair m makes refusal) = absurd (never_files_and_made once call.words q m asks makes)
+  comparison_refused q asks (OfRefutation f also refusal) = absurd (never_both once call.words q f asks also)
 
-  made_refused : (m : MadePair) → made_asked words ≡ Some m → IsCallRefusal words from holds before after line → IsPairRefusal (asked_of m.fill m.options) (made_spec m.n) (made_imp m.n) line
-  made_refused m makes (OfWords none unmade nor is) = absurd (asks_no_pair m (made_asked words) unmade makes)
-  made_refused m makes (OfComparison q asks refusal) = absurd (never_files_and_made once words q m asks makes)
+  made_refused : (m : MadePair) → made_asked call.words ≡ Some m → IsCallRefusal call from line → IsPairRefusal (asked_of m.fill m.options) (made_spec m.n) (made_imp m.n) line
+  made_refused m makes (OfWords none unmade nor is) = absurd (asks_no_pair m (made_asked call.words) unmade makes)
+  made_refused m makes (OfComparison q asks refusal) = absurd (never_files_and_made once call.words q m asks makes)
   made_refused m makes (OfMadePair p also refusal) = subst (λ (z : MadePair). IsPairRefusal (asked_of z.fill z.options) (made_spec z.n) (made_imp z.n) line) (same_pair p m (sym also ∙ makes)) refusal
-  made_refused m makes (OfRefutation f asks refusal) = absurd (once.not_made_and_refuted words m f makes asks)
+  made_refused m makes (OfRefutation f asks refusal) = absurd (once.not_made_and_refuted call.words m f makes asks)
 
-  refutation_refused : (f : Refutation) → rup_asked words ≡ Some f → IsCallRefusal words from holds before after line → IsFilesRefusal IsCheckRefusal from holds before after f.cnf f.adds line
-  refutation_refused f asks (OfWords none unmade nor is) = absurd (asks_no_refutation f (rup_asked words) nor asks)
-  refutation_refused f asks (OfComparison q also refusal) = absurd (never_both once words q f also asks)
-  refutation_refused f asks (OfMadePair m makes refusal) = absurd (once.not_made_and_refuted words m f makes asks)
+  refutation_refused : (f : Refutation) → rup_asked call.words ≡ Some f → IsCallRefusal call from line → IsFilesRefusal IsCheckRefusal from call.holds call.before call.after f.cnf f.adds line
+  refutation_refused f asks (OfWords none unmade nor is) = absurd (asks_no_refutation f (rup_asked call.words) nor asks)
+  refutation_refused f asks (OfComparison q also refusal) = absurd (never_both once call.words q f also asks)
+  refutation_refused f asks (OfMadePair m makes refusal) = absurd (once.not_made_and_refuted call.words m f makes asks)
   refutation_refused f asks (OfRefutation g also refusal) =
-      subst (λ (z : Refutation). IsFilesRefusal IsCheckRefusal from holds before after z.cnf z.adds line) (same_refutation g f (sym also ∙ asks)) refusal
+      subst (λ (z : Refutation). IsFilesRefusal IsCheckRefusal from call.holds call.before call.after z.cnf z.adds line) (same_refutation g f (sym also ∙ asks)) refusal
 
 pub refused_calls_are_told : WordsAskOnce → CheckLaws → RefusedAreAnsweredOnce → RefusedCallsAreTold
-refused_calls_are_told once laws answered words from holds before after status text line (Usage none no_pair neither same s t) refused calm = (s, t ∙ sym (words_refused once words from holds before after line none no_pair neither refused))
-refused_calls_are_told once laws answered words from holds before after status text line (Asked q asks files) refused calm =
-    files_told (Judges q.asked) (IsPairRefusal q.asked) (pair_told answered q.asked) from holds q.spec q.imp before after line status text calm (comparison_refused once words from holds before after line q asks refused) files
-refused_calls_are_told once laws answered words from holds before after status text line (Making m makes quiet judges) refused calm =
-    let told = pair_told answered (asked_of m.fill m.options) (made_spec m.n) (made_imp m.n) line status judges.0 judges.1 (made_refused once words from holds before after line m makes refused) in
+refused_calls_are_told once laws answered call from status text line (Usage none no_pair neither same s t) refused calm = (s, t ∙ sym (words_refused once call from line none no_pair neither refused))
+refused_calls_are_told once laws answered call from status text line (Asked q asks files) refused calm =
+    files_told (Judges q.asked) (IsPairRefusal q.asked) (pair_told answered q.asked) from call.holds q.spec q.imp call.before call.after line status text calm (comparison_refused once call from line q asks refused) files
+refused_calls_are_told once laws answered call from status text line (Making m makes quiet judges) refused calm =
+    let told = pair_told answered (asked_of m.fill m.options) (made_spec m.n) (made_imp m.n) line status judges.0 judges.1 (made_refused once call from line m makes refused) in
     (told.0, alone_at_two m.n status judges.0 text told.0 judges.2 ∙ told.1)
-refused_calls_are_told once laws answered words from holds before after status text line (Refuting f asks files) refused calm =
-    files_told Checks IsCheckRefusal (λ first second told n said checks is. laws.stays_refused first second n said told checks is) from holds f.cnf f.adds before after line status text calm (refutation_refused once words from holds before after line f asks refused) files
+refused_calls_are_told once laws answered call from status text line (Refuting f asks files) refused calm =
+    files_told Checks IsCheckRefusal (λ first second told n said checks is. laws.stays_refused first second n said told checks is) from call.holds f.cnf f.adds call.before call.after line status text calm (refutation_refused once call from line f asks refused) files
 
 pub call_refusals_are_one : WordsAskOnce → CheckLaws → RefusalsAreOne → CallRefusalsAreOne
-call_refusals_are_one once laws one words from holds before after line other refused also = by (question_of words) refl (made_asked words) refl (rup_asked words) refl
+call_refusals_are_one once laws one call from line other refused also = by (question_of call.words) refl (made_asked call.words) refl (rup_asked call.words) refl
   where
-    by : (o : Option Question) → question_of words ≡ o → (p : Option MadePair) → made_asked words ≡ p → (r : Option Refutation) → rup_asked words ≡ r → line ≡ other
-    by None e None h None g = words_refused once words from holds before after line e h g refused ∙ sym (words_refused once words from holds before after other e h g also)
-    by (Some q) e p h r g = same_line (IsPairRefusal q.asked) (pair_one one q.asked) from holds q.spec q.imp before after line other
-        (comparison_refused once words from holds before after line q e refused) (comparison_refused once words from holds before after other q e also)
+    by : (o : Option Question) → question_of call.words ≡ o → (p : Option MadePair) → made_asked call.words ≡ p → (r : Option Refutation) → rup_asked call.words ≡ r → line ≡ other
+    by None e None h None g = words_refused once call from line e h g refused ∙ sym (words_refused once call from other e h g also)
+    by (Some q) e p h r g = same_line (IsPairRefusal q.asked) (pair_one one q.asked) from call.holds q.spec q.imp call.before call.after line other
+        (comparison_refused once call from line q e refused) (comparison_refused once call from other q e also)
     by None e (Some m) h r g = pair_one one (asked_of m.fill m.options) (made_spec m.n) (made_imp m.n) line other
-        (made_refused once words from holds before after line m h refused) (made_refused once words from holds before after other m h also)
-    by None e None h (Some f) g = same_line IsCheckRefusal (check_one laws) from holds f.cnf f.adds before after line other
-        (refutation_refused once words from holds before after line f g refused) (refutation_refused once words from holds before after other f g also)
+        (made_refused once call from line m h refused) (made_refused once call from other m h also)
+    by None e None h (Some f) g = same_line IsCheckRefusal (check_one laws) from call.holds f.cnf f.adds call.before call.after line other
+        (refutation_refused once call from line f g refused) (refutation_refused once call from other f g also)

@@ -3,6 +3,7 @@
 use Rattle.std.proofs.Common.{◌≡◌, ◌<◌, ◌⊎◌, ℕ, List, length, Option, Some, sym, ◌∙◌, subst}
 use Rattle.bb_outside.specs.Counts.{IsRead, Reads}
 use Rattle.bb_texts.specs.declared.limit.TheConstants.{READ_LIMIT}
+use Rattle.bb_ladder.specs.Calls.{Call}
 use Rattle.bb_ladder.specs.declared.asked.Asked.{Asked as TextsAsked}
 use Rattle.bb_cnf.specs.Clauses.{Formula}
 use Rattle.bb_cnf.specs.declared.clauses.Lit.{Lit}
@@ -41,38 +42,38 @@ module _ (judged : List ℕ → List ℕ → ℕ → List ℕ → Type 0) (spec 
 -- the same of a comparison
 module _ (once : WordsAskOnce) (P : TextsAsked → List ℕ → List ℕ → Type 0) (S : ℕ → Type 0) (answered : (asked : TextsAsked) (spec imp : List ℕ) (status : ℕ) (text : List ℕ) → Judges asked spec imp status text → P asked spec imp → S status)
     (asked : TextsAsked) (spec imp : List ℕ) (spec_short : length spec < READ_LIMIT) (imp_short : length imp < READ_LIMIT) (is : P asked spec imp) where
-  words_answered : (words : List (List ℕ)) (from : Source) (holds : List ℕ → Option (List ℕ)) (before after : Reads) (status : ℕ) (text : List ℕ) → AreTexts words from holds before after asked spec imp → (MayHaveFailed from before after → ⊥)
-      → MayAnswer words holds before after status text → S status
-  words_answered words from holds before after status text (FileTexts q asks same both) calm (Usage none no_pair neither c s t) = absurd (asks_no_comparison q (question_of words) none asks)
-  words_answered words from holds before after status text (FileTexts q asks same both) calm (Asked known e files) =
-      files_answered (Judges q.asked) spec imp S (λ n line j. answered q.asked spec imp n line j (subst (λ z. P z spec imp) same is)) spec_short imp_short from holds q.spec q.imp before after both calm status text
-      (subst (λ (z : Question). OfFiles (Judges z.asked) holds z.spec z.imp before after status text) (same_question known q (sym e ∙ asks)) files)
-  words_answered words from holds before after status text (FileTexts q asks same both) calm (Making m e quiet judges) = absurd (never_files_and_made once words q m asks e)
-  words_answered words from holds before after status text (FileTexts q asks same both) calm (Refuting f e files) = absurd (never_both once words q f asks e)
-  words_answered words from holds before after status text (MadeTexts m makes a x y) calm (Usage none no_pair neither c s t) = absurd (asks_no_pair m (made_asked words) no_pair makes)
-  words_answered words from holds before after status text (MadeTexts m makes a x y) calm (Asked q e files) = absurd (never_files_and_made once words q m e makes)
-  words_answered words from holds before after status text (MadeTexts m makes a x y) calm (Making known e quiet judges) =
+  words_answered : (call : Call) (from : Source) (status : ℕ) (text : List ℕ) → AreTexts call from asked spec imp → (MayHaveFailed from call.before call.after → ⊥)
+      → MayAnswer call status text → S status
+  words_answered call from status text (FileTexts q asks same both) calm (Usage none no_pair neither c s t) = absurd (asks_no_comparison q (question_of call.words) none asks)
+  words_answered call from status text (FileTexts q asks same both) calm (Asked known e files) =
+      files_answered (Judges q.asked) spec imp S (λ n line j. answered q.asked spec imp n line j (subst (λ z. P z spec imp) same is)) spec_short imp_short from call.holds q.spec q.imp call.before call.after both calm status text
+      (subst (λ (z : Question). OfFiles (Judges z.asked) call.holds z.spec z.imp call.before call.after status text) (same_question known q (sym e ∙ asks)) files)
+  words_answered call from status text (FileTexts q asks same both) calm (Making m e quiet judges) = absurd (never_files_and_made once call.words q m asks e)
+  words_answered call from status text (FileTexts q asks same both) calm (Refuting f e files) = absurd (never_both once call.words q f asks e)
+  words_answered call from status text (MadeTexts m makes a x y) calm (Usage none no_pair neither c s t) = absurd (asks_no_pair m (made_asked call.words) no_pair makes)
+  words_answered call from status text (MadeTexts m makes a x y) calm (Asked q e files) = absurd (never_files_and_made once call.words q m e makes)
+  words_answered call from status text (MadeTexts m makes a x y) calm (Making known e quiet judges) =
       let of_m = subst (λ z. JudgesMade z status text) (same_pair known m (sym e ∙ makes)) judges in
       answered (asked_of m.fill m.options) (made_spec m.n) (made_imp m.n) status of_m.0 of_m.1 (subst (λ z. P (asked_of m.fill m.options) (made_spec m.n) z) y (subst (λ z. P (asked_of m.fill m.options) z imp) x (subst (λ z. P z spec imp) a is)))
-  words_answered words from holds before after status text (MadeTexts m makes a x y) calm (Refuting f e files) = absurd (once.not_made_and_refuted words m f makes e)
+  words_answered call from status text (MadeTexts m makes a x y) calm (Refuting f e files) = absurd (once.not_made_and_refuted call.words m f makes e)
 
 pub decided_sound : WordsAskOnce → DecidedAreAnswered → (asked : TextsAsked) (spec imp : List ℕ) → length spec < READ_LIMIT → length imp < READ_LIMIT → AreDecided asked spec imp
-    → (words : List (List ℕ)) (from : Source) (holds : List ℕ → Option (List ℕ)) (before after : Reads) (status : ℕ) (text : List ℕ) → AreTexts words from holds before after asked spec imp → (MayHaveFailed from before after → ⊥)
-    → MayAnswer words holds before after status text → (status ≡ 0) ⊎ (status ≡ 1)
+    → (call : Call) (from : Source) (status : ℕ) (text : List ℕ) → AreTexts call from asked spec imp → (MayHaveFailed from call.before call.after → ⊥)
+    → MayAnswer call status text → (status ≡ 0) ⊎ (status ≡ 1)
 decided_sound once = words_answered once AreDecided (λ status. (status ≡ 0) ⊎ (status ≡ 1))
 
 pub open_complete : WordsAskOnce → StayingOpenAreAnswered → (asked : TextsAsked) (spec imp : List ℕ) → length spec < READ_LIMIT → length imp < READ_LIMIT → AreStayingOpen asked spec imp
-    → (words : List (List ℕ)) (from : Source) (holds : List ℕ → Option (List ℕ)) (before after : Reads) (status : ℕ) (text : List ℕ) → AreTexts words from holds before after asked spec imp → (MayHaveFailed from before after → ⊥)
-    → MayAnswer words holds before after status text → status ≡ 3
+    → (call : Call) (from : Source) (status : ℕ) (text : List ℕ) → AreTexts call from asked spec imp → (MayHaveFailed from call.before call.after → ⊥)
+    → MayAnswer call status text → status ≡ 3
 open_complete once = words_answered once AreStayingOpen (λ status. status ≡ 3)
 
 -- and of a refutation
 pub refuted_sound : WordsAskOnce → CheckLaws → (f : Refutation) (first second : List ℕ) (formula : Formula) (adds : List (List Lit)) → length first < READ_LIMIT → length second < READ_LIMIT → AreRead first second formula adds
-    → (words : List (List ℕ)) (from : Source) (holds : List ℕ → Option (List ℕ)) (before after : Reads) (status : ℕ) (text : List ℕ) → AreRefutationTexts words from holds before after f first second → (MayHaveFailed from before after → ⊥)
-    → MayAnswer words holds before after status text → SaysWhether formula adds status
-refuted_sound once laws f first second formula adds short also read words from holds before after status text texts calm (Usage none no_pair neither c s t) = absurd (asks_no_refutation f (rup_asked words) neither texts.asks)
-refuted_sound once laws f first second formula adds short also read words from holds before after status text texts calm (Asked q e files) = absurd (never_both once words q f e texts.asks)
-refuted_sound once laws f first second formula adds short also read words from holds before after status text texts calm (Making m e quiet judges) = absurd (once.not_made_and_refuted words m f e texts.asks)
-refuted_sound once laws f first second formula adds short also read words from holds before after status text texts calm (Refuting known e files) =
-    files_answered Checks first second (SaysWhether formula adds) (λ n line checks. laws.decided first second formula adds n line read checks) short also from holds f.cnf f.adds before after texts.bytes calm status text
-    (subst (λ (z : Refutation). OfFiles Checks holds z.cnf z.adds before after status text) (same_refutation known f (sym e ∙ texts.asks)) files)
+    → (call : Call) (from : Source) (status : ℕ) (text : List ℕ) → AreRefutationTexts call from f first second → (MayHaveFailed from call.before call.after → ⊥)
+    → MayAnswer call status text → SaysWhether formula adds status
+refuted_sound once laws f first second formula adds short also read call from status text texts calm (Usage none no_pair neither c s t) = absurd (asks_no_refutation f (rup_asked call.words) neither texts.asks)
+refuted_sound once laws f first second formula adds short also read call from status text texts calm (Asked q e files) = absurd (never_both once call.words q f e texts.asks)
+refuted_sound once laws f first second formula adds short also read call from status text texts calm (Making m e quiet judges) = absurd (once.not_made_and_refuted call.words m f e texts.asks)
+refuted_sound once laws f first second formula adds short also read call from status text texts calm (Refuting known e files) =
+    files_answered Checks first second (SaysWhether formula adds) (λ n line checks. laws.decided first second formula adds n line read checks) short also from call.holds f.cnf f.adds call.before call.after texts.bytes calm status text
+    (subst (λ (z : Refutation). OfFiles Checks call.holds z.cnf z.adds call.before call.after status text) (same_refutation known f (sym e ∙ texts.asks)) files)

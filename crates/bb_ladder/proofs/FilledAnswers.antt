@@ -1,10 +1,10 @@
--- Where the filled implementation is asked for, behind the verdict stands a text that finishes the design, or why there is none; and it only adds
--- to an answer.
+-- Where the filled implementation is asked for, after the verdict comes a text that finishes the design and passes as an implementation, or
+-- why there is none; and it only adds to an answer.
 use Rattle.std.proofs.Common.{◌≡◌, ◌∙◌, ℕ, Bool, true, false, List, [], ◌++◌, map, refl, sym, ap, subst, arith, true≢false}
 use Rattle.std.proofs.lemmas.List.{append-nil}
+use Rattle.bb_agree.specs.Comparable.{FittingDesignsAreComparable}
 use Rattle.bb_agree.specs.DesignAgreement.{AreSpelled, FittingTablesAreOfBoxes, PairsHaveBoxOrders, SpelledContentsAgree, TablesSpellContents}
 use Rattle.bb_agree.specs.Laws.DesignRefusals.{PairsStandExactlyForFitting}
-use Rattle.bb_bits.specs.Contents.{Contents}
 use Rattle.bb_bits.specs.Tables.{TableBits}
 use Rattle.bb_cells.specs.Stands.{box_texts}
 use Rattle.bb_design.specs.Hierarchy.{Design}
@@ -24,25 +24,26 @@ use Rattle.bb_rungs.specs.Reports.{GivesTables, report_text, verdict_of}
 use Rattle.bb_texts.specs.declared.refusal.Refusal.{Refusal}
 use Rattle.bb_texts.specs.declared.refusal.Refusal.TheVariants.{Spec, Imp, Pair, NoMemory}
 use Rattle.bb_ladder.specs.declared.asked.Asked.{Asked}
-use Rattle.bb_ladder.specs.FilledTexts.{Clashes, FilledTextsFinish, Finished, Follows, IsFinishedText, IsLarge, IsTwice, MayFollow, NoTablesFollow, NotAsked, NotFinished, StandsBehind, answer_text}
+use Rattle.bb_ladder.specs.FilledTexts.{Clashes, Finished, Follows, FollowsVerdict, IsFinishedText, IsLarge, IsTwice, MayFollow, NoTablesFollow, NotAsked, NotFinished, answer_text}
 use Rattle.bb_ladder.specs.TextAnswers.{FillingOnlyAdds, Judged, Judges, Refused, RepairsFill}
-use Rattle.bb_ladder.specs.TextPairs.{DesignsAreAllowed, IsRefusal}
+use Rattle.bb_ladder.specs.TextPairs.{DesignsAreAllowed, FilledTextsFinish, IsRefusal, Passes, Runs}
 use Rattle.bb_ladder.proofs.AnswerLaws.{finished, is_repairable, order}
 use Rattle.bb_ladder.proofs.FilledNames.{clash_is_twice}
 use Rattle.bb_ladder.proofs.FollowLaws.{something_follows}
 
-module _ (asked : Asked) (spec : List ℕ) (i : Design) (Fills : Contents → Type 0) (p : NetPair) (f : FlatNet) (lines : List Line) (rest : List ℕ) (repairable : verdict_of lines ≡ verdicts.Repairable)
+-- what follows the verdict where the filled implementation is asked for and its text has a property
+module _ (fill : Bool) (i : Design) (Holds : List ℕ → Type 0) (p : NetPair) (f : FlatNet) (lines : List Line) (rest : List ℕ) (repairable : verdict_of lines ≡ verdicts.Repairable)
     (tables : List TableBits) (only : (others : List TableBits) → GivesTables lines others → others ≡ tables)
-    (finish : (filled : List ℕ) → MayFill f (spread p.kinds tables) (Text filled) → IsFinishedText asked spec i Fills filled) (twice : (name : List ℕ) → MayFill f (spread p.kinds tables) (Clash name) → IsTwice i name) where
-  answer_stands : (answer : Answer) → MayFill f (spread p.kinds tables) answer → rest ≡ answer_text answer → StandsBehind asked spec i Fills rest
-  answer_stands (Clash name) may e = Clashes name e (twice name may)
-  answer_stands TooLarge may e = IsLarge e
-  answer_stands (Text filled) may e = Finished filled e (finish filled may)
+    (holds : (filled : List ℕ) → MayFill f (spread p.kinds tables) (Text filled) → Holds filled) (twice : (name : List ℕ) → MayFill f (spread p.kinds tables) (Clash name) → IsTwice i name) where
+  answer_follows : (answer : Answer) → MayFill f (spread p.kinds tables) answer → rest ≡ answer_text answer → FollowsVerdict i Holds rest
+  answer_follows (Clash name) may e = Clashes name e (twice name may)
+  answer_follows TooLarge may e = IsLarge e
+  answer_follows (Text filled) may e = Finished filled e (holds filled may)
 
-  rest_stands : asked.fill ≡ true → MayFollow asked.fill f p.kinds lines rest → StandsBehind asked spec i Fills rest
-  rest_stands on (NotAsked off none) = absurd (true≢false (sym on ∙ off))
-  rest_stands on (NotFinished other none) = absurd (other repairable)
-  rest_stands on (Follows also verdict others gives answer may e) = answer_stands answer (subst (λ (z : List TableBits). MayFill f (spread p.kinds z) answer) (only others gives) may) e
+  rest_follows : fill ≡ true → MayFollow fill f p.kinds lines rest → FollowsVerdict i Holds rest
+  rest_follows on (NotAsked off none) = absurd (true≢false (sym on ∙ off))
+  rest_follows on (NotFinished other none) = absurd (other repairable)
+  rest_follows on (Follows also verdict others gives answer may e) = answer_follows answer (subst (λ (z : List TableBits). MayFill f (spread p.kinds z) answer) (only others gives) may) e
 
 -- a name is told where it clashes
 told_clash : (f : FlatNet) (tables : List TableBits) (name : List ℕ) → MayFill f tables (Clash name) → IsClash f name
@@ -54,20 +55,27 @@ told_clash f tables name (fill.IsLarge apart large is) = let no : Clash name ≡
 told_clash f tables name (fill.IsFilled apart small is) = let no : Clash name ≡ Text (filled_text f tables) = is in absurd (cc no)
 
 module _ (allowed : DesignsAreAllowed) (none_behind : NoTablesFollow) (spell : TablesSpellContents) (agree : SpelledContentsAgree) (exactly : PairsStandExactlyForFitting)
-    (have_orders : PairsHaveBoxOrders) (of_boxes : FittingTablesAreOfBoxes) where
+    (comparable : FittingDesignsAreComparable) (have_orders : PairsHaveBoxOrders) (of_boxes : FittingTablesAreOfBoxes) where
   pub repairs_fill : RepairsAgree → TablesAreGivenOnce → FilledTextsFinish → RepairsFill
-  repairs_fill repairs once finish asked spec imp status text (Refused r is s t) zero on = absurd (omega (arith, s, zero))
-  repairs_fill repairs once finish asked spec imp status text (Judged p lines s i are for climb same rest follows t) zero on =
+  repairs_fill repairs once finish asked spec imp status text (Refused r is s t) zero = absurd (omega (arith, s, zero))
+  repairs_fill repairs once finish asked spec imp status text (Judged p lines s i are for climb same rest follows t) zero =
       let repairable = is_repairable (verdict_of lines) (sym same ∙ zero) in
       let (tables, given, complete, ends) = repairs p asked.options lines for.kept climb repairable in
-      let boxes = order allowed none_behind spell agree exactly have_orders of_boxes asked spec imp text p lines s i are for rest follows t tables complete ends in
+      let boxes = order allowed none_behind spell agree exactly comparable have_orders of_boxes asked spec imp text p lines s i are for rest follows t tables complete ends in
+      let done = finished allowed none_behind spell agree exactly comparable have_orders of_boxes asked spec imp text p lines s i are for rest follows t tables complete ends in
+      let only = λ (others : List TableBits) (gives : GivesTables lines others). once p asked.options lines others tables climb gives given in
+      let twice = λ (name : List ℕ) (may : MayFill for.imp_net (spread p.kinds tables) (Clash name)). clash_is_twice i for.imp_net for.imp_stands name (told_clash for.imp_net (spread p.kinds tables) name may) in
+      let finishes = λ (filled : List ℕ) (may : MayFill for.imp_net (spread p.kinds tables) (Text filled)).
+      finish asked spec imp s i are p for tables complete filled may in
       let named = λ (filled : List ℕ) (may : MayFill for.imp_net (spread p.kinds tables) (Text filled)).
-      subst (λ l. IsFinishedText asked spec i (λ contents. FitDesign i contents × AreSpelled l p.kinds tables contents) filled) boxes.2
-      (finish asked spec imp s i are.spec_design are.imp_design p for tables complete filled may) in (
-        finished allowed none_behind spell agree exactly have_orders of_boxes asked spec imp text p lines s i are for rest follows t tables complete ends,
-        rest_stands asked spec i (λ contents. FitDesign i contents × AreSpelled (map (box_texts i) boxes.0) p.kinds tables contents) p for.imp_net lines rest repairable tables
-            (λ others gives. once p asked.options lines others tables climb gives given) named
-            (λ name may. clash_is_twice i for.imp_net for.imp_stands name (told_clash for.imp_net (spread p.kinds tables) name may)) on follows,
+      subst (λ l. IsFinishedText asked.care s i (λ contents. FitDesign i contents × AreSpelled l p.kinds tables contents) filled) boxes.2 (finishes filled may).0 in (
+        (λ on. (
+          done,
+          rest_follows asked.fill i (IsFinishedText asked.care s i (λ contents. FitDesign i contents × AreSpelled (map (box_texts i) boxes.0) p.kinds tables contents)) p for.imp_net lines rest repairable tables
+              only named twice on follows,
+        )),
+        (λ on. (done, rest_follows asked.fill i (Passes asked spec) p for.imp_net lines rest repairable tables only (λ filled may. (finishes filled may).1) twice on follows)),
+        (λ on. (done, rest_follows asked.fill i (Runs asked.care s) p for.imp_net lines rest repairable tables only (λ filled may. (finishes filled may).2) twice on follows)),
       )
 
 -- a refusal is one whether the filled implementation is asked for or not

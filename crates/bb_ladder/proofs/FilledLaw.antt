@@ -2,8 +2,10 @@
 -- design is sound, has no box, fits the specification and agrees with it, and with the filled implementation.
 use Rattle.std.proofs.Common.{◌≡◌, ℕ, List, None, Option, Some, sym, subst}
 use Rattle.std.specs.Prelude.{codes}
+use Rattle.bb_agree.specs.Comparable.{FittingDesignsAreComparable}
 use Rattle.bb_agree.specs.DesignAgreement.{SpelledContentsHaveTables, TablesAgreeAsContents}
 use Rattle.bb_agree.specs.Laws.DesignRefusals.{PairsStandExactlyForFitting}
+use Rattle.bb_agree.specs.Runs.{AgreeingDesignsRunAlike}
 use Rattle.bb_bits.specs.Tables.{TableBits}
 use Rattle.bb_cells.specs.Laws.ContentTables.{TablesGiveOutputs, TablesHaveContents}
 use Rattle.bb_cells.specs.Laws.ListLaws.{StandingNetsGiveOutputs}
@@ -22,11 +24,11 @@ use Rattle.bb_plain.specs.Laws.Designs.{filled_design}
 use Rattle.bb_plain.specs.Laws.{FilledDesignsAreCalledAlike, FilledDesignsAreSound, FilledDesignsHaveBits, FilledModulesAreSound, FilledModulesAreTops}
 use Rattle.bb_texts.specs.TextDesigns.{IsDesignOf}
 use Rattle.bb_written.specs.Laws.{FilledTextsAreRead}
-use Rattle.bb_ladder.specs.FilledTexts.{FilledTextsFinish}
-use Rattle.bb_ladder.specs.TextPairs.{DesignsAreAllowed}
-use Rattle.bb_ladder.proofs.FilledAgree.{filled_agrees, filled_same}
+use Rattle.bb_ladder.specs.TextPairs.{DesignsAreAllowed, FilledTextsFinish}
+use Rattle.bb_ladder.proofs.FilledAgree.{filled_agrees, filled_same, fits_none}
 use Rattle.bb_ladder.proofs.FilledFit.{filled_fits}
 use Rattle.bb_ladder.proofs.KeptNets.{TablesAreSpread, kept_nets}
+use Rattle.bb_ladder.proofs.TextPairLaws.{reads_as}
 
 pub record FillingLaws : Type 0 where
   pub allowed : DesignsAreAllowed
@@ -39,6 +41,8 @@ pub record FillingLaws : Type 0 where
   pub bits : FilledDesignsHaveBits
   -- of the pair and the designs for which it stands
   pub fitting : PairsStandExactlyForFitting
+  pub comparable : FittingDesignsAreComparable
+  pub run : AgreeingDesignsRunAlike
   pub as_contents : TablesAgreeAsContents
   pub contents : TablesHaveContents
   pub outputs : TablesGiveOutputs
@@ -66,29 +70,37 @@ module _ (laws : FillingLaws) (f : FlatNet) (tables : List TableBits) (ready : I
   }
 
 pub filled_texts_finish : FillingLaws → FilledTextsFinish
-filled_texts_finish laws asked spec imp s i is_s is_i p pair tables completion text may =
+filled_texts_finish laws asked spec imp s i are p pair tables completion text may =
     let f = pair.imp_net in
     let all = spread p.kinds tables in
     let d = filled_design f all in
-    let s_allowed = laws.allowed asked.spec_top spec s is_s in
-    let i_allowed = laws.allowed asked.imp_top imp i is_i in
+    let s_allowed = laws.allowed asked.spec_top spec s are.spec_design in
+    let i_allowed = laws.allowed asked.imp_top imp i are.imp_design in
     let fit = (laws.fitting asked.care asked.options.shared s i s_allowed i_allowed).fit p pair in
     let kept = kept_nets laws.spread s i p pair in
     let t = answered f all text may in
     let ready : IsReady f all = record { flat = pair.imp_flat; fit = kept.tables tables completion.fit; names = t.0 } in
     let sound = laws.sound f all ready kept.clocks t.1 in
-    record {
-      s = s;
-      d = d;
-      spec_design = is_s;
-      alone = design_of laws f all ready kept.clocks t.1 text t.2 None (laws.tops f all).alone;
-      named = design_of laws f all ready kept.clocks t.1 text t.2 (Some (codes "filled")) (laws.tops f all).named;
-      complete = sound.complete;
-      fit = filled_fits i d f pair.imp_stands (laws.called f all ready kept.clocks t.1) laws.one_input sound.sound sound.complete asked.care s fit;
-      agree = filled_agrees laws.outputs laws.worlds laws.as_contents laws.contents asked.care asked.options.shared s i p s_allowed i_allowed pair (fit Box) all ready.fit completion.agree d
-          (laws.bits f all ready kept.clocks t.1);
-      same = λ contents fills.
-          filled_same laws.outputs laws.worlds laws.as_contents laws.contents asked.care asked.options.shared s i p s_allowed i_allowed pair (fit Box) all ready.fit completion.agree d
-          (laws.bits f all ready kept.clocks t.1) contents fills.0
-          (laws.spelled asked.care asked.options.shared s i p s_allowed i_allowed pair tables completion.fit contents fills.1);
-    }
+    let unnamed = design_of laws f all ready kept.clocks t.1 text t.2 None (laws.tops f all).alone in
+    let named = design_of laws f all ready kept.clocks t.1 text t.2 (Some (codes "filled")) (laws.tops f all).named in
+    let d_allowed = laws.allowed None text d unnamed in
+    let fits = filled_fits i d f pair.imp_stands (laws.called f all ready kept.clocks t.1) laws.one_input sound.sound sound.complete asked.care s fit in
+    let comparable = (laws.comparable asked.care asked.options.shared s d s_allowed d_allowed fits).0 in
+    let agree = filled_agrees laws.outputs laws.worlds laws.as_contents laws.contents asked.care asked.options.shared s i p s_allowed i_allowed pair (fit Box) all ready.fit completion.agree d
+    (laws.bits f all ready kept.clocks t.1) in (
+      record {
+        d = d;
+        unnamed = reads_as unnamed;
+        named = reads_as named;
+        sound = unnamed.faultless;
+        complete = sound.complete;
+        comparable = comparable;
+        agree = agree;
+        same = λ contents fills.
+            filled_same laws.outputs laws.worlds laws.as_contents laws.contents asked.care asked.options.shared s i p s_allowed i_allowed pair (fit Box) all ready.fit completion.agree d
+            (laws.bits f all ready kept.clocks t.1) contents fills.0
+            (laws.spelled asked.care asked.options.shared s i p s_allowed i_allowed pair tables completion.fit contents fills.1);
+      },
+      ((s, d, record { spec_design = are.spec_design; imp_design = unnamed }, fits), (s, d, record { spec_design = are.spec_design; imp_design = named }, fits)),
+      (d, reads_as unnamed, λ contents. laws.run asked.care s d contents d_allowed comparable (fits_none d sound.complete contents) (agree contents)),
+    )

@@ -5,6 +5,7 @@ use Rattle.bb_texts.specs.declared.limit.TheConstants.{READ_LIMIT}
 use Rattle.bb_make.specs.Adders.{made_imp, made_spec}
 use Rattle.bb_words.specs.Asked.{Refutation, rup_asked}
 use Rattle.bb_words.specs.Laws.{WordsAskOnce}
+use Rattle.bb_ladder.specs.Calls.{Call}
 use Rattle.bb_ladder.specs.Answers.{Question, ImpUnread, ImpLong, BothRead, OfFiles, SpecUnread, SpecLong, SpecRead, MayAnswer, Usage, Asked, Making, Refuting, FileTexts, MadeTexts, question_of}
 use Rattle.bb_ladder.specs.CallRefusals.{AreToldOf}
 use Rattle.bb_ladder.specs.GivenTexts.{AnsweredHaveGiven, Checked, Compared, HaveTexts, IsVerdict}
@@ -53,36 +54,36 @@ module _ (judged : List ℕ → List ℕ → ℕ → List ℕ → Type 0) (holds
       let were : AreBytes Given holds before after first second bytes other = (earlier, known, told_after_two before between after first second (Some bytes) (Some other) earlier c d known) in
       (bytes, (read_of second other ∷ [], were), λ low. (other, were))
 
-module _ (once : WordsAskOnce) (words : List (List ℕ)) (holds : List ℕ → Option (List ℕ)) (before after : Reads) (status : ℕ) (text : List ℕ) (earlier : List FileRead) (known : before.told ≡ Some earlier) where
-  texts_given : MayAnswer words holds before after status text → IsVerdict status → HaveTexts words holds before after
+module _ (once : WordsAskOnce) (call : Call) (status : ℕ) (text : List ℕ) (earlier : List FileRead) (known : call.before.told ≡ Some earlier) where
+  texts_given : MayAnswer call status text → IsVerdict status → HaveTexts call
   texts_given (Usage none no_pair neither same s t) is = absurd (no_refusal status is s)
   texts_given (Asked q asks files) is =
-      let gave = files_gave (Judges q.asked) holds q.spec q.imp before after status text earlier known is files in
+      let gave = files_gave (Judges q.asked) call.holds q.spec q.imp call.before call.after status text earlier known is files in
       Compared q.asked gave.0 gave.1 (FileTexts q asks refl gave.2)
   texts_given (Making m makes quiet judges) is = Compared (asked_of m.fill m.options) (made_spec m.n) (made_imp m.n) (MadeTexts m makes refl refl refl)
   texts_given (Refuting f asks files) is =
-      let gave = files_gave Checks holds f.cnf f.adds before after status text earlier known is files in
+      let gave = files_gave Checks call.holds f.cnf f.adds call.before call.after status text earlier known is files in
       Checked f gave.0 gave.1 (record { asks = asks; bytes = gave.2 })
 
-  comparison_told : status ≡ 2 → MayAnswer words holds before after status text → (q : Question) → question_of words ≡ Some q → AreToldOf Given holds before after q.spec q.imp
-  comparison_told two (Usage none no_pair neither same s t) q asks = absurd (asks_no_comparison q (question_of words) none asks)
+  comparison_told : status ≡ 2 → MayAnswer call status text → (q : Question) → question_of call.words ≡ Some q → AreToldOf Given call.holds call.before call.after q.spec q.imp
+  comparison_told two (Usage none no_pair neither same s t) q asks = absurd (asks_no_comparison q (question_of call.words) none asks)
   comparison_told two (Asked p also files) q asks =
-      subst (λ (z : Question). AreToldOf Given holds before after z.spec z.imp) (same_question p q (sym also ∙ asks)) (files_told_of (Judges p.asked) holds p.spec p.imp before after status text earlier known two files)
-  comparison_told two (Making m makes quiet judges) q asks = absurd (never_files_and_made once words q m asks makes)
-  comparison_told two (Refuting f also files) q asks = absurd (never_both once words q f asks also)
+      subst (λ (z : Question). AreToldOf Given call.holds call.before call.after z.spec z.imp) (same_question p q (sym also ∙ asks)) (files_told_of (Judges p.asked) call.holds p.spec p.imp call.before call.after status text earlier known two files)
+  comparison_told two (Making m makes quiet judges) q asks = absurd (never_files_and_made once call.words q m asks makes)
+  comparison_told two (Refuting f also files) q asks = absurd (never_both once call.words q f asks also)
 
-  refutation_told : status ≡ 2 → MayAnswer words holds before after status text → (f : Refutation) → rup_asked words ≡ Some f → AreToldOf Given holds before after f.cnf f.adds
-  refutation_told two (Usage none no_pair neither same s t) f asks = absurd (asks_no_refutation f (rup_asked words) neither asks)
-  refutation_told two (Asked q also files) f asks = absurd (never_both once words q f also asks)
-  refutation_told two (Making m makes quiet judges) f asks = absurd (once.not_made_and_refuted words m f makes asks)
+  refutation_told : status ≡ 2 → MayAnswer call status text → (f : Refutation) → rup_asked call.words ≡ Some f → AreToldOf Given call.holds call.before call.after f.cnf f.adds
+  refutation_told two (Usage none no_pair neither same s t) f asks = absurd (asks_no_refutation f (rup_asked call.words) neither asks)
+  refutation_told two (Asked q also files) f asks = absurd (never_both once call.words q f also asks)
+  refutation_told two (Making m makes quiet judges) f asks = absurd (once.not_made_and_refuted call.words m f makes asks)
   refutation_told two (Refuting g also files) f asks =
-      subst (λ (z : Refutation). AreToldOf Given holds before after z.cnf z.adds) (same_refutation g f (sym also ∙ asks)) (files_told_of Checks holds g.cnf g.adds before after status text earlier known two files)
+      subst (λ (z : Refutation). AreToldOf Given call.holds call.before call.after z.cnf z.adds) (same_refutation g f (sym also ∙ asks)) (files_told_of Checks call.holds g.cnf g.adds call.before call.after status text earlier known two files)
 
 pub answered_have_given : WordsAskOnce → AnsweredHaveGiven
-answered_have_given once words holds before after status text earlier may known = record {
-  verdict = texts_given once words holds before after status text earlier known may;
+answered_have_given once call status text earlier may known = record {
+  verdict = texts_given once call status text earlier known may;
   refusal = λ two. record {
-    comparison = comparison_told once words holds before after status text earlier known two may;
-    refutation = refutation_told once words holds before after status text earlier known two may;
+    comparison = comparison_told once call status text earlier known two may;
+    refutation = refutation_told once call status text earlier known two may;
   };
 }

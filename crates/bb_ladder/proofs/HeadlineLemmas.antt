@@ -7,13 +7,14 @@ use Rattle.bb_ladder.specs.declared.asked.Asked.{Asked as TextsAsked}
 use Rattle.bb_make.specs.Adders.{made_imp, made_spec}
 use Rattle.bb_words.specs.Asked.{MadePair, Refutation, Request, asked, made_asked, rup_asked}
 use Rattle.bb_words.specs.Laws.{WordsAskOnce}
-use Rattle.bb_ladder.specs.Answers.{Question, AfterSpec, ImpUnread, ImpLong, BothRead, OfFiles, SpecUnread, SpecLong, SpecRead, MayAnswer, Usage, Asked, Making, Refuting, AreRefutationTexts, AreTexts, FileTexts, MadeTexts, Gives, IsReport, question, question_of}
+use Rattle.bb_ladder.specs.Answers.{AnswersSpeakOfTexts, Question, AfterSpec, ImpUnread, ImpLong, BothRead, OfFiles, SpecUnread, SpecLong, SpecRead, MayAnswer, Usage, Asked, Making, Refuting, AreRefutationTexts, AreTexts, FileTexts, MadeTexts, Gives, IsReport, question, question_of}
+use Rattle.bb_ladder.specs.Calls.{Call}
 use Rattle.bb_ladder.specs.MadePairs.{JudgesMade, asked_of, head_by, head_of, made_head, made_text}
 use Rattle.bb_ladder.specs.Refutations.{CheckLaws, Checks, FailsAt, IsRefutation, no_line}
 use Rattle.bb_ladder.specs.ShownMistakes.{AreShown, ErrorsAreShown}
 use Rattle.bb_ladder.specs.Sources.{AreBytes, Source}
-use Rattle.bb_ladder.specs.TextAnswers.{Judges, Refused, Judged, AnsweredFit, ErrorsRefute, RepairsFill, RepairsFinish, OpenAnswersLeaveOpen}
-use Rattle.bb_ladder.specs.TextPairs.{AreRefuted, AreFinished, AreLeftOpen, DoFit, IsFilled}
+use Rattle.bb_ladder.specs.TextAnswers.{Judges, Refused, Judged, AnsweredFit, ErrorsRefute, RepairsFill, RepairsFinish, RepairsRun, OpenAnswersLeaveOpen}
+use Rattle.bb_ladder.specs.TextPairs.{AreRefuted, AreFinished, AreLeftOpen, DoFit, IsFilled, IsFilledToPass, IsFilledToRun, RunsAsSpecified}
 use Rattle.bb_ladder.proofs.SourceLemmas.{both_whole}
 use Rattle.bb_ladder.proofs.AnswerLaws.{report_status}
 
@@ -119,81 +120,75 @@ module _ (once : WordsAskOnce) (so : TextsAsked → List ℕ → List ℕ → Li
       let of_m = subst (λ z. JudgesMade z status text) same judges in
       (of_m.0, behind_head words m status of_m.0 text makes (λ two. not_refused (sym is ∙ two)) of_m.2, judged (asked_of m.fill m.options) (made_spec m.n) (made_imp m.n) status of_m.0 of_m.1 is)
 
-  answer_so : (words : List (List ℕ)) (from : Source) (holds : List ℕ → Option (List ℕ)) (before after : Reads) (status : ℕ) (text : List ℕ) (asked : TextsAsked) (spec imp : List ℕ) → MayAnswer words holds before after status text → status ≡ n
-      → AreTexts words from holds before after asked spec imp → IsReport so words asked spec imp text
-  answer_so words from holds before after status text asked spec imp (Usage none no_pair neither c s t) is texts = absurd (not_refused (sym is ∙ s))
-  answer_so words from holds before after status text asked spec imp (Asked known e files) is (FileTexts q asks same both) = (
+  answer_so : (call : Call) (from : Source) (status : ℕ) (text : List ℕ) (asked : TextsAsked) (spec imp : List ℕ) → MayAnswer call status text → status ≡ n
+      → AreTexts call from asked spec imp → IsReport so call.words asked spec imp text
+  answer_so call from status text asked spec imp (Usage none no_pair neither c s t) is texts = absurd (not_refused (sym is ∙ s))
+  answer_so call from status text asked spec imp (Asked known e files) is (FileTexts q asks same both) = (
     text,
-    no_head once words q text asks,
+    no_head once call.words q text asks,
     subst (λ z. so z spec imp text) (sym same)
-        (files_so (Judges q.asked) (so q.asked) n not_refused not_unread (judged q.asked) from holds q.spec q.imp before after spec imp text status both
-        (subst (λ (z : Question). OfFiles (Judges z.asked) holds z.spec z.imp before after status text) (same_question known q (sym e ∙ asks)) files) is),
+        (files_so (Judges q.asked) (so q.asked) n not_refused not_unread (judged q.asked) from call.holds q.spec q.imp call.before call.after spec imp text status both
+        (subst (λ (z : Question). OfFiles (Judges z.asked) call.holds z.spec z.imp call.before call.after status text) (same_question known q (sym e ∙ asks)) files) is),
   )
-  answer_so words from holds before after status text asked spec imp (Asked known e files) is (MadeTexts m makes a x y) = absurd (never_files_and_made once words known m e makes)
-  answer_so words from holds before after status text asked spec imp (Making known e quiet judges) is (FileTexts q asks same both) = absurd (never_files_and_made once words q known asks e)
-  answer_so words from holds before after status text asked spec imp (Making known e quiet judges) is (MadeTexts m makes a x y) =
-      subst (λ z. IsReport so words z spec imp text) (sym a) (subst (λ z. IsReport so words (asked_of m.fill m.options) z imp text) (sym x) (subst (λ z. IsReport so words (asked_of m.fill m.options) (made_spec m.n) z text) (sym y)
-      (made_so words status text known m judges makes (same_pair known m (sym e ∙ makes)) is)))
-  answer_so words from holds before after status text asked spec imp (Refuting f e files) is (FileTexts q asks same both) = absurd (never_both once words q f asks e)
-  answer_so words from holds before after status text asked spec imp (Refuting f e files) is (MadeTexts m makes a x y) = absurd (once.not_made_and_refuted words m f makes e)
+  answer_so call from status text asked spec imp (Asked known e files) is (MadeTexts m makes a x y) = absurd (never_files_and_made once call.words known m e makes)
+  answer_so call from status text asked spec imp (Making known e quiet judges) is (FileTexts q asks same both) = absurd (never_files_and_made once call.words q known asks e)
+  answer_so call from status text asked spec imp (Making known e quiet judges) is (MadeTexts m makes a x y) =
+      subst (λ z. IsReport so call.words z spec imp text) (sym a) (subst (λ z. IsReport so call.words (asked_of m.fill m.options) z imp text) (sym x) (subst (λ z. IsReport so call.words (asked_of m.fill m.options) (made_spec m.n) z text) (sym y)
+      (made_so call.words status text known m judges makes (same_pair known m (sym e ∙ makes)) is)))
+  answer_so call from status text asked spec imp (Refuting f e files) is (FileTexts q asks same both) = absurd (never_both once call.words q f asks e)
+  answer_so call from status text asked spec imp (Refuting f e files) is (MadeTexts m makes a x y) = absurd (once.not_made_and_refuted call.words m f makes e)
 
 -- and of a refutation
 module _ (once : WordsAskOnce) (so : List ℕ → List ℕ → List ℕ → Type 0) (n : ℕ) (not_refused : n ≡ 2 → ⊥) (not_unread : n ≡ 4 → ⊥)
     (checked : (first second : List ℕ) (status : ℕ) (text : List ℕ) → Checks first second status text → status ≡ n → so first second text) where
-  refutation_so : (words : List (List ℕ)) (from : Source) (holds : List ℕ → Option (List ℕ)) (before after : Reads) (status : ℕ) (text : List ℕ) (f : Refutation) (first second : List ℕ) → MayAnswer words holds before after status text → status ≡ n
-      → AreRefutationTexts words from holds before after f first second → so first second text
-  refutation_so words from holds before after status text f first second (Usage none no_pair neither c s t) is texts = absurd (not_refused (sym is ∙ s))
-  refutation_so words from holds before after status text f first second (Asked q e files) is texts = absurd (never_both once words q f e texts.asks)
-  refutation_so words from holds before after status text f first second (Making m e quiet judges) is texts = absurd (once.not_made_and_refuted words m f e texts.asks)
-  refutation_so words from holds before after status text f first second (Refuting known e files) is texts =
-      files_so Checks so n not_refused not_unread checked from holds f.cnf f.adds before after first second text status texts.bytes
-      (subst (λ (z : Refutation). OfFiles Checks holds z.cnf z.adds before after status text) (same_refutation known f (sym e ∙ texts.asks)) files) is
+  refutation_so : (call : Call) (from : Source) (status : ℕ) (text : List ℕ) (f : Refutation) (first second : List ℕ) → MayAnswer call status text → status ≡ n
+      → AreRefutationTexts call from f first second → so first second text
+  refutation_so call from status text f first second (Usage none no_pair neither c s t) is texts = absurd (not_refused (sym is ∙ s))
+  refutation_so call from status text f first second (Asked q e files) is texts = absurd (never_both once call.words q f e texts.asks)
+  refutation_so call from status text f first second (Making m e quiet judges) is texts = absurd (once.not_made_and_refuted call.words m f e texts.asks)
+  refutation_so call from status text f first second (Refuting known e files) is texts =
+      files_so Checks so n not_refused not_unread checked from call.holds f.cnf f.adds call.before call.after first second text status texts.bytes
+      (subst (λ (z : Refutation). OfFiles Checks call.holds z.cnf z.adds call.before call.after status text) (same_refutation known f (sym e ∙ texts.asks)) files) is
 
-pub repair_sound : WordsAskOnce → RepairsFinish → (words : List (List ℕ)) (from : Source) (holds : List ℕ → Option (List ℕ)) (before after : Reads) (status : ℕ) (text : List ℕ) (asked : TextsAsked) (spec imp : List ℕ) → MayAnswer words holds before after status text → status ≡ 0
-    → AreTexts words from holds before after asked spec imp → IsReport AreFinished words asked spec imp text
-repair_sound once finish = answer_so once AreFinished 0 (λ e. omega (arith, e)) (λ e. omega (arith, e)) finish
-
-pub filled_sound : WordsAskOnce → RepairsFill → (words : List (List ℕ)) (from : Source) (holds : List ℕ → Option (List ℕ)) (before after : Reads) (status : ℕ) (text : List ℕ) (asked : TextsAsked) (spec imp : List ℕ) → MayAnswer words holds before after status text → status ≡ 0
-    → AreTexts words from holds before after asked spec imp → asked.fill ≡ true → IsReport IsFilled words asked spec imp text
-filled_sound once fills words from holds before after status text asked spec imp may zero texts filled =
-    let found = answer_so once (λ asked spec imp text. asked.fill ≡ true → IsFilled asked spec imp text) 0 (λ e. omega (arith, e)) (λ e. omega (arith, e)) fills words from holds before after status text asked spec imp may zero texts in
-    (found.0, found.1, found.2 filled)
-
--- texts that are answered with one of these statuses fit
-module _ (once : WordsAskOnce) (fit : AnsweredFit) where
-  fit_at : (n : ℕ) → (n ≡ 2 → ⊥) → (n ≡ 4 → ⊥) → (words : List (List ℕ)) (from : Source) (holds : List ℕ → Option (List ℕ)) (before after : Reads) (status : ℕ) (text : List ℕ) (asked : TextsAsked) (spec imp : List ℕ) → MayAnswer words holds before after status text → status ≡ n
-      → AreTexts words from holds before after asked spec imp → DoFit asked spec imp
-  fit_at n not_refused not_unread words from holds before after status text asked spec imp may is texts =
+-- what each status says of the texts of a call
+module _ (once : WordsAskOnce) (fit : AnsweredFit) (finish : RepairsFinish) (run : RepairsRun) (fills : RepairsFill) (refute : ErrorsRefute) (show : ErrorsAreShown) (leave : OpenAnswersLeaveOpen) where
+  fit_at : (n : ℕ) → (n ≡ 2 → ⊥) → (n ≡ 4 → ⊥) → (call : Call) (from : Source) (status : ℕ) (text : List ℕ) (asked : TextsAsked) (spec imp : List ℕ) → MayAnswer call status text → status ≡ n
+      → AreTexts call from asked spec imp → DoFit asked spec imp
+  fit_at n not_refused not_unread call from status text asked spec imp may is texts =
       (answer_so once (λ asked spec imp text. DoFit asked spec imp) n not_refused not_unread (λ asked spec imp status text judged same. fit asked spec imp status text judged (λ two. not_refused (sym same ∙ two)))
-      words from holds before after status text asked spec imp may is texts).2
+      call from status text asked spec imp may is texts).2
 
-  pub fit_sound : (words : List (List ℕ)) (from : Source) (holds : List ℕ → Option (List ℕ)) (before after : Reads) (status : ℕ) (text : List ℕ) (asked : TextsAsked) (spec imp : List ℕ) → MayAnswer words holds before after status text → ((status ≡ 0) ⊎ (status ≡ 1)) ⊎ (status ≡ 3)
-      → AreTexts words from holds before after asked spec imp → DoFit asked spec imp
-  fit_sound words from holds before after status text asked spec imp may (inl (inl zero)) texts = fit_at 0 (λ e. omega (arith, e)) (λ e. omega (arith, e)) words from holds before after status text asked spec imp may zero texts
-  fit_sound words from holds before after status text asked spec imp may (inl (inr one)) texts = fit_at 1 (λ e. omega (arith, e)) (λ e. omega (arith, e)) words from holds before after status text asked spec imp may one texts
-  fit_sound words from holds before after status text asked spec imp may (inr three) texts = fit_at 3 (λ e. omega (arith, e)) (λ e. omega (arith, e)) words from holds before after status text asked spec imp may three texts
+  fit_sound : (call : Call) (from : Source) (status : ℕ) (text : List ℕ) (asked : TextsAsked) (spec imp : List ℕ) → MayAnswer call status text → ((status ≡ 0) ⊎ (status ≡ 1)) ⊎ (status ≡ 3)
+      → AreTexts call from asked spec imp → DoFit asked spec imp
+  fit_sound call from status text asked spec imp may (inl (inl zero)) texts = fit_at 0 (λ e. omega (arith, e)) (λ e. omega (arith, e)) call from status text asked spec imp may zero texts
+  fit_sound call from status text asked spec imp may (inl (inr one)) texts = fit_at 1 (λ e. omega (arith, e)) (λ e. omega (arith, e)) call from status text asked spec imp may one texts
+  fit_sound call from status text asked spec imp may (inr three) texts = fit_at 3 (λ e. omega (arith, e)) (λ e. omega (arith, e)) call from status text asked spec imp may three texts
 
-pub error_sound : WordsAskOnce → ErrorsRefute → (words : List (List ℕ)) (from : Source) (holds : List ℕ → Option (List ℕ)) (before after : Reads) (status : ℕ) (text : List ℕ) (asked : TextsAsked) (spec imp : List ℕ) → MayAnswer words holds before after status text → status ≡ 1
-    → AreTexts words from holds before after asked spec imp → AreRefuted asked spec imp
-error_sound once refute words from holds before after status text asked spec imp may one texts =
-    (answer_so once (λ asked spec imp text. AreRefuted asked spec imp) 1 (λ e. omega (arith, e)) (λ e. omega (arith, e)) refute words from holds before after status text asked spec imp may one texts).2
-
-pub shown_sound : WordsAskOnce → ErrorsAreShown → (words : List (List ℕ)) (from : Source) (holds : List ℕ → Option (List ℕ)) (before after : Reads) (status : ℕ) (text : List ℕ) (asked : TextsAsked) (spec imp : List ℕ) → MayAnswer words holds before after status text → status ≡ 1
-    → AreTexts words from holds before after asked spec imp → IsReport AreShown words asked spec imp text
-shown_sound once shown = answer_so once AreShown 1 (λ e. omega (arith, e)) (λ e. omega (arith, e)) shown
-
-pub open_sound : WordsAskOnce → OpenAnswersLeaveOpen → (words : List (List ℕ)) (from : Source) (holds : List ℕ → Option (List ℕ)) (before after : Reads) (status : ℕ) (text : List ℕ) (asked : TextsAsked) (spec imp : List ℕ) → MayAnswer words holds before after status text → status ≡ 3
-    → AreTexts words from holds before after asked spec imp → AreLeftOpen asked spec imp
-open_sound once leave words from holds before after status text asked spec imp may three texts =
-    (answer_so once (λ asked spec imp text. AreLeftOpen asked spec imp) 3 (λ e. omega (arith, e)) (λ e. omega (arith, e)) leave words from holds before after status text asked spec imp may three texts).2
+  pub answers_speak : AnswersSpeakOfTexts
+  answers_speak call from status text asked spec imp may texts = record {
+    finished = λ zero. answer_so once AreFinished 0 (λ e. omega (arith, e)) (λ e. omega (arith, e)) finish call from status text asked spec imp may zero texts;
+    filled = λ zero. answer_so once IsFilled 0 (λ e. omega (arith, e)) (λ e. omega (arith, e)) (λ asked spec imp status text j z. (fills asked spec imp status text j z).0)
+        call from status text asked spec imp may zero texts;
+    passes = λ zero. answer_so once IsFilledToPass 0 (λ e. omega (arith, e)) (λ e. omega (arith, e)) (λ asked spec imp status text j z. (fills asked spec imp status text j z).1)
+        call from status text asked spec imp may zero texts;
+    runs = λ zero. answer_so once RunsAsSpecified 0 (λ e. omega (arith, e)) (λ e. omega (arith, e)) run call from status text asked spec imp may zero texts;
+    filled_runs = λ zero. answer_so once IsFilledToRun 0 (λ e. omega (arith, e)) (λ e. omega (arith, e)) (λ asked spec imp status text j z. (fills asked spec imp status text j z).2)
+        call from status text asked spec imp may zero texts;
+    refuted = λ one. (answer_so once (λ asked spec imp text. AreRefuted asked spec imp) 1 (λ e. omega (arith, e)) (λ e. omega (arith, e)) refute
+        call from status text asked spec imp may one texts).2;
+    fit = λ answered. fit_sound call from status text asked spec imp may answered texts;
+    shown = λ one. answer_so once AreShown 1 (λ e. omega (arith, e)) (λ e. omega (arith, e)) show call from status text asked spec imp may one texts;
+    left_open = λ three. (answer_so once (λ asked spec imp text. AreLeftOpen asked spec imp) 3 (λ e. omega (arith, e)) (λ e. omega (arith, e)) leave
+        call from status text asked spec imp may three texts).2;
+  }
 
 -- with --rup what is written is the answer to the two texts
-pub yes_sound : WordsAskOnce → CheckLaws → (words : List (List ℕ)) (from : Source) (holds : List ℕ → Option (List ℕ)) (before after : Reads) (status : ℕ) (text : List ℕ) (f : Refutation) (first second : List ℕ) → MayAnswer words holds before after status text → status ≡ 0
-    → AreRefutationTexts words from holds before after f first second → (text ≡ codes "rup yes\n") × IsRefutation first second
+pub yes_sound : WordsAskOnce → CheckLaws → (call : Call) (from : Source) (status : ℕ) (text : List ℕ) (f : Refutation) (first second : List ℕ) → MayAnswer call status text → status ≡ 0
+    → AreRefutationTexts call from f first second → (text ≡ codes "rup yes\n") × IsRefutation first second
 yes_sound once laws = refutation_so once (λ first second text. (text ≡ codes "rup yes\n") × IsRefutation first second) 0 (λ e. omega (arith, e)) (λ e. omega (arith, e)) laws.yes
 
-pub no_sound : WordsAskOnce → CheckLaws → (words : List (List ℕ)) (from : Source) (holds : List ℕ → Option (List ℕ)) (before after : Reads) (status : ℕ) (text : List ℕ) (f : Refutation) (first second : List ℕ) → MayAnswer words holds before after status text → status ≡ 1
-    → AreRefutationTexts words from holds before after f first second → (n : ℕ) × (text ≡ no_line n) × FailsAt first second n
+pub no_sound : WordsAskOnce → CheckLaws → (call : Call) (from : Source) (status : ℕ) (text : List ℕ) (f : Refutation) (first second : List ℕ) → MayAnswer call status text → status ≡ 1
+    → AreRefutationTexts call from f first second → (n : ℕ) × (text ≡ no_line n) × FailsAt first second n
 no_sound once laws = refutation_so once (λ first second text. (n : ℕ) × (text ≡ no_line n) × FailsAt first second n) 1 (λ e. omega (arith, e)) (λ e. omega (arith, e)) laws.no
 
 -- no text that is judged gives the status of a failed read
@@ -215,13 +210,13 @@ files_unread judged never holds first second before after status text (SpecRead 
 files_unread judged never holds first second before after status text (SpecRead spec between g short c (ImpLong imp h l d s t)) four = absurd (omega (arith, s, four))
 files_unread judged never holds first second before after status text (SpecRead spec between g short c (BothRead imp h low d j)) four = absurd (never spec imp status text j four)
 
-pub unread_counted : CheckLaws → (words : List (List ℕ)) (holds : List ℕ → Option (List ℕ)) (before after : Reads) (status : ℕ) (text : List ℕ) → MayAnswer words holds before after status text → status ≡ 4
-    → after.faults ≡ next_count before.faults
-unread_counted laws words holds before after status text (Usage none no_pair neither c s t) four = absurd (omega (arith, s, four))
-unread_counted laws words holds before after status text (Asked q e files) four = files_unread (Judges q.asked) (never_unread q.asked) holds q.spec q.imp before after status text files four
-unread_counted laws words holds before after status text (Making m e quiet judges) four = absurd (never_unread (asked_of m.fill m.options) (made_spec m.n) (made_imp m.n) status judges.0 judges.1 four)
-unread_counted laws words holds before after status text (Refuting f e files) four =
-    files_unread Checks (λ first second n line checks. (laws.small first second n line checks).1) holds f.cnf f.adds before after status text files four
+pub unread_counted : CheckLaws → (call : Call) (status : ℕ) (text : List ℕ) → MayAnswer call status text → status ≡ 4
+    → call.after.faults ≡ next_count call.before.faults
+unread_counted laws call status text (Usage none no_pair neither c s t) four = absurd (omega (arith, s, four))
+unread_counted laws call status text (Asked q e files) four = files_unread (Judges q.asked) (never_unread q.asked) call.holds q.spec q.imp call.before call.after status text files four
+unread_counted laws call status text (Making m e quiet judges) four = absurd (never_unread (asked_of m.fill m.options) (made_spec m.n) (made_imp m.n) status judges.0 judges.1 four)
+unread_counted laws call status text (Refuting f e files) four =
+    files_unread Checks (λ first second n line checks. (laws.small first second n line checks).1) call.holds f.cnf f.adds call.before call.after status text files four
 
 -- and elsewhere none is
 files_gave_bytes : (judged : List ℕ → List ℕ → ℕ → List ℕ → Type 0) (holds : List ℕ → Option (List ℕ)) (first second : List ℕ) (before after : Reads) (status : ℕ) (text : List ℕ) → OfFiles judged holds first second before after status text
@@ -234,18 +229,18 @@ files_gave_bytes judged holds first second before after status text (SpecRead sp
 files_gave_bytes judged holds first second before after status text (SpecRead spec between g short c (BothRead imp h low d j)) small =
     gave_bytes between after second READ_LIMIT imp d ∙ gave_bytes before between first READ_LIMIT spec c
 
-pub none_counted : (words : List (List ℕ)) (holds : List ℕ → Option (List ℕ)) (before after : Reads) (status : ℕ) (text : List ℕ) → MayAnswer words holds before after status text → status < 4 → after.faults ≡ before.faults
-none_counted words holds before after status text (Usage none no_pair neither c s t) small = ap (λ (r : Reads). r.faults) c
-none_counted words holds before after status text (Asked q e files) small = files_gave_bytes (Judges q.asked) holds q.spec q.imp before after status text files small
-none_counted words holds before after status text (Making m e quiet judges) small = ap (λ (r : Reads). r.faults) quiet
-none_counted words holds before after status text (Refuting f e files) small = files_gave_bytes Checks holds f.cnf f.adds before after status text files small
+pub none_counted : (call : Call) (status : ℕ) (text : List ℕ) → MayAnswer call status text → status < 4 → call.after.faults ≡ call.before.faults
+none_counted call status text (Usage none no_pair neither c s t) small = ap (λ (r : Reads). r.faults) c
+none_counted call status text (Asked q e files) small = files_gave_bytes (Judges q.asked) call.holds q.spec q.imp call.before call.after status text files small
+none_counted call status text (Making m e quiet judges) small = ap (λ (r : Reads). r.faults) quiet
+none_counted call status text (Refuting f e files) small = files_gave_bytes Checks call.holds f.cnf f.adds call.before call.after status text files small
 
 -- of a made pair none is told
-pub made_is_read : WordsAskOnce → (words : List (List ℕ)) (m : MadePair) (holds : List ℕ → Option (List ℕ)) (before after : Reads) (status : ℕ) (text : List ℕ) → made_asked words ≡ Some m → MayAnswer words holds before after status text → status ≡ 4 → ⊥
-made_is_read once words m holds before after status text makes (Usage none no_pair neither c s t) four = omega (arith, s, four)
-made_is_read once words m holds before after status text makes (Asked q e files) four = never_files_and_made once words q m e makes
-made_is_read once words m holds before after status text makes (Making known e quiet judges) four = never_unread (asked_of known.fill known.options) (made_spec known.n) (made_imp known.n) status judges.0 judges.1 four
-made_is_read once words m holds before after status text makes (Refuting f e files) four = once.not_made_and_refuted words m f makes e
+pub made_is_read : WordsAskOnce → (m : MadePair) (call : Call) (status : ℕ) (text : List ℕ) → made_asked call.words ≡ Some m → MayAnswer call status text → status ≡ 4 → ⊥
+made_is_read once m call status text makes (Usage none no_pair neither c s t) four = omega (arith, s, four)
+made_is_read once m call status text makes (Asked q e files) four = never_files_and_made once call.words q m e makes
+made_is_read once m call status text makes (Making known e quiet judges) four = never_unread (asked_of known.fill known.options) (made_spec known.n) (made_imp known.n) status judges.0 judges.1 four
+made_is_read once m call status text makes (Refuting f e files) four = once.not_made_and_refuted call.words m f makes e
 
 -- no refutation is left open
 files_never_open : CheckLaws → (holds : List ℕ → Option (List ℕ)) (first second : List ℕ) (before after : Reads) (status : ℕ) (text : List ℕ) → OfFiles Checks holds first second before after status text → status ≡ 3 → ⊥
@@ -255,17 +250,17 @@ files_never_open laws holds first second before after status text (SpecRead spec
 files_never_open laws holds first second before after status text (SpecRead spec between g short c (ImpLong imp h l d s t)) three = omega (arith, s, three)
 files_never_open laws holds first second before after status text (SpecRead spec between g short c (BothRead imp h low d j)) three = (laws.small spec imp status text j).0 three
 
-pub open_compares : WordsAskOnce → CheckLaws → (words : List (List ℕ)) (holds : List ℕ → Option (List ℕ)) (before after : Reads) (status : ℕ) (text : List ℕ) → MayAnswer words holds before after status text → status ≡ 3
-    → rup_asked words ≡ None
-open_compares once laws words holds before after status text (Usage none no_pair neither c s t) three = neither
-open_compares once laws words holds before after status text (Refuting f e files) three = absurd (files_never_open laws holds f.cnf f.adds before after status text files three)
-open_compares once laws words holds before after status text (Making m e quiet judges) three = by (rup_asked words) refl
+pub open_compares : WordsAskOnce → CheckLaws → (call : Call) (status : ℕ) (text : List ℕ) → MayAnswer call status text → status ≡ 3
+    → rup_asked call.words ≡ None
+open_compares once laws call status text (Usage none no_pair neither c s t) three = neither
+open_compares once laws call status text (Refuting f e files) three = absurd (files_never_open laws call.holds f.cnf f.adds call.before call.after status text files three)
+open_compares once laws call status text (Making m e quiet judges) three = by (rup_asked call.words) refl
   where
-    by : (o : Option Refutation) → rup_asked words ≡ o → o ≡ None
+    by : (o : Option Refutation) → rup_asked call.words ≡ o → o ≡ None
     by None same = refl
-    by (Some f) same = absurd (once.not_made_and_refuted words m f e same)
-open_compares once laws words holds before after status text (Asked q e files) three = by (rup_asked words) refl
+    by (Some f) same = absurd (once.not_made_and_refuted call.words m f e same)
+open_compares once laws call status text (Asked q e files) three = by (rup_asked call.words) refl
   where
-    by : (o : Option Refutation) → rup_asked words ≡ o → o ≡ None
+    by : (o : Option Refutation) → rup_asked call.words ≡ o → o ≡ None
     by None same = refl
-    by (Some f) same = absurd (never_both once words q f e same)
+    by (Some f) same = absurd (never_both once call.words q f e same)

@@ -11,7 +11,8 @@ pub never_rose : Rose 0 0 → ⊥
 never_rose rose = omega (arith, rose)
 
 -- it is told what is held of any file
-pub all_held : (words : List (List ℕ)) (files : ReadFiles) (before after : Reads) → AreTold words Held (holds_of files) before after
+pub all_held : (words : List (List ℕ)) (files : ReadFiles) (before after : Reads)
+    → AreTold (record { words = words; holds = holds_of files; before = before; after = after }) Held
 all_held words files before after = record {
   comparison = λ q asks. (text_under files.files q.spec, refl, λ short. (text_under files.files q.imp, (refl, refl)));
   refutation = λ f asks. (text_under files.files f.cnf, refl, λ short. (text_under files.files f.adds, (refl, refl)));

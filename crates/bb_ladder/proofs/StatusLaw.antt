@@ -1,7 +1,7 @@
 -- Two texts have one status, but for what may depend on the search, since what is finished is not refuted and what one answer leaves
 -- open every other does; and so they have one report.
-use Rattle.std.proofs.Common.{◌≡◌, ℕ, List, sym, ◌∙◌, subst}
-use Rattle.bb_agree.specs.DesignAgreement.{NoContentsAgree}
+use Rattle.std.proofs.Common.{◌≡◌, ℕ, List, refl, sym, ◌∙◌, subst}
+use Rattle.bb_agree.specs.DesignAgreement.{ContentsAgree, MayFill, NoContentsAgree}
 use Rattle.bb_design.specs.Hierarchy.{Design}
 use Rattle.bb_rungs.specs.Laws.AlikePairs.{AlikeReportsAreOne, AlikeReportsBeginAsOne}
 use Rattle.bb_rungs.specs.Laws.{LeftOpenStaysOpen}
@@ -10,30 +10,40 @@ use Rattle.bb_rungs.specs.declared.verdict.Verdict.TheVariants as verdicts
 use Rattle.bb_rungs.specs.Reports.{status_of, verdict_of}
 use Rattle.bb_ladder.specs.declared.asked.Asked.{Asked}
 use Rattle.bb_ladder.specs.TextAnswers.{Judges, Refused, Judged, ErrorsRefute, RepairsFinish, OpenAnswersLeaveOpen, StayingOpenAreAnswered, AnswersMayDependOnSearch, StatusesAreOne, StatusesNeverClash, ReportsAreOne, ReportsBeginAsOne}
-use Rattle.bb_texts.specs.TextDesigns.{TextsReadAsOne}
-use Rattle.bb_ladder.specs.TextPairs.{AreDesignsOf, AreLeftOpen, AreRefuted, AreStayingOpen, FittingAreRefutedByDesigns, NotFinishedAndRefuted, NotPairAndRefusal, TextPairsAreAlike}
+use Rattle.bb_texts.specs.TextDesigns.{IsReadAs, TextsReadAsOne}
+use Rattle.bb_ladder.specs.TextPairs.{AreLeftOpen, AreRefuted, AreStayingOpen, AskAlike, FittingAreRefutedByDesigns, NotFinishedAndRefuted, NotPairAndRefusal, TextPairsAreAlike}
 use Rattle.bb_ladder.proofs.AnswerLaws.{is_pair}
 use Rattle.bb_ladder.proofs.TextPairLaws.{reads_as}
 
 -- what is refuted is so by the designs of the texts
-refuted_by : TextsReadAsOne → (asked : Asked) (spec imp : List ℕ) (s i : Design) → AreDesignsOf asked spec imp s i → AreRefuted asked spec imp → NoContentsAgree asked.care asked.options.shared s i
-refuted_by one asked spec imp s i are (t, j, spec_reads, imp_reads, comparable, some, none) =
-    let left : t ≡ s = one asked.spec_top spec t s spec_reads (reads_as are.spec_design) in
-    let right : j ≡ i = one asked.imp_top imp j i imp_reads (reads_as are.imp_design) in
-    subst (λ z. NoContentsAgree asked.care asked.options.shared z i) left (subst (λ z. NoContentsAgree asked.care asked.options.shared t z) right none)
+module _ (one : TextsReadAsOne) (asked : Asked) (spec imp : List ℕ) (refuted : AreRefuted asked spec imp) where
+  refuted_by : (s i : Design) → IsReadAs asked.spec_top spec s → IsReadAs asked.imp_top imp i → NoContentsAgree asked.care asked.options.shared s i
+  refuted_by s i spec_reads imp_reads =
+      let left : refuted.s ≡ s = one asked.spec_top spec refuted.s s refuted.reads.spec_reads spec_reads in
+      let right : refuted.i ≡ i = one asked.imp_top imp refuted.i i refuted.reads.imp_reads imp_reads in
+      subst (λ z. NoContentsAgree asked.care asked.options.shared z i) left (subst (λ z. NoContentsAgree asked.care asked.options.shared refuted.s z) right refuted.none)
 
--- no two texts are both finished and refuted
+-- no two texts are both finished and refuted, whatever the bounds
 pub not_finished_and_refuted : TextsReadAsOne → NotFinishedAndRefuted
-not_finished_and_refuted one asked spec imp text finished refuted =
-    let none = refuted_by one asked spec imp finished.s finished.i finished.designs refuted in
+not_finished_and_refuted one asked other spec imp text alike finished refuted =
+    let spec_reads = subst (λ top. IsReadAs top spec finished.s) (sym alike.spec_top) finished.reads.spec_reads in
+    let imp_reads = subst (λ top. IsReadAs top imp finished.i) (sym alike.imp_top) finished.reads.imp_reads in
+    let none = refuted_by one other spec imp refuted finished.s finished.i spec_reads imp_reads in
     let c = finished.contents in
-    none c.0 c.1 (finished.agree c.0 c.1.fit c.2)
+    let fills = subst (λ shared. MayFill shared finished.i c.0) (sym alike.shared) c.1 in
+    none c.0 fills (subst (λ care. ContentsAgree care finished.s finished.i c.0) (sym alike.care) (finished.agree c.0 c.1.fit c.2))
 
 pub fitting_are_refuted_by_designs : TextsReadAsOne → FittingAreRefutedByDesigns
-fitting_are_refuted_by_designs one asked spec imp (s, i, are, fit) refuted = (s, i, are, fit, refuted_by one asked spec imp s i are refuted)
+fitting_are_refuted_by_designs one asked spec imp (s, i, are, fit) refuted =
+    (s, i, are, fit, refuted_by one asked spec imp refuted s i (reads_as are.spec_design) (reads_as are.imp_design))
+
+-- a call asks the same as itself
+same_call : (asked : Asked) → AskAlike asked asked
+same_call asked = record { spec_top = refl; imp_top = refl; care = refl; shared = refl }
 
 pub statuses_never_clash : TextsReadAsOne → RepairsFinish → ErrorsRefute → StatusesNeverClash
-statuses_never_clash one finish refute asked spec imp status other text told a b zero is_one = not_finished_and_refuted one asked spec imp text (finish asked spec imp status text a zero) (refute asked spec imp other told b is_one)
+statuses_never_clash one finish refute asked spec imp status other text told a b zero is_one =
+    not_finished_and_refuted one asked asked spec imp text (same_call asked) (finish asked spec imp status text a zero) (refute asked spec imp other told b is_one)
 
 -- where they are left open, the answer does not depend on the search
 abbrev IsFixed : Asked → List ℕ → List ℕ → Type 0

@@ -5,16 +5,17 @@ use Rattle.bb_options.specs.Rungs.{AreBounds}
 use Rattle.bb_words.specs.Asked.{AskNothing, MadePair, asked, made_asked, request_of}
 use Rattle.bb_words.specs.Laws.{WordsAskOnce}
 use Rattle.bb_words.specs.declared.asked.Asked.{Asked as WordsAsked}
+use Rattle.bb_ladder.specs.Calls.{Call}
 use Rattle.bb_ladder.specs.Answers.{OfFiles, MayAnswer, Asked, Refuting, question, question_of}
 use Rattle.bb_ladder.specs.Inside.Tasks.{AskTask, IsBounded, judged_by}
 use Rattle.bb_ladder.specs.declared.words.Task.{Task}
 use Rattle.bb_ladder.specs.declared.words.Task.TheVariants.{Comparison, Refutation}
 use Rattle.bb_ladder.proofs.HeadlineLemmas.{never_files_and_made}
 
-pub may_answer : (words : List (List ℕ)) (holds : List ℕ → Option (List ℕ)) (before after : Reads) (first second : List ℕ) (task : Task) (status : ℕ) (text : List ℕ)
-    → AskTask words first second task → OfFiles (judged_by task) holds first second before after status text → MayAnswer words holds before after status text
-may_answer words holds before after first second (Comparison asked) status text asks files = Asked (record { spec = first; imp = second; asked = asked }) asks files
-may_answer words holds before after first second Refutation status text asks files = Refuting (record { cnf = first; adds = second }) asks files
+pub may_answer : (call : Call) (first second : List ℕ) (task : Task) (status : ℕ) (text : List ℕ)
+    → AskTask call.words first second task → OfFiles (judged_by task) call.holds first second call.before call.after status text → MayAnswer call status text
+may_answer call first second (Comparison asked) status text asks files = Asked (record { spec = first; imp = second; asked = asked }) asks files
+may_answer call first second Refutation status text asks files = Refuting (record { cnf = first; adds = second }) asks files
 
 pub asks_comparison : (words : List (List ℕ)) (a : WordsAsked) (first second : List ℕ) (task : Task) → asked words ≡ Some (request_of a) → first ≡ a.spec.now → second ≡ a.imp.now
     → task ≡ Comparison (question (request_of a)).asked → AskTask words first second task

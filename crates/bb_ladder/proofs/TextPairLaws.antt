@@ -28,7 +28,7 @@ use Rattle.bb_ladder.specs.FilledTexts.{MayFollow, NotAsked}
 use Rattle.bb_ladder.specs.Inside.Made.{IsChecked, IsMade, KeptFollows}
 use Rattle.bb_ladder.specs.TextAnswers.{Judges, Refused, Judged}
 use Rattle.bb_texts.specs.TextDesigns.{IsDesignOf, IsReadAs, IsSideFault, TextDesignsAreOne, SideFaultsAreOne, NotDesignAndFault}
-use Rattle.bb_ladder.specs.TextPairs.{AreDesignsOf, IsRefusal, StandsForTexts, DesignsAreAllowed, RefusalsAreOne, NotPairAndRefusal, TextPairsAreAlike}
+use Rattle.bb_ladder.specs.TextPairs.{AreDesignsOf, AreReadAs, IsRefusal, StandsForTexts, DesignsAreAllowed, RefusalsAreOne, NotPairAndRefusal, TextPairsAreAlike}
 use Rattle.bb_texts.specs.Inside.TextRefusals.{of_spec, of_imp, of_pair}
 
 pub designs_are_allowed : SourcesAreFormed → SoundTextsAreAllowed → DesignsAreAllowed
@@ -37,6 +37,14 @@ designs_are_allowed formed allowed name text d is = allowed d.text name d.top (f
 -- a text reads as its design
 pub reads_as : {name : Option (List ℕ)} {text : List ℕ} {d : Design} → IsDesignOf name text d → IsReadAs name text d
 reads_as is = record { reads = is.reads; top = is.top }
+
+pub are_read_as : (asked : Asked) (spec imp : List ℕ) (s i : Design) → AreDesignsOf asked spec imp s i → AreReadAs asked spec imp s i
+are_read_as asked spec imp s i are = record {
+  spec_reads = reads_as are.spec_design;
+  imp_reads = reads_as are.imp_design;
+  spec_sound = are.spec_design.faultless;
+  imp_sound = are.imp_design.faultless;
+}
 
 -- a fault of one side, or of the pair, is a refusal of the two texts
 

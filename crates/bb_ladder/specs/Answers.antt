@@ -1,13 +1,14 @@
 -- What the program may answer: a status and a text, given the words, what the files hold, and the reads before and after.
-use Rattle.std.specs.Prelude.{◌≡◌, ℕ, ◌<◌, true, List, ◌++◌, length, take, Option, None, Some, option_map, codes, IfSome}
+use Rattle.std.specs.Prelude.{◌≡◌, ◌⊎◌, ℕ, ◌<◌, List, ◌++◌, length, take, Option, None, Some, option_map, codes, IfSome}
 use Rattle.bb_outside.specs.Counts.{IsRead, Reads}
 use Rattle.bb_texts.specs.declared.limit.TheConstants.{READ_LIMIT}
 use Rattle.bb_ladder.specs.declared.asked.Asked.{Asked as TextsAsked}
+use Rattle.bb_ladder.specs.Calls.{Call}
 use Rattle.bb_ladder.specs.Refutations.{Checks}
 use Rattle.bb_ladder.specs.ShownMistakes.{AreShown}
 use Rattle.bb_ladder.specs.Sources.{AreBytes, Source}
 use Rattle.bb_ladder.specs.TextAnswers.{Judges}
-use Rattle.bb_ladder.specs.TextPairs.{AreFinished, AreLeftOpen, AreRefuted, DoFit, IsFilled}
+use Rattle.bb_ladder.specs.TextPairs.{AreFinished, AreLeftOpen, AreRefuted, DoFit, IsFilled, IsFilledToPass, IsFilledToRun, RunsAsSpecified}
 use Rattle.bb_make.specs.Adders.{made_imp, made_spec}
 use Rattle.bb_ladder.specs.MadePairs.{JudgesMade, asked_of, head_of}
 use Rattle.bb_words.specs.Asked.{MadePair, Refutation, Request, asked, made_asked, rup_asked}
@@ -41,29 +42,40 @@ pub data OfFiles (judged : List ℕ → List ℕ → ℕ → List ℕ → Type 0
   SpecLong : (spec : List ℕ) → Gives (holds first) spec → length spec ≡ READ_LIMIT → IsRead before after first READ_LIMIT (Some (Some spec)) → status ≡ 2 → text ≡ codes "refused spec toolong\n" → OfFiles judged holds first second before after status text
   SpecRead : (spec : List ℕ) (between : Reads) → Gives (holds first) spec → length spec < READ_LIMIT → IsRead before between first READ_LIMIT (Some (Some spec)) → AfterSpec judged (holds second) second between after spec status text → OfFiles judged holds first second before after status text
 
--- what may be answered to words, given what the files hold and the reads before the call and after it
-pub data MayAnswer (words : List (List ℕ)) (holds : List ℕ → Option (List ℕ)) (before after : Reads) (status : ℕ) (text : List ℕ) : Type 0 where
-  Usage : question_of words ≡ None → made_asked words ≡ None → rup_asked words ≡ None → after ≡ before → status ≡ 2 → text ≡ codes "refused usage\n" → MayAnswer words holds before after status text
-  Asked : (q : Question) → question_of words ≡ Some q → OfFiles (Judges q.asked) holds q.spec q.imp before after status text → MayAnswer words holds before after status text
-  Making : (m : MadePair) → made_asked words ≡ Some m → after ≡ before → JudgesMade m status text → MayAnswer words holds before after status text
-  Refuting : (f : Refutation) → rup_asked words ≡ Some f → OfFiles Checks holds f.cnf f.adds before after status text → MayAnswer words holds before after status text
+-- what may be answered to a call
+pub data MayAnswer (call : Call) (status : ℕ) (text : List ℕ) : Type 0 where
+  Usage : question_of call.words ≡ None → made_asked call.words ≡ None → rup_asked call.words ≡ None → call.after ≡ call.before → status ≡ 2 → text ≡ codes "refused usage\n" → MayAnswer call status text
+  Asked : (q : Question) → question_of call.words ≡ Some q → OfFiles (Judges q.asked) call.holds q.spec q.imp call.before call.after status text → MayAnswer call status text
+  Making : (m : MadePair) → made_asked call.words ≡ Some m → call.after ≡ call.before → JudgesMade m status text → MayAnswer call status text
+  Refuting : (f : Refutation) → rup_asked call.words ≡ Some f → OfFiles Checks call.holds f.cnf f.adds call.before call.after status text → MayAnswer call status text
 
 -- the words ask this of two texts: those of the two files that they name, held or given, or those of a made pair
-pub data AreTexts (words : List (List ℕ)) (from : Source) (holds : List ℕ → Option (List ℕ)) (before after : Reads) (asked : TextsAsked) (spec imp : List ℕ) : Type 0 where
-  FileTexts : (q : Question) → question_of words ≡ Some q → asked ≡ q.asked → AreBytes from holds before after q.spec q.imp spec imp → AreTexts words from holds before after asked spec imp
-  MadeTexts : (m : MadePair) → made_asked words ≡ Some m → asked ≡ asked_of m.fill m.options → spec ≡ made_spec m.n → imp ≡ made_imp m.n → AreTexts words from holds before after asked spec imp
+pub data AreTexts (call : Call) (from : Source) (asked : TextsAsked) (spec imp : List ℕ) : Type 0 where
+  FileTexts : (q : Question) → question_of call.words ≡ Some q → asked ≡ q.asked → AreBytes from call.holds call.before call.after q.spec q.imp spec imp → AreTexts call from asked spec imp
+  MadeTexts : (m : MadePair) → made_asked call.words ≡ Some m → asked ≡ asked_of m.fill m.options → spec ≡ made_spec m.n → imp ≡ made_imp m.n → AreTexts call from asked spec imp
 
 -- the words ask for a refutation, and the two texts are those of its files, held or given
-pub record AreRefutationTexts (words : List (List ℕ)) (from : Source) (holds : List ℕ → Option (List ℕ)) (before after : Reads) (f : Refutation) (first second : List ℕ) : Type 0 where
-  pub asks : rup_asked words ≡ Some f
-  pub bytes : AreBytes from holds before after f.cnf f.adds first second
+pub record AreRefutationTexts (call : Call) (from : Source) (f : Refutation) (first second : List ℕ) : Type 0 where
+  pub asks : rup_asked call.words ≡ Some f
+  pub bytes : AreBytes from call.holds call.before call.after f.cnf f.adds first second
 
--- what is written is a report of the two texts, behind the head of a made pair
+-- what is written is a report of the two texts, after the head of a made pair
 abbrev pub IsReport : (TextsAsked → List ℕ → List ℕ → List ℕ → Type 0) → List (List ℕ) → TextsAsked → List ℕ → List ℕ → List ℕ → Type 0
 IsReport Says words asked spec imp text = (report : List ℕ) × (text ≡ head_of words ++ report) × Says asked spec imp report
 
--- The law of it: an answer speaks of the texts as its status says, also where a front of it alone is written.
+-- what an answer with this status says of the texts
+pub record Means (call : Call) (status : ℕ) (text : List ℕ) (asked : TextsAsked) (spec imp : List ℕ) : Type 0 where
+  pub finished : status ≡ 0 → IsReport AreFinished call.words asked spec imp text
+  pub filled : status ≡ 0 → IsReport IsFilled call.words asked spec imp text
+  pub passes : status ≡ 0 → IsReport IsFilledToPass call.words asked spec imp text
+  pub runs : status ≡ 0 → IsReport RunsAsSpecified call.words asked spec imp text
+  pub filled_runs : status ≡ 0 → IsReport IsFilledToRun call.words asked spec imp text
+  pub refuted : status ≡ 1 → AreRefuted asked spec imp
+  pub fit : ((status ≡ 0) ⊎ (status ≡ 1)) ⊎ (status ≡ 3) → DoFit asked spec imp
+  pub shown : status ≡ 1 → IsReport AreShown call.words asked spec imp text
+  pub left_open : status ≡ 3 → AreLeftOpen asked spec imp
+
+-- The law of it: an answer speaks of the texts as its status says, also where a prefix of it alone is written.
 abbrev pub AnswersSpeakOfTexts : Type 0
-AnswersSpeakOfTexts = (words : List (List ℕ)) (from : Source) (holds : List ℕ → Option (List ℕ)) (before after : Reads) (status : ℕ) (text : List ℕ) (asked : TextsAsked) (spec imp : List ℕ)
-    → MayAnswer words holds before after status text → AreTexts words from holds before after asked spec imp
-    → (status ≡ 0 → IsReport AreFinished words asked spec imp text) × (status ≡ 0 → asked.fill ≡ true → IsReport IsFilled words asked spec imp text) × (status ≡ 1 → AreRefuted asked spec imp × DoFit asked spec imp × IsReport AreShown words asked spec imp text) × (status ≡ 3 → AreLeftOpen asked spec imp)
+AnswersSpeakOfTexts = (call : Call) (from : Source) (status : ℕ) (text : List ℕ) (asked : TextsAsked) (spec imp : List ℕ)
+    → MayAnswer call status text → AreTexts call from asked spec imp → Means call status text asked spec imp

@@ -7,6 +7,7 @@ use Rattle.bb_texts.specs.declared.limit.TheConstants.{READ_LIMIT}
 use Rattle.bb_ladder.specs.declared.asked.Asked.{Asked as TextsAsked}
 use Rattle.bb_texts.specs.declared.refusal.Refusal.{Refusal}
 use Rattle.bb_ladder.specs.Answers.{Question, MayAnswer, question_of}
+use Rattle.bb_ladder.specs.Calls.{Call}
 use Rattle.bb_texts.specs.RefusalLines.{refusal_line}
 use Rattle.bb_ladder.specs.Refutations.{IsCheckRefusal}
 use Rattle.bb_ladder.specs.Sources.{AreBytes, IsFirst, MayHaveFailed, Source}
@@ -29,11 +30,11 @@ abbrev pub IsPairRefusal : TextsAsked → List ℕ → List ℕ → List ℕ →
 IsPairRefusal asked spec imp line = (refusal : Refusal) × IsRefusal asked spec imp refusal × (line ≡ refusal_line refusal)
 
 -- the line of the first refusal of a call with these words, where the files hold these bytes or its reads gave them
-pub data IsCallRefusal (words : List (List ℕ)) (from : Source) (holds : List ℕ → Option (List ℕ)) (before after : Reads) (line : List ℕ) : Type 0 where
-  OfWords : question_of words ≡ None → made_asked words ≡ None → rup_asked words ≡ None → line ≡ codes "refused usage\n" → IsCallRefusal words from holds before after line
-  OfComparison : (q : Question) → question_of words ≡ Some q → IsFilesRefusal (IsPairRefusal q.asked) from holds before after q.spec q.imp line → IsCallRefusal words from holds before after line
-  OfMadePair : (m : MadePair) → made_asked words ≡ Some m → IsPairRefusal (asked_of m.fill m.options) (made_spec m.n) (made_imp m.n) line → IsCallRefusal words from holds before after line
-  OfRefutation : (f : Refutation) → rup_asked words ≡ Some f → IsFilesRefusal IsCheckRefusal from holds before after f.cnf f.adds line → IsCallRefusal words from holds before after line
+pub data IsCallRefusal (call : Call) (from : Source) (line : List ℕ) : Type 0 where
+  OfWords : question_of call.words ≡ None → made_asked call.words ≡ None → rup_asked call.words ≡ None → line ≡ codes "refused usage\n" → IsCallRefusal call from line
+  OfComparison : (q : Question) → question_of call.words ≡ Some q → IsFilesRefusal (IsPairRefusal q.asked) from call.holds call.before call.after q.spec q.imp line → IsCallRefusal call from line
+  OfMadePair : (m : MadePair) → made_asked call.words ≡ Some m → IsPairRefusal (asked_of m.fill m.options) (made_spec m.n) (made_imp m.n) line → IsCallRefusal call from line
+  OfRefutation : (f : Refutation) → rup_asked call.words ≡ Some f → IsFilesRefusal IsCheckRefusal from call.holds call.before call.after f.cnf f.adds line → IsCallRefusal call from line
 
 -- it is told what is read of two files: of the first, and of the second where the first is not too long
 abbrev pub AreToldOf : Source → (List ℕ → Option (List ℕ)) → Reads → Reads → List ℕ → List ℕ → Type 0
@@ -41,23 +42,23 @@ AreToldOf from holds before after first second = (spec : List ℕ) × IsFirst fr
     × (length spec < READ_LIMIT → (imp : List ℕ) × AreBytes from holds before after first second spec imp)
 
 -- it is told what is read of the files that the words name, if they name any
-pub record AreTold (words : List (List ℕ)) (from : Source) (holds : List ℕ → Option (List ℕ)) (before after : Reads) : Type 0 where
-  pub comparison : (q : Question) → question_of words ≡ Some q → AreToldOf from holds before after q.spec q.imp
-  pub refutation : (f : Refutation) → rup_asked words ≡ Some f → AreToldOf from holds before after f.cnf f.adds
+pub record AreTold (call : Call) (from : Source) : Type 0 where
+  pub comparison : (q : Question) → question_of call.words ≡ Some q → AreToldOf from call.holds call.before call.after q.spec q.imp
+  pub refutation : (f : Refutation) → rup_asked call.words ≡ Some f → AreToldOf from call.holds call.before call.after f.cnf f.adds
 
 -- laws that a reader expects
 
 -- a call has at most one first refusal
 abbrev pub CallRefusalsAreOne : Type 0
-CallRefusalsAreOne = (words : List (List ℕ)) (from : Source) (holds : List ℕ → Option (List ℕ)) (before after : Reads) (line other : List ℕ)
-    → IsCallRefusal words from holds before after line → IsCallRefusal words from holds before after other → line ≡ other
+CallRefusalsAreOne = (call : Call) (from : Source) (line other : List ℕ)
+    → IsCallRefusal call from line → IsCallRefusal call from other → line ≡ other
 
 -- status 2 tells the first refusal of the call
 abbrev pub RefusalsAreTold : Type 0
-RefusalsAreTold = (words : List (List ℕ)) (from : Source) (holds : List ℕ → Option (List ℕ)) (before after : Reads) (line : List ℕ)
-    → MayAnswer words holds before after 2 line → AreTold words from holds before after → IsCallRefusal words from holds before after line
+RefusalsAreTold = (call : Call) (from : Source) (line : List ℕ)
+    → MayAnswer call 2 line → AreTold call from → IsCallRefusal call from line
 
 -- and where a call has one and no read may have failed, it is told
 abbrev pub RefusedCallsAreTold : Type 0
-RefusedCallsAreTold = (words : List (List ℕ)) (from : Source) (holds : List ℕ → Option (List ℕ)) (before after : Reads) (status : ℕ) (text line : List ℕ)
-    → MayAnswer words holds before after status text → IsCallRefusal words from holds before after line → (MayHaveFailed from before after → ⊥) → (status ≡ 2) × (text ≡ line)
+RefusedCallsAreTold = (call : Call) (from : Source) (status : ℕ) (text line : List ℕ)
+    → MayAnswer call status text → IsCallRefusal call from line → (MayHaveFailed from call.before call.after → ⊥) → (status ≡ 2) × (text ≡ line)

@@ -2,23 +2,21 @@
 -- implementation, one from which the pair is made, as one module in which each box holds the table of its kind. Where it cannot be
 -- printed, a line says why: a name would stand for two nets, or the text would be too large. Whoever reads the text finds a design without a box that
 -- agrees with the specification.
-use Rattle.std.specs.Prelude.{◌≡◌, ◌⊎◌, ℕ, Bool, true, false, List, [], ◌++◌, Contains, None, Some, codes}
+use Rattle.std.specs.Prelude.{◌≡◌, ◌⊎◌, ℕ, Bool, true, false, List, [], ◌++◌, Contains, Option, None, Some, codes}
 use Rattle.bb_bits.specs.Contents.{Contents}
 use Rattle.bb_bits.specs.Tables.{TableBits}
-use Rattle.bb_agree.specs.DesignAgreement.{AgreeEverywhere, AreSpelled, ContentsAgree, IsPairFor}
-use Rattle.bb_agree.specs.DesignFit.{DesignsFit}
+use Rattle.bb_agree.specs.Comparable.{AreComparable}
+use Rattle.bb_agree.specs.DesignAgreement.{AgreeEverywhere, ContentsAgree}
 use Rattle.bb_design.specs.Hierarchy.{Design, boxes}
 use Rattle.bb_design.specs.Refusals.{input_texts, output_texts, register_texts}
-use Rattle.bb_design.specs.Worlds.{FitDesign}
 use Rattle.bb_fill.specs.Answers.{Answer, Clash, TooLarge, Text, MayFill}
+use Rattle.bb_names.specs.Faults.{IsSound}
 use Rattle.bb_net.specs.Flats.{FlatNet, IsFlat}
-use Rattle.bb_net.specs.Kinds.{AreSharedCompletion, spread}
-use Rattle.bb_net.specs.Pairs.{NetPair}
+use Rattle.bb_net.specs.Kinds.{spread}
 use Rattle.bb_rungs.specs.declared.line.Line.{Line}
 use Rattle.bb_rungs.specs.declared.verdict.Verdict.TheVariants as verdicts
 use Rattle.bb_rungs.specs.Reports.{GivesTables, verdict_of}
-use Rattle.bb_texts.specs.TextDesigns.{IsDesignOf}
-use Rattle.bb_ladder.specs.declared.asked.Asked.{Asked}
+use Rattle.bb_texts.specs.TextDesigns.{IsReadAs}
 
 -- what is written when a netlist is to be filled
 abbrev pub answer_text : Answer → List ℕ
@@ -42,33 +40,27 @@ HasNoLine begin text = (before behind : List ℕ) → text ≡ before ++ begin +
 abbrev pub NoTablesFollow : Type 0
 NoTablesFollow = (fill : Bool) (f : FlatNet) (kinds : List ℕ) (lines : List Line) (rest : List ℕ) → IsFlat f → MayFollow fill f kinds lines rest → HasNoLine (codes "table") rest
 
--- a text finishes the design of an implementation, in whose boxes there may be certain contents: it is a text of the language, and the
--- design that it is, with its one module on top, has no box and fits the specification. Where agreement is asked it agrees with
--- the specification, whatever contents boxes would have; and everywhere its outputs and next states are those of the implementation with
--- such contents
-pub record IsFinishedText (asked : Asked) (spec : List ℕ) (i : Design) (Fills : Contents → Type 0) (filled : List ℕ) : Type 0 where
-  pub s : Design
+-- a text finishes the design of an implementation, in whose boxes there may be certain contents. Under its one module as top, named or
+-- not, it reads as a design that breaks no rule on names, has no box and can be compared with the specification. Where agreement is
+-- asked it agrees with the specification, whatever contents boxes would have; and everywhere its outputs and next states are those of
+-- the implementation with such contents
+pub record IsFinishedText (care : Option (List ℕ)) (s i : Design) (Fills : Contents → Type 0) (filled : List ℕ) : Type 0 where
   pub d : Design
-  pub spec_design : IsDesignOf asked.spec_top spec s
-  pub alone : IsDesignOf None filled d
-  pub named : IsDesignOf (Some (codes "filled")) filled d
+  pub unnamed : IsReadAs None filled d
+  pub named : IsReadAs (Some (codes "filled")) filled d
+  pub sound : IsSound d.text
   pub complete : boxes d ≡ []
-  pub fit : DesignsFit asked.care s d
-  pub agree : (contents : Contents) → ContentsAgree asked.care s d contents
+  pub comparable : AreComparable care s d
+  pub agree : (contents : Contents) → ContentsAgree care s d contents
   pub same : (contents : Contents) → Fills contents → AgreeEverywhere None d i contents
-
--- the law of it: the text of a netlist of the implementation from which a pair is made, filled with tables that agree, finishes the design
-abbrev pub FilledTextsFinish : Type 0
-FilledTextsFinish = (asked : Asked) (spec imp : List ℕ) (s i : Design) → IsDesignOf asked.spec_top spec s → IsDesignOf asked.imp_top imp i
-    → (p : NetPair) (pair : IsPairFor asked.care asked.options.shared s i p) (tables : List TableBits) → AreSharedCompletion p.spec p.imp p.kinds tables
-    → (text : List ℕ) → MayFill pair.imp_net (spread p.kinds tables) (Text text) → IsFinishedText asked spec i (λ contents. FitDesign i contents × AreSpelled p.boxes p.kinds tables contents) text
 
 -- two nets of one module would have this name: an input has the text of a register or of an output, or an output that of a register
 abbrev pub IsTwice : Design → List ℕ → Type 0
-IsTwice i name = (Contains (input_texts i) name × (Contains (register_texts i) name ⊎ Contains (output_texts i) name)) ⊎ (Contains (output_texts i) name × Contains (register_texts i) name)
+IsTwice i name = (Contains (input_texts i) name × (Contains (register_texts i) name ⊎ Contains (output_texts i) name))
+    ⊎ (Contains (output_texts i) name × Contains (register_texts i) name)
 
--- behind the verdict stands a text that finishes the design, or why there is none
-pub data StandsBehind (asked : Asked) (spec : List ℕ) (i : Design) (Fills : Contents → Type 0) (rest : List ℕ) : Type 0 where
-  Finished : (filled : List ℕ) → rest ≡ codes "fill\n" ++ filled → IsFinishedText asked spec i Fills filled → StandsBehind asked spec i Fills rest
-  Clashes : (name : List ℕ) → rest ≡ codes "fill clash " ++ name ++ codes "\n" → IsTwice i name → StandsBehind asked spec i Fills rest
-  IsLarge : rest ≡ codes "fill toolarge\n" → StandsBehind asked spec i Fills rest
+-- what comes after the verdict of an implementation: a text of which this holds, or why there is none
+pub data FollowsVerdict (i : Design) (Holds : List ℕ → Type 0) (rest : List ℕ) : Type 0 where
+  Finished : (filled : List ℕ) → rest ≡ codes "fill\n" ++ filled → Holds filled → FollowsVerdict i Holds rest
+  Clashes : (name : List ℕ) → rest ≡ codes "fill clash " ++ name ++ codes "\n" → IsTwice i name → FollowsVerdict i Holds rest
+  IsLarge : rest ≡ codes "fill toolarge\n" → FollowsVerdict i Holds rest

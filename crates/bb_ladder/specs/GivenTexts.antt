@@ -4,25 +4,26 @@ use Rattle.std.specs.Prelude.{◌≡◌, ◌⊎◌, ℕ, List, Option, Some}
 use Rattle.bb_outside.specs.Counts.{FileRead, Reads}
 use Rattle.bb_ladder.specs.declared.asked.Asked.{Asked as TextsAsked}
 use Rattle.bb_ladder.specs.Answers.{AreRefutationTexts, AreTexts, MayAnswer}
+use Rattle.bb_ladder.specs.Calls.{Call}
 use Rattle.bb_ladder.specs.CallRefusals.{AreTold}
 use Rattle.bb_ladder.specs.Sources.{Given}
 use Rattle.bb_words.specs.Asked.{Refutation}
 
 -- the reads of the call gave the two texts that its words ask of
-pub data HaveTexts (words : List (List ℕ)) (holds : List ℕ → Option (List ℕ)) (before after : Reads) : Type 0 where
-  Compared : (asked : TextsAsked) (spec imp : List ℕ) → AreTexts words Given holds before after asked spec imp → HaveTexts words holds before after
-  Checked : (f : Refutation) (first second : List ℕ) → AreRefutationTexts words Given holds before after f first second → HaveTexts words holds before after
+pub data HaveTexts (call : Call) : Type 0 where
+  Compared : (asked : TextsAsked) (spec imp : List ℕ) → AreTexts call Given asked spec imp → HaveTexts call
+  Checked : (f : Refutation) (first second : List ℕ) → AreRefutationTexts call Given f first second → HaveTexts call
 
 -- it is a status that is a verdict on two texts: what is finished or follows, what is wrong, what is left open
 abbrev pub IsVerdict : ℕ → Type 0
 IsVerdict status = ((status ≡ 0) ⊎ (status ≡ 1)) ⊎ (status ≡ 3)
 
 -- the reads of a call with this status gave two texts where it is a verdict on them, and as much as was read where it is a refusal
-pub record HaveGiven (words : List (List ℕ)) (holds : List ℕ → Option (List ℕ)) (before after : Reads) (status : ℕ) : Type 0 where
-  pub verdict : IsVerdict status → HaveTexts words holds before after
-  pub refusal : status ≡ 2 → AreTold words Given holds before after
+pub record HaveGiven (call : Call) (status : ℕ) : Type 0 where
+  pub verdict : IsVerdict status → HaveTexts call
+  pub refusal : status ≡ 2 → AreTold call Given
 
 -- The law of it: where the reads are told, they have.
 abbrev pub AnsweredHaveGiven : Type 0
-AnsweredHaveGiven = (words : List (List ℕ)) (holds : List ℕ → Option (List ℕ)) (before after : Reads) (status : ℕ) (text : List ℕ) (earlier : List FileRead)
-    → MayAnswer words holds before after status text → before.told ≡ Some earlier → HaveGiven words holds before after status
+AnsweredHaveGiven = (call : Call) (status : ℕ) (text : List ℕ) (earlier : List FileRead)
+    → MayAnswer call status text → call.before.told ≡ Some earlier → HaveGiven call status

@@ -5,7 +5,9 @@ pub mod ShownMistakes
 pub mod Refutations
 pub mod Sources
 pub mod MadePairs
+pub mod Calls
 pub mod Answers
+pub mod Clauses
 pub mod CallRefusals
 pub mod GivenTexts
 pub mod Inside

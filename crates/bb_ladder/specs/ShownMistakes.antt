@@ -1,70 +1,61 @@
--- What a report shows of an error: behind the line of a check that finds one at a vector stand the output that is wrong there, where one
--- is told, and the bits of the vector, each with the name of its input, in the order of the specification; and at that vector
--- agreement is asked and the two designs differ, whatever the boxes contain. Choices of the boxes and proofs over all vectors show no single vector.
-use Rattle.std.specs.Prelude.{◌≡◌, ℕ, Bool, List, [], ◌++◌, map, All, Option, None, Some}
-use Rattle.bb_agree.specs.DesignAgreement.{IsPairFor, NoContentsAgree}
-use Rattle.bb_agree.specs.Mistakes.{inputs_of, IsMistakeAt}
+-- What a report shows of an error. It is made of the lines of the checks that were run, each with what shows its error after it, and the
+-- line of the verdict. A check that finds an error at a vector shows it: the output that is wrong there, where one is named, and the bits
+-- of the vector, each with the name of its input, in the order of the specification; at that vector agreement is asked and the two
+-- designs differ, whatever the boxes contain. The check by choices of the boxes shows nothing, and the expansion, where a proof is asked
+-- for, some vectors, its clauses over these and their refutation; whatever contents may fill the boxes, with them the two differ at one of
+-- these vectors.
+use Rattle.std.specs.Prelude.{◌≡◌, ℕ, Bool, if◌then◌else◌, List, [], ◌∷◌, ◌++◌, map, vec_items, All, Contains, Option, None, Some, codes}
+use Rattle.std.specs.List.{flat_map}
+use Rattle.bb_agree.specs.Mistakes.{AreMistakesAmong, inputs_of, IsMistakeAt}
 use Rattle.bb_design.specs.Hierarchy.{Design}
-use Rattle.bb_design.specs.Inside.Allowed.{IsAllowed}
 use Rattle.bb_design.specs.Worlds.{Vector}
 use Rattle.bb_match.specs.Pairing.{input_text, output_name}
 use Rattle.bb_net.specs.CutPoints.{CutOutput}
-use Rattle.bb_net.specs.Pairs.{NetPair}
-use Rattle.bb_options.specs.declared.options.Options.{Options}
-use Rattle.bb_rungs.specs.declared.line.Evidence.{Evidence}
-use Rattle.bb_rungs.specs.declared.line.Evidence.TheVariants as evidence
-use Rattle.bb_rungs.specs.declared.line.Line.{Line}
-use Rattle.bb_rungs.specs.declared.line.Said.{Said}
-use Rattle.bb_rungs.specs.declared.line.Said.TheVariants.{Error, Nothing, Repair, Nodes, Clauses, Wide}
-use Rattle.bb_rungs.specs.Reports.{evidence_text, input_line, output_line, report_text}
-use Rattle.bb_rungs.specs.Rungs.{IsClimb}
-use Rattle.bb_sym.specs.declared.found.Found.{Found}
+use Rattle.bb_options.specs.declared.rung.Rung.{Rung}
+use Rattle.bb_options.specs.declared.rung.Rung.TheVariants.{Input, Expand}
+use Rattle.bb_options.specs.Rungs.{rung_name}
+use Rattle.bb_rungs.specs.declared.line.Proof.{Proof}
+use Rattle.bb_rungs.specs.Reports.{input_line, output_line, proof_text}
 use Rattle.bb_ladder.specs.declared.asked.Asked.{Asked}
 use Rattle.bb_ladder.specs.TextAnswers.{Judges}
-use Rattle.bb_ladder.specs.TextPairs.{AreDesignsOf}
+use Rattle.bb_ladder.specs.TextPairs.{AreReadAs}
 
--- the line of the output that is told, if one is
-abbrev pub told_text : Option CutOutput → List ℕ
-told_text None = []
-told_text (Some o) = output_line (output_name o)
+-- the line of a check with its result
+abbrev pub check_line : Rung → List ℕ → List ℕ
+check_line rung result = codes "rung " ++ rung_name rung ++ codes " " ++ result ++ codes "\n"
+
+-- the results that are neither an error nor tables
+abbrev pub no_verdict : List (List ℕ)
+no_verdict = codes "none" ∷ codes "nodes" ∷ codes "clauses" ∷ codes "wide" ∷ []
+
+-- the line of the output that is named, if one is
+abbrev pub named_text : Option CutOutput → List ℕ
+named_text None = []
+named_text (Some o) = output_line (output_name o)
 
 -- it, and the line of a vector: the inputs of the specification in their order, each with its bit
-abbrev pub shown_text : Design → Vector → Option CutOutput → List ℕ
-shown_text s x told = told_text told ++ input_line (map input_text (inputs_of s)) (map x (inputs_of s))
+abbrev pub vector_text : Design → Vector → Option CutOutput → List ℕ
+vector_text s x named = named_text named ++ input_line (map input_text (inputs_of s)) (map x (inputs_of s))
 
--- what stands behind the line of a check is the text of a mistake of the two designs
-abbrev pub EvidenceShows : Option (List ℕ) → Design → Design → NetPair → Options → Evidence → Type 0
-EvidenceShows care s i p o (evidence.Vector found) = (x : Vector) × (told : Option CutOutput) × IsMistakeAt care s i x told × (evidence_text p o (evidence.Vector found) ≡ shown_text s x told)
-EvidenceShows care s i p o evidence.NoChoices = Unit {0}
-EvidenceShows care s i p o (evidence.Refutation proof) = Unit {0}
+-- the text is the line of a check and what shows its error, if it has found one
+pub data ShowsError (asked : Asked) (s i : Design) (text : List ℕ) : Type 0 where
+  NoError : (rung : Rung) (result : List ℕ) → Contains no_verdict result → text ≡ check_line rung result → ShowsError asked s i text
+  AtVector : (rung : Rung) (x : Vector) (named : Option CutOutput) → IsMistakeAt asked.care s i x named
+      → text ≡ check_line rung (codes "error") ++ vector_text s x named → ShowsError asked s i text
+  ByChoices : text ≡ check_line Input (codes "error") → ShowsError asked s i text
+  ByRefutation : (proof : Proof) → AreMistakesAmong asked.care asked.options.shared s i (map vec_items proof.vectors.items)
+      → text ≡ check_line Expand (codes "error") ++ (if asked.options.proof then proof_text proof else []) → ShowsError asked s i text
 
-abbrev pub SaidShows : Option (List ℕ) → Design → Design → NetPair → Options → Said → Type 0
-SaidShows care s i p o (Error shown) = EvidenceShows care s i p o shown
-SaidShows care s i p o Nothing = Unit {0}
-SaidShows care s i p o (Repair tables) = Unit {0}
-SaidShows care s i p o Nodes = Unit {0}
-SaidShows care s i p o Clauses = Unit {0}
-SaidShows care s i p o Wide = Unit {0}
-
-abbrev pub ShowsMistake : Option (List ℕ) → Design → Design → NetPair → Options → Line → Type 0
-ShowsMistake care s i p o line = SaidShows care s i p o line.said
-
--- the text is a report of the two texts, and each of its lines shows its mistake
+-- the text is a report of the two texts with the verdict that there is an error, and each of its checks shows its own
 pub record AreShown (asked : Asked) (spec imp text : List ℕ) : Type 0 where
   pub s : Design
   pub i : Design
-  pub designs : AreDesignsOf asked spec imp s i
-  pub p : NetPair
-  pub pair : IsPairFor asked.care asked.options.shared s i p
-  pub lines : List Line
-  pub climb : IsClimb p asked.options lines
-  pub whole : text ≡ report_text p asked.options lines
-  pub shown : All (ShowsMistake asked.care s i p asked.options) lines
+  pub reads : AreReadAs asked spec imp s i
+  pub checks : List (List ℕ)
+  pub whole : text ≡ flat_map (λ check. check) checks ++ codes "verdict error\n"
+  pub shown : All (ShowsError asked s i) checks
 
--- The laws of it: with status 1 the report shows the mistakes that it tells.
+-- The law of it: with status 1 the report shows the mistakes that it names.
 abbrev pub ErrorsAreShown : Type 0
-ErrorsAreShown = (asked : Asked) (spec imp : List ℕ) (status : ℕ) (text : List ℕ) → Judges asked spec imp status text → status ≡ 1 → AreShown asked spec imp text
-
--- And where it shows one at a vector, no contents agree that may fill the boxes.
-abbrev pub ShownMistakesRefute : Type 0
-ShownMistakesRefute = (care : Option (List ℕ)) (shared : Bool) (s i : Design) (p : NetPair) (o : Options) (found : Found) → IsAllowed i → EvidenceShows care s i p o (evidence.Vector found) → NoContentsAgree care shared s i
+ErrorsAreShown = (asked : Asked) (spec imp : List ℕ) (status : ℕ) (text : List ℕ) → Judges asked spec imp status text → status ≡ 1
+    → AreShown asked spec imp text

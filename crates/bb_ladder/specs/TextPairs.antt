@@ -1,24 +1,26 @@
 -- Two texts, that of a specification and that of an implementation with boxes, and what is asked of them: their designs, or the first
 -- thing for which they are refused; the pair that stands for them; and whether contents of the boxes agree. What is wrong with the
 -- specification comes before what is wrong with the implementation, and that before what is wrong with the two as a pair.
-use Rattle.std.specs.Prelude.{◌≡◌, ℕ, false, List, [], ◌++◌, map, Option, codes}
+use Rattle.std.specs.Prelude.{◌≡◌, ℕ, false, true, List, [], ◌++◌, map, None, Option, Some, codes, IsPermutation}
 use Rattle.std.specs.List.{AllZip}
 use Rattle.bb_alike.specs.Laws.Alike.{ArePairsAlike}
 use Rattle.bb_bits.specs.Contents.{Contents}
 use Rattle.bb_bits.specs.Tables.{TableBits}
-use Rattle.bb_cells.specs.BoxOrders.{IsBoxOrder}
 use Rattle.bb_cells.specs.Stands.{box_texts}
-use Rattle.bb_design.specs.Hierarchy.{Design, Scope}
+use Rattle.bb_design.specs.Hierarchy.{Design, Scope, boxes}
 use Rattle.bb_design.specs.Inside.Allowed.{IsAllowed}
 use Rattle.bb_design.specs.Worlds.{FitDesign}
 use Rattle.bb_agree.specs.Comparable.{AreComparable}
 use Rattle.bb_agree.specs.DesignAgreement.{AreSpelled, ContentsAgree, IsPairFor, IsTableOf, MayFill, NoContentsAgree}
 use Rattle.bb_agree.specs.DesignFit.{DesignsFit, IsRefusalFor}
-use Rattle.bb_net.specs.Kinds.{AreKinds, shown}
+use Rattle.bb_agree.specs.Runs.{RunAlike}
+use Rattle.bb_fill.specs.Answers.{Text, MayFill as MayPrint}
+use Rattle.bb_names.specs.Faults.{IsSound}
+use Rattle.bb_net.specs.Kinds.{AreKinds, AreSharedCompletion, shown, spread}
 use Rattle.bb_net.specs.Pairs.{NetPair, box_key}
 use Rattle.bb_rungs.specs.LeftOpen.{AllLeaveOpen, AllStayOpen, SomeDecides}
 use Rattle.bb_rungs.specs.Reports.{EndsWithTables}
-use Rattle.bb_ladder.specs.FilledTexts.{HasNoLine, StandsBehind}
+use Rattle.bb_ladder.specs.FilledTexts.{FollowsVerdict, HasNoLine, IsFinishedText}
 use Rattle.bb_ladder.specs.declared.asked.Asked.{Asked}
 use Rattle.bb_texts.specs.declared.refusal.Refusal.{Refusal}
 use Rattle.bb_texts.specs.declared.refusal.Refusal.TheVariants.{Spec, Imp, Pair, NoMemory}
@@ -44,28 +46,39 @@ StandsForTexts asked spec imp p = (s i : Design) × AreDesignsOf asked spec imp 
 abbrev pub DoFit : Asked → List ℕ → List ℕ → Type 0
 DoFit asked spec imp = (s i : Design) × AreDesignsOf asked spec imp s i × DesignsFit asked.care s i
 
+-- they read as these designs under their tops, and break no rule on names, ranges, widths and roles
+pub record AreReadAs (asked : Asked) (spec imp : List ℕ) (s i : Design) : Type 0 where
+  pub spec_reads : IsReadAs asked.spec_top spec s
+  pub imp_reads : IsReadAs asked.imp_top imp i
+  pub spec_sound : IsSound s.text
+  pub imp_sound : IsSound i.text
+
 -- they read as designs that can be compared, some contents may fill the boxes, and none that may make the two agree where agreement is
 -- asked: everywhere or, with a care output, where this is 1
-abbrev pub AreRefuted : Asked → List ℕ → List ℕ → Type 0
-AreRefuted asked spec imp = (s i : Design) × IsReadAs asked.spec_top spec s × IsReadAs asked.imp_top imp i × AreComparable asked.care s i
-    × ((contents : Contents) × MayFill asked.options.shared i contents) × NoContentsAgree asked.care asked.options.shared s i
+pub record AreRefuted (asked : Asked) (spec imp : List ℕ) : Type 0 where
+  pub s : Design
+  pub i : Design
+  pub reads : AreReadAs asked spec imp s i
+  pub comparable : AreComparable asked.care s i
+  pub some : (contents : Contents) × MayFill asked.options.shared i contents
+  pub none : NoContentsAgree asked.care asked.options.shared s i
 
 -- a pair stands for the two, and for each such pair each check that is asked for leaves the question open
 pub record AreLeftOpen (asked : Asked) (spec imp : List ℕ) : Type 0 where
   pub pair : (p : NetPair) × StandsForTexts asked spec imp p
   pub left : (p : NetPair) → StandsForTexts asked spec imp p → AllLeaveOpen p asked.options
 
--- they fit, and the text has lines of tables, the last before its verdict, that spell contents of the boxes, in the order of their dependence, each of which has
--- the table of its kind: its own or, where boxes of one module share their contents, that of its module. There are such contents that may
--- fill the boxes, and with all that fit these and that the tables spell the two agree where agreement is asked. Behind the verdict no line is that of a table, and nothing stands there
--- unless the filled implementation is asked for
+-- they read as designs that can be compared, and the text has lines of tables, the last before its verdict, that spell contents of the
+-- boxes. Each box has the table of its kind: its own or, where boxes of one module share their contents, that of its module. There are
+-- such contents that may fill the boxes, and with all that fit these and that the tables spell the two agree where agreement is asked.
+-- After the verdict no line is that of a table, and nothing comes there unless the filled implementation is asked for
 pub record AreFinished (asked : Asked) (spec imp text : List ℕ) : Type 0 where
   pub s : Design
   pub i : Design
-  pub designs : AreDesignsOf asked spec imp s i
-  pub fit : DesignsFit asked.care s i
+  pub reads : AreReadAs asked spec imp s i
+  pub comparable : AreComparable asked.care s i
   pub order : List Scope
-  pub ordered : IsBoxOrder i order
+  pub all : IsPermutation order (boxes i)
   pub kinds : List ℕ
   pub keyed : AreKinds (map (box_key asked.options.shared) (map (box_texts i) order)) kinds
   pub tables : List TableBits
@@ -74,18 +87,44 @@ pub record AreFinished (asked : Asked) (spec imp text : List ℕ) : Type 0 where
   pub rest : List ℕ
   pub whole : text ≡ report ++ rest
   pub lines : EndsWithTables asked.options.shared (shown kinds (map (box_texts i) order)) report tables
-  pub behind : HasNoLine (codes "table") rest
-  pub nothing : asked.fill ≡ false → rest ≡ []
-  pub contents : (contents : Contents) × MayFill asked.options.shared i contents × AreSpelled (map (box_texts i) order) kinds tables contents
-  pub agree : (contents : Contents) → FitDesign i contents → AreSpelled (map (box_texts i) order) kinds tables contents → ContentsAgree asked.care s i contents
+  pub no_more : HasNoLine (codes "table") rest
+  pub alone : asked.fill ≡ false → rest ≡ []
+  pub contents : (contents : Contents) × MayFill asked.options.shared i contents
+      × AreSpelled (map (box_texts i) order) kinds tables contents
+  pub agree : (contents : Contents) → FitDesign i contents → AreSpelled (map (box_texts i) order) kinds tables contents
+      → ContentsAgree asked.care s i contents
 
 -- contents that fill the boxes as the tables spell
 abbrev pub Fills : {asked : Asked} {spec imp text : List ℕ} → AreFinished asked spec imp text → Contents → Type 0
-Fills finished contents = FitDesign finished.i contents × AreSpelled (map (box_texts finished.i) finished.order) finished.kinds finished.tables contents
+Fills finished contents = FitDesign finished.i contents
+    × AreSpelled (map (box_texts finished.i) finished.order) finished.kinds finished.tables contents
 
--- the text says that the two are finished, and behind its verdict stands the implementation with such contents as one module, or why it does not
+-- where it is asked for, after the verdict comes the implementation with such contents as one module, or why it does not
 abbrev pub IsFilled : Asked → List ℕ → List ℕ → List ℕ → Type 0
-IsFilled asked spec imp text = (finished : AreFinished asked spec imp text) × StandsBehind asked spec finished.i (Fills finished) finished.rest
+IsFilled asked spec imp text = asked.fill ≡ true → (finished : AreFinished asked spec imp text)
+    × FollowsVerdict finished.i (IsFinishedText asked.care finished.s finished.i (Fills finished)) finished.rest
+
+-- the filled text passes as an implementation: nothing is at fault in it and it fits the specification, whether its top is named or not
+abbrev pub Passes : Asked → List ℕ → List ℕ → Type 0
+Passes asked spec filled = DoFit (record asked { imp_top = None }) spec filled
+    × DoFit (record asked { imp_top = Some (codes "filled") }) spec filled
+
+abbrev pub IsFilledToPass : Asked → List ℕ → List ℕ → List ℕ → Type 0
+IsFilledToPass asked spec imp text = asked.fill ≡ true → (finished : AreFinished asked spec imp text)
+    × FollowsVerdict finished.i (Passes asked spec) finished.rest
+
+-- with all contents that fit the boxes and that the tables spell the two run alike, whatever events come
+abbrev pub RunsAsSpecified : Asked → List ℕ → List ℕ → List ℕ → Type 0
+RunsAsSpecified asked spec imp text = (finished : AreFinished asked spec imp text)
+    × ((contents : Contents) → Fills finished contents → RunAlike asked.care finished.s finished.i contents)
+
+-- the text reads as a design that runs as the specification does
+abbrev pub Runs : Option (List ℕ) → Design → List ℕ → Type 0
+Runs care s filled = (d : Design) × IsReadAs None filled d × ((contents : Contents) → RunAlike care s d contents)
+
+abbrev pub IsFilledToRun : Asked → List ℕ → List ℕ → List ℕ → Type 0
+IsFilledToRun asked spec imp text = asked.fill ≡ true → (finished : AreFinished asked spec imp text)
+    × FollowsVerdict finished.i (Runs asked.care finished.s) finished.rest
 
 -- a pair stands for the two for which a check that is asked for decides
 abbrev pub AreDecided : Asked → List ℕ → List ℕ → Type 0
@@ -114,9 +153,26 @@ abbrev pub FittingAreRefutedByDesigns : Type 0
 FittingAreRefutedByDesigns = (asked : Asked) (spec imp : List ℕ) → DoFit asked spec imp → AreRefuted asked spec imp
     → (s i : Design) × AreDesignsOf asked spec imp s i × DesignsFit asked.care s i × NoContentsAgree asked.care asked.options.shared s i
 
--- no two texts are both finished and refuted
+-- two calls ask the same of two texts, but for how much the checks may need and which are run
+pub record AskAlike (asked other : Asked) : Type 0 where
+  pub spec_top : other.spec_top ≡ asked.spec_top
+  pub imp_top : other.imp_top ≡ asked.imp_top
+  pub care : other.care ≡ asked.care
+  pub shared : other.options.shared ≡ asked.options.shared
+
+-- no two texts are both finished and refuted, whatever the bounds of the two calls
 abbrev pub NotFinishedAndRefuted : Type 0
-NotFinishedAndRefuted = (asked : Asked) (spec imp text : List ℕ) → AreFinished asked spec imp text → AreRefuted asked spec imp → ⊥
+NotFinishedAndRefuted = (asked other : Asked) (spec imp text : List ℕ) → AskAlike asked other → AreFinished asked spec imp text
+    → AreRefuted other spec imp → ⊥
+
+-- the text of a netlist of the implementation from which a pair is made, filled with tables that agree, finishes the design, passes
+-- and runs
+abbrev pub FilledTextsFinish : Type 0
+FilledTextsFinish = (asked : Asked) (spec imp : List ℕ) (s i : Design) → AreDesignsOf asked spec imp s i
+    → (p : NetPair) (pair : IsPairFor asked.care asked.options.shared s i p) (tables : List TableBits)
+    → AreSharedCompletion p.spec p.imp p.kinds tables → (text : List ℕ) → MayPrint pair.imp_net (spread p.kinds tables) (Text text)
+    → IsFinishedText asked.care s i (λ contents. FitDesign i contents × AreSpelled p.boxes p.kinds tables contents) text
+    × Passes asked spec text × Runs asked.care s text
 
 -- pairs that stand for two texts are alike
 abbrev pub TextPairsAreAlike : Type 0

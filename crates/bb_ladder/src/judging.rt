@@ -1,6 +1,6 @@
 //! The verdict on two texts: they are made into a pair, and the checks that are asked for are run on it.
 
-ghost use Rattle.std.specs.Prelude.{◌≡◌, ◌<◌, ◌⊎◌, true, length, IfOk, IfSome};
+ghost use Rattle.std.specs.Prelude.{◌≡◌, ◌<◌, ◌⊎◌, length, IfOk, IfSome};
 ghost use Rattle.bb_options.specs.Rungs.{AreBounds};
 ghost use Rattle.bb_texts.specs.declared.limit.TheConstants.{READ_LIMIT};
 ghost use Rattle.bb_texts.specs.declared.refusal.Refusal.{Refusal};
@@ -8,7 +8,7 @@ ghost use Rattle.bb_texts.specs.RefusalLines.{refusal_line};
 ghost use Rattle.bb_ladder.specs.Inside.Made.{CanBeFilled, IsChecked};
 ghost use Rattle.bb_ladder.specs.ShownMistakes.{AreShown};
 ghost use Rattle.bb_ladder.specs.TextAnswers.{Judges};
-ghost use Rattle.bb_ladder.specs.TextPairs.{AreDecided, AreFinished, AreLeftOpen, AreRefuted, AreStayingOpen, DoFit, IsFilled, IsRefusal};
+ghost use Rattle.bb_ladder.specs.TextPairs.{AreDecided, AreFinished, AreLeftOpen, AreRefuted, AreStayingOpen, DoFit, IsFilled, IsFilledToPass, IsFilledToRun, IsRefusal, RunsAsSpecified};
 
 use crate::answer::Answer;
 use crate::asked::Asked;
@@ -68,7 +68,7 @@ fn answer(alloc: Global, spec: &[u8], imp: &[u8], asked: &Asked) -> Result<Answe
 /// What is answered to the text of the specification and that of the implementation, whoever read them.
 ///
 /// Status 0 says that the tables at the end of the report make the two agree where that is asked, and so does the text behind the line
-/// `fill`, where the filled implementation is asked for and one is printed; status 1 that no contents of the boxes do and that the vectors
+/// `fill`, where the filled implementation is asked for and one is printed, which passes as an implementation; status 1 that no contents of the boxes do and that the vectors
 /// of the report show mistakes, status 3 that each check that is asked for leaves the question open, and status 2 that the line is their
 /// first refusal; with every other status nothing is at fault in the two texts, and they fit. Where a check that is asked for decides, the
 /// status is 0 or 1, where the question stays open with each, it is 3, and where the two have a refusal, it is 2.
@@ -83,7 +83,10 @@ pub fn judge_pair(alloc: Global, spec: &[u8], imp: &[u8], asked: &Asked) -> Resu
     ensures answer { IfOk result (λ answer. Judges asked.now spec.now imp.now answer.status answer.report.items) }
     ensures fit { IfOk result (λ answer. (answer.status ≡ 2 → ⊥) → DoFit asked.now spec.now imp.now) }
     ensures repairable { IfOk result (λ answer. answer.status ≡ 0 → AreFinished asked.now spec.now imp.now answer.report.items) }
-    ensures filled { IfOk result (λ answer. answer.status ≡ 0 → asked.now.fill ≡ true → IsFilled asked.now spec.now imp.now answer.report.items) }
+    ensures filled { IfOk result (λ answer. answer.status ≡ 0 → IsFilled asked.now spec.now imp.now answer.report.items) }
+    ensures passes { IfOk result (λ answer. answer.status ≡ 0 → IsFilledToPass asked.now spec.now imp.now answer.report.items) }
+    ensures runs { IfOk result (λ answer. answer.status ≡ 0 → RunsAsSpecified asked.now spec.now imp.now answer.report.items) }
+    ensures filled_runs { IfOk result (λ answer. answer.status ≡ 0 → IsFilledToRun asked.now spec.now imp.now answer.report.items) }
     ensures error { IfOk result (λ answer. answer.status ≡ 1 → AreRefuted asked.now spec.now imp.now) }
     ensures shown { IfOk result (λ answer. answer.status ≡ 1 → AreShown asked.now spec.now imp.now answer.report.items) }
     ensures left_open { IfOk result (λ answer. answer.status ≡ 3 → AreLeftOpen asked.now spec.now imp.now) }

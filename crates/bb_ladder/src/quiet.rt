@@ -1,17 +1,18 @@
 //! `run` over files and a sink that never fail.
-ghost use Rattle.std.specs.Prelude.{◌≡◌, ◌≢◌, ◌<◌, ◌≤◌, ◌⊎◌, ℕ, true, List, None, Some, codes, length, map, string_bytes};
+ghost use Rattle.std.specs.Prelude.{◌≡◌, ◌≢◌, ◌<◌, ◌≤◌, ◌⊎◌, ℕ, List, None, Some, map, string_bytes};
 ghost use Rattle.bb_cnf.specs.Clauses.{Formula};
 ghost use Rattle.bb_cnf.specs.declared.clauses.Lit.{Lit};
 ghost use Rattle.bb_outside.specs.Inside.QuietFiles.{holds_of, reads_of};
-ghost use Rattle.bb_texts.specs.declared.limit.TheConstants.{READ_LIMIT};
-ghost use Rattle.bb_words.specs.Asked.{MadePair, Refutation, made_asked, rup_asked};
-ghost use Rattle.bb_ladder.specs.Answers.{AreRefutationTexts, AreTexts, MayAnswer};
+ghost use Rattle.bb_words.specs.Asked.{MadePair, made_asked, rup_asked};
+ghost use Rattle.bb_ladder.specs.Answers.{MayAnswer};
 ghost use Rattle.bb_ladder.specs.CallRefusals.{IsCallRefusal};
-ghost use Rattle.bb_ladder.specs.declared.asked.Asked.{Asked as TextsAsked};
+ghost use Rattle.bb_ladder.specs.Calls.{called};
+ghost use Rattle.bb_ladder.specs.Clauses.{OfRefutations, OfTexts, OfWholeRefutations, OfWholeTexts};
+ghost use Rattle.bb_ladder.specs.GivenTexts.{IsVerdict};
 ghost use Rattle.bb_ladder.specs.Refutations.{AreRead, FailsAt, IsRefutation, SaysWhether};
 ghost use Rattle.bb_ladder.specs.ShownMistakes.{AreShown};
 ghost use Rattle.bb_ladder.specs.Sources.{Held};
-ghost use Rattle.bb_ladder.specs.TextPairs.{AreDecided, AreFinished, AreLeftOpen, AreRefuted, AreStayingOpen, DoFit, IsFilled};
+ghost use Rattle.bb_ladder.specs.TextPairs.{AreDecided, AreFinished, AreLeftOpen, AreRefuted, AreStayingOpen, DoFit, IsFilled, IsFilledToPass, IsFilledToRun, RunsAsSpecified};
 
 use crate::running::run;
 use bb_outside::{QuietFiles, QuietSink};
@@ -33,49 +34,55 @@ pub fn run_quietly(
     ensures taken { result ≢ 6 }
 
     // The status is that of a report that may be answered, unless memory runs out.
-    ensures whole { result < 5 → (text : List ℕ) × MayAnswer (map string_bytes words.now) (holds_of files.old) (reads_of files.old) (reads_of files.new) result text }
+    ensures whole { result < 5 → (text : List ℕ) × MayAnswer (called words.now holds_of reads_of files.old files.new) result text }
 
     // Statuses 0, 1 and 3 come only of texts in which nothing is at fault and that fit.
-    ensures fit { ((result ≡ 0) ⊎ (result ≡ 1)) ⊎ (result ≡ 3) → (asked : TextsAsked) (spec imp : List ℕ) → AreTexts (map string_bytes words.now) Held (holds_of files.old) (reads_of files.old) (reads_of files.new) asked spec imp
-        → DoFit asked spec imp }
+    ensures fit { IsVerdict result → OfTexts (called words.now holds_of reads_of files.old files.new) DoFit }
 
     // The design is finished by tables whose contents make every output and every next state agree on every vector, where a care output is
     // asked for at which it is 1.
-    ensures repairable { result ≡ 0 → (asked : TextsAsked) (spec imp : List ℕ) → AreTexts (map string_bytes words.now) Held (holds_of files.old) (reads_of files.old) (reads_of files.new) asked spec imp
-        → (text : List ℕ) × AreFinished asked spec imp text }
-    ensures filled { result ≡ 0 → (asked : TextsAsked) (spec imp : List ℕ) → AreTexts (map string_bytes words.now) Held (holds_of files.old) (reads_of files.old) (reads_of files.new) asked spec imp
-        → asked.fill ≡ true → (text : List ℕ) × IsFilled asked spec imp text }
+    ensures repairable { result ≡ 0 → OfTexts (called words.now holds_of reads_of files.old files.new) (λ asked spec imp.
+        (text : List ℕ) × AreFinished asked spec imp text) }
+    ensures filled { result ≡ 0 → OfTexts (called words.now holds_of reads_of files.old files.new) (λ asked spec imp.
+        (text : List ℕ) × IsFilled asked spec imp text) }
+    ensures passes { result ≡ 0 → OfTexts (called words.now holds_of reads_of files.old files.new) (λ asked spec imp.
+        (text : List ℕ) × IsFilledToPass asked spec imp text) }
+
+    // So the two behave alike for ever, whatever events come.
+    ensures runs { result ≡ 0 → OfTexts (called words.now holds_of reads_of files.old files.new) (λ asked spec imp.
+        (text : List ℕ) × RunsAsSpecified asked spec imp text) }
+    ensures filled_runs { result ≡ 0 → OfTexts (called words.now holds_of reads_of files.old files.new) (λ asked spec imp.
+        (text : List ℕ) × IsFilledToRun asked spec imp text) }
 
     // No contents of the boxes make every output and every next state agree on every such vector, and a report shows how.
-    ensures error { result ≡ 1 → (asked : TextsAsked) (spec imp : List ℕ) → AreTexts (map string_bytes words.now) Held (holds_of files.old) (reads_of files.old) (reads_of files.new) asked spec imp
-        → AreRefuted asked spec imp }
-    ensures shown { result ≡ 1 → (asked : TextsAsked) (spec imp : List ℕ) → AreTexts (map string_bytes words.now) Held (holds_of files.old) (reads_of files.old) (reads_of files.new) asked spec imp
-        → (text : List ℕ) × AreShown asked spec imp text }
+    ensures error { result ≡ 1 → OfTexts (called words.now holds_of reads_of files.old files.new) AreRefuted }
+    ensures shown { result ≡ 1 → OfTexts (called words.now holds_of reads_of files.old files.new) (λ asked spec imp.
+        (text : List ℕ) × AreShown asked spec imp text) }
 
     // The question is left open only where each check that is asked for leaves it open; where it stays open with each, it is, and where
     // one decides, it is not.
-    ensures left_open { result ≡ 3 → (asked : TextsAsked) (spec imp : List ℕ) → AreTexts (map string_bytes words.now) Held (holds_of files.old) (reads_of files.old) (reads_of files.new) asked spec imp
-        → AreLeftOpen asked spec imp }
-    ensures stays_open { (asked : TextsAsked) (spec imp : List ℕ) → AreTexts (map string_bytes words.now) Held (holds_of files.old) (reads_of files.old) (reads_of files.new) asked spec imp
-        → length spec < READ_LIMIT → length imp < READ_LIMIT → AreStayingOpen asked spec imp → (result ≡ 3) ⊎ (result ≡ 5) }
-    ensures decided { (asked : TextsAsked) (spec imp : List ℕ) → AreTexts (map string_bytes words.now) Held (holds_of files.old) (reads_of files.old) (reads_of files.new) asked spec imp
-        → length spec < READ_LIMIT → length imp < READ_LIMIT → AreDecided asked spec imp → ((result ≡ 0) ⊎ (result ≡ 1)) ⊎ (result ≡ 5) }
+    ensures left_open { result ≡ 3 → OfTexts (called words.now holds_of reads_of files.old files.new) AreLeftOpen }
+    ensures stays_open { OfWholeTexts (called words.now holds_of reads_of files.old files.new) (λ asked spec imp.
+        AreStayingOpen asked spec imp → (result ≡ 3) ⊎ (result ≡ 5)) }
+    ensures decided { OfWholeTexts (called words.now holds_of reads_of files.old files.new) (λ asked spec imp.
+        AreDecided asked spec imp → ((result ≡ 0) ⊎ (result ≡ 1)) ⊎ (result ≡ 5)) }
 
     // With `--rup` the status says whether each addition follows.
-    ensures refuted_yes { result ≡ 0 → (f : Refutation) (first second : List ℕ) → AreRefutationTexts (map string_bytes words.now) Held (holds_of files.old) (reads_of files.old) (reads_of files.new) f first second
-        → IsRefutation first second }
-    ensures refuted_no { result ≡ 1 → (f : Refutation) (first second : List ℕ) → AreRefutationTexts (map string_bytes words.now) Held (holds_of files.old) (reads_of files.old) (reads_of files.new) f first second
-        → (n : ℕ) × FailsAt first second n }
-    ensures refuted { (f : Refutation) (first second : List ℕ) (formula : Formula) (adds : List (List Lit)) → AreRefutationTexts (map string_bytes words.now) Held (holds_of files.old) (reads_of files.old) (reads_of files.new) f first second
-        → length first < READ_LIMIT → length second < READ_LIMIT → AreRead first second formula adds → SaysWhether formula adds result ⊎ (result ≡ 5) }
+    ensures refuted_yes { result ≡ 0 → OfRefutations (called words.now holds_of reads_of files.old files.new) IsRefutation }
+    ensures refuted_no { result ≡ 1 → OfRefutations (called words.now holds_of reads_of files.old files.new) (λ first second.
+        (n : ℕ) × FailsAt first second n) }
+    ensures refuted { OfWholeRefutations (called words.now holds_of reads_of files.old files.new) (λ first second. (formula : Formula)
+        (adds : List (List Lit)) → AreRead first second formula adds → SaysWhether formula adds result ⊎ (result ≡ 5)) }
     ensures open_compares { result ≡ 3 → rup_asked (map string_bytes words.now) ≡ None }
 
     // Status 2 comes only where the call is refused, and then it comes.
-    ensures refused { result ≡ 2 → (line : List ℕ) × IsCallRefusal (map string_bytes words.now) Held (holds_of files.old) (reads_of files.old) (reads_of files.new) line }
-    ensures stays_refused { (line : List ℕ) → IsCallRefusal (map string_bytes words.now) Held (holds_of files.old) (reads_of files.old) (reads_of files.new) line → (result ≡ 2) ⊎ (result ≡ 5) }
+    ensures refused { result ≡ 2 → (line : List ℕ) × IsCallRefusal (called words.now holds_of reads_of files.old files.new) Held line }
+    ensures stays_refused { (line : List ℕ) → IsCallRefusal (called words.now holds_of reads_of files.old files.new) Held line
+        → (result ≡ 2) ⊎ (result ≡ 5) }
 
     // Of a made pair no file is read.
-    ensures reads_nothing { (m : MadePair) → made_asked (map string_bytes words.now) ≡ Some m → reads_of files.new ≡ reads_of files.old }
+    ensures reads_nothing { (m : MadePair) → made_asked (map string_bytes words.now) ≡ Some m
+        → reads_of files.new ≡ reads_of files.old }
 
     // What the files hold stays.
     ensures kept { (n : List ℕ) → holds_of files.new n ≡ holds_of files.old n }

@@ -1,27 +1,29 @@
 //! The top call: the words are read, then the two files, or two texts are made, and the report is made whole before its first byte is written.
-ghost use Rattle.std.specs.Prelude.{◌≡◌, ◌≤◌, ◌<◌, ◌⊎◌, ◌++◌, ℕ, true, List, None, Some, codes, length, map, take, string_bytes, IfOk};
+ghost use Rattle.std.specs.Prelude.{◌≡◌, ◌≤◌, ◌<◌, ◌⊎◌, ℕ, List, None, Some, codes, length, map, take, string_bytes, IfOk};
 ghost use Rattle.std.specs.Io.KnownBytes.{Appends, Keeps};
 ghost use Rattle.bb_outside.specs.Counts.{CountsWhere, FileRead, Rose, next_count};
 ghost use Rattle.bb_cnf.specs.Clauses.{Formula};
 ghost use Rattle.bb_cnf.specs.declared.clauses.Lit.{Lit};
-ghost use Rattle.bb_words.specs.Asked.{MadePair, Refutation, made_asked, rup_asked};
+ghost use Rattle.bb_words.specs.Asked.{MadePair, made_asked, rup_asked};
 ghost use Rattle.bb_texts.specs.declared.limit.TheConstants.{READ_LIMIT};
-ghost use Rattle.bb_ladder.specs.Answers.{AfterSpec, AreRefutationTexts, AreTexts, MayAnswer, OfFiles};
+ghost use Rattle.bb_ladder.specs.Answers.{AfterSpec, MayAnswer, OfFiles};
 ghost use Rattle.bb_ladder.specs.CallRefusals.{AreTold, IsCallRefusal};
-ghost use Rattle.bb_ladder.specs.declared.asked.Asked.{Asked as TextsAsked};
-ghost use Rattle.bb_ladder.specs.GivenTexts.{HaveGiven};
-ghost use Rattle.bb_ladder.specs.MadePairs.{head_of};
+ghost use Rattle.bb_ladder.specs.Calls.{called};
+ghost use Rattle.bb_ladder.specs.Clauses.{OfRefutations, OfTexts, OfWholeRefutations, OfWholeTexts, Reports, Writes};
+ghost use Rattle.bb_ladder.specs.GivenTexts.{HaveGiven, IsVerdict};
 ghost use Rattle.bb_ladder.specs.Refutations.{AreRead, FailsAt, IsRefutation, SaysWhether, no_line};
 ghost use Rattle.bb_ladder.specs.ShownMistakes.{AreShown};
 ghost use Rattle.bb_ladder.specs.Sources.{MayHaveFailed, Source};
 ghost use Rattle.bb_ladder.specs.Inside.Tasks.{IsBounded, judged_by};
-ghost use Rattle.bb_ladder.specs.TextPairs.{AreDecided, AreFinished, AreLeftOpen, AreRefuted, AreStayingOpen, DoFit, IsFilled};
+ghost use Rattle.bb_ladder.specs.TextPairs.{AreDecided, AreFinished, AreLeftOpen, AreRefuted, AreStayingOpen, DoFit, IsFilled, IsFilledToPass, IsFilledToRun, RunsAsSpecified};
 
 use crate::answer::{Answer, say};
 use crate::judging::judge_pair;
 use crate::making::judge_made;
 use crate::refuting::{judge_refutation, refutations_are_answered};
-use crate::text_laws::{answered_have_given, answers_are_meant, calls_are_refused};
+use crate::text_laws::{
+    answered_have_given, answers_are_meant, answers_speak_of_texts, calls_are_refused,
+};
 use crate::words::{Call, Question, Task, call_of};
 use bb_bits::NoMemory;
 use bb_outside::{FileFault, Files, Sink, put_all};
@@ -86,7 +88,7 @@ fn read_spec<F: Files>(
 
 // What is answered to the words.
 fn answer<F: Files>(alloc: Global, words: &[String], files: &mut F) -> Result<Answer, NoMemory>
-    ensures answer { IfOk result (λ answer. MayAnswer (map string_bytes words.now) (F.holds files.old) (F.reads files.old) (F.reads files.new)
+    ensures answer { IfOk result (λ answer. MayAnswer (called words.now F.holds F.reads files.old files.new)
         answer.status answer.report.items) }
     ensures never_falls { (F.reads files.old).faults ≤ (F.reads files.new).faults }
     ensures kept { (n : List ℕ) → F.holds files.new n ≡ F.holds files.old n }
@@ -103,98 +105,107 @@ fn answer<F: Files>(alloc: Global, words: &[String], files: &mut F) -> Result<An
 
 /// Compares the implementation with the specification, or those of a made pair, or checks clause additions against a formula, and writes a report. It answers a status:
 ///
-/// - 0: the report is written and ends with tables and `verdict repairable`, behind which the filled implementation stands where it is asked
+/// - 0: the report is written and ends with tables and `verdict repairable`, after which the filled implementation comes where it is asked
 ///   for, or is `rup yes`;
 /// - 1: the report is written and ends with `verdict error`, or is `rup no` and a number;
 /// - 2: the report is the line of a refusal;
 /// - 3: the report is written and ends with `verdict open`;
 /// - 4: a file could not be read, and the report says which;
 /// - 5: nothing is written, as where memory runs out;
-/// - 6: the sink failed, and a front of a report is written.
+/// - 6: the sink failed, and a prefix of a report is written.
 ///
 /// The first word is the program's name. The specification is read first and the implementation after it, each by one read; of a
 /// made pair nothing is read, and two lines stand before its report. What is said of their texts is said of what the files hold, where they tell it, and of the bytes that the two reads gave, where the reads are told.
 pub fn run<F: Files, K: Sink>(alloc: Global, words: &[String], files: &mut F, out: &mut K) -> u8
     ensures status { result ≤ 6 }
 
-    // What is written is a whole report, nothing, or a front of a report.
-    ensures whole { result < 5 → (text : List ℕ) × Appends (K.written out.old) (K.written out.new) text
-        × MayAnswer (map string_bytes words.now) (F.holds files.old) (F.reads files.old) (F.reads files.new) result text }
+    // What is written is a whole report, nothing, or a prefix of a report.
+    ensures whole { result < 5
+        → Writes K.written out.old out.new (MayAnswer (called words.now F.holds F.reads files.old files.new) result) }
     ensures silent { result ≡ 5 → Keeps (K.written out.old) (K.written out.new) }
-    ensures front { result ≡ 6 → (status : ℕ) × (text : List ℕ) × (n : ℕ) × (n < length text) × Appends (K.written out.old) (K.written out.new) (take n text)
-        × MayAnswer (map string_bytes words.now) (F.holds files.old) (F.reads files.old) (F.reads files.new) status text }
+    ensures front { result ≡ 6 → (status : ℕ) × (text : List ℕ) × (n : ℕ) × (n < length text)
+        × Appends (K.written out.old) (K.written out.new) (take n text)
+        × MayAnswer (called words.now F.holds F.reads files.old files.new) status text }
 
     // Statuses 0, 1 and 3 come only of texts in which nothing is at fault and that fit.
-    ensures fit { ((result ≡ 0) ⊎ (result ≡ 1)) ⊎ (result ≡ 3) → (from : Source) (asked : TextsAsked) (spec imp : List ℕ) → AreTexts (map string_bytes words.now) from (F.holds files.old) (F.reads files.old) (F.reads files.new) asked spec imp → DoFit asked spec imp }
+    ensures fit { IsVerdict result → OfTexts (called words.now F.holds F.reads files.old files.new) DoFit }
 
     // The design is reported as repairable only with tables whose contents make every output and every next state agree on every vector,
     // where a care output is asked for at which it is 1.
-    ensures repairable { result ≡ 0 → (from : Source) (asked : TextsAsked) (spec imp : List ℕ) → AreTexts (map string_bytes words.now) from (F.holds files.old) (F.reads files.old) (F.reads files.new) asked spec imp
-        → (text : List ℕ) × Appends (K.written out.old) (K.written out.new) (head_of (map string_bytes words.now) ++ text) × AreFinished asked spec imp text }
+    ensures repairable { result ≡ 0
+        → Reports K.written out.old out.new (called words.now F.holds F.reads files.old files.new) AreFinished }
 
-    // And where the filled implementation is asked for, behind the verdict stands a line that says why there is none, or `fill` and a text that
-    // finishes the design: whoever reads it finds a design without boxes that agrees with the specification on every such vector, and with the
-    // implementation, its boxes filled as the tables say, on every vector.
-    ensures filled { result ≡ 0 → (from : Source) (asked : TextsAsked) (spec imp : List ℕ) → AreTexts (map string_bytes words.now) from (F.holds files.old) (F.reads files.old) (F.reads files.new) asked spec imp → asked.fill ≡ true
-        → (text : List ℕ) × Appends (K.written out.old) (K.written out.new) (head_of (map string_bytes words.now) ++ text) × IsFilled asked spec imp text }
+    // And where the filled implementation is asked for, after the verdict comes a line that says why there is none, or `fill` and a text
+    // that finishes the design: whoever reads it finds a design without boxes that agrees with the specification on every such vector,
+    // and with the implementation, its boxes filled as the tables say, on every vector. As an implementation it is refused for nothing.
+    ensures filled { result ≡ 0
+        → Reports K.written out.old out.new (called words.now F.holds F.reads files.old files.new) IsFilled }
+    ensures passes { result ≡ 0
+        → Reports K.written out.old out.new (called words.now F.holds F.reads files.old files.new) IsFilledToPass }
 
-    // An error is reported only where the two can be compared and no contents of the boxes make every output and every next state agree on every
-    // such vector.
-    ensures error { result ≡ 1 → (from : Source) (asked : TextsAsked) (spec imp : List ℕ) → AreTexts (map string_bytes words.now) from (F.holds files.old) (F.reads files.old) (F.reads files.new) asked spec imp → AreRefuted asked spec imp }
+    // So they behave alike for ever: from the same states, whatever events come, the implementation with these contents gives the outputs of
+    // the specification at each event and has its states after it, and so does the filled text; with a care output as long as it is 1.
+    ensures runs { result ≡ 0
+        → Reports K.written out.old out.new (called words.now F.holds F.reads files.old files.new) RunsAsSpecified }
+    ensures filled_runs { result ≡ 0
+        → Reports K.written out.old out.new (called words.now F.holds F.reads files.old files.new) IsFilledToRun }
 
-    // And the report shows how: behind the line of a check that finds it at a vector stand the output that is wrong there, where
-    // one is told, and the vector, at which the two designs differ whatever the boxes contain.
-    ensures shown { result ≡ 1 → (from : Source) (asked : TextsAsked) (spec imp : List ℕ) → AreTexts (map string_bytes words.now) from (F.holds files.old) (F.reads files.old) (F.reads files.new) asked spec imp
-        → (text : List ℕ) × Appends (K.written out.old) (K.written out.new) (head_of (map string_bytes words.now) ++ text) × AreShown asked spec imp text }
+    // An error is reported only where the two can be compared and no contents of the boxes make every output and every next state agree on
+    // every such vector.
+    ensures error { result ≡ 1 → OfTexts (called words.now F.holds F.reads files.old files.new) AreRefuted }
+
+    // And the report shows how: after the line of a check that finds it at a vector come the output that is wrong there, where one is
+    // named, and the vector, at which the two designs differ whatever the boxes contain.
+    ensures shown { result ≡ 1
+        → Reports K.written out.old out.new (called words.now F.holds F.reads files.old files.new) AreShown }
 
     // The question is left open only where, for each pair that stands for the texts, each check that is asked for finds neither a mistake
     // nor tables, would need more nodes or may need more clauses than it may have, or would need wider tables.
-    ensures left_open { result ≡ 3 → (from : Source) (asked : TextsAsked) (spec imp : List ℕ) → AreTexts (map string_bytes words.now) from (F.holds files.old) (F.reads files.old) (F.reads files.new) asked spec imp → AreLeftOpen asked spec imp }
+    ensures left_open { result ≡ 3 → OfTexts (called words.now F.holds F.reads files.old files.new) AreLeftOpen }
 
     // Where the texts are within the limit, no read of them may have failed, and a check that is asked for decides a pair that stands for
     // the texts, the answer is an error or tables, unless memory runs out.
-    ensures decided { (from : Source) (asked : TextsAsked) (spec imp : List ℕ) → AreTexts (map string_bytes words.now) from (F.holds files.old) (F.reads files.old) (F.reads files.new) asked spec imp → length spec < READ_LIMIT → length imp < READ_LIMIT
-        → AreDecided asked spec imp → (MayHaveFailed from (F.reads files.old) (F.reads files.new) → ⊥) → (Rose (K.faults out.old) (K.faults out.new) → ⊥)
-        → ((result ≡ 0) ⊎ (result ≡ 1)) ⊎ (result ≡ 5) }
+    ensures decided { OfWholeTexts (called words.now F.holds F.reads files.old files.new) (λ asked spec imp. AreDecided asked spec imp
+        → (Rose (K.faults out.old) (K.faults out.new) → ⊥) → ((result ≡ 0) ⊎ (result ≡ 1)) ⊎ (result ≡ 5)) }
 
     // And where the question stays open with each check that is asked for, whatever the solver does, that is the answer.
-    ensures stays_open { (from : Source) (asked : TextsAsked) (spec imp : List ℕ) → AreTexts (map string_bytes words.now) from (F.holds files.old) (F.reads files.old) (F.reads files.new) asked spec imp → length spec < READ_LIMIT → length imp < READ_LIMIT
-        → AreStayingOpen asked spec imp → (MayHaveFailed from (F.reads files.old) (F.reads files.new) → ⊥) → (Rose (K.faults out.old) (K.faults out.new) → ⊥)
-        → (result ≡ 3) ⊎ (result ≡ 5) }
+    ensures stays_open { OfWholeTexts (called words.now F.holds F.reads files.old files.new) (λ asked spec imp.
+        AreStayingOpen asked spec imp → (Rose (K.faults out.old) (K.faults out.new) → ⊥) → (result ≡ 3) ⊎ (result ≡ 5)) }
 
     // With `--rup` status 0 says that each addition follows, and so no assignment makes all clauses of the first text true.
-    ensures refuted_yes { result ≡ 0 → (from : Source) (f : Refutation) (first second : List ℕ) → AreRefutationTexts (map string_bytes words.now) from (F.holds files.old) (F.reads files.old) (F.reads files.new) f first second
-        → Appends (K.written out.old) (K.written out.new) (codes "rup yes\n") × IsRefutation first second }
+    ensures refuted_yes { result ≡ 0 → OfRefutations (called words.now F.holds F.reads files.old files.new) (λ first second.
+        Appends (K.written out.old) (K.written out.new) (codes "rup yes\n") × IsRefutation first second) }
 
-    // Status 1 tells the first addition that does not.
-    ensures refuted_no { result ≡ 1 → (from : Source) (f : Refutation) (first second : List ℕ) → AreRefutationTexts (map string_bytes words.now) from (F.holds files.old) (F.reads files.old) (F.reads files.new) f first second
-        → (n : ℕ) × Appends (K.written out.old) (K.written out.new) (no_line n) × FailsAt first second n }
+    // Status 1 names the first addition that does not.
+    ensures refuted_no { result ≡ 1 → OfRefutations (called words.now F.holds F.reads files.old files.new) (λ first second.
+        (n : ℕ) × Appends (K.written out.old) (K.written out.new) (no_line n) × FailsAt first second n) }
 
     // Where both texts are read without fault and no read of them may have failed, one of the two comes, by whether the additions succeed,
     // unless memory runs out.
-    ensures refuted { (from : Source) (f : Refutation) (first second : List ℕ) (formula : Formula) (adds : List (List Lit)) → AreRefutationTexts (map string_bytes words.now) from (F.holds files.old) (F.reads files.old) (F.reads files.new) f first second
-        → length first < READ_LIMIT → length second < READ_LIMIT → AreRead first second formula adds
-        → (MayHaveFailed from (F.reads files.old) (F.reads files.new) → ⊥) → (Rose (K.faults out.old) (K.faults out.new) → ⊥)
-        → SaysWhether formula adds result ⊎ (result ≡ 5) }
+    ensures refuted { OfWholeRefutations (called words.now F.holds F.reads files.old files.new) (λ first second. (formula : Formula)
+        (adds : List (List Lit)) → AreRead first second formula adds → (Rose (K.faults out.old) (K.faults out.new) → ⊥)
+        → SaysWhether formula adds result ⊎ (result ≡ 5)) }
 
     // A question is left open only of a comparison.
     ensures open_compares { result ≡ 3 → rup_asked (map string_bytes words.now) ≡ None }
 
-    // Status 2 tells the first thing for which the call is refused: its words, the length of a file, or what is wrong with the two texts.
-    ensures refused { result ≡ 2 → (from : Source) → AreTold (map string_bytes words.now) from (F.holds files.old) (F.reads files.old) (F.reads files.new)
-        → (line : List ℕ) × Appends (K.written out.old) (K.written out.new) line × IsCallRefusal (map string_bytes words.now) from (F.holds files.old) (F.reads files.old) (F.reads files.new) line }
+    // Status 2 names the first thing for which the call is refused: its words, the length of a file, or what is wrong with the two texts.
+    ensures refused { result ≡ 2 → (from : Source) → AreTold (called words.now F.holds F.reads files.old files.new) from
+        → Writes K.written out.old out.new (IsCallRefusal (called words.now F.holds F.reads files.old files.new) from) }
 
-    // And where the call is to be refused and no read may have failed, that is told, unless memory runs out.
-    ensures stays_refused { (from : Source) (line : List ℕ) → IsCallRefusal (map string_bytes words.now) from (F.holds files.old) (F.reads files.old) (F.reads files.new) line
+    // And where the call is to be refused and no read may have failed, that is the answer, unless memory runs out.
+    ensures stays_refused { (from : Source) (line : List ℕ)
+        → IsCallRefusal (called words.now F.holds F.reads files.old files.new) from line
         → (MayHaveFailed from (F.reads files.old) (F.reads files.new) → ⊥) → (Rose (K.faults out.old) (K.faults out.new) → ⊥)
         → ((result ≡ 2) × Appends (K.written out.old) (K.written out.new) line) ⊎ (result ≡ 5) }
 
     // Where the reads are told, those of this call gave the texts of which statuses 0, 1 and 3 speak, and as much as a refusal rests on.
     ensures given { (earlier : List FileRead) → (F.reads files.old).told ≡ Some earlier
-        → HaveGiven (map string_bytes words.now) (F.holds files.old) (F.reads files.old) (F.reads files.new) result }
+        → HaveGiven (called words.now F.holds F.reads files.old files.new) result }
 
     // Of a made pair no file is read, and none is blamed.
-    ensures reads_nothing { (m : MadePair) → made_asked (map string_bytes words.now) ≡ Some m → (F.reads files.new ≡ F.reads files.old) × (result ≡ 4 → ⊥) }
+    ensures reads_nothing { (m : MadePair) → made_asked (map string_bytes words.now) ≡ Some m
+        → (F.reads files.new ≡ F.reads files.old) × (result ≡ 4 → ⊥) }
 
     // What the files hold stays. One failed read was counted where a file is blamed, and none with a lower status; one failed write was
     // counted exactly where the sink is blamed.
@@ -207,6 +218,7 @@ pub fn run<F: Files, K: Sink>(alloc: Global, words: &[String], files: &mut F, ou
 {
     words_ask_once();
     answers_are_meant();
+    answers_speak_of_texts();
     refutations_are_answered();
     calls_are_refused();
     answered_have_given();

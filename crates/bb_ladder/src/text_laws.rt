@@ -3,26 +3,28 @@
 
 ghost use Rattle.bb_ladder.specs.Answers.{AnswersSpeakOfTexts};
 ghost use Rattle.bb_ladder.specs.CallRefusals.{CallRefusalsAreOne, RefusalsAreTold, RefusedCallsAreTold};
-ghost use Rattle.bb_ladder.specs.FilledTexts.{FilledTextsFinish, NoTablesFollow};
+ghost use Rattle.bb_ladder.specs.FilledTexts.{NoTablesFollow};
 ghost use Rattle.bb_ladder.specs.GivenTexts.{AnsweredHaveGiven};
 ghost use Rattle.bb_ladder.specs.Inside.Made.{MadeCanBeFilled};
 ghost use Rattle.bb_ladder.specs.Laws.FilledNets.{FilledNetsStand};
-ghost use Rattle.bb_ladder.specs.ShownMistakes.{ErrorsAreShown, ShownMistakesRefute};
-ghost use Rattle.bb_ladder.specs.TextAnswers.{AnsweredFit, ErrorsRefute, FillingOnlyAdds, RepairsFill, RepairsFinish, OpenAnswersLeaveOpen, DecidedAreAnswered, StayingOpenAreAnswered, JudgedRefusalsAreFirst, RefusedAreAnsweredOnce, ReportsAreOne, ReportsBeginAsOne, StatusesAreOne, StatusesNeverClash};
-ghost use Rattle.bb_ladder.specs.TextPairs.{DesignsAreAllowed, FittingAreRefutedByDesigns, NotFinishedAndRefuted, NotPairAndRefusal, RefusalsAreOne, TextPairsAreAlike};
+ghost use Rattle.bb_ladder.specs.ShownMistakes.{ErrorsAreShown};
+ghost use Rattle.bb_ladder.specs.TextAnswers.{AnsweredFit, ErrorsRefute, FillingOnlyAdds, RepairsFill, RepairsFinish, RepairsRun, OpenAnswersLeaveOpen, DecidedAreAnswered, StayingOpenAreAnswered, JudgedRefusalsAreFirst, RefusedAreAnsweredOnce, ReportsAreOne, ReportsBeginAsOne, StatusesAreOne, StatusesNeverClash};
+ghost use Rattle.bb_ladder.specs.TextPairs.{DesignsAreAllowed, FilledTextsFinish, FittingAreRefutedByDesigns, NotFinishedAndRefuted, NotPairAndRefusal, RefusalsAreOne, TextPairsAreAlike};
 
 use crate::refuting::refutations_are_answered;
 use bb_agree::laws::{
-    design_refusals_are_one, fitting_designs_are_comparable, fitting_tables_are_of_boxes,
-    mistakes_refute, no_tables_no_contents, not_fit_and_refused, pairs_are_named,
-    pairs_for_designs_are_alike, pairs_have_box_orders, pairs_stand_exactly_for_fitting,
-    spelled_contents_agree, spelled_contents_have_tables, tables_agree_as_contents,
-    tables_spell_contents, wrong_outputs_are_mistakes, wrong_vectors_are_mistakes,
+    agreeing_designs_run_alike, design_refusals_are_one, failing_vectors_are_mistakes,
+    fitting_designs_are_comparable, fitting_tables_are_of_boxes, no_tables_no_contents,
+    not_fit_and_refused, pairs_are_named, pairs_for_designs_are_alike, pairs_have_box_orders,
+    pairs_stand_exactly_for_fitting, spelled_contents_agree, spelled_contents_have_tables,
+    tables_agree_as_contents, tables_spell_contents, wrong_outputs_are_mistakes,
+    wrong_vectors_are_mistakes,
 };
 use bb_cells::list_laws::standing_nets_give_outputs;
 use bb_cells::naming_laws::followed_inputs_are_one;
 use bb_cells::table_laws::{tables_give_outputs, tables_have_contents};
 use bb_design::laws::sound_texts_are_allowed;
+use bb_expand::refutations_show_vectors;
 use bb_fill::answers_exist;
 use bb_net::tables_are_spread;
 use bb_parse::laws::sources_are_formed;
@@ -32,8 +34,8 @@ use bb_plain::{
 };
 use bb_rungs::{
     alike_pairs_are_decided, alike_pairs_are_left_open, alike_reports_are_one, climbs_leave_open,
-    deciders_decide, errors_exclude_tables, found_vectors_are_mistakes, left_open_stays_open,
-    repairs_agree, staying_open_is_told, tables_are_given_once,
+    deciders_decide, errors_exclude_tables, found_vectors_are_mistakes, given_tables_agree,
+    left_open_stays_open, repairs_agree, staying_open_is_told, tables_are_given_once,
 };
 use bb_texts::texts_have_designs;
 use bb_words::words_ask_once;
@@ -73,18 +75,11 @@ pub fn fitting_are_refuted_by_designs()
     texts_have_designs();
 }
 
-/// No two texts are both finished and refuted.
+/// No two texts are both finished and refuted, whatever the bounds of the two calls.
 pub fn not_finished_and_refuted()
     ensures { NotFinishedAndRefuted }
 {
     texts_have_designs();
-}
-
-/// Where a report shows a mistake at a vector, no contents agree.
-pub fn shown_mistakes_refute()
-    ensures { ShownMistakesRefute }
-{
-    mistakes_refute();
 }
 
 /// Pairs that stand for two texts are alike.
@@ -103,7 +98,8 @@ pub(crate) fn made_can_be_filled()
     tables_are_spread();
 }
 
-/// The text of a netlist of the implementation that is filled with tables that agree finishes the design.
+/// The text of a netlist of the implementation that is filled with tables that agree finishes the design, passes as
+/// an implementation and runs as the specification does.
 pub fn filled_texts_finish()
     ensures { FilledTextsFinish }
 {
@@ -115,6 +111,8 @@ pub fn filled_texts_finish()
     filled_designs_are_called_alike();
     filled_designs_have_bits();
     pairs_stand_exactly_for_fitting();
+    fitting_designs_are_comparable();
+    agreeing_designs_run_alike();
     tables_agree_as_contents();
     tables_have_contents();
     tables_give_outputs();
@@ -162,7 +160,9 @@ pub fn answers_are_meant()
     ensures errors { ErrorsRefute }
     ensures shown { ErrorsAreShown }
     ensures repairs { RepairsFinish }
-    // Where it is asked for, the filled implementation follows, or why there is none.
+    // With these the two run alike, whatever events come.
+    ensures runs { RepairsRun }
+    // Where it is asked for, the filled implementation follows, which passes as one, or why there is none.
     ensures fills { RepairsFill }
     // The question is left open only where each check that is asked for leaves it open; where it stays open with each, it is, and where
     // one decides, it is not.
@@ -180,9 +180,12 @@ pub fn answers_are_meant()
     errors_exclude_tables();
     no_tables_no_contents();
     found_vectors_are_mistakes();
+    given_tables_agree();
     wrong_outputs_are_mistakes();
     wrong_vectors_are_mistakes();
     pairs_are_named();
+    failing_vectors_are_mistakes();
+    refutations_show_vectors();
     repairs_agree();
     tables_are_given_once();
     no_tables_follow();
@@ -191,6 +194,7 @@ pub fn answers_are_meant()
     spelled_contents_agree();
     pairs_stand_exactly_for_fitting();
     fitting_designs_are_comparable();
+    agreeing_designs_run_alike();
     pairs_have_box_orders();
     fitting_tables_are_of_boxes();
     alike_pairs_are_left_open();
@@ -222,7 +226,7 @@ pub fn reports_are_one()
     alike_reports_are_one();
 }
 
-/// An answer speaks of the texts, held or given, as its status says, also where a front of it alone is written.
+/// An answer speaks of the texts, held or given, as its status says, also where a prefix of it alone is written.
 pub fn answers_speak_of_texts()
     ensures { AnswersSpeakOfTexts }
 {

@@ -18,6 +18,7 @@ pub mod ErrorLaw
 pub mod Findings
 pub mod FoundLaw
 pub mod InputTexts
+pub mod ProofTexts
 pub mod OneWitness
 pub mod OneWord
 pub mod OpenLaw

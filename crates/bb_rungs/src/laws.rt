@@ -2,7 +2,7 @@
 
 ghost use Rattle.bb_rungs.specs.Laws.{ErrorsExcludeTables, RepairsAgree, GivenTablesAgree, LinesFixTables, TextsFixTables, ClimbsAreTold, ClimbsLeaveOpen, StayingOpenIsTold, StayingOpenIsLeftOpen, TablesAreGivenOnce, LeftOpenStaysOpen, DecidersDecide, ErrorsStay, ClimbsSayAlike};
 ghost use Rattle.bb_rungs.specs.Laws.SomeClimbs.{ClimbsExist};
-ghost use Rattle.bb_rungs.specs.Laws.ShownVectors.{FoundVectorsAreMistakes, InputLinesFixVectors};
+ghost use Rattle.bb_rungs.specs.Laws.ShownVectors.{FoundVectorsAreMistakes, InputLinesFixVectors, ProofTextsFixVectors};
 
 use crate::alike_laws::alike_climbs_say_alike;
 use crate::kind_laws::kind_laws;
@@ -56,6 +56,11 @@ pub fn texts_fix_tables()
 /// Input lines of the same names with the same text show one vector.
 pub fn input_lines_fix_vectors()
     ensures { InputLinesFixVectors }
+{}
+
+/// Proofs with the same text have the same vectors.
+pub fn proof_texts_fix_vectors()
+    ensures { ProofTextsFixVectors }
 {}
 
 /// Each vector that checks find shows a mistake of the pair, at the output that is told with it.

@@ -21,8 +21,8 @@ pub use climbing::climb;
 pub use laws::{
     climbs_are_told, climbs_exist, climbs_leave_open, climbs_say_alike, deciders_decide,
     errors_exclude_tables, errors_stay, found_vectors_are_mistakes, given_tables_agree,
-    input_lines_fix_vectors, left_open_stays_open, lines_fix_tables, repairs_agree,
-    staying_open_is_told, tables_are_given_once, texts_fix_tables,
+    input_lines_fix_vectors, left_open_stays_open, lines_fix_tables, proof_texts_fix_vectors,
+    repairs_agree, staying_open_is_told, tables_are_given_once, texts_fix_tables,
 };
 pub use line::{Evidence, Line, Proof, Said};
 pub use reporting::report;

@@ -1,5 +1,5 @@
 -- Laws of the vectors that a report shows: each shows a mistake of the pair, and its line tells which vector it is.
-use Rattle.std.specs.Prelude.{◌≡◌, ℕ, Bool, List, length, All, Option, None, Some}
+use Rattle.std.specs.Prelude.{◌≡◌, ℕ, Bool, List, map, vec_items, length, All, Option, None, Some}
 use Rattle.bb_net.specs.Agreement.{IsVector, IsOutput}
 use Rattle.bb_net.specs.Conditions.{IsAlwaysWrong, HasAlwaysWrong}
 use Rattle.bb_net.specs.Pairs.{NetPair}
@@ -8,9 +8,10 @@ use Rattle.bb_sym.specs.declared.found.Found.{Found}
 use Rattle.bb_rungs.specs.declared.line.Evidence.{Evidence}
 use Rattle.bb_rungs.specs.declared.line.Evidence.TheVariants.{Vector, NoChoices, Refutation}
 use Rattle.bb_rungs.specs.declared.line.Line.{Line}
+use Rattle.bb_rungs.specs.declared.line.Proof.{Proof}
 use Rattle.bb_rungs.specs.declared.line.Said.{Said}
 use Rattle.bb_rungs.specs.declared.line.Said.TheVariants.{Error, Nothing, Repair, Nodes, Clauses, Wide}
-use Rattle.bb_rungs.specs.Reports.{input_line}
+use Rattle.bb_rungs.specs.Reports.{input_line, proof_text}
 use Rattle.bb_rungs.specs.Rungs.{IsClimb}
 
 -- whatever the outputs of the boxes are, the output that is told is wrong at the vector; where none is told, some output is
@@ -45,3 +46,8 @@ FoundVectorsAreMistakes = (p : NetPair) (o : Options) (lines : List Line) → Is
 abbrev pub InputLinesFixVectors : Type 0
 InputLinesFixVectors = (names : List (List ℕ)) (bits others : List Bool) → length bits ≡ length names → length others ≡ length names
     → input_line names bits ≡ input_line names others → bits ≡ others
+
+-- the text of a proof gives back its vectors
+abbrev pub ProofTextsFixVectors : Type 0
+ProofTextsFixVectors = (proof other : Proof) → proof_text proof ≡ proof_text other
+    → map vec_items proof.vectors.items ≡ map vec_items other.vectors.items

@@ -5,38 +5,44 @@ use Rattle.bb_ladder.proofs.quiet.run_quietly.Goals as goal
 pub returns-clause-whole : goal.returns-clause-whole
 returns-clause-whole c = λ small. let found = c.run.ensures.whole small in (found.0, found.2)
 
-pub returns-clause-fit : goal.returns-clause-fit
-returns-clause-fit c = λ answered asked spec imp texts. c.run.ensures.fit answered Held asked spec imp texts
-
 pub returns-clause-repairable : goal.returns-clause-repairable
-returns-clause-repairable c = λ zero asked spec imp texts. let found = c.run.ensures.repairable zero Held asked spec imp texts in (found.0, found.2)
+returns-clause-repairable c = λ answered from asked spec imp texts.
+    let (text, written, (report, same, holds)) = c.run.ensures.repairable answered from asked spec imp texts in (report, holds)
 
 pub returns-clause-filled : goal.returns-clause-filled
-returns-clause-filled c = λ zero asked spec imp texts fills. let found = c.run.ensures.filled zero Held asked spec imp texts fills in (found.0, found.2)
+returns-clause-filled c = λ answered from asked spec imp texts.
+    let (text, written, (report, same, holds)) = c.run.ensures.filled answered from asked spec imp texts in (report, holds)
 
-pub returns-clause-error : goal.returns-clause-error
-returns-clause-error c = λ one asked spec imp texts. c.run.ensures.error one Held asked spec imp texts
+pub returns-clause-passes : goal.returns-clause-passes
+returns-clause-passes c = λ answered from asked spec imp texts.
+    let (text, written, (report, same, holds)) = c.run.ensures.passes answered from asked spec imp texts in (report, holds)
+
+pub returns-clause-runs : goal.returns-clause-runs
+returns-clause-runs c = λ answered from asked spec imp texts.
+    let (text, written, (report, same, holds)) = c.run.ensures.runs answered from asked spec imp texts in (report, holds)
+
+pub returns-clause-filled_runs : goal.returns-clause-filled_runs
+returns-clause-filled_runs c = λ answered from asked spec imp texts.
+    let (text, written, (report, same, holds)) = c.run.ensures.filled_runs answered from asked spec imp texts in (report, holds)
 
 pub returns-clause-shown : goal.returns-clause-shown
-returns-clause-shown c = λ one asked spec imp texts. let found = c.run.ensures.shown one Held asked spec imp texts in (found.0, found.2)
-
-pub returns-clause-left_open : goal.returns-clause-left_open
-returns-clause-left_open c = λ three asked spec imp texts. c.run.ensures.left_open three Held asked spec imp texts
+returns-clause-shown c = λ answered from asked spec imp texts.
+    let (text, written, (report, same, holds)) = c.run.ensures.shown answered from asked spec imp texts in (report, holds)
 
 pub returns-clause-stays_open : goal.returns-clause-stays_open
-returns-clause-stays_open c = λ asked spec imp texts short low left. c.run.ensures.stays_open Held asked spec imp texts short low left never_rose never_rose
+returns-clause-stays_open c = λ from asked spec imp texts short low calm left. c.run.ensures.stays_open from asked spec imp texts short low calm left never_rose
 
 pub returns-clause-decided : goal.returns-clause-decided
-returns-clause-decided c = λ asked spec imp texts short low decides. c.run.ensures.decided Held asked spec imp texts short low decides never_rose never_rose
+returns-clause-decided c = λ from asked spec imp texts short low calm decides. c.run.ensures.decided from asked spec imp texts short low calm decides never_rose
 
 pub returns-clause-refuted_yes : goal.returns-clause-refuted_yes
-returns-clause-refuted_yes c = λ zero f first second texts. (c.run.ensures.refuted_yes zero Held f first second texts).1
+returns-clause-refuted_yes c = λ zero from f first second texts. (c.run.ensures.refuted_yes zero from f first second texts).1
 
 pub returns-clause-refuted_no : goal.returns-clause-refuted_no
-returns-clause-refuted_no c = λ one f first second texts. let found = c.run.ensures.refuted_no one Held f first second texts in (found.0, found.2)
+returns-clause-refuted_no c = λ one from f first second texts. let found = c.run.ensures.refuted_no one from f first second texts in (found.0, found.2)
 
 pub returns-clause-refuted : goal.returns-clause-refuted
-returns-clause-refuted c = λ f first second formula adds texts short low read. c.run.ensures.refuted Held f first second formula adds texts short low read never_rose never_rose
+returns-clause-refuted c = λ from f first second texts short low calm formula adds read. c.run.ensures.refuted from f first second texts short low calm formula adds read never_rose
 
 pub returns-clause-refused : goal.returns-clause-refused
 returns-clause-refused c = λ two. let found = c.run.ensures.refused two Held (all_held _ c.args.files.now _ _) in (found.0, found.2)

@@ -8,7 +8,7 @@ use Rattle.bb_ladder.proofs.running.answer.Goals as goal
 pub returns-in-Ok-Files-clause-answer : goal.returns-in-Ok-Files-clause-answer
 returns-in-Ok-Files-clause-answer g c =
     let asks = rw c.in-Ok-Files.field-0-is at c.in-Ok-Files.ensures.call in
-    IfOk-weaker _ _ _ (λ (a : Answer) e. may_answer _ _ _ _ c.in-Ok-Files.question.spec.now c.in-Ok-Files.question.imp.now c.in-Ok-Files.question.task a.status a.report.items asks e) c.read_spec.ensures.answer
+    IfOk-weaker _ _ _ (λ (a : Answer) e. may_answer _ c.in-Ok-Files.question.spec.now c.in-Ok-Files.question.imp.now c.in-Ok-Files.question.task a.status a.report.items asks e) c.read_spec.ensures.answer
 
 pub returns-in-Ok-Files-clause-reads_nothing : goal.returns-in-Ok-Files-clause-reads_nothing
 returns-in-Ok-Files-clause-reads_nothing g c = λ m makes.
