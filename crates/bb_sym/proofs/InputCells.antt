@@ -5,10 +5,12 @@ use Rattle.bb_net.specs.Netlists.{Netlist}
 use Rattle.bb_net.specs.Values.{bit_of}
 use Rattle.bb_net.specs.Pairs.{NetPair, IsPair}
 use Rattle.bb_uniq.specs.declared.store.Ref.{Ref}
+use Rattle.bb_sym.specs.declared.known_gates.DualRail.{DualRail}
 use Rattle.bb_uniq.specs.Inside.Nodes.{NodeStore}
-use Rattle.bb_sym.specs.Functions.{spec_bit, known_tables, high, low, mismatches, symbolic_functions}
+use Rattle.bb_sym.specs.Functions.{spec_bit, known_tables, mismatches, symbolic_functions}
 use Rattle.bb_sym.specs.Plain.{Reading, AreVariables, IsReadSo, cell_bit, table, tables, variables, places, outputs}
-use Rattle.bb_sym.specs.Inside.Made.{Makes, AreTooMany, StandForAll, HaveKnown}
+use Rattle.bb_sym.specs.Inside.Made.{Makes, AreTooMany, StandForAll}
+use Rattle.bb_sym.specs.Inside.Rails.{HaveAllRails, HaveKnown, known_functions, known_rails}
 use Rattle.bb_sym.proofs.MadeLemmas.{within_append_left, too_many_within, too_many_then, Makes-then, StandForAll-kept}
 use Rattle.bb_sym.proofs.PlainCells.{no_pin}
 
@@ -19,10 +21,6 @@ inputs_only = record { inputs = λ x. x; pins = λ x. [] }
 pub inputs_read : (p : NetPair) → IsPair p → (n : ℕ) → IsReadSo n 0 [] p.spec inputs_only
 inputs_read p pair n = record { inputs = λ i l x e. ap (bit_of x) (let h : i ≡ 0 + i = omega arith in h); pins = λ b pin l. absurd (no_pin p.spec.boxes b pin pair.beside.no_box l) }
 
--- the variables and the cells of both nets
-abbrev pub input_functions : Netlist → Netlist → List Truth
-input_functions spec imp = variables imp.inputs ++ (tables imp.inputs (map (spec_bit spec) (places spec)) ++ flat_map (known_tables imp) (places imp))
-
 module _ (p : NetPair) (pair : IsPair p) (a : NodeStore) (v : p.imp.inputs ≡ a.vars) where
   abbrev bits : List Truth
   bits = tables p.imp.inputs (map (spec_bit p.spec) (places p.spec))
@@ -31,7 +29,7 @@ module _ (p : NetPair) (pair : IsPair p) (a : NodeStore) (v : p.imp.inputs ≡ a
   known = flat_map (known_tables p.imp) (places p.imp)
 
   abbrev all_cells : List Truth
-  all_cells = input_functions p.spec p.imp
+  all_cells = known_functions p.spec p.imp
 
   pub refused_first : AreTooMany a (variables a.vars) → AreTooMany a all_cells
   refused_first many = too_many_within a (variables p.imp.inputs) all_cells (within_append_left (variables p.imp.inputs) (bits ++ known)) (subst (λ n. AreTooMany a (variables n)) (sym v) many)
@@ -67,21 +65,19 @@ module _ (p : NetPair) (pair : IsPair p) (a : NodeStore) (v : p.imp.inputs ≡ a
         pub input_cells_made : Makes a last all_cells
         input_cells_made = Makes-then a b last (variables p.imp.inputs) (bits ++ known) first_made (Makes-then b mid last bits known second_made third)
 
-        pub input_cells_stand : (of_spec ones zeros : List Ref) → (length of_spec ≡ length p.spec.cells) × StandForAll mid (λ place. table b.vars (cell_bit inputs_only p.spec place)) of_spec → (length ones ≡ length p.imp.cells) × StandForAll last (high p.imp) ones →
-            (length zeros ≡ length p.imp.cells) × StandForAll last (low p.imp) zeros → HaveKnown last p.spec p.imp of_spec ones zeros
-        input_cells_stand of_spec ones zeros s o z = record {
+        pub input_cells_stand : (of_spec : List Ref) (of_imp : List DualRail) → (length of_spec ≡ length p.spec.cells) × StandForAll mid (λ place. table b.vars (cell_bit inputs_only p.spec place)) of_spec → (length of_imp ≡ length p.imp.cells) × HaveAllRails last (known_rails p.imp) of_imp →
+            HaveKnown last p.spec p.imp of_spec of_imp
+        input_cells_stand of_spec of_imp s i = record {
           spec_whole = s.0;
-          ones_whole = o.0;
-          zeros_whole = z.0;
+          imp_whole = i.0;
           spec_cells = λ place l.
               let h = StandForAll-kept mid last (λ place. table b.vars (cell_bit inputs_only p.spec place)) of_spec third.kept s.1 place l in
               record { ref = h.ref; table = h.table ∙ ap (λ n. table n (cell_bit inputs_only p.spec place)) b_vars };
-          imp_ones = o.1;
-          imp_zeros = z.1;
+          imp_cells = i.1;
         }
 
 -- the cells and then the outputs are all functions of the check
-pub symbolic_are : (spec imp : Netlist) → input_functions spec imp ++ flat_map (mismatches spec imp) (outputs imp) ≡ symbolic_functions spec imp
+pub symbolic_are : (spec imp : Netlist) → known_functions spec imp ++ flat_map (mismatches spec imp) (outputs imp) ≡ symbolic_functions spec imp
 symbolic_are spec imp =
     let bits = tables imp.inputs (map (spec_bit spec) (places spec)) in
     let known = flat_map (known_tables imp) (places imp) in

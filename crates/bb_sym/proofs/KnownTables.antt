@@ -1,17 +1,17 @@
 -- the tables of the cells of an implementation whose boxes are unknown
-use Rattle.std.proofs.Common.{◌≡◌, ◌<◌, ℕ, Bool, false, not, ◌&&◌, ◌||◌, List, [], ◌∷◌, ◌++◌, length, Contains, Option, refl, sym, ap, ap₂, subst, arith, ◌∙◌}
+use Rattle.std.proofs.Common.{◌≡◌, ◌<◌, ℕ, Bool, false, not, ◌&&◌, ◌||◌, List, [], ◌∷◌, length, Contains, Option, refl, sym, ap, ap₂, subst, arith, ◌∙◌}
 use Rattle.bb_bits.specs.Truth.{Truth, complement, joined}
 use Rattle.bb_net.specs.declared.cell.Cell.{Cell}
 use Rattle.bb_net.specs.declared.cell.Cell.TheVariants.{Const, Input, Not, And, Or, Xor, Mux, BoxOut}
 use Rattle.bb_net.specs.Netlists.{Netlist, Pins, IsNetlist, IsOrdered, ReadsBefore, cell_at}
 use Rattle.bb_net.specs.Values.{bit_of}
 use Rattle.bb_net.specs.Ternary.{tern, tern_of, gate3, IsTern, not3, and3, or3, xor3, mux3}
-use Rattle.bb_sym.specs.Functions.{is_one, is_zero, known_one, known_zero, both, either, sum_table, sum_tables, choice_table, choice_tables, cell_tables, high, low, known_tables}
+use Rattle.bb_sym.specs.Functions.{is_one, is_zero, known_one, known_zero, both, either, sum_table, choice_table, high, low, known_tables}
 use Rattle.bb_sym.specs.Laws.{KnownTableLaws}
 use Rattle.bb_sym.specs.Plain.{Function, table}
-use Rattle.bb_sym.specs.Inside.Made.{known_one_table, known_zero_table}
+use Rattle.bb_sym.specs.Inside.Rails.{Rails, rails, and_rails, and_tables, or_rails, or_tables, xor_rails, xor_tables, mux_rails, mux_tables, cell_rails, tables_made, known_rails}
 use Rattle.bb_sym.proofs.FunctionTables.{table_same, combined-table, constant-table, variable-table}
-use Rattle.bb_sym.proofs.PairLemmas.{same_four}
+use Rattle.bb_sym.proofs.PairLemmas.{same_three}
 use Rattle.bb_sym.proofs.KnownBits.{one_not, zero_not, one_and, zero_and, one_or, zero_or, one_xor, zero_xor, one_mux, zero_mux}
 
 -- a netlist has a three-valued value
@@ -38,7 +38,10 @@ module _ (n : ℕ) (value : ℕ → List Bool → Option Bool) where
   abbrev zero_of : ℕ → Truth
   zero_of k = table n (λ x. is_zero (value k x))
 
-  pub one-table : (place : ℕ) (cell : Cell) → ReadsBefore n [] place cell → known_one_table n one_of zero_of cell ≡ table n (λ x. is_one (gate3 x (λ k. value k x) cell))
+  abbrev of_place : ℕ → Rails
+  of_place k = rails (one_of k) (zero_of k)
+
+  pub one-table : (place : ℕ) (cell : Cell) → ReadsBefore n [] place cell → (cell_rails n of_place cell).one ≡ table n (λ x. is_one (gate3 x (λ k. value k x) cell))
   one-table place (Const b) reads = constant-table n b
   one-table place (Input i) reads = variable-table n i reads
   one-table place (BoxOut b p) reads = constant-table n false
@@ -54,7 +57,7 @@ module _ (n : ℕ) (value : ℕ → List Bool → Option Bool) where
       choice-table n (λ x. is_one (value c x)) (λ x. is_zero (value c x)) (λ x. is_one (value t x)) (λ x. is_one (value e x))
       ∙ table_same n (λ x. ((is_one (value c x) && is_one (value t x)) || (is_zero (value c x) && is_one (value e x))) || (is_one (value t x) && is_one (value e x))) (λ x. is_one (mux3 (value c x) (value t x) (value e x))) (λ x l. sym (one_mux (value c x) (value t x) (value e x)))
 
-  pub zero-table : (place : ℕ) (cell : Cell) → ReadsBefore n [] place cell → known_zero_table n one_of zero_of cell ≡ table n (λ x. is_zero (gate3 x (λ k. value k x) cell))
+  pub zero-table : (place : ℕ) (cell : Cell) → ReadsBefore n [] place cell → (cell_rails n of_place cell).zero ≡ table n (λ x. is_zero (gate3 x (λ k. value k x) cell))
   zero-table place (Const b) reads = constant-table n (not b)
   zero-table place (Input i) reads = ap complement (variable-table n i reads) ∙ combined-table n (λ a b c. not a) (λ x. bit_of x i) (λ x. bit_of x i) (λ x. bit_of x i)
   zero-table place (BoxOut b p) reads = constant-table n false
@@ -93,73 +96,64 @@ module _ (exists : TernExists) (net : Netlist) (kept : IsNetlist net) (place : �
   reads : ReadsBefore net.inputs [] place cell
   reads = reads_without net.inputs place net.boxes cell (kept.ordered place there)
 
-  pub one_is : known_one_table net.inputs (high net) (low net) cell ≡ high net place
+  one_is : (cell_rails net.inputs (known_rails net) cell).one ≡ high net place
   one_is =
       one-table net.inputs (λ k x. tern_of (tern net x) k) place cell reads
       ∙ table_same net.inputs (λ x. is_one (gate3 x (λ k. tern_of (tern net x) k) cell)) (known_one net place) (λ x l. ap is_one (sym (known-bits exists net kept place there x)))
 
-  pub zero_is : known_zero_table net.inputs (high net) (low net) cell ≡ low net place
+  zero_is : (cell_rails net.inputs (known_rails net) cell).zero ≡ low net place
   zero_is =
       zero-table net.inputs (λ k x. tern_of (tern net x) k) place cell reads
       ∙ table_same net.inputs (λ x. is_zero (gate3 x (λ k. tern_of (tern net x) k) cell)) (known_zero net place) (λ x l. ap is_zero (sym (known-bits exists net kept place there x)))
 
--- both stand among those that are made for a cell
-one_listed : (n : ℕ) (high low : ℕ → Truth) (cell : Cell) → Contains (cell_tables n high low cell) (known_one_table n high low cell)
-one_listed n high low (Const b) = (0, omega (arith), refl)
-one_listed n high low (Input i) = (0, omega (arith), refl)
-one_listed n high low (BoxOut b p) = (0, omega (arith), refl)
-one_listed n high low (Not a) = (0, omega (arith), refl)
-one_listed n high low (And a b) = (0, omega (arith), refl)
-one_listed n high low (Or a b) = (1, omega (arith), refl)
-one_listed n high low (Xor a b) = (2, omega (arith), refl)
-one_listed n high low (Mux c t e) = (4, omega (arith), refl)
+  pub rails_are : cell_rails net.inputs (known_rails net) cell ≡ known_rails net place
+  rails_are = ap₂ rails one_is zero_is
 
-zero_listed : (n : ℕ) (high low : ℕ → Truth) (cell : Cell) → Contains (cell_tables n high low cell) (known_zero_table n high low cell)
-zero_listed n high low (Const b) = (1, omega (arith), refl)
-zero_listed n high low (Input i) = (1, omega (arith), refl)
-zero_listed n high low (BoxOut b p) = (0, omega (arith), refl)
-zero_listed n high low (Not a) = (1, omega (arith), refl)
-zero_listed n high low (And a b) = (1, omega (arith), refl)
-zero_listed n high low (Or a b) = (0, omega (arith), refl)
-zero_listed n high low (Xor a b) = (5, omega (arith), refl)
-zero_listed n high low (Mux c t e) = (9, omega (arith), refl)
+-- both stand among those that are made for a cell
+one_listed : (n : ℕ) (at : ℕ → Rails) (cell : Cell) → Contains (tables_made n at cell) (cell_rails n at cell).one
+one_listed n at (Const b) = (0, omega (arith), refl)
+one_listed n at (Input i) = (0, omega (arith), refl)
+one_listed n at (BoxOut b p) = (0, omega (arith), refl)
+one_listed n at (Not a) = (0, omega (arith), refl)
+one_listed n at (And a b) = (0, omega (arith), refl)
+one_listed n at (Or a b) = (1, omega (arith), refl)
+one_listed n at (Xor a b) = (2, omega (arith), refl)
+one_listed n at (Mux c t e) = (4, omega (arith), refl)
+
+zero_listed : (n : ℕ) (at : ℕ → Rails) (cell : Cell) → Contains (tables_made n at cell) (cell_rails n at cell).zero
+zero_listed n at (Const b) = (1, omega (arith), refl)
+zero_listed n at (Input i) = (1, omega (arith), refl)
+zero_listed n at (BoxOut b p) = (0, omega (arith), refl)
+zero_listed n at (Not a) = (1, omega (arith), refl)
+zero_listed n at (And a b) = (1, omega (arith), refl)
+zero_listed n at (Or a b) = (0, omega (arith), refl)
+zero_listed n at (Xor a b) = (5, omega (arith), refl)
+zero_listed n at (Mux c t e) = (9, omega (arith), refl)
 
 pub known_table_laws : TernExists → KnownTableLaws
 known_table_laws exists = record {
-  high_listed = λ imp kept place there. subst (Contains (known_tables imp place)) (one_is exists imp kept place there) (one_listed imp.inputs (high imp) (low imp) (cell_at imp.cells place));
-  low_listed = λ imp kept place there. subst (Contains (known_tables imp place)) (zero_is exists imp kept place there) (zero_listed imp.inputs (high imp) (low imp) (cell_at imp.cells place));
+  high_listed = λ imp kept place there. subst (λ (t : Rails). Contains (known_tables imp place) t.one) (rails_are exists imp kept place there) (one_listed imp.inputs (known_rails imp) (cell_at imp.cells place));
+  low_listed = λ imp kept place there. subst (λ (t : Rails). Contains (known_tables imp place) t.zero) (rails_are exists imp kept place there) (zero_listed imp.inputs (known_rails imp) (cell_at imp.cells place));
 }
 
 -- only the places that a cell reads count
-module _ (n inputs place : ℕ) (boxes : List Pins) (ones zeros high_at low_at : ℕ → Truth) (same_one : (k : ℕ) → k < place → ones k ≡ high_at k) (same_zero : (k : ℕ) → k < place → zeros k ≡ low_at k) where
-  pub one_table-same : (cell : Cell) → ReadsBefore inputs boxes place cell → known_one_table n ones zeros cell ≡ known_one_table n high_at low_at cell
-  one_table-same (Const b) reads = refl
-  one_table-same (Input i) reads = refl
-  one_table-same (BoxOut b p) reads = refl
-  one_table-same (Not a) reads = same_zero a reads
-  one_table-same (And a b) reads = ap₂ both (same_one a reads.0) (same_one b reads.1)
-  one_table-same (Or a b) reads = ap₂ either (same_one a reads.0) (same_one b reads.1)
-  one_table-same (Xor a b) reads = same_four sum_table (same_one a reads.0) (same_zero b reads.1) (same_zero a reads.0) (same_one b reads.1)
-  one_table-same (Mux c t e) reads = same_four choice_table (same_one c reads.0) (same_zero c reads.0) (same_one t reads.1) (same_one e reads.2)
+module _ (n inputs place : ℕ) (boxes : List Pins) (at other : ℕ → Rails) (same : (k : ℕ) → k < place → at k ≡ other k) where
+  pub cell_rails-same : (cell : Cell) → ReadsBefore inputs boxes place cell → cell_rails n at cell ≡ cell_rails n other cell
+  cell_rails-same (Const b) reads = refl
+  cell_rails-same (Input i) reads = refl
+  cell_rails-same (BoxOut b p) reads = refl
+  cell_rails-same (Not a) reads = ap (λ (t : Rails). rails t.zero t.one) (same a reads)
+  cell_rails-same (And a b) reads = ap₂ and_rails (same a reads.0) (same b reads.1)
+  cell_rails-same (Or a b) reads = ap₂ or_rails (same a reads.0) (same b reads.1)
+  cell_rails-same (Xor a b) reads = ap₂ xor_rails (same a reads.0) (same b reads.1)
+  cell_rails-same (Mux c t e) reads = same_three mux_rails (same c reads.0) (same t reads.1) (same e reads.2)
 
-  pub zero_table-same : (cell : Cell) → ReadsBefore inputs boxes place cell → known_zero_table n ones zeros cell ≡ known_zero_table n high_at low_at cell
-  zero_table-same (Const b) reads = refl
-  zero_table-same (Input i) reads = refl
-  zero_table-same (BoxOut b p) reads = refl
-  zero_table-same (Not a) reads = same_one a reads
-  zero_table-same (And a b) reads = ap₂ either (same_zero a reads.0) (same_zero b reads.1)
-  zero_table-same (Or a b) reads = ap₂ both (same_zero a reads.0) (same_zero b reads.1)
-  zero_table-same (Xor a b) reads = same_four sum_table (same_one a reads.0) (same_one b reads.1) (same_zero a reads.0) (same_zero b reads.1)
-  zero_table-same (Mux c t e) reads = same_four choice_table (same_one c reads.0) (same_zero c reads.0) (same_zero t reads.1) (same_zero e reads.2)
-
-  pub cell_tables-same : (cell : Cell) → ReadsBefore inputs boxes place cell → cell_tables n ones zeros cell ≡ cell_tables n high_at low_at cell
-  cell_tables-same (Const b) reads = refl
-  cell_tables-same (Input i) reads = refl
-  cell_tables-same (BoxOut b p) reads = refl
-  cell_tables-same (Not a) reads = ap₂ (λ t u. t ∷ u ∷ []) (same_zero a reads) (same_one a reads)
-  cell_tables-same (And a b) reads = ap₂ (λ t u. t ∷ u ∷ []) (ap₂ both (same_one a reads.0) (same_one b reads.1)) (ap₂ either (same_zero a reads.0) (same_zero b reads.1))
-  cell_tables-same (Or a b) reads = ap₂ (λ t u. t ∷ u ∷ []) (ap₂ both (same_zero a reads.0) (same_zero b reads.1)) (ap₂ either (same_one a reads.0) (same_one b reads.1))
-  cell_tables-same (Xor a b) reads =
-      ap₂ ◌++◌ (same_four sum_tables (same_one a reads.0) (same_zero b reads.1) (same_zero a reads.0) (same_one b reads.1)) (same_four sum_tables (same_one a reads.0) (same_one b reads.1) (same_zero a reads.0) (same_zero b reads.1))
-  cell_tables-same (Mux c t e) reads =
-      ap₂ ◌++◌ (same_four choice_tables (same_one c reads.0) (same_zero c reads.0) (same_one t reads.1) (same_one e reads.2)) (same_four choice_tables (same_one c reads.0) (same_zero c reads.0) (same_zero t reads.1) (same_zero e reads.2))
+  pub tables_made-same : (cell : Cell) → ReadsBefore inputs boxes place cell → tables_made n at cell ≡ tables_made n other cell
+  tables_made-same (Const b) reads = refl
+  tables_made-same (Input i) reads = refl
+  tables_made-same (BoxOut b p) reads = refl
+  tables_made-same (Not a) reads = ap (λ (t : Rails). t.zero ∷ t.one ∷ []) (same a reads)
+  tables_made-same (And a b) reads = ap₂ and_tables (same a reads.0) (same b reads.1)
+  tables_made-same (Or a b) reads = ap₂ or_tables (same a reads.0) (same b reads.1)
+  tables_made-same (Xor a b) reads = ap₂ xor_tables (same a reads.0) (same b reads.1)
+  tables_made-same (Mux c t e) reads = same_three mux_tables (same c reads.0) (same t reads.1) (same e reads.2)

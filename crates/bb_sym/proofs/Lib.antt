@@ -22,6 +22,7 @@ pub mod OutputParts
 pub mod PairLemmas
 pub mod PickedRefs
 pub mod PlainCells
+pub mod RailLemmas
 pub mod SomeWrong
 pub mod SumLemmas
 pub mod WrongOutputs

@@ -34,5 +34,8 @@ module _ (s m : NodeStore) (ts us vs : List Truth) (made : Makes s m ts) (same :
 pub same_four : {X : Type 0} (f : Truth → Truth → Truth → Truth → X) {a b c d x y z w : Truth} → a ≡ x → b ≡ y → c ≡ z → d ≡ w → f a b c d ≡ f x y z w
 same_four f p q r s = ap₂ (λ g u. g u) (ap₂ (λ g u. g u) (ap₂ f p q) r) s
 
+pub same_three : {X Y : Type 0} (f : X → X → X → Y) {a b c x y z : X} → a ≡ x → b ≡ y → c ≡ z → f a b c ≡ f x y z
+same_three f p q r = ap₂ (λ g u. g u) (ap₂ f p q) r
+
 pub stands_same : (s : NodeStore) (t u : Truth) (r : Ref) → t ≡ u → StandsFor s t r → StandsFor s u r
 stands_same s t u r e h = record { ref = h.ref; table = h.table ∙ e }

@@ -6,7 +6,7 @@ ghost use Rattle.bb_bits.specs.TruthSets.{HasMoreThan};
 ghost use Rattle.bb_net.specs.Conditions.{HasAlwaysWrong, AllSometimesRight};
 ghost use Rattle.bb_net.specs.Values.{output_pins};
 ghost use Rattle.bb_sym.specs.Functions.{output_functions, all_always_wrong, inputs_and_pins};
-ghost use Rattle.bb_sym.specs.Finds.{IsLeastVector};
+ghost use Rattle.bb_sym.specs.Finds.{FindsVector};
 ghost use Rattle.bb_sym.specs.Inside.Made.{Makes, AreTooMany, StandsFor, StandForAll};
 
 use crate::blocks::quantify_block;
@@ -35,7 +35,7 @@ pub fn output(
     requires nodes { nodes ≤ 50000000 }
     requires cache_least { 1 ≤ cache }
     requires cache_most { cache ≤ 1048576 }
-    ensures found { IfOk result (λ answer. IfSome answer (λ found. (found.output ≡ None) × IsLeastVector pair.now.imp (HasAlwaysWrong pair.now.spec pair.now.imp) found.input.items)) }
+    ensures found { IfOk result (λ answer. IfSome answer (FindsVector pair.now.imp (HasAlwaysWrong pair.now.spec pair.now.imp))) }
     ensures none { IfOk result (λ answer. IfNone answer (AllSometimesRight pair.now.spec pair.now.imp)) }
     ensures nodes { IsErrOf result RungFault.Nodes → HasMoreThan (IsBeadOfAny (output_functions pair.now.spec pair.now.imp)) nodes }
     ensures within { HasMoreThan (IsBeadOfAny (output_functions pair.now.spec pair.now.imp)) nodes → OnOk result ⊥ }
@@ -65,7 +65,7 @@ pub fn output_of(
     requires nodes { nodes ≤ 50000000 }
     requires cache_least { 1 ≤ cache }
     requires cache_most { cache ≤ 1048576 }
-    ensures found { IfOk result (λ answer. IfSome answer (λ found. (found.output ≡ None) × IsLeastVector imp.now (HasAlwaysWrong spec.now imp.now) found.input.items)) }
+    ensures found { IfOk result (λ answer. IfSome answer (FindsVector imp.now (HasAlwaysWrong spec.now imp.now))) }
     ensures none { IfOk result (λ answer. IfNone answer (AllSometimesRight spec.now imp.now)) }
     ensures nodes { IsErrOf result RungFault.Nodes → HasMoreThan (IsBeadOfAny (output_functions spec.now imp.now)) nodes }
     ensures within { HasMoreThan (IsBeadOfAny (output_functions spec.now imp.now)) nodes → OnOk result ⊥ }

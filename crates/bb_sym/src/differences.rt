@@ -1,12 +1,12 @@
 //! Where bits differ: outputs that are wrong, and the disjunction of differences.
 
-ghost use Rattle.std.specs.Prelude.{◌≡◌, ◌<◌, ◌++◌, ℕ, All, length, map, IfOk, OnOk, IsErrOf};
-ghost use Rattle.std.specs.List.{range_with_len};
+ghost use Rattle.std.specs.Prelude.{◌≡◌, ◌<◌, ℕ, All, length, map, IfOk, OnOk, IsErrOf};
 ghost use Rattle.bb_uniq.specs.Inside.Nodes.{IsRef};
 ghost use Rattle.bb_uniq.specs.Inside.Meaning.{Adds, Keeps, IsTooMany};
-ghost use Rattle.bb_sym.specs.Plain.{Function, Reading, differ, is_wrong_at, one_of, first_of, outputs, table, tables};
+ghost use Rattle.bb_sym.specs.Plain.{Function, Reading, is_wrong_at, one_of, table};
 ghost use Rattle.bb_sym.specs.Functions.{inputs_first, is_wrong};
-ghost use Rattle.bb_sym.specs.Inside.Made.{Makes, AreTooMany, AreRefs, StandsFor, StandForAll, AreCells, HaveCells, ref_at};
+ghost use Rattle.bb_sym.specs.Inside.Made.{Makes, AreTooMany, AreRefs, StandsFor, StandForAll, StandForFunctions, AreCells, HaveCells};
+ghost use Rattle.bb_sym.specs.Inside.Made.{differ_each, first_tables, some_tables, ref_at};
 
 use crate::RungFault;
 use crate::cells::PlainCells;
@@ -34,9 +34,9 @@ pub fn some_wrong(
     ensures result { (r : Reading) → HaveCells d.old.store r spec.now imp.now made.now.spec.items made.now.imp.items
         → IfOk result (StandsFor d.new.store (table d.old.store.vars (one_of (is_wrong_at r spec.now imp.now) (length imp.now.outs)))) }
     ensures makes { (r : Reading) → HaveCells d.old.store r spec.now imp.now made.now.spec.items made.now.imp.items
-        → OnOk result (Makes d.old.store d.new.store (tables d.old.store.vars (map (is_wrong_at r spec.now imp.now) (outputs imp.now)) ++ tables d.old.store.vars (map (first_of (is_wrong_at r spec.now imp.now)) (outputs imp.now)))) }
+        → OnOk result (Makes d.old.store d.new.store (some_tables d.old.store.vars (is_wrong_at r spec.now imp.now) (length imp.now.outs))) }
     ensures nodes { (r : Reading) → HaveCells d.old.store r spec.now imp.now made.now.spec.items made.now.imp.items
-        → IsErrOf result RungFault.Nodes → AreTooMany d.old.store (tables d.old.store.vars (map (is_wrong_at r spec.now imp.now) (outputs imp.now)) ++ tables d.old.store.vars (map (first_of (is_wrong_at r spec.now imp.now)) (outputs imp.now))) }
+        → IsErrOf result RungFault.Nodes → AreTooMany d.old.store (some_tables d.old.store.vars (is_wrong_at r spec.now imp.now) (length imp.now.outs)) }
 {
     let wanted = picked(alloc, &made.spec, spec.outs())?;
     let given = picked(alloc, &made.imp, imp.outs())?;
@@ -59,12 +59,12 @@ pub fn some_differ(
     requires gs { AreRefs d.old.store gs.now }
     requires count { length fs.now ≡ length gs.now }
     ensures kept { Keeps d.old.store d.new.store }
-    ensures result { (f g : ℕ → Function) → StandForAll d.old.store (λ j. table d.old.store.vars (f j)) fs.now → StandForAll d.old.store (λ j. table d.old.store.vars (g j)) gs.now
-        → IfOk result (StandsFor d.new.store (table d.old.store.vars (one_of (λ j. differ (f j) (g j)) (length fs.now)))) }
-    ensures makes { (f g : ℕ → Function) → StandForAll d.old.store (λ j. table d.old.store.vars (f j)) fs.now → StandForAll d.old.store (λ j. table d.old.store.vars (g j)) gs.now
-        → OnOk result (Makes d.old.store d.new.store (tables d.old.store.vars (map (λ j. differ (f j) (g j)) (range_with_len 0 (length fs.now))) ++ tables d.old.store.vars (map (first_of (λ j. differ (f j) (g j))) (range_with_len 0 (length fs.now))))) }
-    ensures nodes { (f g : ℕ → Function) → StandForAll d.old.store (λ j. table d.old.store.vars (f j)) fs.now → StandForAll d.old.store (λ j. table d.old.store.vars (g j)) gs.now
-        → IsErrOf result RungFault.Nodes → AreTooMany d.old.store (tables d.old.store.vars (map (λ j. differ (f j) (g j)) (range_with_len 0 (length fs.now))) ++ tables d.old.store.vars (map (first_of (λ j. differ (f j) (g j))) (range_with_len 0 (length fs.now)))) }
+    ensures result { (f g : ℕ → Function) → StandForFunctions d.old.store f fs.now → StandForFunctions d.old.store g gs.now
+        → IfOk result (StandsFor d.new.store (table d.old.store.vars (one_of (differ_each f g) (length fs.now)))) }
+    ensures makes { (f g : ℕ → Function) → StandForFunctions d.old.store f fs.now → StandForFunctions d.old.store g gs.now
+        → OnOk result (Makes d.old.store d.new.store (some_tables d.old.store.vars (differ_each f g) (length fs.now))) }
+    ensures nodes { (f g : ℕ → Function) → StandForFunctions d.old.store f fs.now → StandForFunctions d.old.store g gs.now
+        → IsErrOf result RungFault.Nodes → AreTooMany d.old.store (some_tables d.old.store.vars (differ_each f g) (length fs.now)) }
 {
     let different = differences(alloc, d, fs, gs)?;
     let any = fold_or(d, &different)?;
@@ -84,12 +84,12 @@ fn differences(
     ensures kept { Keeps d.old.store d.new.store }
     ensures count { IfOk result (λ refs. length refs.items ≡ length fs.now) }
     ensures refs { IfOk result (λ refs. AreRefs d.new.store refs.items) }
-    ensures stand { (f g : ℕ → Function) → StandForAll d.old.store (λ j. table d.old.store.vars (f j)) fs.now → StandForAll d.old.store (λ j. table d.old.store.vars (g j)) gs.now
-        → IfOk result (λ refs. StandForAll d.new.store (λ j. table d.old.store.vars (differ (f j) (g j))) refs.items) }
-    ensures makes { (f g : ℕ → Function) → StandForAll d.old.store (λ j. table d.old.store.vars (f j)) fs.now → StandForAll d.old.store (λ j. table d.old.store.vars (g j)) gs.now
-        → OnOk result (Makes d.old.store d.new.store (tables d.old.store.vars (map (λ j. differ (f j) (g j)) (range_with_len 0 (length fs.now))))) }
-    ensures nodes { (f g : ℕ → Function) → StandForAll d.old.store (λ j. table d.old.store.vars (f j)) fs.now → StandForAll d.old.store (λ j. table d.old.store.vars (g j)) gs.now
-        → IsErrOf result RungFault.Nodes → AreTooMany d.old.store (tables d.old.store.vars (map (λ j. differ (f j) (g j)) (range_with_len 0 (length fs.now)))) }
+    ensures stand { (f g : ℕ → Function) → StandForFunctions d.old.store f fs.now → StandForFunctions d.old.store g gs.now
+        → IfOk result (λ refs. StandForAll d.new.store (λ j. table d.old.store.vars (differ_each f g j)) refs.items) }
+    ensures makes { (f g : ℕ → Function) → StandForFunctions d.old.store f fs.now → StandForFunctions d.old.store g gs.now
+        → OnOk result (Makes d.old.store d.new.store (first_tables d.old.store.vars (differ_each f g) (length fs.now))) }
+    ensures nodes { (f g : ℕ → Function) → StandForFunctions d.old.store f fs.now → StandForFunctions d.old.store g gs.now
+        → IsErrOf result RungFault.Nodes → AreTooMany d.old.store (first_tables d.old.store.vars (differ_each f g) (length fs.now)) }
 {
     let mut refs = Vec::with_capacity(alloc, fs.len())?;
     for j in 0..fs.len() {

@@ -8,8 +8,8 @@ ghost use Rattle.bb_net.specs.Conditions.{IsAlwaysWrong, EachSometimesRight};
 ghost use Rattle.bb_net.specs.Values.{output_pins};
 ghost use Rattle.bb_sym.specs.Functions.{inputs_first, local_functions, always_wrong, wrong_for_all_pins};
 ghost use Rattle.bb_sym.specs.Plain.{outputs};
-ghost use Rattle.bb_sym.specs.Finds.{IsFirstFound, IsSometimesRight};
-ghost use Rattle.bb_sym.specs.Inside.Made.{Makes, AreTooMany, StandsFor, StandForAll, HaveCells};
+ghost use Rattle.bb_sym.specs.Finds.{FindsOutput, IsSometimesRight};
+ghost use Rattle.bb_sym.specs.Inside.Made.{Makes, AreTooMany, StandsFor, StandForAll, StandForFirst, HaveCells};
 
 use crate::blocks::quantify_block;
 use crate::cells::PlainCells;
@@ -32,7 +32,8 @@ pub fn local(alloc: Global, pair: &Pair, nodes: u32, cache: u32) -> Result<Optio
     requires nodes { nodes ≤ 50000000 }
     requires cache_least { 1 ≤ cache }
     requires cache_most { cache ≤ 1048576 }
-    ensures found { IfOk result (λ answer. IfSome answer (λ found. (j : ℕ) × (found.output ≡ Some j) × IsFirstFound pair.now.imp (IsAlwaysWrong pair.now.spec pair.now.imp) (IsSometimesRight pair.now.spec pair.now.imp) found.input.items j)) }
+    ensures found { IfOk result (λ answer. IfSome answer
+        (FindsOutput pair.now.imp (IsAlwaysWrong pair.now.spec pair.now.imp) (IsSometimesRight pair.now.spec pair.now.imp))) }
     ensures none { IfOk result (λ answer. IfNone answer (EachSometimesRight pair.now.spec pair.now.imp)) }
     ensures nodes { IsErrOf result RungFault.Nodes → HasMoreThan (IsBeadOfAny (local_functions pair.now.spec pair.now.imp)) nodes }
     ensures within { HasMoreThan (IsBeadOfAny (local_functions pair.now.spec pair.now.imp)) nodes → OnOk result ⊥ }
@@ -70,7 +71,7 @@ fn local_diagrams(
     requires pins { pins ≡ output_pins pair.now.imp.boxes }
     requires vars { inputs + pins ≡ d.old.store.vars }
     requires few { d.old.store.vars ≤ 2048 }
-    ensures refs { IfOk result (λ refs. (length refs.items ≡ length pair.now.imp.outs) × StandForAll d.new.store (always_wrong pair.now.spec pair.now.imp) refs.items) }
+    ensures refs { IfOk result (λ refs. StandForFirst d.new.store (always_wrong pair.now.spec pair.now.imp) (length pair.now.imp.outs) refs.items) }
     ensures makes { OnOk result (Makes d.old.store d.new.store (local_functions pair.now.spec pair.now.imp)) }
     ensures nodes { IsErrOf result RungFault.Nodes → AreTooMany d.old.store (local_functions pair.now.spec pair.now.imp) }
 {
@@ -95,7 +96,7 @@ fn always_wrong_outputs(
     requires pins { pins ≡ output_pins pair.now.imp.boxes }
     requires vars { inputs + pins ≡ d.old.store.vars }
     requires few { d.old.store.vars ≤ 2048 }
-    ensures refs { IfOk result (λ refs. (length refs.items ≡ length pair.now.imp.outs) × StandForAll d.new.store (always_wrong pair.now.spec pair.now.imp) refs.items) }
+    ensures refs { IfOk result (λ refs. StandForFirst d.new.store (always_wrong pair.now.spec pair.now.imp) (length pair.now.imp.outs) refs.items) }
     ensures makes { OnOk result (Makes d.old.store d.new.store (flat_map (wrong_for_all_pins pair.now.spec pair.now.imp) (outputs pair.now.imp))) }
     ensures nodes { IsErrOf result RungFault.Nodes → AreTooMany d.old.store (flat_map (wrong_for_all_pins pair.now.spec pair.now.imp) (outputs pair.now.imp)) }
 {

@@ -3,7 +3,7 @@
 ghost use Rattle.std.specs.Prelude.{◌≡◌};
 
 use bb_bits::NoMemory;
-use bb_dd::{DdFault, Ref};
+use bb_dd::DdFault;
 use std::alloc::AllocFailed;
 
 /// Why a check by diagrams gives no answer.
@@ -36,13 +36,13 @@ impl From<NoMemory> for RungFault {
     }
 }
 
-impl From<AllocFailed<Ref>> for RungFault {
+impl<T: Drop> From<AllocFailed<T>> for RungFault {
     ghost use Rattle.std.specs.Prelude.{◌≡◌};
     ghost use Rattle.bb_sym.specs.declared.fault.RungFault.TheVariants as fault;
 
     ghost from_gives = { λ _ e. e ≡ fault.NoMemory };
 
-    fn from(_: AllocFailed<Ref>) -> RungFault {
+    fn from(_: AllocFailed<T>) -> RungFault {
         RungFault::NoMemory
     }
 }

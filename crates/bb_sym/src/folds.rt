@@ -1,10 +1,9 @@
 //! The disjunction of diagrams.
 
-ghost use Rattle.std.specs.Prelude.{◌≡◌, ℕ, length, map, IfOk, OnOk, IsErrOf};
-ghost use Rattle.std.specs.List.{range_with_len};
+ghost use Rattle.std.specs.Prelude.{◌≡◌, ℕ, length, IfOk, OnOk, IsErrOf};
 ghost use Rattle.bb_uniq.specs.Inside.Meaning.{Keeps};
-ghost use Rattle.bb_sym.specs.Plain.{Function, one_of, first_of, table, tables};
-ghost use Rattle.bb_sym.specs.Inside.Made.{Makes, AreTooMany, AreRefs, StandsFor, StandForAll};
+ghost use Rattle.bb_sym.specs.Plain.{Function, one_of, table};
+ghost use Rattle.bb_sym.specs.Inside.Made.{Makes, AreTooMany, AreRefs, StandsFor, StandForFunctions, folded_tables};
 
 use crate::RungFault;
 use bb_dd::{Diagrams, Ref};
@@ -14,9 +13,12 @@ use bb_uniq::laws;
 pub(crate) fn fold_or(d: &mut Diagrams, fs: &[Ref]) -> Result<Ref, RungFault>
     requires { AreRefs d.old.store fs.now }
     ensures kept { Keeps d.old.store d.new.store }
-    ensures result { (f : ℕ → Function) → StandForAll d.old.store (λ j. table d.old.store.vars (f j)) fs.now → IfOk result (StandsFor d.new.store (table d.old.store.vars (one_of f (length fs.now)))) }
-    ensures makes { (f : ℕ → Function) → StandForAll d.old.store (λ j. table d.old.store.vars (f j)) fs.now → OnOk result (Makes d.old.store d.new.store (tables d.old.store.vars (map (first_of f) (range_with_len 0 (length fs.now))))) }
-    ensures nodes { (f : ℕ → Function) → StandForAll d.old.store (λ j. table d.old.store.vars (f j)) fs.now → IsErrOf result RungFault.Nodes → AreTooMany d.old.store (tables d.old.store.vars (map (first_of f) (range_with_len 0 (length fs.now)))) }
+    ensures result { (f : ℕ → Function) → StandForFunctions d.old.store f fs.now
+        → IfOk result (StandsFor d.new.store (table d.old.store.vars (one_of f (length fs.now)))) }
+    ensures makes { (f : ℕ → Function) → StandForFunctions d.old.store f fs.now
+        → OnOk result (Makes d.old.store d.new.store (folded_tables d.old.store.vars f (length fs.now))) }
+    ensures nodes { (f : ℕ → Function) → StandForFunctions d.old.store f fs.now
+        → IsErrOf result RungFault.Nodes → AreTooMany d.old.store (folded_tables d.old.store.vars f (length fs.now)) }
 {
     laws::stores();
     let mut any = Ref(0);

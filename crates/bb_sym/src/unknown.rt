@@ -5,8 +5,8 @@ ghost use Rattle.bb_bits.specs.Truth.{IsBeadOfAny};
 ghost use Rattle.bb_bits.specs.TruthSets.{HasMoreThan};
 ghost use Rattle.bb_net.specs.Conditions.{IsKnownWrong, MayBeRight, MayBeRightEverywhere};
 ghost use Rattle.bb_sym.specs.Functions.{mismatch, symbolic_functions};
-ghost use Rattle.bb_sym.specs.Finds.{IsFirstFound};
-ghost use Rattle.bb_sym.specs.Inside.Made.{Makes, AreTooMany, StandForAll};
+ghost use Rattle.bb_sym.specs.Finds.{FindsOutput};
+ghost use Rattle.bb_sym.specs.Inside.Made.{Makes, AreTooMany, StandForAll, StandForFirst};
 
 use crate::mismatches::{input_cells, known_wrong_outputs};
 use crate::searching::first_true;
@@ -31,7 +31,8 @@ pub fn symbolic(
     requires nodes { nodes ≤ 50000000 }
     requires cache_least { 1 ≤ cache }
     requires cache_most { cache ≤ 1048576 }
-    ensures found { IfOk result (λ answer. IfSome answer (λ found. (j : ℕ) × (found.output ≡ Some j) × IsFirstFound pair.now.imp (IsKnownWrong pair.now.spec pair.now.imp) (MayBeRight pair.now.spec pair.now.imp) found.input.items j)) }
+    ensures found { IfOk result (λ answer. IfSome answer
+        (FindsOutput pair.now.imp (IsKnownWrong pair.now.spec pair.now.imp) (MayBeRight pair.now.spec pair.now.imp))) }
     ensures none { IfOk result (λ answer. IfNone answer (MayBeRightEverywhere pair.now.spec pair.now.imp)) }
     ensures nodes { IsErrOf result RungFault.Nodes → HasMoreThan (IsBeadOfAny (symbolic_functions pair.now.spec pair.now.imp)) nodes }
     ensures within { HasMoreThan (IsBeadOfAny (symbolic_functions pair.now.spec pair.now.imp)) nodes → OnOk result ⊥ }
@@ -55,7 +56,7 @@ pub fn symbolic(
 /// Makes all functions of the check. The diagrams are, output by output, 1 where it is known and wrong.
 fn symbolic_diagrams(alloc: Global, d: &mut Diagrams, pair: &Pair) -> Result<Vec<Ref>, RungFault>
     requires vars { pair.now.imp.inputs ≡ d.old.store.vars }
-    ensures refs { IfOk result (λ refs. (length refs.items ≡ length pair.now.imp.outs) × StandForAll d.new.store (mismatch pair.now.spec pair.now.imp) refs.items) }
+    ensures refs { IfOk result (λ refs. StandForFirst d.new.store (mismatch pair.now.spec pair.now.imp) (length pair.now.imp.outs) refs.items) }
     ensures makes { OnOk result (Makes d.old.store d.new.store (symbolic_functions pair.now.spec pair.now.imp)) }
     ensures nodes { IsErrOf result RungFault.Nodes → AreTooMany d.old.store (symbolic_functions pair.now.spec pair.now.imp) }
 {

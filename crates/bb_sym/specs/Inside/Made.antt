@@ -1,14 +1,14 @@
 -- What calls of the diagram operations leave in a store: the tables that they made, by their beads, and the Refs that stand for
 -- functions.
-use Rattle.std.specs.Prelude.{◌≡◌, ◌<◌, ◌↔◌, ◌⊎◌, ℕ, ◌+◌, ◌&&◌, ◌||◌, Bool, true, false, not, List, length, slice_index_or}
+use Rattle.std.specs.Prelude.{◌≡◌, ◌<◌, ◌↔◌, ◌⊎◌, ℕ, ◌+◌, ◌&&◌, ◌||◌, Bool, true, List, ◌++◌, length, map, slice_index_or}
+use Rattle.std.specs.List.{range_with_len}
 use Rattle.bb_bits.specs.Bits.{xor}
 use Rattle.bb_bits.specs.Truth.{Truth, truth_at, IsBeadOfAny, constant, variable, complement, joined, chosen}
 use Rattle.bb_bits.specs.TruthSets.{HasMoreThan}
 use Rattle.bb_net.specs.declared.cell.Cell.{Cell}
 use Rattle.bb_net.specs.declared.cell.Cell.TheVariants.{Const, Input, Not, And, Or, Xor, Mux, BoxOut}
 use Rattle.bb_net.specs.Netlists.{Netlist}
-use Rattle.bb_sym.specs.Functions.{spec_bit, high, low, both, either, sum_table, choice_table}
-use Rattle.bb_sym.specs.Plain.{Reading, table, cell_bit, without_pins}
+use Rattle.bb_sym.specs.Plain.{Function, Reading, IsReadSo, table, tables, places, cell_bit, without_pins, differ, first_of}
 use Rattle.bb_uniq.specs.declared.store.Ref.{Ref}
 use Rattle.bb_uniq.specs.Inside.Nodes.{NodeStore, IsRef}
 use Rattle.bb_uniq.specs.Inside.Meaning.{truth_of, IsHeld, Keeps}
@@ -35,13 +35,52 @@ pub record StandsFor (s : NodeStore) (t : Truth) (r : Ref) : Type 0 where
 abbrev pub ref_at : List Ref → ℕ → Ref
 ref_at refs place = slice_index_or refs place (record { 0 = 0 })
 
+-- the table of the Ref at each place
+abbrev pub tables_at : NodeStore → List Ref → ℕ → Truth
+tables_at s refs place = truth_of s (ref_at refs place).0
+
+-- what four Refs' tables make
+abbrev pub of_refs : {X : Type 0} → NodeStore → (Truth → Truth → Truth → Truth → X) → Ref → Ref → Ref → Ref → X
+of_refs s f a b c e = f (truth_of s a.0) (truth_of s b.0) (truth_of s c.0) (truth_of s e.0)
+
 -- the Ref at each place has the table of that place
 abbrev pub StandForAll : NodeStore → (ℕ → Truth) → List Ref → Type 0
 StandForAll s t refs = (place : ℕ) → place < length refs → StandsFor s (t place) (ref_at refs place)
 
+-- there are so many, and they stand for the first tables
+abbrev pub StandForFirst : NodeStore → (ℕ → Truth) → ℕ → List Ref → Type 0
+StandForFirst s t count refs = (length refs ≡ count) × StandForAll s t refs
+
+-- the Ref at each place stands for the function of that place
+abbrev pub StandForFunctions : NodeStore → (ℕ → Function) → List Ref → Type 0
+StandForFunctions s f refs = StandForAll s (λ j. table s.vars (f j)) refs
+
 -- each of them is of the store
 abbrev pub AreRefs : NodeStore → List Ref → Type 0
 AreRefs s refs = (place : ℕ) → place < length refs → IsRef s (ref_at refs place).0
+
+-- what is said of each way in which points are read
+abbrev pub ForEachReading : ℕ → ℕ → List ℕ → Netlist → (Reading → Type 0) → Type 0
+ForEachReading n first starts net P = (r : Reading) → IsReadSo n first starts net r → P r
+
+-- the tables of the cells of a netlist
+abbrev pub bits_tables : ℕ → Reading → Netlist → List Truth
+bits_tables n r net = tables n (map (cell_bit r net) (places net))
+
+-- functions number by number, where those of two differ
+abbrev pub differ_each : (ℕ → Function) → (ℕ → Function) → ℕ → Function
+differ_each f g j = differ (f j) (g j)
+
+-- the tables of the first functions, and those of the disjunctions of the first ones
+abbrev pub first_tables : ℕ → (ℕ → Function) → ℕ → List Truth
+first_tables n f count = tables n (map f (range_with_len 0 count))
+
+abbrev pub folded_tables : ℕ → (ℕ → Function) → ℕ → List Truth
+folded_tables n f count = tables n (map (first_of f) (range_with_len 0 count))
+
+-- both
+abbrev pub some_tables : ℕ → (ℕ → Function) → ℕ → List Truth
+some_tables n f count = first_tables n f count ++ folded_tables n f count
 
 -- the table of a cell over n variables, by those of the places that it reads; input i is the variable at the first one and i,
 -- output pin p of box b the variable at its box's first one and p
@@ -72,35 +111,3 @@ pub record HaveCells (s : NodeStore) (r : Reading) (spec imp : Netlist) (of_spec
   pub imp_whole : length of_imp ≡ length imp.cells
   pub spec_cells : StandForAll s (λ place. table s.vars (cell_bit (without_pins r) spec place)) of_spec
   pub imp_cells : StandForAll s (λ place. table s.vars (cell_bit r imp place)) of_imp
-
--- the table of a cell that is 1 where it is known to be 1, by those of its operands
-abbrev pub known_one_table : ℕ → (ℕ → Truth) → (ℕ → Truth) → Cell → Truth
-known_one_table n high low (Const b) = constant n b
-known_one_table n high low (Input i) = variable n i
-known_one_table n high low (BoxOut b p) = constant n false
-known_one_table n high low (Not a) = low a
-known_one_table n high low (And a b) = both (high a) (high b)
-known_one_table n high low (Or a b) = either (high a) (high b)
-known_one_table n high low (Xor a b) = sum_table (high a) (low b) (low a) (high b)
-known_one_table n high low (Mux c t e) = choice_table (high c) (low c) (high t) (high e)
-
--- the table that is 1 where it is known to be 0
-abbrev pub known_zero_table : ℕ → (ℕ → Truth) → (ℕ → Truth) → Cell → Truth
-known_zero_table n high low (Const b) = constant n (not b)
-known_zero_table n high low (Input i) = complement (variable n i)
-known_zero_table n high low (BoxOut b p) = constant n false
-known_zero_table n high low (Not a) = high a
-known_zero_table n high low (And a b) = either (low a) (low b)
-known_zero_table n high low (Or a b) = both (low a) (low b)
-known_zero_table n high low (Xor a b) = sum_table (high a) (high b) (low a) (low b)
-known_zero_table n high low (Mux c t e) = choice_table (high c) (low c) (low t) (low e)
-
--- Refs for the cells of both nets over the inputs, by their places: the bits of the specification, and where those of the
--- implementation are known to be 1 and to be 0
-pub record HaveKnown (s : NodeStore) (spec imp : Netlist) (of_spec ones zeros : List Ref) : Type 0 where
-  pub spec_whole : length of_spec ≡ length spec.cells
-  pub ones_whole : length ones ≡ length imp.cells
-  pub zeros_whole : length zeros ≡ length imp.cells
-  pub spec_cells : StandForAll s (λ place. table imp.inputs (spec_bit spec place)) of_spec
-  pub imp_ones : StandForAll s (high imp) ones
-  pub imp_zeros : StandForAll s (low imp) zeros

@@ -1,5 +1,5 @@
 use Rattle.std.proofs.Common.{rules, IsErrOf, ap, [], ◌∷◌}
-use Rattle.bb_bits.specs.Truth.{Truth, variable, complement}
+use Rattle.bb_bits.specs.Truth.{variable, complement}
 use Rattle.bb_uniq.specs.Inside.Meaning.{truth_of, IsTooMany}
 use Rattle.bb_sym.specs.declared.fault.RungFault.TheVariants.{Nodes}
 use Rattle.bb_sym.proofs.OutputLoop.{first_refused}
@@ -9,44 +9,24 @@ use Rattle.bb_sym.proofs.known_gates.known_input.Goals as goal
 pub returns-in_err-one-clause-nodes : goal.returns-in_err-one-clause-nodes
 returns-in_err-one-clause-nodes c =
     let s = c.args.d.now.store in
-    let t : Truth = variable s.vars c.args.i in
-    let u : Truth = complement t in
+    let t = variable s.vars c.args.i in
     let told : IsErrOf c.from_residual.result Nodes → IsTooMany s t = search rules in
-    λ full. first_refused s t (u ∷ []) (told full)
+    λ full. first_refused s t (complement t ∷ []) (told full)
 
 pub returns-in_err-zero-clause-nodes : goal.returns-in_err-zero-clause-nodes
 returns-in_err-zero-clause-nodes c =
-    let s = c.args.d.now.store in
     let m = c.var.new.self.store in
-    let t : Truth = variable s.vars c.args.i in
-    let u : Truth = complement t in
-    let v : Truth = complement (truth_of m c.in_ok-one.one.0) in
-    let told : IsErrOf c.from_residual-in_err-zero.result Nodes → IsTooMany m v = search rules in
-    λ full. two_refused s m t u v c.in_ok-one.one c.in_ok-one.ensures.ok (ap complement c.in_ok-one.ensures.ok.table) (told full)
+    let told : IsErrOf c.from_residual-in_err-zero.result Nodes → IsTooMany m (complement (truth_of m c.in_ok-one.one.0)) = search rules in
+    λ full. two_refused _ m _ _ _ c.in_ok-one.one c.in_ok-one.ensures.ok (ap complement c.in_ok-one.ensures.ok.table) (told full)
 
-pub returns-clause-one : goal.returns-clause-one
-returns-clause-one c =
-    let s = c.args.d.now.store in
-    let m = c.var.new.self.store in
-    let t : Truth = variable s.vars c.args.i in
-    let u : Truth = complement t in
-    let v : Truth = complement (truth_of m c.in_ok-one.one.0) in
-    two_first s m t u v c.in_ok-one.one c.in_ok-one.ensures.ok (ap complement c.in_ok-one.ensures.ok.table) c.not.new.self.store c.in_ok-zero.zero c.in_ok-zero.ensures.ok
-
-pub returns-clause-zero : goal.returns-clause-zero
-returns-clause-zero c =
-    let s = c.args.d.now.store in
-    let m = c.var.new.self.store in
-    let t : Truth = variable s.vars c.args.i in
-    let u : Truth = complement t in
-    let v : Truth = complement (truth_of m c.in_ok-one.one.0) in
-    two_second s m t u v c.in_ok-one.one c.in_ok-one.ensures.ok (ap complement c.in_ok-one.ensures.ok.table) c.not.new.self.store c.in_ok-zero.zero c.in_ok-zero.ensures.ok
+pub returns-clause-rails : goal.returns-clause-rails
+returns-clause-rails c =
+    let made = c.in_ok-one.ensures.ok in
+    record {
+      one = two_first _ _ _ _ _ c.in_ok-one.one made (ap complement made.table) _ c.in_ok-zero.zero c.in_ok-zero.ensures.ok;
+      zero = two_second _ _ _ _ _ c.in_ok-one.one made (ap complement made.table) _ c.in_ok-zero.zero c.in_ok-zero.ensures.ok;
+    }
 
 pub returns-clause-makes : goal.returns-clause-makes
 returns-clause-makes c =
-    let s = c.args.d.now.store in
-    let m = c.var.new.self.store in
-    let t : Truth = variable s.vars c.args.i in
-    let u : Truth = complement t in
-    let v : Truth = complement (truth_of m c.in_ok-one.one.0) in
-    two_made s m t u v c.in_ok-one.one c.in_ok-one.ensures.ok (ap complement c.in_ok-one.ensures.ok.table) c.not.new.self.store c.in_ok-zero.zero c.in_ok-zero.ensures.ok
+    two_made _ _ _ _ _ c.in_ok-one.one c.in_ok-one.ensures.ok (ap complement c.in_ok-one.ensures.ok.table) _ c.in_ok-zero.zero c.in_ok-zero.ensures.ok

@@ -1,53 +1,44 @@
-use Rattle.std.proofs.Common.{rules, IsErrOf, ap₂, ◌||◌, [], ◌∷◌}
-use Rattle.bb_bits.specs.Truth.{Truth, joined}
-use Rattle.bb_uniq.specs.Inside.Meaning.{truth_of, IsTooMany}
+use Rattle.std.proofs.Common.{rules, IsErrOf, [], ◌∷◌}
+use Rattle.bb_bits.specs.Truth.{Truth}
+use Rattle.bb_uniq.specs.Inside.Meaning.{IsTooMany}
 use Rattle.bb_sym.specs.declared.fault.RungFault.TheVariants.{Nodes}
 use Rattle.bb_sym.specs.Functions.{both, either}
+use Rattle.bb_sym.specs.Inside.Rails.{Rails, rails_of}
 use Rattle.bb_sym.proofs.OutputLoop.{first_refused}
 use Rattle.bb_sym.proofs.PairLemmas.{two_refused, two_made, two_first, two_second}
+use Rattle.bb_sym.proofs.RailLemmas.{two_kept}
 use Rattle.bb_sym.proofs.known_gates.known_or.Goals as goal
+
+abbrev first : Rails → Rails → Truth
+first a b = both a.zero b.zero
+
+abbrev second : Rails → Rails → Truth
+second a b = either a.one b.one
 
 pub returns-in_err-zero-clause-nodes : goal.returns-in_err-zero-clause-nodes
 returns-in_err-zero-clause-nodes c =
     let s = c.args.d.now.store in
-    let t : Truth = both (truth_of s c.args.a.zero.0) (truth_of s c.args.b.zero.0) in
-    let u : Truth = either (truth_of s c.args.a.one.0) (truth_of s c.args.b.one.0) in
-    let told : IsErrOf c.from_residual.result Nodes → IsTooMany s t = search rules in
-    λ full. first_refused s t (u ∷ []) (told full)
+    let a = rails_of s c.args.a in
+    let b = rails_of s c.args.b in
+    let told : IsErrOf c.from_residual.result Nodes → IsTooMany s (first a b) = search rules in
+    λ full. first_refused s (first a b) (second a b ∷ []) (told full)
 
 pub returns-in_err-one-clause-nodes : goal.returns-in_err-one-clause-nodes
 returns-in_err-one-clause-nodes c =
-    let s = c.args.d.now.store in
     let m = c.and.new.self.store in
-    let t : Truth = both (truth_of s c.args.a.zero.0) (truth_of s c.args.b.zero.0) in
-    let u : Truth = either (truth_of s c.args.a.one.0) (truth_of s c.args.b.one.0) in
-    let v : Truth = either (truth_of m c.args.a.one.0) (truth_of m c.args.b.one.0) in
-    let told : IsErrOf c.from_residual-in_err-one.result Nodes → IsTooMany m v = search rules in
-    λ full. two_refused s m t u v c.in_ok-zero.zero c.in_ok-zero.ensures.ok (ap₂ (joined ◌||◌) (c.in_ok-zero.ensures.ok.kept.tables c.args.a.one.0 c.requires.a.0) (c.in_ok-zero.ensures.ok.kept.tables c.args.b.one.0 c.requires.b.0)) (told full)
+    let told : IsErrOf c.from_residual-in_err-one.result Nodes → IsTooMany m (second (rails_of m c.args.a) (rails_of m c.args.b)) = search rules in
+    λ full. two_refused _ m _ _ _ c.in_ok-zero.zero c.in_ok-zero.ensures.ok (two_kept second _ m c.args.a c.args.b c.in_ok-zero.ensures.ok.kept c.requires.a c.requires.b) (told full)
 
-pub returns-clause-zero : goal.returns-clause-zero
-returns-clause-zero c =
-    let s = c.args.d.now.store in
-    let m = c.and.new.self.store in
-    let t : Truth = both (truth_of s c.args.a.zero.0) (truth_of s c.args.b.zero.0) in
-    let u : Truth = either (truth_of s c.args.a.one.0) (truth_of s c.args.b.one.0) in
-    let v : Truth = either (truth_of m c.args.a.one.0) (truth_of m c.args.b.one.0) in
-    two_first s m t u v c.in_ok-zero.zero c.in_ok-zero.ensures.ok (ap₂ (joined ◌||◌) (c.in_ok-zero.ensures.ok.kept.tables c.args.a.one.0 c.requires.a.0) (c.in_ok-zero.ensures.ok.kept.tables c.args.b.one.0 c.requires.b.0)) c.or.new.self.store c.in_ok-one.one c.in_ok-one.ensures.ok
-
-pub returns-clause-one : goal.returns-clause-one
-returns-clause-one c =
-    let s = c.args.d.now.store in
-    let m = c.and.new.self.store in
-    let t : Truth = both (truth_of s c.args.a.zero.0) (truth_of s c.args.b.zero.0) in
-    let u : Truth = either (truth_of s c.args.a.one.0) (truth_of s c.args.b.one.0) in
-    let v : Truth = either (truth_of m c.args.a.one.0) (truth_of m c.args.b.one.0) in
-    two_second s m t u v c.in_ok-zero.zero c.in_ok-zero.ensures.ok (ap₂ (joined ◌||◌) (c.in_ok-zero.ensures.ok.kept.tables c.args.a.one.0 c.requires.a.0) (c.in_ok-zero.ensures.ok.kept.tables c.args.b.one.0 c.requires.b.0)) c.or.new.self.store c.in_ok-one.one c.in_ok-one.ensures.ok
+pub returns-clause-rails : goal.returns-clause-rails
+returns-clause-rails c =
+    let made = c.in_ok-zero.ensures.ok in
+    let same = two_kept second _ _ c.args.a c.args.b made.kept c.requires.a c.requires.b in
+    record {
+      zero = two_first _ _ _ _ _ c.in_ok-zero.zero made same _ c.in_ok-one.one c.in_ok-one.ensures.ok;
+      one = two_second _ _ _ _ _ c.in_ok-zero.zero made same _ c.in_ok-one.one c.in_ok-one.ensures.ok;
+    }
 
 pub returns-clause-makes : goal.returns-clause-makes
 returns-clause-makes c =
-    let s = c.args.d.now.store in
-    let m = c.and.new.self.store in
-    let t : Truth = both (truth_of s c.args.a.zero.0) (truth_of s c.args.b.zero.0) in
-    let u : Truth = either (truth_of s c.args.a.one.0) (truth_of s c.args.b.one.0) in
-    let v : Truth = either (truth_of m c.args.a.one.0) (truth_of m c.args.b.one.0) in
-    two_made s m t u v c.in_ok-zero.zero c.in_ok-zero.ensures.ok (ap₂ (joined ◌||◌) (c.in_ok-zero.ensures.ok.kept.tables c.args.a.one.0 c.requires.a.0) (c.in_ok-zero.ensures.ok.kept.tables c.args.b.one.0 c.requires.b.0)) c.or.new.self.store c.in_ok-one.one c.in_ok-one.ensures.ok
+    let made = c.in_ok-zero.ensures.ok in
+    two_made _ _ _ _ _ c.in_ok-zero.zero made (two_kept second _ _ c.args.a c.args.b made.kept c.requires.a c.requires.b) _ c.in_ok-one.one c.in_ok-one.ensures.ok

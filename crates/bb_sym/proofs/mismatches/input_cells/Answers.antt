@@ -1,9 +1,10 @@
 use Rattle.std.proofs.Common.{rules, IsErrOf, [], refl, subst, sym, ap, ◌∙◌, ◌≡◌, map, flat_map, length, arith}
 use Rattle.bb_net.specs.Netlists.{Netlist}
 use Rattle.bb_sym.specs.declared.fault.RungFault.TheVariants.{Nodes}
-use Rattle.bb_sym.specs.Functions.{known_tables, high, low}
+use Rattle.bb_sym.specs.Functions.{known_tables}
 use Rattle.bb_sym.specs.Plain.{AreVariables, cell_bit, table, tables, variables, places}
 use Rattle.bb_sym.specs.Inside.Made.{Makes, AreTooMany, StandForAll}
+use Rattle.bb_sym.specs.Inside.Rails.{HaveAllRails, known_rails}
 use Rattle.bb_sym.proofs.PlainCells.{few_variables, read_net}
 use Rattle.bb_sym.proofs.InputCells.{inputs_only, inputs_read, refused_first, spec_fits, refused_bits, mid_vars, refused_known, input_cells_made, input_cells_stand}
 use Rattle.bb_sym.proofs.mismatches.input_cells.Goals as goal
@@ -59,10 +60,9 @@ returns-clause-cells c =
     input_cells_stand c.args.pair.now c.spec-spec_net.ensures.kept c.args.d.now.store c.requires.vars b c.in_ok-make_variables.ensures.makes mid
     (subst (λ (net : Netlist). Makes b mid (tables b.vars (map (cell_bit inputs_only net) (places net)))) c.spec-spec_net.ensures.spec (c.in_ok-spec.ensures.makes inputs_only (read_net c.spec-spec_net.result.now c.args.pair.now.spec c.spec-spec_net.ensures.spec b.vars b.vars 0 [] inputs_only refl (inputs_read c.args.pair.now c.spec-spec_net.ensures.kept b.vars)))) last
     (subst (λ (net : Netlist). Makes mid last (flat_map (known_tables net) (places net))) c.imp-imp_net.ensures.imp c.in_ok-imp.ensures.makes)
-    of_spec imp.ones.items imp.zeros.items
+    of_spec imp.items
     (subst (λ (net : Netlist). (length of_spec ≡ length net.cells) × StandForAll mid (λ place. table b.vars (cell_bit inputs_only net place)) of_spec) c.spec-spec_net.ensures.spec (c.in_ok-spec.ensures.count, c.in_ok-spec.ensures.cells inputs_only (read_net c.spec-spec_net.result.now c.args.pair.now.spec c.spec-spec_net.ensures.spec b.vars b.vars 0 [] inputs_only refl (inputs_read c.args.pair.now c.spec-spec_net.ensures.kept b.vars))))
-    (subst (λ (net : Netlist). (length imp.ones.items ≡ length net.cells) × StandForAll last (high net) imp.ones.items) c.imp-imp_net.ensures.imp c.in_ok-imp.ensures.ones)
-    (subst (λ (net : Netlist). (length imp.zeros.items ≡ length net.cells) × StandForAll last (low net) imp.zeros.items) c.imp-imp_net.ensures.imp c.in_ok-imp.ensures.zeros)
+    (subst (λ (net : Netlist). (length imp.items ≡ length net.cells) × HaveAllRails last (known_rails net) imp.items) c.imp-imp_net.ensures.imp (c.in_ok-imp.ensures.count, c.in_ok-imp.ensures.rails))
 
 pub returns-clause-makes : goal.returns-clause-makes
 returns-clause-makes c =

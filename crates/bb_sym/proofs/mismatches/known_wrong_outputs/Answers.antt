@@ -11,7 +11,7 @@ use Rattle.bb_sym.proofs.mismatches.known_wrong_outputs.Goals as goal
 
 pub known_wrong_output-requires-clause-made : goal.known_wrong_output-requires-clause-made
 known_wrong_output-requires-clause-made c =
-    HaveKnown-kept c.args.d.now.store c.loop-j.d.store c.args.pair.now.spec c.args.pair.now.imp c.args.made.now.spec.items c.args.made.now.imp.ones.items c.args.made.now.imp.zeros.items c.loop-j.invariant.2.kept c.requires.made
+    HaveKnown-kept c.args.d.now.store c.loop-j.d.store c.args.pair.now.spec c.args.pair.now.imp c.args.made.now.spec.items c.args.made.now.imp.items c.loop-j.invariant.2.kept c.requires.made
 
 pub returns-in_err-r-clause-nodes : goal.returns-in_err-r-clause-nodes
 returns-in_err-r-clause-nodes c =

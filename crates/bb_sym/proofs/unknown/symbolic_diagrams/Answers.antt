@@ -4,14 +4,15 @@ use Rattle.bb_sym.specs.Functions.{mismatches}
 use Rattle.bb_sym.specs.Plain.{outputs}
 use Rattle.bb_sym.specs.Inside.Made.{Makes, AreTooMany}
 use Rattle.bb_sym.proofs.MadeLemmas.{Makes-then, too_many_within, too_many_then, within_append_left}
-use Rattle.bb_sym.proofs.InputCells.{input_functions, symbolic_are}
+use Rattle.bb_sym.specs.Inside.Rails.{known_functions}
+use Rattle.bb_sym.proofs.InputCells.{symbolic_are}
 use Rattle.bb_sym.proofs.unknown.symbolic_diagrams.Goals as goal
 
 pub returns-in_err-made-clause-nodes : goal.returns-in_err-made-clause-nodes
 returns-in_err-made-clause-nodes c =
     let spec = c.args.pair.now.spec in
     let imp = c.args.pair.now.imp in
-    let ts = input_functions spec imp in
+    let ts = known_functions spec imp in
     let us = flat_map (mismatches spec imp) (outputs imp) in
     let told : IsErrOf c.from_residual.result Nodes → AreTooMany c.args.d.now.store ts = search rules in
     λ full. subst (AreTooMany c.args.d.now.store) (symbolic_are spec imp) (too_many_within c.args.d.now.store ts (ts ++ us) (within_append_left ts us) (told full))
@@ -22,11 +23,11 @@ returns-in_err-refs-clause-nodes c =
     let imp = c.args.pair.now.imp in
     let us = flat_map (mismatches spec imp) (outputs imp) in
     let told : IsErrOf c.from_residual-in_err-refs.result Nodes → AreTooMany c.input_cells.new.d.store us = search rules in
-    λ full. subst (AreTooMany c.args.d.now.store) (symbolic_are spec imp) (too_many_then c.args.d.now.store c.input_cells.new.d.store (input_functions spec imp) us c.in_ok-made.ensures.makes (told full))
+    λ full. subst (AreTooMany c.args.d.now.store) (symbolic_are spec imp) (too_many_then c.args.d.now.store c.input_cells.new.d.store (known_functions spec imp) us c.in_ok-made.ensures.makes (told full))
 
 pub returns-clause-makes : goal.returns-clause-makes
 returns-clause-makes c =
     let spec = c.args.pair.now.spec in
     let imp = c.args.pair.now.imp in
     subst (Makes c.args.d.now.store c.known_wrong_outputs.new.d.store) (symbolic_are spec imp)
-    (Makes-then c.args.d.now.store c.input_cells.new.d.store c.known_wrong_outputs.new.d.store (input_functions spec imp) (flat_map (mismatches spec imp) (outputs imp)) c.in_ok-made.ensures.makes c.in_ok-refs.ensures.makes)
+    (Makes-then c.args.d.now.store c.input_cells.new.d.store c.known_wrong_outputs.new.d.store (known_functions spec imp) (flat_map (mismatches spec imp) (outputs imp)) c.in_ok-made.ensures.makes c.in_ok-refs.ensures.makes)
