@@ -6,6 +6,8 @@ ghost use Rattle.bb_net.specs.Pairs.{pin_count};
 ghost use Rattle.bb_uniq.specs.Inside.Nodes.{IsRef};
 ghost use Rattle.bb_uniq.specs.Inside.Meaning.{truth_of};
 ghost use Rattle.bb_sym.specs.Inside.Made.{Makes, AreTooMany, StandsFor, ref_at};
+ghost use Rattle.bb_input.specs.Inside.Order.{AreStarts};
+ghost use Rattle.bb_input.specs.Inside.Prefixes.{boxes_after};
 ghost use Rattle.bb_input.specs.InputFunctions.{box_quantified, boxes_quantified, box_functions, boxes_functions};
 
 use bb_dd::{Diagrams, Ref};
@@ -28,10 +30,11 @@ pub(crate) fn quantify_boxes(
     requires vars { pin_count boxes.now ≤ d.old.store.vars }
     requires few { d.old.store.vars ≤ 2048 }
     requires count { length starts.now ≡ length boxes.now }
-    requires starts { (b : ℕ) → b < length boxes.now → slice_index_or starts.now b 0 ≡ pin_count (take b boxes.now) + length (box_at boxes.now b).ins }
+    requires starts { AreStarts boxes.now starts.now }
     requires stages { length stages.old ≡ length boxes.now }
     ensures count { length stages.new ≡ length boxes.now }
-    ensures stages { OnOk result ((b : ℕ) → b < length boxes.now → StandsFor d.new.store (boxes_quantified (pin_count (take (b + 1) boxes.now)) (drop (b + 1) boxes.now) (truth_of d.old.store f.0)) (ref_at stages.new b)) }
+    ensures stages { OnOk result ((b : ℕ) → b < length boxes.now
+        → StandsFor d.new.store (boxes_after (b + 1) boxes.now (truth_of d.old.store f.0)) (ref_at stages.new b)) }
     ensures result { IfOk result (StandsFor d.new.store (boxes_quantified 0 boxes.now (truth_of d.old.store f.0))) }
     ensures makes { OnOk result (Makes d.old.store d.new.store (boxes_functions 0 boxes.now (truth_of d.old.store f.0))) }
     ensures nodes { IsErrOf result RungFault.Nodes → AreTooMany d.old.store (boxes_functions 0 boxes.now (truth_of d.old.store f.0)) }

@@ -1,4 +1,5 @@
-//! Laws of the answers and of the functions on the way. The definitions stand in the specifications; each function here has a law as its contract and does nothing.
+//! Laws of the answers and of the functions on the way. The definitions are in the specifications; each function here has a law as
+//! its contract and does nothing.
 
 ghost use Rattle.bb_input.specs.Laws.{OneAnswer, AnswersExist, StagesSay, LastSays};
 

@@ -5,7 +5,7 @@ ghost use Rattle.std.specs.List.{range_with_len};
 ghost use Rattle.bb_net.specs.Netlists.{box_at};
 ghost use Rattle.bb_net.specs.Pairs.{pin_count};
 ghost use Rattle.bb_input.specs.InputFunctions.{in_places, pin_places};
-ghost use Rattle.bb_input.specs.Inside.Order.{in_variables};
+ghost use Rattle.bb_input.specs.Inside.Order.{AreStarts, in_variables};
 
 use bb_bits::NoMemory;
 use bb_net::BoxPins;
@@ -29,7 +29,7 @@ pub(crate) fn count_pins(boxes: &[BoxPins]) -> u32
 pub(crate) fn first_outputs(alloc: Global, boxes: &[BoxPins]) -> Result<Vec<u32>, NoMemory>
     requires { pin_count boxes.now ≤ 2048 }
     ensures count { IfOk result (λ starts. length starts.items ≡ length boxes.now) }
-    ensures starts { IfOk result (λ starts. (b : ℕ) → b < length boxes.now → slice_index_or starts.items b 0 ≡ pin_count (take b boxes.now) + length (box_at boxes.now b).ins) }
+    ensures starts { IfOk result (λ starts. AreStarts boxes.now starts.items) }
 {
     let mut starts = Vec::with_capacity(alloc, boxes.len())?;
     let mut next = 0;

@@ -1,12 +1,13 @@
 //! Where bits at the pins of the boxes are refuted: some inputs lead to the bits at the input pins, and some output is wrong.
 
-ghost use Rattle.std.specs.Prelude.{◌≡◌, ◌+◌, ◌<◌, ◌≤◌, ◌++◌, ◌∷◌, [], ℕ, length, take, IfOk, OnOk, IsErrOf, slice_index_or};
+ghost use Rattle.std.specs.Prelude.{◌≡◌, ◌≤◌, length, IfOk, OnOk, IsErrOf};
 ghost use Rattle.bb_bits.specs.Truth.{variable};
-ghost use Rattle.bb_net.specs.Netlists.{box_at};
 ghost use Rattle.bb_net.specs.Pairs.{pin_count};
-ghost use Rattle.bb_sym.specs.Plain.{table, tables, plain_functions_at};
-ghost use Rattle.bb_sym.specs.Inside.Made.{Makes, AreTooMany, StandsFor, StandForAll, AreCells, HaveCells};
-ghost use Rattle.bb_input.specs.InputFunctions.{pins_and_inputs, boxes_first, leads, refutes, wrong_functions, missed_functions};
+ghost use Rattle.bb_sym.specs.Plain.{table};
+ghost use Rattle.bb_sym.specs.Inside.Made.{Makes, AreTooMany, StandsFor, StandForAll, StandForFirst, AreCells, HaveCells};
+ghost use Rattle.bb_input.specs.InputFunctions.{pins_and_inputs, boxes_first, refutes};
+ghost use Rattle.bb_input.specs.Inside.Order.{AreStarts};
+ghost use Rattle.bb_input.specs.Inside.Prefixes.{cell_functions, refuting_functions};
 
 use crate::missing::some_missed;
 use bb_dd::{Diagrams, Ref};
@@ -29,12 +30,12 @@ pub(crate) fn ordered_cells(
     requires few { vars ≤ 2048 }
     requires pins { pins ≡ pin_count pair.now.imp.boxes }
     requires count { length starts.now ≡ length pair.now.imp.boxes }
-    requires starts { (b : ℕ) → b < length pair.now.imp.boxes → slice_index_or starts.now b 0 ≡ pin_count (take b pair.now.imp.boxes) + length (box_at pair.now.imp.boxes b).ins }
-    ensures variables { IfOk result (λ made. (length made.variables.items ≡ d.new.store.vars) × StandForAll d.new.store (variable d.new.store.vars) made.variables.items) }
+    requires starts { AreStarts pair.now.imp.boxes starts.now }
+    ensures variables { IfOk result (λ made. StandForFirst d.new.store (variable d.new.store.vars) d.new.store.vars made.variables.items) }
     ensures refs { IfOk result (λ made. AreCells d.new.store pair.now.spec pair.now.imp made.spec.items made.imp.items) }
     ensures cells { IfOk result (λ made. HaveCells d.new.store (boxes_first pair.now.imp) pair.now.spec pair.now.imp made.spec.items made.imp.items) }
-    ensures makes { OnOk result (Makes d.old.store d.new.store (plain_functions_at (pins_and_inputs pair.now.imp) (boxes_first pair.now.imp) pair.now.spec pair.now.imp)) }
-    ensures nodes { IsErrOf result RungFault.Nodes → AreTooMany d.old.store (plain_functions_at (pins_and_inputs pair.now.imp) (boxes_first pair.now.imp) pair.now.spec pair.now.imp) }
+    ensures makes { OnOk result (Makes d.old.store d.new.store (cell_functions pair.now.spec pair.now.imp)) }
+    ensures nodes { IsErrOf result RungFault.Nodes → AreTooMany d.old.store (cell_functions pair.now.spec pair.now.imp) }
 {
     let spec = pair.spec();
     let imp = pair.imp();
@@ -56,8 +57,8 @@ pub(crate) fn refuting(
     requires refs { AreCells d.old.store pair.now.spec pair.now.imp made.now.spec.items made.now.imp.items }
     requires cells { HaveCells d.old.store (boxes_first pair.now.imp) pair.now.spec pair.now.imp made.now.spec.items made.now.imp.items }
     ensures result { IfOk result (StandsFor d.new.store (table (pins_and_inputs pair.now.imp) (refutes pair.now.spec pair.now.imp))) }
-    ensures makes { OnOk result (Makes d.old.store d.new.store (wrong_functions pair.now.spec pair.now.imp ++ (missed_functions pair.now.imp ++ tables (pins_and_inputs pair.now.imp) (leads pair.now.imp ∷ refutes pair.now.spec pair.now.imp ∷ [])))) }
-    ensures nodes { IsErrOf result RungFault.Nodes → AreTooMany d.old.store (wrong_functions pair.now.spec pair.now.imp ++ (missed_functions pair.now.imp ++ tables (pins_and_inputs pair.now.imp) (leads pair.now.imp ∷ refutes pair.now.spec pair.now.imp ∷ []))) }
+    ensures makes { OnOk result (Makes d.old.store d.new.store (refuting_functions pair.now.spec pair.now.imp)) }
+    ensures nodes { IsErrOf result RungFault.Nodes → AreTooMany d.old.store (refuting_functions pair.now.spec pair.now.imp) }
 {
     laws::functions();
     laws::making();

@@ -1,12 +1,11 @@
 //! The table of a box, row by row the least one that suits.
 
-ghost use Rattle.std.specs.Prelude.{◌≡◌, ◌+◌, ◌*◌, ◌^◌, ◌<◌, ◌≤◌, ℕ, false, List, Bool, length, take, drop, IfOk};
+ghost use Rattle.std.specs.Prelude.{◌≡◌, ◌+◌, ◌*◌, ◌^◌, ◌<◌, ◌≤◌, ℕ, length, take, IfOk};
 ghost use Rattle.bb_bits.specs.Numbers.{number_of};
 ghost use Rattle.bb_bits.specs.Tables.{row_of};
-ghost use Rattle.bb_bits.specs.Truth.{truth_at};
 ghost use Rattle.bb_uniq.specs.Inside.Nodes.{IsRef};
 ghost use Rattle.bb_uniq.specs.Inside.Meaning.{truth_of};
-ghost use Rattle.bb_input.specs.Inside.Rows.{HasLeastRows, IsLeastRow};
+ghost use Rattle.bb_input.specs.Inside.Rows.{HasLeastRows, IsLeastRow, IsFalseForEach};
 
 use crate::counting::count_up;
 use bb_bits::{NoMemory, Table, number_spelled_once, tables_have_few_inputs};
@@ -28,7 +27,7 @@ pub(crate) fn least_table(
     requires point { length point.old ≡ d.now.store.vars }
     requires pins { inputs + outputs ≤ d.now.store.vars }
     requires zeros { number_of (take inputs point.old) ≡ 0 }
-    requires some { (ins : List Bool) → length ins ≡ inputs → (q : List Bool) × (length q ≡ d.now.store.vars) × (take inputs q ≡ ins) × (truth_at (truth_of d.now.store f.0) q ≡ false) }
+    requires some { IsFalseForEach d.now.store.vars (truth_of d.now.store f.0) inputs }
     ensures inputs { IfOk result (λ table. table.inputs ≡ inputs) }
     ensures outputs { IfOk result (λ table. table.outputs ≡ outputs) }
     ensures rows { 0 < outputs → IfOk result (λ table. HasLeastRows d.now.store.vars (truth_of d.now.store f.0) table (2 ^ inputs)) }
@@ -47,7 +46,7 @@ fn fill_rows(d: &Diagrams, f: Ref, table: &mut Table, point: &mut [bool])
     requires point { length point.old ≡ d.now.store.vars }
     requires pins { table.old.inputs + table.old.outputs ≤ d.now.store.vars }
     requires zeros { number_of (take table.old.inputs point.old) ≡ 0 }
-    requires some { (ins : List Bool) → length ins ≡ table.old.inputs → (q : List Bool) × (length q ≡ d.now.store.vars) × (take table.old.inputs q ≡ ins) × (truth_at (truth_of d.now.store f.0) q ≡ false) }
+    requires some { IsFalseForEach d.now.store.vars (truth_of d.now.store f.0) table.old.inputs }
     ensures inputs { table.new.inputs ≡ table.old.inputs }
     ensures outputs { table.new.outputs ≡ table.old.outputs }
     ensures rows { HasLeastRows d.now.store.vars (truth_of d.now.store f.0) table.new (2 ^ table.old.inputs) }
@@ -68,7 +67,7 @@ fn fill_row(d: &Diagrams, f: Ref, table: &mut Table, row: u32, point: &mut [bool
     requires pins { table.old.inputs + table.old.outputs ≤ d.now.store.vars }
     requires row { number_of (take table.old.inputs point.old) ≡ row }
     requires below { row < 2 ^ table.old.inputs }
-    requires some { (ins : List Bool) → length ins ≡ table.old.inputs → (q : List Bool) × (length q ≡ d.now.store.vars) × (take table.old.inputs q ≡ ins) × (truth_at (truth_of d.now.store f.0) q ≡ false) }
+    requires some { IsFalseForEach d.now.store.vars (truth_of d.now.store f.0) table.old.inputs }
     ensures len { length point.new ≡ length point.old }
     ensures begins { take table.old.inputs point.new ≡ take table.old.inputs point.old }
     ensures inputs { table.new.inputs ≡ table.old.inputs }
@@ -82,7 +81,7 @@ fn fill_row(d: &Diagrams, f: Ref, table: &mut Table, row: u32, point: &mut [bool
 }
 
 /// Writes a row of a table: the first of some bits.
-fn write_row(table: &mut Table, row: u32, bits: &[bool])
+pub fn write_row(table: &mut Table, row: u32, bits: &[bool])
     requires row { row < 2 ^ table.old.inputs }
     requires bits { table.old.outputs ≤ length bits.now }
     ensures inputs { table.new.inputs ≡ table.old.inputs }

@@ -3,7 +3,7 @@
 use Rattle.std.specs.Prelude.{◌≡◌, ◌<◌, ℕ, Bool, false, List, length, take, drop}
 use Rattle.bb_bits.specs.Numbers.{number_of}
 use Rattle.bb_bits.specs.Tables.{TableBits, row_of}
-use Rattle.bb_bits.specs.Truth.{Truth}
+use Rattle.bb_bits.specs.Truth.{Truth, truth_at}
 use Rattle.bb_quant.specs.Inside.LeastPoints.{IsLeastPoint}
 
 -- outs are the m bits behind ins in the least point at which the table of n variables is 0
@@ -17,3 +17,7 @@ pub record IsLeastRow (n : ℕ) (t : Truth) (m : ℕ) (ins outs : List Bool) : T
 -- the first rows of a table are the least ones, each behind the bits of its number
 abbrev pub HasLeastRows : ℕ → Truth → TableBits → ℕ → Type 0
 HasLeastRows n t bits count = (ins : List Bool) → length ins ≡ bits.inputs → number_of ins < count → IsLeastRow n t bits.outputs ins (row_of bits (number_of ins))
+
+-- whatever the first bits of a point are, the table of n variables is 0 at some such point
+abbrev pub IsFalseForEach : ℕ → Truth → ℕ → Type 0
+IsFalseForEach n t inputs = (ins : List Bool) → length ins ≡ inputs → (q : List Bool) × (length q ≡ n) × (take inputs q ≡ ins) × (truth_at t q ≡ false)
