@@ -9,7 +9,6 @@ pub mod OneAnswer
 pub mod Points
 pub mod Reading
 pub mod Refs
-pub mod RowSteps
 pub mod SeenPins
 pub mod Singles
 pub mod SomeAnswers

@@ -11,6 +11,7 @@ ghost use Rattle.bb_nest.specs.Inside.StageRows.{IsStageRow, HasStageRows, front
 use crate::spelling::spell;
 use bb_bits::{NoMemory, Table, number_spelled_once, tables_have_few_inputs};
 use bb_dd::{Diagrams, Ref};
+use bb_input::write_row;
 use bb_quant::least;
 use std::alloc::Global;
 
@@ -109,19 +110,5 @@ fn copy_seen(readers: &[usize], point: &mut [bool])
 {
     for (q, p) in readers.iter().enumerate() {
         point[q] = point[readers.len() + *p];
-    }
-}
-
-/// Writes a row of a table: the first of some bits.
-fn write_row(table: &mut Table, row: u32, bits: &[bool])
-    requires row { row < 2 ^ table.old.inputs }
-    requires bits { table.old.outputs ≤ length bits.now }
-    ensures inputs { table.new.inputs ≡ table.old.inputs }
-    ensures outputs { table.new.outputs ≡ table.old.outputs }
-    ensures row { row_of table.new row ≡ take table.old.outputs bits.now }
-    ensures others { (other : ℕ) → other < row → row_of table.new other ≡ row_of table.old other }
-{
-    for pin in 0..table.outputs() {
-        table.set(row, pin, bits[pin as usize]);
     }
 }
