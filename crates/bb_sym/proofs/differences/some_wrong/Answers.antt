@@ -9,21 +9,21 @@ use Rattle.bb_sym.proofs.differences.some_wrong.Goals as goal
 
 pub some_differ-requires-clause-fs : goal.some_differ-requires-clause-fs
 some_differ-requires-clause-fs c =
-    let wanted = (picks_are c.args.made.now.spec.items c.deref.result.now c.in_ok-wanted.wanted.items c.deref-3.result.now c.args.spec.now.outs c.outs.result.now c.deref-3.ensures.value c.in_ok-wanted.ensures c.deref.ensures.value c.outs.ensures.outs) in
-    let given = (picks_are c.args.made.now.imp.items c.deref-2.result.now c.in_ok-given.given.items c.deref-4.result.now c.args.imp.now.outs c.outs-2.result.now c.deref-4.ensures.value c.in_ok-given.ensures c.deref-2.ensures.value c.outs-2.ensures.outs) in
-    wanted_refs c.args.d.now.store c.args.spec.now c.args.imp.now c.outs.ensures.kept c.outs-2.ensures.kept c.requires.outputs c.args.made.now.spec.items c.args.made.now.imp.items c.requires.made c.deref-3.result.now c.deref-4.result.now wanted given
+    let wanted = picks_are _ _ _ _ _ _ c.deref-3.ensures.value c.in_ok-wanted.ensures c.deref.ensures.value c.outs.ensures.outs in
+    let given = picks_are _ _ _ _ _ _ c.deref-4.ensures.value c.in_ok-given.ensures c.deref-2.ensures.value c.outs-2.ensures.outs in
+    wanted_refs _ _ _ c.outs.ensures.kept c.outs-2.ensures.kept c.requires.outputs _ _ c.requires.made _ _ wanted given
 
 pub some_differ-requires-clause-gs : goal.some_differ-requires-clause-gs
 some_differ-requires-clause-gs c =
-    let wanted = (picks_are c.args.made.now.spec.items c.deref.result.now c.in_ok-wanted.wanted.items c.deref-3.result.now c.args.spec.now.outs c.outs.result.now c.deref-3.ensures.value c.in_ok-wanted.ensures c.deref.ensures.value c.outs.ensures.outs) in
-    let given = (picks_are c.args.made.now.imp.items c.deref-2.result.now c.in_ok-given.given.items c.deref-4.result.now c.args.imp.now.outs c.outs-2.result.now c.deref-4.ensures.value c.in_ok-given.ensures c.deref-2.ensures.value c.outs-2.ensures.outs) in
-    given_refs c.args.d.now.store c.args.spec.now c.args.imp.now c.outs.ensures.kept c.outs-2.ensures.kept c.requires.outputs c.args.made.now.spec.items c.args.made.now.imp.items c.requires.made c.deref-3.result.now c.deref-4.result.now wanted given
+    let wanted = picks_are _ _ _ _ _ _ c.deref-3.ensures.value c.in_ok-wanted.ensures c.deref.ensures.value c.outs.ensures.outs in
+    let given = picks_are _ _ _ _ _ _ c.deref-4.ensures.value c.in_ok-given.ensures c.deref-2.ensures.value c.outs-2.ensures.outs in
+    given_refs _ _ _ c.outs.ensures.kept c.outs-2.ensures.kept c.requires.outputs _ _ c.requires.made _ _ wanted given
 
 pub some_differ-requires-clause-count : goal.some_differ-requires-clause-count
 some_differ-requires-clause-count c =
-    let wanted = (picks_are c.args.made.now.spec.items c.deref.result.now c.in_ok-wanted.wanted.items c.deref-3.result.now c.args.spec.now.outs c.outs.result.now c.deref-3.ensures.value c.in_ok-wanted.ensures c.deref.ensures.value c.outs.ensures.outs) in
-    let given = (picks_are c.args.made.now.imp.items c.deref-2.result.now c.in_ok-given.given.items c.deref-4.result.now c.args.imp.now.outs c.outs-2.result.now c.deref-4.ensures.value c.in_ok-given.ensures c.deref-2.ensures.value c.outs-2.ensures.outs) in
-    given_count c.args.d.now.store c.args.spec.now c.args.imp.now c.outs.ensures.kept c.outs-2.ensures.kept c.requires.outputs c.args.made.now.spec.items c.args.made.now.imp.items c.requires.made c.deref-3.result.now c.deref-4.result.now wanted given
+    let wanted = picks_are _ _ _ _ _ _ c.deref-3.ensures.value c.in_ok-wanted.ensures c.deref.ensures.value c.outs.ensures.outs in
+    let given = picks_are _ _ _ _ _ _ c.deref-4.ensures.value c.in_ok-given.ensures c.deref-2.ensures.value c.outs-2.ensures.outs in
+    given_count _ _ _ c.outs.ensures.kept c.outs-2.ensures.kept c.requires.outputs _ _ c.requires.made _ _ wanted given
 
 -- where so many functions are 1, and where one of the first is
 abbrev all : ℕ → (ℕ → Function) → ℕ → List Truth
@@ -31,31 +31,31 @@ all n f count = tables n (map f (range_with_len 0 count)) ++ tables n (map (firs
 
 pub returns-in_err-any-clause-nodes : goal.returns-in_err-any-clause-nodes
 returns-in_err-any-clause-nodes c = λ r have.
-    let wanted = (picks_are c.args.made.now.spec.items c.deref.result.now c.in_ok-wanted.wanted.items c.deref-3.result.now c.args.spec.now.outs c.outs.result.now c.deref-3.ensures.value c.in_ok-wanted.ensures c.deref.ensures.value c.outs.ensures.outs) in
-    let given = (picks_are c.args.made.now.imp.items c.deref-2.result.now c.in_ok-given.given.items c.deref-4.result.now c.args.imp.now.outs c.outs-2.result.now c.deref-4.ensures.value c.in_ok-given.ensures c.deref-2.ensures.value c.outs-2.ensures.outs) in
+    let wanted = picks_are _ _ _ _ _ _ c.deref-3.ensures.value c.in_ok-wanted.ensures c.deref.ensures.value c.outs.ensures.outs in
+    let given = picks_are _ _ _ _ _ _ c.deref-4.ensures.value c.in_ok-given.ensures c.deref-2.ensures.value c.outs-2.ensures.outs in
     let s = c.args.d.now.store in
     let f = is_wrong_at r c.args.spec.now c.args.imp.now in
     let more = c.in_err-any.ensures.nodes (λ j. cell_bit (without_pins r) c.args.spec.now (slice_index c.args.spec.now.outs j)) (λ j. cell_bit r c.args.imp.now (slice_index c.args.imp.now.outs j))
-    (wanted_stand c.args.d.now.store c.args.spec.now c.args.imp.now c.outs.ensures.kept c.outs-2.ensures.kept c.requires.outputs c.args.made.now.spec.items c.args.made.now.imp.items c.requires.made c.deref-3.result.now c.deref-4.result.now wanted given r have) (given_stand c.args.d.now.store c.args.spec.now c.args.imp.now c.outs.ensures.kept c.outs-2.ensures.kept c.requires.outputs c.args.made.now.spec.items c.args.made.now.imp.items c.requires.made c.deref-3.result.now c.deref-4.result.now wanted given r have) in
+    (wanted_stand _ _ _ c.outs.ensures.kept c.outs-2.ensures.kept c.requires.outputs _ _ c.requires.made _ _ wanted given r have) (given_stand _ _ _ c.outs.ensures.kept c.outs-2.ensures.kept c.requires.outputs _ _ c.requires.made _ _ wanted given r have) in
     let told : IsErrOf c.from_residual-in_err-any.result Nodes → AreTooMany s (all s.vars f (length c.deref-3.result.now)) = search (rules, more) in
-    λ full. subst (λ count. AreTooMany s (all s.vars f count)) (wanted_count c.args.d.now.store c.args.spec.now c.args.imp.now c.outs.ensures.kept c.outs-2.ensures.kept c.requires.outputs c.args.made.now.spec.items c.args.made.now.imp.items c.requires.made c.deref-3.result.now c.deref-4.result.now wanted given) (told full)
+    λ full. subst (λ count. AreTooMany s (all s.vars f count)) (wanted_count _ _ _ c.outs.ensures.kept c.outs-2.ensures.kept c.requires.outputs _ _ c.requires.made _ _ wanted given) (told full)
 
 pub returns-clause-result : goal.returns-clause-result
 returns-clause-result c = λ r have.
-    let wanted = (picks_are c.args.made.now.spec.items c.deref.result.now c.in_ok-wanted.wanted.items c.deref-3.result.now c.args.spec.now.outs c.outs.result.now c.deref-3.ensures.value c.in_ok-wanted.ensures c.deref.ensures.value c.outs.ensures.outs) in
-    let given = (picks_are c.args.made.now.imp.items c.deref-2.result.now c.in_ok-given.given.items c.deref-4.result.now c.args.imp.now.outs c.outs-2.result.now c.deref-4.ensures.value c.in_ok-given.ensures c.deref-2.ensures.value c.outs-2.ensures.outs) in
+    let wanted = picks_are _ _ _ _ _ _ c.deref-3.ensures.value c.in_ok-wanted.ensures c.deref.ensures.value c.outs.ensures.outs in
+    let given = picks_are _ _ _ _ _ _ c.deref-4.ensures.value c.in_ok-given.ensures c.deref-2.ensures.value c.outs-2.ensures.outs in
     let s = c.args.d.now.store in
     let f = is_wrong_at r c.args.spec.now c.args.imp.now in
-    subst (λ count. StandsFor c.some_differ.new.d.store (table s.vars (one_of f count)) c.in_ok-any.any) (wanted_count c.args.d.now.store c.args.spec.now c.args.imp.now c.outs.ensures.kept c.outs-2.ensures.kept c.requires.outputs c.args.made.now.spec.items c.args.made.now.imp.items c.requires.made c.deref-3.result.now c.deref-4.result.now wanted given)
+    subst (λ count. StandsFor c.some_differ.new.d.store (table s.vars (one_of f count)) c.in_ok-any.any) (wanted_count _ _ _ c.outs.ensures.kept c.outs-2.ensures.kept c.requires.outputs _ _ c.requires.made _ _ wanted given)
     (c.in_ok-any.ensures.result (λ j. cell_bit (without_pins r) c.args.spec.now (slice_index c.args.spec.now.outs j)) (λ j. cell_bit r c.args.imp.now (slice_index c.args.imp.now.outs j))
-    (wanted_stand c.args.d.now.store c.args.spec.now c.args.imp.now c.outs.ensures.kept c.outs-2.ensures.kept c.requires.outputs c.args.made.now.spec.items c.args.made.now.imp.items c.requires.made c.deref-3.result.now c.deref-4.result.now wanted given r have) (given_stand c.args.d.now.store c.args.spec.now c.args.imp.now c.outs.ensures.kept c.outs-2.ensures.kept c.requires.outputs c.args.made.now.spec.items c.args.made.now.imp.items c.requires.made c.deref-3.result.now c.deref-4.result.now wanted given r have))
+    (wanted_stand _ _ _ c.outs.ensures.kept c.outs-2.ensures.kept c.requires.outputs _ _ c.requires.made _ _ wanted given r have) (given_stand _ _ _ c.outs.ensures.kept c.outs-2.ensures.kept c.requires.outputs _ _ c.requires.made _ _ wanted given r have))
 
 pub returns-clause-makes : goal.returns-clause-makes
 returns-clause-makes c = λ r have.
-    let wanted = (picks_are c.args.made.now.spec.items c.deref.result.now c.in_ok-wanted.wanted.items c.deref-3.result.now c.args.spec.now.outs c.outs.result.now c.deref-3.ensures.value c.in_ok-wanted.ensures c.deref.ensures.value c.outs.ensures.outs) in
-    let given = (picks_are c.args.made.now.imp.items c.deref-2.result.now c.in_ok-given.given.items c.deref-4.result.now c.args.imp.now.outs c.outs-2.result.now c.deref-4.ensures.value c.in_ok-given.ensures c.deref-2.ensures.value c.outs-2.ensures.outs) in
+    let wanted = picks_are _ _ _ _ _ _ c.deref-3.ensures.value c.in_ok-wanted.ensures c.deref.ensures.value c.outs.ensures.outs in
+    let given = picks_are _ _ _ _ _ _ c.deref-4.ensures.value c.in_ok-given.ensures c.deref-2.ensures.value c.outs-2.ensures.outs in
     let s = c.args.d.now.store in
     let f = is_wrong_at r c.args.spec.now c.args.imp.now in
-    subst (λ count. Makes s c.some_differ.new.d.store (all s.vars f count)) (wanted_count c.args.d.now.store c.args.spec.now c.args.imp.now c.outs.ensures.kept c.outs-2.ensures.kept c.requires.outputs c.args.made.now.spec.items c.args.made.now.imp.items c.requires.made c.deref-3.result.now c.deref-4.result.now wanted given)
+    subst (λ count. Makes s c.some_differ.new.d.store (all s.vars f count)) (wanted_count _ _ _ c.outs.ensures.kept c.outs-2.ensures.kept c.requires.outputs _ _ c.requires.made _ _ wanted given)
     (c.in_ok-any.ensures.makes (λ j. cell_bit (without_pins r) c.args.spec.now (slice_index c.args.spec.now.outs j)) (λ j. cell_bit r c.args.imp.now (slice_index c.args.imp.now.outs j))
-    (wanted_stand c.args.d.now.store c.args.spec.now c.args.imp.now c.outs.ensures.kept c.outs-2.ensures.kept c.requires.outputs c.args.made.now.spec.items c.args.made.now.imp.items c.requires.made c.deref-3.result.now c.deref-4.result.now wanted given r have) (given_stand c.args.d.now.store c.args.spec.now c.args.imp.now c.outs.ensures.kept c.outs-2.ensures.kept c.requires.outputs c.args.made.now.spec.items c.args.made.now.imp.items c.requires.made c.deref-3.result.now c.deref-4.result.now wanted given r have))
+    (wanted_stand _ _ _ c.outs.ensures.kept c.outs-2.ensures.kept c.requires.outputs _ _ c.requires.made _ _ wanted given r have) (given_stand _ _ _ c.outs.ensures.kept c.outs-2.ensures.kept c.requires.outputs _ _ c.requires.made _ _ wanted given r have))
