@@ -7,6 +7,7 @@ use Rattle.std.specs.List.Sorted.{IsPermutation}
 use Rattle.std.proofs.lemmas.List.{get_or_default, map-append}
 use Rattle.std.proofs.lemmas.List.Elements.{All-head, All-tail}
 use Rattle.std.proofs.lemmas.List.Sorted.{IsPermutation-append}
+use Rattle.bb_lists.proofs.Ranges.{range_parts}
 use Rattle.bb_alike.specs.Laws.Alike.{AreAlike}
 use Rattle.bb_alike.specs.Laws.Formulas.{Formula, Not, And, Or, Xor, Mux, cell_formula, formula_at, cell_formulas, pin_formulas}
 use Rattle.bb_alike.specs.Laws.{FormulasAreOfCells}
@@ -40,12 +41,6 @@ map_ranges f g a b zero same = refl
 map_ranges f g a b (suc n) same =
     ap₂ (λ y ys. y ∷ ys) (ap f (omega arith) ∙ same 0 (omega arith) ∙ ap g (omega arith))
     (map_ranges f g (a + 1) (b + 1) n (λ i lt. ap f (omega arith) ∙ same (suc i) (omega (arith, lt)) ∙ ap g (omega arith)))
-
-range_parts : (a n m : ℕ) → range_with_len a (n + m) ≡ range_with_len a n ++ range_with_len (a + n) m
-range_parts a zero m = ap₂ (λ (b : ℕ) (n : ℕ). range_with_len b n) (omega arith) (omega arith)
-range_parts a (suc n) m =
-    let e : suc n + m ≡ suc (n + m) = omega arith in
-    ap (range_with_len a) e ∙ ap (λ ks. a ∷ ks) (range_parts (a + 1) n m ∙ ap (λ b. range_with_len (a + 1) n ++ range_with_len b m) (omega arith))
 
 -- the formulas of places
 pub map_below : (f g : ℕ → Formula) (count : ℕ) → ((k : ℕ) → k < count → f k ≡ g k) → (xs : List ℕ) → All (λ k. k < count) xs → map f xs ≡ map g xs

@@ -5,6 +5,7 @@ use Rattle.std.specs.List.{range_with_len}
 use Rattle.std.proofs.lemmas.Bool.{cases_lt}
 use Rattle.std.proofs.lemmas.List.{append_assoc, ext_get_or, get_or_past}
 use Rattle.std.proofs.lemmas.List.FromFn.{get_or-range_with_len, length-range_with_len}
+use Rattle.bb_lists.proofs.Ranges.{range_last}
 use Rattle.bb_net.specs.declared.cell.Cell.{Cell}
 use Rattle.bb_net.specs.declared.cell.Cell.TheVariants.{Const, Input, Not, And, Or, Xor, Mux, BoxOut}
 use Rattle.bb_net.specs.Netlists.{Netlist, Pins, cell_at, with_out}
@@ -64,14 +65,7 @@ own_net net new n numbers picks is so = rw (so.inputs, cells, boxes, outs) refl
     outs : new.outs ≡ map (slice_index net.outs) picks
     outs = same.outs ∙ own_picks n net.outs picks
 
--- a range with one number more
-pub range_next : (a n : ℕ) → range_with_len a (n + 1) ≡ range_with_len a n ++ (a + n) ∷ []
-range_next a zero = ap (λ (k : ℕ). k ∷ []) (omega arith)
-range_next a (suc n) =
-    let one : suc n + 1 ≡ suc (n + 1) = omega arith in
-    ap (range_with_len a) one ∙ ap (λ l. a ∷ l) (range_next (a + 1) n ∙ ap (λ (k : ℕ). range_with_len (a + 1) n ++ k ∷ []) (omega arith))
-
 -- one more output
 pub outs_next : (net now new : Netlist) (a n : ℕ) → now ≡ record net { outs = net.outs ++ range_with_len a n } → new ≡ with_out now (a + n) → new ≡ record net { outs = net.outs ++ range_with_len a (n + 1) }
 outs_next net now new a n is added =
-    added ∙ ap (λ m. with_out m (a + n)) is ∙ ap (λ (l : List ℕ). record net { outs = l }) (append_assoc net.outs (range_with_len a n) ((a + n) ∷ []) ∙ ap (λ l. net.outs ++ l) (sym (range_next a n)))
+    added ∙ ap (λ m. with_out m (a + n)) is ∙ ap (λ (l : List ℕ). record net { outs = l }) (append_assoc net.outs (range_with_len a n) ((a + n) ∷ []) ∙ ap (λ l. net.outs ++ l) (sym (range_last a n)))

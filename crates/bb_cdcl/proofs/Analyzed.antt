@@ -2,12 +2,13 @@
 use Rattle.std.proofs.Common.{◌≡◌, ℕ, ◌+◌, Bool, true, false, ◌||◌, Some, None, List, [], ◌∷◌, ◌++◌, take, slice_get, refl, sym, ◌∙◌, ap, arith, inl, inr}
 use Rattle.std.proofs.lemmas.List.{take_more}
 use Rattle.std.proofs.lemmas.Option.{get_or_from_slice_get, slice_get_within}
+use Rattle.bb_lists.proofs.Bits.{or_cases, or_right, or_left}
 use Rattle.bb_cnf.specs.declared.clauses.Lit.{Lit}
 use Rattle.bb_cnf.specs.Clauses.{Literals, same_literal}
 use Rattle.bb_cdcl.specs.declared.trail.Entry.{Entry}
 use Rattle.bb_cdcl.specs.Inside.Trails.{opposite, falsified}
 use Rattle.bb_cdcl.specs.Inside.Analysis.{AreFalsified, IsCovered, IsJump}
-use Rattle.bb_cdcl.proofs.Literals.{no_clash, or_true, or_true_left, or_true_right, falsified-push, same_literal-is}
+use Rattle.bb_cdcl.proofs.Literals.{no_clash, falsified-push, same_literal-is}
 
 -- the front with one more entry
 pub take_entry : (entries : List Entry) (i : ℕ) (e : Entry) → slice_get entries i ≡ Some e → take (i + 1) entries ≡ take i entries ++ e ∷ []
@@ -18,8 +19,8 @@ pub falsified_more : (entries : List Entry) (i : ℕ) (e : Entry) (m : Lit) → 
 falsified_more entries i e m stands = ap (λ es. falsified es m) (take_entry entries i e stands) ∙ falsified-push (take i entries) e m
 
 swapped : (a b : Bool) → (a || b) ≡ true → (b || a) ≡ true
-swapped true b e = or_true_right b true refl
-swapped false b e = or_true_left b false e
+swapped true b e = or_right b true refl
+swapped false b e = or_left b false e
 
 pub covered_start : (entries : List Entry) (c : Literals) (place : ℕ) (e : Entry) → slice_get entries place ≡ Some e → AreFalsified (take (place + 1) entries) c → c (opposite e.lit) ≡ true
     → IsCovered entries c place place
@@ -40,10 +41,10 @@ covered_down entries c place at e stands missing covered = record {
   before = let b = covered.before in omega (arith, b);
   others = λ m is.
       let u = opposite covered.entry.lit in
-      elim (or_true (same_literal u m) (falsified (take (at + 1) entries) m) (covered.others m is)) as (λ _. (same_literal u m || falsified (take at entries) m) ≡ true) [
-        | inl own ↦ or_true_left (same_literal u m) _ own
-        | inr front ↦ elim (or_true (falsified (take at entries) m) (same_literal (opposite e.lit) m) (sym (falsified_more entries at e m stands) ∙ front)) as (λ _. (same_literal u m || falsified (take at entries) m) ≡ true) [
-          | inl lower ↦ or_true_right (same_literal u m) _ lower
+      elim (or_cases (same_literal u m) (falsified (take (at + 1) entries) m) (covered.others m is)) as (λ _. (same_literal u m || falsified (take at entries) m) ≡ true) [
+        | inl own ↦ or_left (same_literal u m) _ own
+        | inr front ↦ elim (or_cases (falsified (take at entries) m) (same_literal (opposite e.lit) m) (sym (falsified_more entries at e m stands) ∙ front)) as (λ _. (same_literal u m || falsified (take at entries) m) ≡ true) [
+          | inl lower ↦ or_right (same_literal u m) _ lower
           | inr last ↦ no_clash (sym missing ∙ ap c (same_literal-is (opposite e.lit) m last) ∙ is)
         ]
       ];
@@ -61,7 +62,7 @@ jump_here entries c place back d covered stands decided = record {
 pub passed : (entries : List Entry) (c : Literals) (place : ℕ) (e : Entry) → slice_get entries place ≡ Some e → c (opposite e.lit) ≡ false → AreFalsified (take (place + 1) entries) c
     → AreFalsified (take place entries) c
 passed entries c place e stands missing all m is =
-    elim (or_true (falsified (take place entries) m) (same_literal (opposite e.lit) m) (sym (falsified_more entries place e m stands) ∙ all m is)) as (λ _. falsified (take place entries) m ≡ true) [
+    elim (or_cases (falsified (take place entries) m) (same_literal (opposite e.lit) m) (sym (falsified_more entries place e m stands) ∙ all m is)) as (λ _. falsified (take place entries) m ≡ true) [
       | inl lower ↦ lower
       | inr last ↦ no_clash (sym missing ∙ ap c (same_literal-is (opposite e.lit) m last) ∙ is)
     ]

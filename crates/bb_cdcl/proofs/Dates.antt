@@ -1,8 +1,10 @@
 -- Steps of earlier days, among the given clauses of today.
 use Rattle.std.proofs.Common.{◌≡◌, ◌<◌, ◌≤◌, ℕ, suc, ◌+◌, ◌-◌, Some, List, [], ◌∷◌, ◌++◌, length, map, slice_get, option_and_then, All, refl, sym, ◌∙◌, ap, ap₂, inl, inr, arith, length-append}
 use Rattle.std.proofs.lemmas.List.{map-append, length-map}
-use Rattle.std.proofs.lemmas.List.Elements.{All-push, All-append, All-nil, All-head, All-tail, All-cons}
+use Rattle.std.proofs.lemmas.List.Elements.{All-push, All-append, All-nil}
 use Rattle.std.proofs.lemmas.Option.{slice_get_within}
+use Rattle.bb_lists.proofs.Turns.{all_mapped}
+use Rattle.bb_lists.proofs.Orders.{less_or_not}
 use Rattle.bb_cnf.specs.declared.clauses.Lit.{Lit}
 use Rattle.bb_cnf.specs.declared.refutation.Step.{Step}
 use Rattle.bb_cnf.specs.Clauses.{Literals, literals_of}
@@ -11,12 +13,11 @@ use Rattle.bb_cnf.specs.Lines.{step_numbers}
 use Rattle.bb_cdcl.specs.declared.numbers.DatedStep.{DatedStep}
 use Rattle.bb_cdcl.specs.Laws.Numbers.{moved_number, moved_pair, moved_numbers}
 use Rattle.bb_cdcl.specs.Inside.Dates.{made_with, derived_with, numbers_behind, AreBelow, AreDerived}
-use Rattle.bb_cdcl.proofs.Assigned.{under_or_past}
 use Rattle.bb_cdcl.proofs.Moved.{moved_below, moved_past, came_by, numbers_move}
 
 -- a number that was moved moves on
 number_further : (d g k n : ℕ) → d ≤ g → moved_number d (g + k - d) n ≡ moved_number g k (moved_number d (g - d) n)
-number_further d g k n early = elim (under_or_past n d) as (λ _. moved_number d (g + k - d) n ≡ moved_number g k (moved_number d (g - d) n)) [
+number_further d g k n early = elim (less_or_not n d) as (λ _. moved_number d (g + k - d) n ≡ moved_number g k (moved_number d (g - d) n)) [
   | inl below ↦ moved_below d (g + k - d) n below ∙ sym (ap (moved_number g k) (moved_below d (g - d) n below) ∙ moved_below g k n (omega (arith, below, early)))
   | inr past ↦
       moved_past d (g + k - d) n past ∙ omega (arith, early)
@@ -56,7 +57,7 @@ derived_further given more learned dated before =
 
 -- a step of today stays as it is
 number_now : (g k n : ℕ) → k ≡ 0 → moved_number g k n ≡ n
-number_now g k n none = elim (under_or_past n g) as (λ _. moved_number g k n ≡ n) [
+number_now g k n none = elim (less_or_not n g) as (λ _. moved_number g k n ≡ n) [
   | inl below ↦ moved_below g k n below
   | inr past ↦ moved_past g k n past ∙ omega (arith, none)
 ]
@@ -67,12 +68,6 @@ pairs_now g k (pair ∷ pairs) none = ap₂ (λ (n : ℕ) (ps : List (ℕ × ℕ
 
 pub numbers_now : (given : ℕ) (d : DatedStep) → given - d.given ≡ 0 → numbers_behind given d ≡ step_numbers d.step
 numbers_now given d none = ap₂ (λ (n : ℕ) (ps : List (ℕ × ℕ)). (n, ps)) (number_now d.given (given - d.given) d.step.first none) (pairs_now d.given (given - d.given) d.step.rest.items none)
-
--- what is said of moved things is said of the things as they are moved
-pub All-unmap : {X Y : Type 0} (P : Y → Type 0) (f : X → Y) (xs : List X) → All P (map f xs) → All (λ x. P (f x)) xs
-All-unmap P f [] all = All-nil (λ x. P (f x))
-All-unmap P f (x ∷ xs) all =
-    All-cons (λ y. P (f y)) x xs (All-head P (f x) (map f xs) all) (All-unmap P f xs (All-tail P (f x) (map f xs) all))
 
 -- one step more
 derived_push : (earlier all : List Literals) (steps : List (ℕ × List (ℕ × ℕ))) (step : ℕ × List (ℕ × ℕ)) (c : Literals) → derived_with earlier steps ≡ Some all → made_with all step ≡ Some c
@@ -134,7 +129,7 @@ numbers_below earlier all (step ∷ steps) bound e most =
 pub dated_below : (given all : List (List Lit)) (dated : List DatedStep) (bound : ℕ) → AreDerived given dated all → length all ≤ bound
     → All (λ d. AreBelow bound (numbers_behind (length given) d)) dated
 dated_below given all dated bound before most =
-    All-unmap (AreBelow bound) (numbers_behind (length given)) dated
+    all_mapped (AreBelow bound) (numbers_behind (length given)) dated
     (numbers_below (map literals_of given) (map literals_of all) (map (numbers_behind (length given)) dated) bound before.derives (let sets = length-map all literals_of in omega (arith, sets, most)))
 
 pub as_many : (given all : List (List Lit)) (dated : List DatedStep) → AreDerived given dated all → length all ≡ length given + length dated

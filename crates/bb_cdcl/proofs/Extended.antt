@@ -4,6 +4,7 @@ use Rattle.std.proofs.lemmas.List.{take-take, map-append}
 use Rattle.std.proofs.lemmas.Option.{slice_get_within, get_or_from_slice_get}
 use Rattle.std.specs.List.{list_any}
 use Rattle.std.proofs.lemmas.List.Folds.{list_any_at}
+use Rattle.bb_lists.proofs.Places.{got_left}
 use Rattle.smallvec.specs.SmallVec.{SmallVec}
 use Rattle.bb_cnf.specs.declared.clauses.Lit.{Lit}
 use Rattle.bb_cnf.specs.Clauses.{lists_of, same_literal}
@@ -11,11 +12,6 @@ use Rattle.bb_cdcl.specs.declared.trail.Entry.{Entry}
 use Rattle.bb_cdcl.specs.Inside.Trails.{opposite, falsified, value_at, is_bit, IsNew, IsReason, AreNew, HaveReasons, AreValues}
 use Rattle.bb_cdcl.proofs.Literals.{no_clash, opposite_twice, same_literal-itself}
 use Rattle.bb_cdcl.proofs.Assigned.{false_in_range}
-
-pub get_with_more : {A : Type 0} (xs ys : List A) (k : ℕ) (x : A) → slice_get xs k ≡ Some x → slice_get (xs ++ ys) k ≡ Some x
-get_with_more [] ys k x e = absurd (let g : None ≡ Some x = e in cc)
-get_with_more (y ∷ xs) ys zero x e = e
-get_with_more (y ∷ xs) ys (suc k) x e = get_with_more xs ys k x e
 
 pub get_last : {A : Type 0} (xs : List A) (x : A) → slice_get (xs ++ x ∷ []) (length xs) ≡ Some x
 get_last [] x = refl
@@ -77,7 +73,7 @@ pub more_reason : (clauses : List (List Lit)) (c : List Lit) (front : List Entry
 more_reason clauses c front l None reason = tt
 more_reason clauses c front l (Some r) reason = record {
   clause = reason.clause;
-  stands = get_with_more clauses (c ∷ []) r reason.clause reason.stands;
+  stands = got_left clauses (c ∷ []) r reason.clause reason.stands;
   own = reason.own;
   others = reason.others;
 }

@@ -1,24 +1,25 @@
 -- The way back by the places of the clause's literals.
 use Rattle.std.proofs.Common.{◌≡◌, ◌<◌, ◌≤◌, ℕ, ◌+◌, true, ◌||◌, Some, List, length, take, slice_get, get_or, sym, ◌∙◌, ap, subst, inl, inr}
 use Rattle.std.proofs.lemmas.List.Folds.{list_any_more}
+use Rattle.bb_lists.proofs.Bits.{or_cases, or_right, or_left}
 use Rattle.bb_cnf.specs.declared.clauses.Lit.{Lit}
 use Rattle.bb_cnf.specs.Clauses.{Literals, literals_of, same_literal}
 use Rattle.bb_cdcl.specs.declared.trail.Entry.{Entry}
 use Rattle.bb_cdcl.specs.Inside.Trails.{opposite, falsified}
 use Rattle.bb_cdcl.specs.Inside.Analysis.{OthersAreFalsified, IsCovered}
-use Rattle.bb_cdcl.proofs.Literals.{or_true, or_true_left, or_true_right, same_literal-is}
+use Rattle.bb_cdcl.proofs.Literals.{same_literal-is}
 use Rattle.bb_cdcl.proofs.Analyzed.{falsified_more, covered_has}
 use Rattle.bb_cdcl.proofs.Shortened.{falsified_within}
 
 -- an entry makes its literal's negation false
 pub falsified_at : (entries : List Entry) (i : ℕ) (e : Entry) (m : Lit) → slice_get entries i ≡ Some e → same_literal (opposite e.lit) m ≡ true → falsified (take (i + 1) entries) m ≡ true
-falsified_at entries i e m stands same = falsified_more entries i e m stands ∙ or_true_right (falsified (take i entries) m) _ same
+falsified_at entries i e m stands same = falsified_more entries i e m stands ∙ or_right (falsified (take i entries) m) _ same
 
 -- and more entries do
 further : (entries : List Entry) (kept m : Lit) (at most : ℕ) → at ≤ most → (same_literal kept m || falsified (take at entries) m) ≡ true → (same_literal kept m || falsified (take most entries) m) ≡ true
-further entries kept m at most before is = elim (or_true (same_literal kept m) (falsified (take at entries) m) is) as (λ _. (same_literal kept m || falsified (take most entries) m) ≡ true) [
-  | inl own ↦ or_true_left (same_literal kept m) _ own
-  | inr front ↦ or_true_right (same_literal kept m) _ (falsified_within entries at most m before front)
+further entries kept m at most before is = elim (or_cases (same_literal kept m) (falsified (take at entries) m) is) as (λ _. (same_literal kept m || falsified (take most entries) m) ≡ true) [
+  | inl own ↦ or_left (same_literal kept m) _ own
+  | inr front ↦ or_right (same_literal kept m) _ (falsified_within entries at most m before front)
 ]
 
 -- one literal more is false
@@ -28,7 +29,7 @@ pub front_more : (entries : List Entry) (kept : Lit) (c : Literals) (lits : List
     → (m : Lit) → literals_of (take (i + 1) lits) m ≡ true → c m ≡ true → (same_literal kept m || falsified (take most entries) m) ≡ true
 front_more entries kept c lits i at next most d within low high before new m listed has =
     let l = get_or lits i d in
-    elim (or_true (literals_of (take i lits) m) (same_literal l m) (sym (list_any_more (λ k. same_literal k m) lits i d within) ∙ listed)) as (λ _. (same_literal kept m || falsified (take most entries) m) ≡ true) [
+    elim (or_cases (literals_of (take i lits) m) (same_literal l m) (sym (list_any_more (λ k. same_literal k m) lits i d within) ∙ listed)) as (λ _. (same_literal kept m || falsified (take most entries) m) ≡ true) [
       | inl old ↦ further entries kept m at most low (before m old has)
       | inr last ↦
           let is : l ≡ m = same_literal-is l m last in

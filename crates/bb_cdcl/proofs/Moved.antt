@@ -1,30 +1,21 @@
 -- Steps where more given clauses come.
-use Rattle.std.proofs.Common.{◌≡◌, ◌<◌, ◌≤◌, ℕ, zero, suc, ◌+◌, ◌-◌, true, false, if◌then◌else◌, Option, Some, None, option_and_then, List, [], ◌∷◌, ◌++◌, length, map, slice_get, refl, sym, ◌∙◌, ap, inl, inr, arith, length-append, append_assoc, nat_lt}
+use Rattle.std.proofs.Common.{◌≡◌, ◌<◌, ◌≤◌, ℕ, zero, suc, ◌+◌, ◌-◌, if◌then◌else◌, Option, Some, None, option_and_then, List, [], ◌∷◌, ◌++◌, length, map, slice_get, refl, sym, ◌∙◌, ap, inl, inr, arith, length-append, append_assoc}
 use Rattle.std.proofs.lemmas.List.{append-nil}
+use Rattle.bb_lists.proofs.Places.{in_front}
+use Rattle.bb_lists.proofs.Tests.{lt_to_test, not_lt_to_test}
+use Rattle.bb_lists.proofs.Orders.{less_or_not}
 use Rattle.bb_cnf.specs.declared.refutation.Step.{Step}
 use Rattle.bb_cnf.specs.Clauses.{Literals}
 use Rattle.bb_cnf.specs.Chains.{resolution, chain, made_by, derived}
 use Rattle.bb_cnf.specs.Lines.{step_numbers}
 use Rattle.bb_cdcl.specs.Laws.Numbers.{moved_number, moved_pair, moved_numbers, StepsMove}
 use Rattle.bb_cdcl.specs.Inside.Dates.{made_with, derived_with}
-use Rattle.bb_cdcl.proofs.Assigned.{under_or_past}
-
-is_below : (n g : ℕ) → n < g → nat_lt n g ≡ true
-is_below n g below = grind (arith, below)
-
-is_past : (n g : ℕ) → g ≤ n → nat_lt n g ≡ false
-is_past n g past = grind (arith, past)
 
 pub moved_below : (g k n : ℕ) → n < g → moved_number g k n ≡ n
-moved_below g k n below = ap (λ b. if b then n else n + k) (is_below n g below)
+moved_below g k n below = ap (λ b. if b then n else n + k) (lt_to_test n g below)
 
 pub moved_past : (g k n : ℕ) → g ≤ n → moved_number g k n ≡ n + k
-moved_past g k n past = ap (λ b. if b then n else n + k) (is_past n g past)
-
-get_front : {A : Type 0} (xs ys : List A) (n : ℕ) → n < length xs → slice_get (xs ++ ys) n ≡ slice_get xs n
-get_front [] ys n below = absurd (omega (arith, below))
-get_front (x ∷ xs) ys zero below = refl
-get_front (x ∷ xs) ys (suc n) below = get_front xs ys n (omega (arith, below))
+moved_past g k n past = ap (λ b. if b then n else n + k) (not_lt_to_test n g past)
 
 get_behind : {A : Type 0} (xs ys : List A) (n j : ℕ) → n ≡ length xs + j → slice_get (xs ++ ys) n ≡ slice_get ys j
 get_behind [] ys n j e = ap (slice_get ys) (omega (arith, e))
@@ -37,10 +28,10 @@ pub moved_get : {A : Type 0} (given more learned : List A) (n : ℕ) (c : A) →
 moved_get given more learned n c e =
     let both = length-append given more in
     let all = (given ++ more) ++ learned in
-    elim (under_or_past n (length given)) as (λ _. slice_get ((given ++ more) ++ learned) (moved_number (length given) (length more) n) ≡ Some c) [
+    elim (less_or_not n (length given)) as (λ _. slice_get ((given ++ more) ++ learned) (moved_number (length given) (length more) n) ≡ Some c) [
       | inl below ↦
-          ap (slice_get all) (moved_below (length given) (length more) n below) ∙ get_front (given ++ more) learned n (omega (arith, below, both))
-          ∙ get_front given more n below ∙ sym (get_front given learned n below) ∙ e
+          ap (slice_get all) (moved_below (length given) (length more) n below) ∙ in_front (given ++ more) learned n (omega (arith, below, both))
+          ∙ in_front given more n below ∙ sym (in_front given learned n below) ∙ e
       | inr past ↦
           ap (slice_get all) (moved_past (length given) (length more) n past) ∙ get_behind (given ++ more) learned (n + length more) (n - length given) (omega (arith, past, both))
           ∙ sym (get_behind given learned n (n - length given) (omega (arith, past))) ∙ e

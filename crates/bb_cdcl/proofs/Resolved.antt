@@ -1,6 +1,7 @@
 -- A resolution with the reason of a literal.
 use Rattle.std.proofs.Common.{◌≡◌, ◌<◌, ℕ, length, Bool, true, false, not, ◌&&◌, ◌||◌, ◌==◌, if◌then◌else◌, Option, Some, None, option_map, option_and_then, List, [], ◌∷◌, ◌++◌, map, slice_get, refl, sym, ◌∙◌, ap, ◌⊎◌, inl, inr}
 use Rattle.std.proofs.lemmas.Option.{slice_get-map, slice_get_within}
+use Rattle.bb_lists.proofs.Bits.{and_both, or_cases, both_true}
 use Rattle.bb_cnf.specs.declared.clauses.Lit.{Lit}
 use Rattle.bb_cnf.specs.declared.partial_resolvent.PartialResolvent.{PartialResolvent}
 use Rattle.bb_cnf.specs.Clauses.{Literals, literals_of, same_literal, positive, negated}
@@ -10,7 +11,7 @@ use Rattle.bb_cnf.specs.Inside.PartialResolvent.{held, AreListed}
 use Rattle.bb_cdcl.specs.declared.trail.Entry.{Entry}
 use Rattle.bb_cdcl.specs.Inside.Trails.{opposite, falsified, IsNew, IsReason}
 use Rattle.bb_cdcl.specs.Inside.Analysis.{AreFalsified, IsResolved}
-use Rattle.bb_cdcl.proofs.Literals.{no_clash, and_true, or_true, falsified-push}
+use Rattle.bb_cdcl.proofs.Literals.{no_clash, falsified-push}
 
 -- a choice of two, of which one may be taken
 second_taken : {A : Type 0} (a b : Bool) (e f : A) → b ≡ true → (if a then Some e else (if b then Some f else None)) ≡ None → ⊥
@@ -30,9 +31,6 @@ which false false e f g is = absurd (let s : None ≡ Some g = is in cc)
 abbrev pub lit_of : ℕ → Bool → Lit
 lit_of x s = record { var = x; neg = s }
 
-pub both_true : (a b : Bool) → a ≡ true → b ≡ true → (a && b) ≡ true
-both_true a b x y = ap (λ t. t && b) x ∙ y
-
 -- the one clause has the negation of the literal, the other has the literal: they can be resolved
 resolves_by : (x : ℕ) (s : Bool) (c d : Literals) → c (opposite (lit_of x s)) ≡ true → d (lit_of x s) ≡ true → resolution c d x ≡ None → ⊥
 resolves_by x false c d mine yours none = second_taken (c (positive x) && d (negated x)) _ _ _ (both_true (c (negated x)) (d (positive x)) mine yours) none
@@ -47,9 +45,9 @@ resolves l c d e false mine yours some none = absurd (resolves_by l.var l.neg c 
 pub own_resolvent : (f c d : Literals) (l : Lit) → ((m : Lit) → c m ≡ true → (f m || same_literal (opposite l) m) ≡ true)
     → ((m : Lit) → d m ≡ true → (same_literal l m || f m) ≡ true) → (m : Lit) → resolvent c d (opposite l) l m ≡ true → f m ≡ true
 own_resolvent f c d l mine yours m is =
-    elim (or_true (c m && not (same_literal (opposite l) m)) (d m && not (same_literal l m)) is) as (λ _. f m ≡ true) [
-      | inl left ↦ let parts = and_true (c m) (not (same_literal (opposite l) m)) left in first_of (f m) (same_literal (opposite l) m) (mine m parts.0) parts.1
-      | inr right ↦ let parts = and_true (d m) (not (same_literal l m)) right in second_of (same_literal l m) (f m) (yours m parts.0) parts.1
+    elim (or_cases (c m && not (same_literal (opposite l) m)) (d m && not (same_literal l m)) is) as (λ _. f m ≡ true) [
+      | inl left ↦ let parts = and_both (c m) (not (same_literal (opposite l) m)) left in first_of (f m) (same_literal (opposite l) m) (mine m parts.0) parts.1
+      | inr right ↦ let parts = and_both (d m) (not (same_literal l m)) right in second_of (same_literal l m) (f m) (yours m parts.0) parts.1
     ] where
       first_of : (a b : Bool) → (a || b) ≡ true → not b ≡ true → a ≡ true
       first_of true b e n = refl
@@ -67,7 +65,7 @@ resolved_by : (x : ℕ) (s : Bool) (f c d e : Literals) → f (lit_of x s) ≡ f
     → resolution c d x ≡ Some e → (m : Lit) → e m ≡ true → f m ≡ true
 resolved_by x false f c d e new apart mine yours has_own has_other is m member =
     elim (which (c (positive x) && d (negated x)) _ _ _ e is) as (λ _. f m ≡ true) [
-      | inl first ↦ no_clash (sym (ap (λ b. b || same_literal (opposite (lit_of x false)) (lit_of x false)) new ∙ apart) ∙ mine (positive x) (and_true (c (positive x)) (d (negated x)) first.0).0)
+      | inl first ↦ no_clash (sym (ap (λ b. b || same_literal (opposite (lit_of x false)) (lit_of x false)) new ∙ apart) ∙ mine (positive x) (and_both (c (positive x)) (d (negated x)) first.0).0)
       | inr second ↦ own_resolvent f c d (lit_of x false) mine yours m (ap (λ k. k m) second.1 ∙ member)
     ]
 resolved_by x true f c d e new apart mine yours has_own has_other is m member =

@@ -4,6 +4,7 @@ use Rattle.std.proofs.lemmas.List.{length-map, take-append-drop}
 use Rattle.std.proofs.lemmas.List.Sums.{sum_by-append}
 use Rattle.std.proofs.lemmas.Option.{slice_get-get_or, slice_get_within}
 use Rattle.std.specs.List.{sum_by}
+use Rattle.bb_lists.proofs.Orders.{less_or_not}
 use Rattle.bb_cnf.specs.declared.clauses.Lit.{Lit}
 use Rattle.bb_cnf.specs.Clauses.{lists_of, same_literal}
 use Rattle.bb_cnf.specs.Inside.PartialResolvent.{held, AreListed}
@@ -13,7 +14,6 @@ use Rattle.bb_cdcl.specs.Laws.Numbers.{moved_number}
 use Rattle.bb_cdcl.specs.Inside.Dates.{AreDerived}
 use Rattle.bb_cdcl.specs.Inside.Trails.{opposite, falsified, value_at, is_bit, unassigned, moved_entry, IsNew, IsReason, AreNew, HaveReasons, AreValues, HasRoom}
 use Rattle.bb_cdcl.specs.Inside.States.{all_clauses, IsDerived, IsReady}
-use Rattle.bb_cdcl.proofs.Assigned.{under_or_past}
 use Rattle.bb_cdcl.proofs.Moved.{moved_below, moved_past, moved_get}
 use Rattle.bb_cdcl.proofs.Dates.{derived_further}
 
@@ -115,7 +115,7 @@ reasons_moved given more learned entries reasons i e stands =
 
 -- a number that was moved is one of as many clauses more
 moved_less : (g k r n bound : ℕ) → r < n → n + k ≤ bound → moved_number g k r < bound
-moved_less g k r n bound less most = elim (under_or_past r g) as (λ _. moved_number g k r < bound) [
+moved_less g k r n bound less most = elim (less_or_not r g) as (λ _. moved_number g k r < bound) [
   | inl below ↦ rw moved_below (omega (arith, less, most))
   | inr past ↦ rw moved_past (omega (arith, less, most))
 ]

@@ -1,16 +1,17 @@
 -- Resolution with the reason of a literal that stands before the one that is kept.
 use Rattle.std.proofs.Common.{◌≡◌, ◌<◌, ◌≤◌, ℕ, ◌+◌, Bool, true, false, not, ◌&&◌, ◌||◌, Some, List, take, slice_get, refl, sym, ◌∙◌, ap, arith, inl, inr}
 use Rattle.std.proofs.lemmas.List.{take-take}
+use Rattle.bb_lists.proofs.Bits.{and_both, or_cases, or_right, or_left, both_true, both_false}
 use Rattle.bb_cnf.specs.declared.clauses.Lit.{Lit}
 use Rattle.bb_cnf.specs.Clauses.{Literals, literals_of, same_literal, positive, negated}
 use Rattle.bb_cnf.specs.Chains.{resolvent, resolution}
 use Rattle.bb_cdcl.specs.declared.trail.Entry.{Entry}
 use Rattle.bb_cdcl.specs.Inside.Trails.{opposite, falsified, IsNew, AreNew, IsReason}
 use Rattle.bb_cdcl.specs.Inside.Analysis.{IsCovered}
-use Rattle.bb_cdcl.proofs.Literals.{no_clash, and_true, or_true, or_true_left, or_true_right, opposite_twice, same_literal-is, same_literal-itself}
+use Rattle.bb_cdcl.proofs.Literals.{no_clash, opposite_twice, same_literal-is, same_literal-itself}
 use Rattle.bb_cdcl.proofs.Extended.{any_front}
 use Rattle.bb_cdcl.proofs.Analyzed.{falsified_more}
-use Rattle.bb_cdcl.proofs.Resolved.{which, lit_of, both_true, own_resolvent, not_opposite, reason_has}
+use Rattle.bb_cdcl.proofs.Resolved.{which, lit_of, own_resolvent, not_opposite, reason_has}
 
 -- more entries make no fewer literals false
 pub falsified_within : (entries : List Entry) (at place : ℕ) (m : Lit) → at ≤ place → falsified (take at entries) m ≡ true → falsified (take place entries) m ≡ true
@@ -19,9 +20,6 @@ falsified_within entries at place m before is = elim (falsified (take place entr
   | false ↦ λ no.
       no_clash (sym (ap (λ es. falsified es m) (sym (take-take at place entries before)) ∙ any_front (λ e. same_literal (opposite e.lit) m) (take place entries) at no) ∙ is)
 ] refl
-
-pub both_false : (a b : Bool) → a ≡ false → b ≡ false → (a || b) ≡ false
-both_false a b x y = ap (λ t. t || b) x ∙ y
 
 -- the reason does not have the literal's negation
 reason_lacks : (clauses : List (List Lit)) (front : List Entry) (l : Lit) (r : ℕ) (clause : List Lit) → IsNew front l → IsReason clauses front l r → slice_get clauses r ≡ Some clause
@@ -39,7 +37,7 @@ reason_lacks clauses front l r clause new reason stands =
 pub made_of : (x : ℕ) (s : Bool) (c d e : Literals) → c (opposite (lit_of x s)) ≡ true → d (lit_of x s) ≡ true → d (opposite (lit_of x s)) ≡ false → resolution c d x ≡ Some e
     → resolvent c d (opposite (lit_of x s)) (lit_of x s) ≡ e
 made_of x false c d e mine yours lacks is = elim (which (c (positive x) && d (negated x)) _ _ _ e is) as (λ _. resolvent c d (negated x) (positive x) ≡ e) [
-  | inl first ↦ no_clash (sym lacks ∙ (and_true (c (positive x)) (d (negated x)) first.0).1)
+  | inl first ↦ no_clash (sym lacks ∙ (and_both (c (positive x)) (d (negated x)) first.0).1)
   | inr second ↦ second.1
 ]
 made_of x true c d e mine yours lacks is = elim (which (c (positive x) && d (negated x)) _ _ _ e is) as (λ _. resolvent c d (positive x) (negated x) ≡ e) [
@@ -53,7 +51,7 @@ other_literal : (entries : List Entry) (place at : ℕ) (d e : Entry) → AreNew
 other_literal entries place at d e new stands later before =
     let u = opposite e.lit in
     let own : falsified (take (at + 1) entries) (opposite d.lit) ≡ true =
-    falsified_more entries at d (opposite d.lit) stands ∙ or_true_right (falsified (take at entries) (opposite d.lit)) _ (same_literal-itself (opposite d.lit)) in
+    falsified_more entries at d (opposite d.lit) stands ∙ or_right (falsified (take at entries) (opposite d.lit)) _ (same_literal-itself (opposite d.lit)) in
     elim (same_literal (opposite d.lit) u) as (λ b. same_literal (opposite d.lit) u ≡ b → b ≡ false) [
       | true ↦ λ yes.
           no_clash (sym (new place e later).1 ∙ ap (falsified (take place entries)) (sym (same_literal-is (opposite d.lit) u yes)) ∙ falsified_within entries (at + 1) place (opposite d.lit) (omega (arith, before)) own)
@@ -74,14 +72,14 @@ covered_resolved clauses entries place at d r clause c e new stands reason is be
       entry = covered.entry;
       at_place = covered.at_place;
       member = ap (λ k. k u) (sym made)
-          ∙ or_true_left (c u && not (same_literal (opposite l) u)) _ (both_true (c u) (not (same_literal (opposite l) u)) covered.member (ap not (other_literal entries place at d covered.entry new stands covered.at_place before)));
+          ∙ or_left (c u && not (same_literal (opposite l) u)) _ (both_true (c u) (not (same_literal (opposite l) u)) covered.member (ap not (other_literal entries place at d covered.entry new stands covered.at_place before)));
       before = covered.before;
       others = λ m member.
           own_resolvent (λ n. same_literal u n || falsified (take place entries) n) c (literals_of clause) l
-          (λ n has. or_true_left (same_literal u n || falsified (take place entries) n) (same_literal (opposite l) n) (covered.others n has))
-          (λ n has. elim (or_true (same_literal l n) (falsified (take at entries) n) (reason.others n (ap (λ k. literals_of k n) same ∙ has))) as (λ _. (same_literal l n || (same_literal u n || falsified (take place entries) n)) ≡ true) [
-            | inl mine ↦ or_true_left (same_literal l n) _ mine
-            | inr lower ↦ or_true_right (same_literal l n) _ (or_true_right (same_literal u n) _ (falsified_within entries at place n (omega (arith, before)) lower))
+          (λ n has. or_left (same_literal u n || falsified (take place entries) n) (same_literal (opposite l) n) (covered.others n has))
+          (λ n has. elim (or_cases (same_literal l n) (falsified (take at entries) n) (reason.others n (ap (λ k. literals_of k n) same ∙ has))) as (λ _. (same_literal l n || (same_literal u n || falsified (take place entries) n)) ≡ true) [
+            | inl mine ↦ or_left (same_literal l n) _ mine
+            | inr lower ↦ or_right (same_literal l n) _ (or_right (same_literal u n) _ (falsified_within entries at place n (omega (arith, before)) lower))
           ])
           m (ap (λ k. k m) made ∙ member);
     }

@@ -1,6 +1,8 @@
 -- Resolution with unit clauses, and the steps that have it.
 use Rattle.std.proofs.Common.{◌≡◌, ℕ, Bool, true, false, not, ◌&&◌, ◌||◌, ◌==◌, Option, Some, None, option_and_then, List, [], ◌∷◌, ◌++◌, map, take, slice_get, refl, sym, ◌∙◌, ap}
 use Rattle.std.proofs.lemmas.List.{map-append}
+use Rattle.bb_lists.proofs.Bits.{or_left, both_true, both_false}
+use Rattle.bb_lists.proofs.Maps.{or-false}
 use Rattle.bb_cnf.specs.declared.clauses.Lit.{Lit}
 use Rattle.bb_cnf.specs.declared.refutation.Step.{Step}
 use Rattle.bb_cnf.specs.declared.partial_resolvent.PartialResolvent.{PartialResolvent}
@@ -11,12 +13,12 @@ use Rattle.bb_cnf.specs.Inside.PartialResolvent.{held, AreListed}
 use Rattle.bb_cdcl.specs.declared.trail.Entry.{Entry}
 use Rattle.bb_cdcl.specs.Inside.Trails.{opposite, falsified}
 use Rattle.bb_cdcl.specs.Inside.Analysis.{IsCovered, IsJump, IsResolved}
-use Rattle.bb_cdcl.proofs.Literals.{or_false, or_true_left, opposite_twice, same_literal-itself, other_variable}
-use Rattle.bb_cdcl.proofs.Resolved.{both_true, own_resolvent, not_opposite, resolves}
-use Rattle.bb_cdcl.proofs.Shortened.{both_false, made_of}
+use Rattle.bb_cdcl.proofs.Literals.{opposite_twice, same_literal-itself, other_variable}
+use Rattle.bb_cdcl.proofs.Resolved.{own_resolvent, not_opposite, resolves}
+use Rattle.bb_cdcl.proofs.Shortened.{made_of}
 
 unit_has : (l : Lit) → literals_of (l ∷ []) l ≡ true
-unit_has l = or_true_left (same_literal l l) false (same_literal-itself l)
+unit_has l = or_left (same_literal l l) false (same_literal-itself l)
 
 unit_lacks : (l : Lit) → literals_of (l ∷ []) (opposite l) ≡ false
 unit_lacks l = both_false (same_literal l (opposite l)) false (ap (λ k. same_literal k (opposite l)) (sym (opposite_twice l)) ∙ not_opposite l.var (not l.neg)) refl
@@ -38,12 +40,12 @@ unit_covered entries place back e l clause c d stands apart is own resolved cove
     record {
       entry = covered.entry;
       at_place = covered.at_place;
-      member = ap (λ k. k u) (sym made) ∙ or_true_left (c u && not (same_literal (opposite l) u)) _ (both_true (c u) (not (same_literal (opposite l) u)) covered.member (ap not other));
+      member = ap (λ k. k u) (sym made) ∙ or_left (c u && not (same_literal (opposite l) u)) _ (both_true (c u) (not (same_literal (opposite l) u)) covered.member (ap not other));
       before = covered.before;
       others = λ m member.
           own_resolvent (λ n. same_literal u n || falsified (take back entries) n) c (literals_of (l ∷ [])) l
-          (λ n has. or_true_left (same_literal u n || falsified (take back entries) n) (same_literal (opposite l) n) (covered.others n has))
-          (λ n has. or_true_left (same_literal l n) _ (sym (or_false (same_literal l n)) ∙ has))
+          (λ n has. or_left (same_literal u n || falsified (take back entries) n) (same_literal (opposite l) n) (covered.others n has))
+          (λ n has. or_left (same_literal l n) _ (sym (or-false (same_literal l n)) ∙ has))
           m (ap (λ k. k m) made ∙ member);
     }
 

@@ -21,7 +21,7 @@ use Rattle.bb_cells.specs.Inside.ReadPlaces.{copy_steps, FollowsAt}
 use Rattle.bb_design.specs.Refusals.{AreDrivenOnce}
 use Rattle.bb_design.specs.Registers.{RegisterBit, registers, cut_bits}
 use Rattle.bb_cells.specs.Stands.{IsClock}
-use Rattle.bb_lists.proofs.Places.{got, got-map, some_at}
+use Rattle.bb_lists.proofs.Places.{got, got-map, some_at, got_right}
 use Rattle.bb_cells.proofs.CopyLoops.{inputs_followed}
 use Rattle.bb_cells.proofs.CopySteps.{copy_to}
 use Rattle.bb_cells.proofs.CopyWalks.{follows_at}
@@ -30,10 +30,6 @@ use Rattle.bb_cells.proofs.GivenDrives.{top_driven}
 use Rattle.bb_lists.proofs.Members.{contains-map}
 use Rattle.bb_cells.proofs.ListedPlaces.{listed_cell, listed_below, net_listed}
 use Rattle.bb_design.specs.Laws.DesignLaws.{DesignLaws}
-
-behind : {A : Type 0} (xs ys : List A) (i : ℕ) → slice_get (xs ++ ys) (length xs + i) ≡ slice_get ys i
-behind [] ys i = let zero_plus : 0 + i ≡ i = omega arith in ap (slice_get ys) zero_plus
-behind (x ∷ xs) ys i = let next : suc (length xs) + i ≡ suc (length xs + i) = omega arith in ap (slice_get (x ∷ (xs ++ ys))) next ∙ behind xs ys i
 
 range_at : (a n i : ℕ) → i < n → slice_get (range_with_len a n) i ≡ Some (a + i)
 range_at a zero i lt = absurd (omega (arith, lt))
@@ -65,7 +61,7 @@ module _ (of_designs : DesignLaws) (d : Design) (lowering : Lowering) (l : Loose
   net_number k b at =
       let place : (2 + length (cut_bits d)) + k ≡ length ((Constant false, cell.Const false) ∷ (Constant true, cell.Const true) ∷ inputs) + k = omega (arith, long_inputs) in
       front_number ((2 + length (cut_bits d)) + k) (NetBit b) (cell.Copy (list.number (place_in (given d lowering) b)))
-      (ap (slice_get front) place ∙ behind ((Constant false, cell.Const false) ∷ (Constant true, cell.Const true) ∷ inputs) nets k ∙ got-map {B = Place × LooseCell} (λ b. (NetBit b, cell.Copy (list.number (place_in (given d lowering) b)))) (net_order d) k b at)
+      (ap (slice_get front) place ∙ got_right ((Constant false, cell.Const false) ∷ (Constant true, cell.Const true) ∷ inputs) nets k ∙ got-map {B = Place × LooseCell} (λ b. (NetBit b, cell.Copy (list.number (place_in (given d lowering) b)))) (net_order d) k b at)
 
   -- the place of a bit is one of the list
   pub net_there : (k : ℕ) (b : Bit) → slice_get (net_order d) k ≡ Some b → (2 + length (cut_bits d)) + k < length l.cells
@@ -124,7 +120,7 @@ module _ (of_designs : DesignLaws) (d : Design) (lowering : Lowering) (l : Loose
     top_there : (c : Bit) → Contains (top_inputs d) c → Contains (net_order d) c
     top_there c has = All-contains (Contains (net_order d)) (driven_bits d) c (of_designs.bits_there d bounded).driven (contains-map (λ (z : Drive). z.bit) (drives d) (driven Free c) (top_driven of_designs d c has))
 
-    -- an input of the top is a copy of an input of the list, which does not stand behind it
+    -- an input of the top is a copy of an input of the list, which does not stand got_right it
     to_input : (k : ℕ) (c : Bit) → slice_get (top_inputs d) k ≡ Some c → (i : ℕ) × (i ≤ k) × FollowsAt l.cells (list.number (NetBit c)) (i + 2)
     to_input k c at =
         let cut = in_front (top_inputs d) (map (λ (r : RegisterBit). r.bit) (registers d)) k c at in

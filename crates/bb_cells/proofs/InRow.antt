@@ -4,16 +4,11 @@ use Rattle.std.specs.Prelude.{slice_get}
 use Rattle.std.specs.List.{range_with_len, enumerate_from}
 use Rattle.std.proofs.lemmas.List.{map-append, get_or-map}
 use Rattle.std.proofs.lemmas.List.FromFn.{get_or-range_with_len}
+use Rattle.bb_lists.proofs.Ranges.{range_parts}
 use Rattle.bb_lists.proofs.Places.{some_same}
 
 pub record AreInRow {A : Type 0} (number : A → ℕ) (at : ℕ) (xs : List A) : Type 0 where
   pub row : map number xs ≡ range_with_len at (length xs)
-
-range_both : (a n m : ℕ) → range_with_len a (n + m) ≡ range_with_len a n ++ range_with_len (a + n) m
-range_both a zero m = ap₂ range_with_len (omega arith) (omega arith)
-range_both a (suc n) m =
-    let one : suc n + m ≡ suc (n + m) = omega arith in
-    ap (range_with_len a) one ∙ ap (λ l. a ∷ l) (range_both (a + 1) n m ∙ ap (λ b. range_with_len (a + 1) n ++ range_with_len b m) (omega arith))
 
 pub no_row : {A : Type 0} (number : A → ℕ) (at : ℕ) → AreInRow number at []
 no_row number at = record { row = refl }
@@ -23,7 +18,7 @@ next_row number at x xs e rest = record { row = ap₂ ◌∷◌ e rest.row }
 
 pub both_rows : {A : Type 0} (number : A → ℕ) (at : ℕ) (xs ys : List A) → AreInRow number at xs → AreInRow number (at + length xs) ys → AreInRow number at (xs ++ ys)
 both_rows number at xs ys p q = record {
-  row = map-append number xs ys ∙ ap₂ ◌++◌ p.row q.row ∙ sym (range_both at (length xs) (length ys)) ∙ ap (range_with_len at) (sym (length-append xs ys));
+  row = map-append number xs ys ∙ ap₂ ◌++◌ p.row q.row ∙ sym (range_parts at (length xs) (length ys)) ∙ ap (range_with_len at) (sym (length-append xs ys));
 }
 
 -- what is made of a list, element by element

@@ -1,5 +1,6 @@
 -- chains and lists of steps, in parts and with more clauses behind the earlier ones
-use Rattle.std.proofs.Common.{◌≡◌, ℕ, zero, suc, Option, Some, None, option_and_then, List, [], ◌∷◌, ◌++◌, slice_get, refl, ap, ◌∙◌}
+use Rattle.std.proofs.Common.{◌≡◌, ℕ, Option, Some, None, option_and_then, List, [], ◌∷◌, ◌++◌, slice_get, refl, ap, ◌∙◌}
+use Rattle.bb_lists.proofs.Places.{got_left}
 use Rattle.bb_cnf.specs.declared.refutation.Step.{Step}
 use Rattle.bb_cnf.specs.Clauses.{Literals}
 use Rattle.bb_cnf.specs.Chains.{resolution, chain, made_by, derived}
@@ -28,23 +29,18 @@ chain_in_parts earlier c (pair ∷ first) second =
     ∙ and_then_nested (λ e. chain earlier e first) (λ e. chain earlier e second) (resolution c d pair.1))
     ∙ and_then_nested (λ d. option_and_then (λ e. chain earlier e first) (resolution c d pair.1)) (λ e. chain earlier e second) (slice_get earlier pair.0)
 
-pub get_with_more : {A : Type 0} (xs ys : List A) (k : ℕ) (x : A) → slice_get xs k ≡ Some x → slice_get (xs ++ ys) k ≡ Some x
-get_with_more [] ys k x e = absurd (let g : None ≡ Some x = e in cc)
-get_with_more (y ∷ xs) ys zero x e = e
-get_with_more (y ∷ xs) ys (suc k) x e = get_with_more xs ys k x e
-
 chain_with_more : (earlier more : List Literals) (c d : Literals) (rest : List (ℕ × ℕ)) → chain earlier c rest ≡ Some d → chain (earlier ++ more) c rest ≡ Some d
 chain_with_more earlier more c d [] e = e
 chain_with_more earlier more c d (pair ∷ rest) e =
     let named = and_then_some (λ n. option_and_then (λ r. chain earlier r rest) (resolution c n pair.1)) (slice_get earlier pair.0) d e in
     let step = and_then_some (λ r. chain earlier r rest) (resolution c named.0 pair.1) d named.2 in
-    ap (option_and_then (λ n. option_and_then (λ r. chain (earlier ++ more) r rest) (resolution c n pair.1))) (get_with_more earlier more pair.0 named.0 named.1)
+    ap (option_and_then (λ n. option_and_then (λ r. chain (earlier ++ more) r rest) (resolution c n pair.1))) (got_left earlier more pair.0 named.0 named.1)
     ∙ (ap (option_and_then (λ r. chain (earlier ++ more) r rest)) step.1 ∙ chain_with_more earlier more step.0 d rest step.2)
 
 step_with_more : (earlier more : List Literals) (step : Step) (c : Literals) → made_by earlier step ≡ Some c → made_by (earlier ++ more) step ≡ Some c
 step_with_more earlier more step c e =
     let first = and_then_some (λ d. chain earlier d step.rest.items) (slice_get earlier step.first) c e in
-    ap (option_and_then (λ d. chain (earlier ++ more) d step.rest.items)) (get_with_more earlier more step.first first.0 first.1) ∙ chain_with_more earlier more first.0 c step.rest.items first.2
+    ap (option_and_then (λ d. chain (earlier ++ more) d step.rest.items)) (got_left earlier more step.first first.0 first.1) ∙ chain_with_more earlier more first.0 c step.rest.items first.2
 
 pub steps_in_parts : (earlier : List Literals) (first second : List Step) → derived earlier (first ++ second) ≡ option_and_then (λ all. derived all second) (derived earlier first)
 steps_in_parts earlier [] second = refl

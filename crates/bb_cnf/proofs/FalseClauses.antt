@@ -9,9 +9,11 @@ use Rattle.std.proofs.lemmas.Option.{slice_get-map}
 use Rattle.bb_cnf.specs.declared.clauses.Lit.{Lit}
 use Rattle.bb_cnf.specs.Clauses.{Literals, literals_of, same_literal, IsWithin}
 use Rattle.bb_cnf.specs.Truth.{literal_bit, IsTrueClause, Satisfies, HaveNoModel}
-use Rattle.bb_cnf.proofs.Literals.{same_literal-is, same_number, number_itself}
+use Rattle.bb_cnf.proofs.Literals.{same_literal-is}
 use Rattle.bb_cnf.proofs.Within.{AreWithin}
 use mathlib.Core.Bool.{beq}
+use Rattle.bb_lists.proofs.Tests.{number_equal, number_self}
+use Rattle.bb_lists.proofs.Bits.{neither}
 
 -- each literal has a variable from 1 to n, and is false
 abbrev pub IsFalseWithin : ℕ → (ℕ → Bool) → Literals → Type 0
@@ -25,15 +27,11 @@ with_bit v x b y = if y == x then b else v y
 abbrev pub false_literal : ℕ → Bool → Lit
 false_literal x b = record { var = x; neg = b }
 
-or_parts : (a b : Bool) → (a || b) ≡ false → (a ≡ false) × (b ≡ false)
-or_parts false b h = (refl, h)
-or_parts true b h = absurd (let clash : true ≡ false = h in cc)
-
 -- a list of literals, none of which is true
 false_list : (v : ℕ → Bool) (n : ℕ) (lits : List Lit) → list_any (literal_bit v) lits ≡ false → AreWithin n lits → IsFalseWithin n v (literals_of lits)
 false_list v n [] none within l member = absurd (let clash : false ≡ true = member in cc)
 false_list v n (m ∷ lits) none within l member =
-    let parts = or_parts (literal_bit v m) (list_any (literal_bit v) lits) none in
+    let parts = neither (literal_bit v m) (list_any (literal_bit v) lits) none in
     elim (same_literal m l) as (λ b. same_literal m l ≡ b → (b || literals_of lits l) ≡ true → (1 ≤ l.var) × (l.var ≤ n) × (literal_bit v l ≡ false)) [
       | true ↦ λ same _.
           let is : m ≡ l = same_literal-is m l same in
@@ -94,7 +92,7 @@ lower n v b c all_false l member other =
     elim (l.var == suc n) as (λ t. (l.var == suc n) ≡ t → (1 ≤ l.var) × (l.var ≤ n) × (literal_bit v l ≡ false)) [
       | true ↦ λ same.
           let sign = sign_is l.neg b (sym (own_bit v (suc n) b l same) ∙ known.2) in
-          let itself : (suc n == l.var) ≡ true = ap (λ k. suc n == k) (same_number l.var (suc n) same) ∙ number_itself (suc n) in
+          let itself : (suc n == l.var) ≡ true = ap (λ k. suc n == k) (number_equal l.var (suc n) same) ∙ number_self (suc n) in
           let found : same_literal (false_literal (suc n) b) l ≡ true = ap₂ (λ x y. x && y) itself sign in
           absurd (let clash : false ≡ true = sym other ∙ found in cc)
       | false ↦ λ apart.

@@ -1,16 +1,14 @@
 -- Literals that are marked and given out.
 use Rattle.std.proofs.Common.{◌≡◌, ℕ, ◌+◌, ◌<◌, length, take, slice_index_or, Bool, true, false, not, ◌&&◌, ◌||◌, List, [], ◌∷◌, ◌++◌, refl, sym, ◌∙◌, ap, ap₂}
 use Rattle.std.proofs.lemmas.List.Folds.{list_any-append, list_any_more}
+use Rattle.bb_lists.proofs.Maps.{or-false}
+use Rattle.bb_lists.proofs.Bits.{and_both}
 use Rattle.bb_cnf.specs.declared.clauses.Lit.{Lit}
 use Rattle.bb_cnf.specs.Clauses.{Literals, literals_of, same_literal, without}
-use Rattle.bb_cnf.proofs.Literals.{same_literal-is, and_true}
-
-pub or_false : (b : Bool) → (b || false) ≡ b
-or_false true = refl
-or_false false = refl
+use Rattle.bb_cnf.proofs.Literals.{same_literal-is}
 
 pub literals_of-push : (xs : List Lit) (l m : Lit) → literals_of (xs ++ l ∷ []) m ≡ (literals_of xs m || same_literal l m)
-literals_of-push xs l m = list_any-append (λ k. same_literal k m) xs (l ∷ []) ∙ ap (λ b. literals_of xs m || b) (or_false (same_literal l m))
+literals_of-push xs l m = list_any-append (λ k. same_literal k m) xs (l ∷ []) ∙ ap (λ b. literals_of xs m || b) (or-false (same_literal l m))
 
 moved : (a h s : Bool) → (s ≡ true → h ≡ true) → ((a || s) || (h && not s)) ≡ (a || h)
 moved true h s known = refl
@@ -35,7 +33,7 @@ left false false h n = h
 pub listed_kept : (h h' : Literals) (marked rest : List Lit) (lit : Lit) → ((m : Lit) → h m ≡ true → literals_of marked m ≡ true)
     → marked ≡ rest ++ lit ∷ [] → ((m : Lit) → h' m ≡ without h lit m) → (m : Lit) → h' m ≡ true → literals_of rest m ≡ true
 listed_kept h h' marked rest lit before marked_is now m held =
-    let parts = and_true (h m) (not (same_literal lit m)) (sym (now m) ∙ held) in
+    let parts = and_both (h m) (not (same_literal lit m)) (sym (now m) ∙ held) in
     left (literals_of rest m) (same_literal lit m)
     (sym (literals_of-push rest lit m) ∙ ap (λ xs. literals_of xs m) (sym marked_is) ∙ before m parts.0) parts.1
 

@@ -5,6 +5,7 @@ use Rattle.std.proofs.lemmas.Simd.{map-map}
 use Rattle.std.proofs.lemmas.List.{length-map}
 use Rattle.std.proofs.lemmas.Option.{slice_get-map}
 use Rattle.std.specs.List.{list_any}
+use Rattle.bb_lists.proofs.Places.{got_right}
 use Rattle.smallvec.specs.SmallVec.{SmallVec}
 use Rattle.bb_cnf.specs.declared.clauses.Lit.{Lit}
 use Rattle.bb_cnf.specs.declared.refutation.Step.{Step}
@@ -26,12 +27,6 @@ pub not_refutation : (given : List (SmallVec Lit)) (steps : List Step) → deriv
 not_refutation given steps none refutation =
     subst (λ o. IsSomeAnd o EndsEmpty) (ap (λ sets. derived sets steps) (sets_of-lists given) ∙ none) refutation.1
 
-pub slice_get-append : {A : Type 0} (xs ys : List A) (k : ℕ) → slice_get (xs ++ ys) (length xs + k) ≡ slice_get ys k
-slice_get-append [] ys k = ap (slice_get ys) (omega arith)
-slice_get-append (x ∷ xs) ys k =
-    let next : length (x ∷ xs) + k ≡ suc (length xs + k) = grind arith in
-    ap (slice_get (x ∷ (xs ++ ys))) next ∙ slice_get-append xs ys k
-
 pub last_of : (given made : List (SmallVec Lit)) → 0 < length made
     → slice_get (sets_of given ++ sets_of made) (length (sets_of given ++ sets_of made) - 1) ≡ option_map (λ clause. literals_of clause.items) (slice_get made (length made - 1))
 last_of given made some =
@@ -40,7 +35,7 @@ last_of given made some =
     let part : length (sets_of made) ≡ length made = length-map made (λ clause. literals_of clause.items) in
     omega (arith, whole, part, some) in
     ap (slice_get (sets_of given ++ sets_of made)) place
-    ∙ slice_get-append (sets_of given) (sets_of made) (length made - 1)
+    ∙ got_right (sets_of given) (sets_of made) (length made - 1)
     ∙ slice_get-map (λ clause. literals_of clause.items) made (length made - 1)
 
 pub empty_is : (lits : List Lit) → IsEmpty (literals_of lits) → lits ≡ []

@@ -2,21 +2,18 @@
 -- given clause is false. From there to the root: for both bits of a variable there is a clause that is false
 -- over the variables up to it, and one of both or their resolvent is false over those before. At the root it is
 -- empty, and one more step makes it the last.
-use Rattle.std.proofs.Common.{◌≡◌, ◌<◌, ℕ, zero, suc, ◌+◌, ◌-◌, ◌^◌, Bool, true, false, not, ◌&&◌, ◌||◌, ◌⊎◌, if◌then◌else◌, Some, None, IsSomeAnd, option_and_then, List, [], ◌∷◌, ◌++◌, length, map, slice_get, refl, sym, ◌∙◌, ap, ap₂, subst, arith, inl, inr, length-append, Global}
+use Rattle.std.proofs.Common.{◌≡◌, ◌<◌, ℕ, zero, suc, ◌+◌, ◌-◌, ◌^◌, Bool, true, false, not, ◌&&◌, ◌||◌, ◌⊎◌, if◌then◌else◌, Some, None, IsSomeAnd, option_and_then, List, [], ◌∷◌, ◌++◌, length, map, slice_get, refl, sym, ◌∙◌, ap, ap₂, subst, arith, inl, inr, length-append}
+use Rattle.bb_lists.proofs.Vectors.{heap}
+use Rattle.bb_lists.proofs.Places.{got_left, got_right}
 use Rattle.bb_cnf.specs.declared.clauses.Lit.{Lit}
 use Rattle.bb_cnf.specs.declared.refutation.Step.{Step}
 use Rattle.bb_cnf.specs.Clauses.{Literals, literals_of, IsWithin, positive, negated, same_literal}
 use Rattle.bb_cnf.specs.Chains.{resolvent, resolution, chain, made_by, derived, IsEmpty, EndsEmpty}
 use Rattle.bb_cnf.specs.Truth.{HaveNoModel}
 use Rattle.bb_cnf.specs.Laws.{RefutationsExist}
-use Rattle.bb_cnf.proofs.ChainLaws.{steps_in_parts, get_with_more}
+use Rattle.bb_cnf.proofs.ChainLaws.{steps_in_parts}
 use Rattle.bb_cnf.proofs.FalseClauses.{IsFalseWithin, with_bit, false_one, lower, lower_all}
-use Rattle.bb_cnf.proofs.Refuted.{slice_get-append}
 use denote.RawPtr.{null_ptr}
-
--- some handle of the allocator; a step's pairs hold one
-heap : Global
-heap = record { memory = record { seal = tt } }
 
 -- a step of its numbers
 abbrev step_of : ℕ → (pairs : List (ℕ × ℕ)) → length pairs < 2 ^ 63 → Step
@@ -44,7 +41,7 @@ record Reached (earlier : List Literals) (n : ℕ) (v : ℕ → Bool) : Type 0 w
   pub is_false : IsFalseWithin n v clause
 
 last_item : {A : Type 0} (xs : List A) (x : A) → slice_get (xs ++ x ∷ []) (length xs) ≡ Some x
-last_item xs x = ap (slice_get (xs ++ x ∷ [])) (omega arith) ∙ slice_get-append xs (x ∷ []) 0
+last_item xs x = ap (slice_get (xs ++ x ∷ [])) (omega arith) ∙ got_right xs (x ∷ []) 0
 
 -- one step more
 one_more : (earlier all : List Literals) (steps : List Step) (step : Step) (c : Literals) → derived earlier steps ≡ Some all → made_by all step ≡ Some c
@@ -127,7 +124,7 @@ module _ (earlier : List Literals) (n : ℕ) (v : ℕ → Bool) (low : Reached e
         all = high.all ++ e ∷ [];
         derives = one_more earlier high.all (low.steps ++ high.steps) (resolving low.place high.place x) e
             (both_steps earlier low.all high.all low.steps high.steps low.derives high.derives) made;
-        keeps = λ k c h. get_with_more high.all (e ∷ []) k c (high.keeps k c (low.keeps k c h));
+        keeps = λ k c h. got_left high.all (e ∷ []) k c (high.keeps k c (low.keeps k c h));
         clause = e;
         place = length high.all;
         there = last_item high.all e;

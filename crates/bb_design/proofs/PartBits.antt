@@ -1,7 +1,8 @@
 -- The bits that a construct drives or reads are bits of the design, where the nets that it uses have their bits in its scope.
-use Rattle.std.proofs.Common.{◌≡◌, ◌⊎◌, ℕ, List, [], ◌∷◌, ◌++◌, map, flat_map, zip, length, Contains, subst, ◌∙◌, ◌+◌, sym, inl, inr, refl, arith}
+use Rattle.std.proofs.Common.{◌≡◌, ◌⊎◌, ℕ, List, [], ◌++◌, map, flat_map, zip, length, Contains, subst, ◌∙◌, ◌+◌, sym, inl, inr, refl, arith}
 use Rattle.std.specs.List.{enumerate_from, range_with_len}
 use Rattle.std.proofs.lemmas.List.Elements.{Contains-append_cases}
+use Rattle.bb_lists.proofs.Numbered.{from_numbered}
 use Rattle.bb_ast.specs.Syntax.{Expression}
 use Rattle.bb_names.specs.Declarations.{range_of}
 use Rattle.bb_names.specs.Nets.{net_names}
@@ -18,19 +19,11 @@ use Rattle.bb_design.specs.Drivers.{Free, MadeOf, Box, Drive, driven, driven_by,
 use Rattle.bb_design.specs.GateFunctions.{on_terms, gate_gives, gate_cells}
 use Rattle.bb_design.specs.Reading.{cells_at, operand_terms, bit_itself, read_beside, read_at, copied}
 use Rattle.bb_design.specs.Registers.{data_terms}
-use Rattle.bb_lists.proofs.Members.{from_flat, from_map, contains_here, contains_there, contains_cases, none_in_nil}
+use Rattle.bb_lists.proofs.Members.{from_flat, from_map, contains_cases, none_in_nil}
 use Rattle.bb_design.proofs.KnownNets.{bits_there, filtered_there}
 use Rattle.bb_design.proofs.Operators.{Each, each_append, each_drop}
 use Rattle.bb_design.proofs.TermNets.{Names, AreNamed, HaveUsed, named, written_there, itself_there, operands_named, gate_named}
 use Rattle.bb_lists.proofs.Zips.{zip_parts}
-
-number_part : {A : Type 0} (a : ℕ) (xs : List A) (z : ℕ × A) → Contains (enumerate_from a xs) z → Contains xs z.1
-number_part a [] z has = absurd (none_in_nil z has)
-number_part a (x ∷ xs) z has = by (contains_cases (a, x) (enumerate_from (a + 1) xs) z has) (number_part (a + 1) xs z)
-  where
-    by : ((a, x) ≡ z) ⊎ Contains (enumerate_from (a + 1) xs) z → (Contains (enumerate_from (a + 1) xs) z → Contains xs z.1) → Contains (x ∷ xs) z.1
-    by (inl e) rest = subst (λ (u : ℕ × _). Contains (x ∷ xs) u.1) e (contains_here x xs)
-    by (inr more) rest = contains_there x xs z.1 (rest more)
 
 -- the nets that an expression uses have their bits in the scope
 abbrev pub IsUsedWell : Scope → Expression → Type 0
@@ -158,6 +151,6 @@ module _ (G : Bit → Type 0) where
     part_there BoxContents nets = record {
       driven = λ x has.
           let z = from_map (λ y. driven (Box s y.0) y.1) (enumerate_from 0 (output_bits s)) x has in
-          subst IsThere z.2 (up z.0.1 (filtered_there s _ z.0.1 (number_part 0 (output_bits s) z.0 z.1)), λ c at. absurd (none_in_nil c at));
+          subst IsThere z.2 (up z.0.1 (filtered_there s _ z.0.1 (from_numbered 0 (output_bits s) z.0 z.1)), λ c at. absurd (none_in_nil c at));
       read = by_both BoxContents nothing_beside (λ b has. up b (filtered_there s _ b has));
     }

@@ -10,9 +10,8 @@ use Rattle.bb_names.specs.Spots.{module_named}
 use Rattle.bb_design.specs.Hierarchy.{Instance, Path, Scope, instances_of, module_of, module_under, module_at, root, path_to, children, below, too_low, instances, scopes}
 use Rattle.bb_design.specs.Refusals.{IsShallow}
 use Rattle.bb_design.specs.Laws.{HasNamesApart, PathsLeadToScopes}
-use Rattle.bb_lists.proofs.Members.{from_flat, into_flat, contains_here, contains_there, contains_cases, none_in_nil, from_find, from_filter_map, find_there, mapped_there}
+use Rattle.bb_lists.proofs.Members.{from_flat, into_flat, contains_here, contains_there, contains_cases, none_in_nil, from_find, from_filter_map, find_there, mapped_there, into_filter}
 use Rattle.bb_lists.proofs.Orders.{less_or_same}
-use Rattle.bb_design.proofs.WorldLaws.{into_filter_map}
 
 abbrev scope : Path → PlainModule → Scope
 scope path m = record { path = path; source = m }
@@ -29,7 +28,7 @@ named_child text s n t e =
     let f = from_find (λ i. same_name i.name n) (instances_of s.source) i.0 i.1 in
     let name : i.0.name ≡ n = (bytes_decides i.0.name n).0 f.1 in
     let gives : option_map (λ m. scope (path_to s.path i.0.name) m) (module_named text i.0.target) ≡ Some (scope (path_to s.path n) t) = ap (option_map (λ m. scope (path_to s.path i.0.name) m)) i.2 ∙ ap (λ k. Some (scope (path_to s.path k) t)) name in
-    into_filter_map (λ i. option_map (λ m. scope (path_to s.path i.name) m) (module_named text i.target)) (instances_of s.source) i.0 (scope (path_to s.path n) t) f.0 gives
+    into_filter (λ i. option_map (λ m. scope (path_to s.path i.name) m) (module_named text i.target)) (instances_of s.source) i.0 (scope (path_to s.path n) t) f.0 gives
 
 behind : (path : Path) (n : List ℕ) (p : Path) → path_to path n ++ p ≡ path ++ n ∷ p
 behind path n p = append_assoc path (n ∷ []) p

@@ -23,7 +23,7 @@ use Rattle.bb_design.specs.Drivers.{Free, Drive, driven, drives_at, drives}
 use Rattle.bb_design.specs.Reading.{read_at, copied, copied_bits, IsRead}
 use Rattle.bb_design.specs.Refusals.{IsShallow, design_on}
 use Rattle.bb_design.specs.Laws.{BitsAreThere, SoundBitsAreThere}
-use Rattle.bb_lists.proofs.Members.{from_flat, from_map, all_from, contains-map, into_flat, mapped_there, contains_here, contains_there, contains_cases, none_in_nil, from_find}
+use Rattle.bb_lists.proofs.Members.{from_flat, from_map, all_from, contains-map, into_flat, mapped_there, contains_here, contains_there, contains_cases, none_in_nil, from_find, into_filter}
 use Rattle.bb_design.proofs.KnownNets.{header_net, declared_net, bits_there, filtered_there}
 use Rattle.bb_design.proofs.PartBits.{IsUsedWell, HasNets, IsThere, PartThere, part_there}
 use Rattle.bb_design.proofs.ScopeLaws.{both_there}
@@ -32,7 +32,6 @@ use Rattle.bb_lists.proofs.Earlier.{into_each}
 use Rattle.bb_design.specs.Laws.SoundSpots.{IsSoundSpot}
 use Rattle.bb_design.proofs.SoundSpots.{has_used, child_there, source_there}
 use Rattle.bb_design.proofs.TermNets.{HasUsed}
-use Rattle.bb_design.proofs.WorldLaws.{into_filter_map}
 
 -- the pin is a port of a module
 abbrev IsPinOf : PlainModule → Pin → Type 0
@@ -177,7 +176,7 @@ module _ (text : List PlainModule) (top : PlainModule) (sound : IsSound text) (i
   pins_there : (s : Scope) → Contains (scopes d) s → (i : Instance) → Contains (instances_of s.source) i → HasPins d s i.name (module_named text i.target)
   pins_there s has i in_source m p found is b at =
       let c : Scope = record { path = path_to s.path i.name; source = m } in
-      let child = into_filter_map (λ j. option_map (λ m. record { path = path_to s.path j.name; source = m }) (module_named text j.target)) (instances_of s.source) i c in_source (ap (option_map (λ m. record { path = path_to s.path i.name; source = m })) found) in
+      let child = into_filter (λ j. option_map (λ m. record { path = path_to s.path j.name; source = m }) (module_named text j.target)) (instances_of s.source) i c in_source (ap (option_map (λ m. record { path = path_to s.path i.name; source = m })) found) in
       into_flat scope_bits (scopes d) c b (child_there d s c shallow has child) (pin_there c p is b at)
 
   pub nets_there : (s : Scope) → Contains (scopes d) s → (c : Construct) → Contains (constructs_at text s) c → HasNets (IsBit d s) s c

@@ -3,6 +3,7 @@ use Rattle.std.proofs.Common.{◌≡◌, ◌≢◌, ◌⊎◌, ℕ, ◌==◌, Bo
 use Rattle.std.specs.List.{enumerate_from}
 use Rattle.std.specs.Option.{option_and_then}
 use Rattle.std.proofs.lemmas.List.Elements.{Contains-append_left, Contains-append_right}
+use Rattle.bb_lists.proofs.Bits.{not_false}
 use Rattle.bb_ast.specs.Assignable.{is_assignable}
 use Rattle.bb_ast.specs.declared.module.Gate.{Gate}
 use Rattle.bb_ast.specs.Gates.{gate_bytes, output_count}
@@ -45,10 +46,6 @@ spot_sound text sound m has item there =
 -- what is joined to a port is as wide as it, and may be assigned where the port is an output
 abbrev Fits : Scope → Pin → Expression → Type 0
 Fits s pin e = (width_of s e ≡ pin.width) × ((not (is_input pin.dir) && not (is_assignable e)) ≡ false)
-
-pub not_false : (b : Bool) → not b ≡ false → b ≡ true
-not_false true e = refl
-not_false false e = absurd (true≢false e)
 
 joined_fits : (text : List PlainModule) (s : Scope) (pin : Pin) (e : Expression) → IsSoundSpot text s (Joined pin e) → Fits s pin e
 joined_fits text s pin e sound =

@@ -1,9 +1,10 @@
 -- Where no spot is at fault, each net that is used there has its bits in the scope; and what stands in a scope of a design that
 -- is not too deep is a scope of it.
-use Rattle.std.proofs.Common.{◌≡◌, ◌⊎◌, ℕ, zero, suc, ◌+◌, ◌<◌, ◌≤◌, Bool, true, false, not, ◌&&◌, ◌||◌, List, [], ◌∷◌, length, Contains, Option, Some, None, refl, sym, ap, ◌∙◌, subst, inl, inr, arith, true≢false, length-append}
+use Rattle.std.proofs.Common.{◌≡◌, ◌⊎◌, ℕ, zero, suc, ◌+◌, ◌<◌, ◌≤◌, true, false, not, ◌&&◌, List, [], ◌∷◌, length, Contains, Option, Some, None, refl, sym, ap, ◌∙◌, subst, inl, inr, arith, true≢false, length-append}
 use Rattle.std.specs.Prelude.{nat_le, option_map}
-use Rattle.std.proofs.lemmas.Bool.Decides.{nat_tests}
 use Rattle.std.proofs.lemmas.List.Elements.{All-contains}
+use Rattle.bb_lists.proofs.Tests.{le_from_test}
+use Rattle.bb_lists.proofs.Bits.{not_false, and_left, and_right, or_cases, neither_right}
 use Rattle.bb_bits.specs.Names.{same_name}
 use Rattle.bb_ast.specs.declared.module.Range.{Range}
 use Rattle.bb_ast.specs.Syntax.{PlainModule}
@@ -17,44 +18,25 @@ use Rattle.bb_design.specs.Hierarchy.{Design, Scope, root, children, below, too_
 use Rattle.bb_design.specs.Refusals.{IsShallow}
 use Rattle.bb_lists.proofs.Members.{from_flat, into_flat, mapped_there, contains_here, contains_there, contains_cases, none_in_nil, from_find, from_filter_map}
 use Rattle.bb_design.proofs.KnownNets.{known_net, net_bit_there}
-use Rattle.bb_design.proofs.SoundConstructs.{not_told, not_false}
+use Rattle.bb_design.proofs.SoundConstructs.{not_told}
 use Rattle.bb_design.specs.Laws.SoundSpots.{IsSoundSpot}
 use Rattle.bb_design.proofs.TermNets.{HasUsed}
-
-and_first : (a b : Bool) → (a && b) ≡ true → a ≡ true
-and_first true b both = refl
-and_first false b both = both
-
-and_second : (a b : Bool) → (a && b) ≡ true → b ≡ true
-and_second true b both = both
-and_second false b both = absurd (true≢false (sym both))
-
-or_cases : (a b : Bool) → (a || b) ≡ true → (a ≡ true) ⊎ (b ≡ true)
-or_cases true b h = inl refl
-or_cases false b h = inr h
-
-or_second : (a b : Bool) → (a || b) ≡ false → b ≡ false
-or_second true b h = absurd (true≢false h)
-or_second false b h = h
-
-at_most : (a b : ℕ) → nat_le a b ≡ true → a ≤ b
-at_most a b h = grind (arith, nat_tests, h)
 
 -- an index of a range lies between its ends
 between : (r : Range) (i : ℕ) → is_index r i ≡ true → ((r.left ≤ i) × (i ≤ r.right)) ⊎ ((r.right ≤ i) × (i ≤ r.left))
 between r i h = by (or_cases (nat_le r.left i && nat_le i r.right) (nat_le r.right i && nat_le i r.left) h)
   where
     by : ((nat_le r.left i && nat_le i r.right) ≡ true) ⊎ ((nat_le r.right i && nat_le i r.left) ≡ true) → ((r.left ≤ i) × (i ≤ r.right)) ⊎ ((r.right ≤ i) × (i ≤ r.left))
-    by (inl up) = inl (at_most r.left i (and_first (nat_le r.left i) _ up), at_most i r.right (and_second (nat_le r.left i) _ up))
-    by (inr down) = inr (at_most r.right i (and_first (nat_le r.right i) _ down), at_most i r.left (and_second (nat_le r.right i) _ down))
+    by (inl up) = inl (le_from_test r.left i (and_left (nat_le r.left i) _ up), le_from_test i r.right (and_right (nat_le r.left i) _ up))
+    by (inr down) = inr (le_from_test r.right i (and_left (nat_le r.right i) _ down), le_from_test i r.left (and_right (nat_le r.right i) _ down))
 
 -- the bits from an index to another are among those of the net
 pub part_fits : (r : Option Range) (i j : ℕ) → has_bits r i j ≡ true → place_of r i + (distance i j + 1) ≤ range_width r
 part_fits None i j h = absurd (true≢false (sym h))
 part_fits (Some r) i j h =
-    let both = and_first (is_index r i && is_index r j) (nat_le (distance r.left i) (distance r.left j)) h in
-    let order : distance r.left i ≤ distance r.left j = at_most _ _ (and_second (is_index r i && is_index r j) (nat_le (distance r.left i) (distance r.left j)) h) in
-    by order (between r i (and_first (is_index r i) (is_index r j) both)) (between r j (and_second (is_index r i) (is_index r j) both))
+    let both = and_left (is_index r i && is_index r j) (nat_le (distance r.left i) (distance r.left j)) h in
+    let order : distance r.left i ≤ distance r.left j = le_from_test _ _ (and_right (is_index r i && is_index r j) (nat_le (distance r.left i) (distance r.left j)) h) in
+    by order (between r i (and_left (is_index r i) (is_index r j) both)) (between r j (and_right (is_index r i) (is_index r j) both))
   where
     by : distance r.left i ≤ distance r.left j → ((r.left ≤ i) × (i ≤ r.right)) ⊎ ((r.right ≤ i) × (i ≤ r.left)) → ((r.left ≤ j) × (j ≤ r.right)) ⊎ ((r.right ≤ j) × (j ≤ r.left))
         → distance r.left i + (distance i j + 1) ≤ distance r.left r.right + 1
@@ -66,8 +48,8 @@ part_fits (Some r) i j h =
 module _ (text : List PlainModule) (s : Scope) where
   no_instance : (how : Use) (n : List ℕ) (bits : Option (ℕ × ℕ)) → wrong_role text s.source (Used how n bits) ≡ [] → is_instance s.source n ≡ false
   no_instance Read n bits h = not_told (is_instance s.source n) n h
-  no_instance Driven n bits h = or_second _ (is_instance s.source n) (not_told _ n h)
-  no_instance Stored n bits h = or_second _ (is_instance s.source n) (not_told _ n h)
+  no_instance Driven n bits h = neither_right _ (is_instance s.source n) (not_told _ n h)
+  no_instance Stored n bits h = neither_right _ (is_instance s.source n) (not_told _ n h)
 
   pub net_used : (how : Use) (n : List ℕ) (bits : Option (ℕ × ℕ)) → IsSoundSpot text s (Used how n bits) → Contains (net_names s.source) n
   net_used how n bits sound = known_net s.source n (not_false (is_known s.source n) (not_told (not (is_known s.source n)) n (sound (name_faults.Unknown, unknown) (1, omega arith, refl))))

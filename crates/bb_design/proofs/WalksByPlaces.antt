@@ -11,13 +11,10 @@ use Rattle.bb_design.specs.Hierarchy.{Instance, instances_of, instantiations}
 use Rattle.bb_design.specs.Laws.HierarchyLaws.{WalksAreByPlaces}
 use Rattle.bb_design.proofs.CalleeLaw.{callees_are_instantiated}
 use Rattle.bb_lists.proofs.Names.{place-holds}
-use Rattle.bb_lists.proofs.Places.{got, mapped_at}
+use Rattle.bb_lists.proofs.Places.{mapped_at, there_at}
 use Rattle.bb_lists.proofs.Members.{from_filter, from_flat, from_map, contains-map, into_flat}
 use Rattle.bb_design.proofs.SoundModules.{sound_texts_have_targets}
 use Rattle.bb_lists.proofs.Numbered.{at-place, placed-at}
-
-there : {A : Type 0} (xs : List A) (k : ℕ) (x : A) → slice_get xs k ≡ Some x → Contains xs x
-there xs k x e = let at = got xs k x x e in (k, at.0, at.1)
 
 -- a place below the length has a module
 module-at : (text : List PlainModule) (k : ℕ) (n : List ℕ) → slice_get (map (λ m. m.name) text) k ≡ Some n → (m : PlainModule) × (slice_get text k ≡ Some m)
@@ -39,7 +36,7 @@ module _ (text : List PlainModule) (sound : IsSound text) where
       let i = from_filter (λ (i : Instance). place_named text i.target) (instances_of m) k called in
       let p = place-holds (map (λ (y : PlainModule). y.name) text) 0 i.0.target k i.2 in
       let n = module-at text k i.0.target (ap (slice_get (map (λ (y : PlainModule). y.name) text)) (p.1 ∙ zero-plus p.0) ∙ p.2) in
-      (n.0, n.1, (callees_are_instantiated text m n.0 k sound (there text j m at) n.1).0 called)
+      (n.0, n.1, (callees_are_instantiated text m n.0 k sound (there_at text j m at) n.1).0 called)
     where
       zero-plus : (d : ℕ) → 0 + d ≡ d
       zero-plus d = omega arith
@@ -48,7 +45,7 @@ module _ (text : List PlainModule) (sound : IsSound text) where
   step-from j k m n at end has =
       into_flat (λ (x : ℕ × PlainModule). map (λ i. (x.0, i)) (callees text x.1)) (enumerate_from 0 text) (0 + j, m) (j, k) (at-place 0 text j m at)
       (subst (λ i. Contains {X = ℕ × ℕ} (map (λ i. (0 + j, i)) (callees text m)) (i, k)) (zero-plus j)
-      (contains-map (λ i. (0 + j, i)) (callees text m) k ((callees_are_instantiated text m n k sound (there text j m at) end).1 has)))
+      (contains-map (λ i. (0 + j, i)) (callees text m) k ((callees_are_instantiated text m n k sound (there_at text j m at) end).1 has)))
     where
       zero-plus : (d : ℕ) → 0 + d ≡ d
       zero-plus d = omega arith

@@ -1,7 +1,8 @@
 -- Two worlds of one vector have the same bits wherever a bit is read.
-use Rattle.std.proofs.Common.{◌≡◌, ◌⊎◌, ℕ, zero, suc, ◌<◌, ◌==◌, Bool, true, false, not, ◌&&◌, ◌||◌, if◌then◌else◌, List, [], ◌∷◌, ◌++◌, map, flat_map, filter_map, find, Contains, Option, Some, None, refl, sym, ap, ap₂, ◌∙◌, subst, inl, inr, arith}
-use Rattle.std.specs.List.{enumerate_from, cons_option}
+use Rattle.std.proofs.Common.{◌≡◌, ◌⊎◌, ℕ, zero, suc, ◌<◌, ◌==◌, Bool, true, false, not, ◌&&◌, ◌||◌, if◌then◌else◌, List, [], ◌∷◌, ◌++◌, map, flat_map, find, Contains, refl, sym, ap, ap₂, ◌∙◌, subst, inl, inr, arith}
+use Rattle.std.specs.List.{enumerate_from}
 use Rattle.std.proofs.lemmas.List.Elements.{All-contains, Contains-append_cases, Contains-append_left, Contains-append_right}
+use Rattle.bb_lists.proofs.Bits.{and_both}
 use lib.Pointwise.{pointwise, pointwise_decides, bytes_decides}
 use Rattle.bb_bits.specs.Names.{same_name}
 use Rattle.bb_bits.specs.Contents.{Contents, output_bit}
@@ -19,19 +20,14 @@ use Rattle.bb_net.specs.CutPoints.{TopInput, State}
 use Rattle.bb_design.specs.Refusals.{AreDriven, IsAcyclic}
 use Rattle.bb_design.specs.Laws.{BitsAreThere, ReadNeedsRead}
 use Rattle.bb_design.specs.Laws.DrivenWorlds.{Gives, IsGiven, IsDrivenWorld, WorldsAgreeWhereRead}
-use Rattle.bb_lists.proofs.Members.{from_flat, from_map, contains-map, into_flat, contains_here, contains_there, contains_cases, none_in_nil, find_there}
+use Rattle.bb_lists.proofs.Members.{from_flat, from_map, contains-map, into_flat, contains_here, contains_there, find_there, into_filter}
 use Rattle.bb_lists.proofs.Numbered.{numbered_there}
-
-both_true : (a b : Bool) → (a && b) ≡ true → (a ≡ true) × (b ≡ true)
-both_true true true e = (refl, refl)
-both_true true false e = grind (arith, e)
-both_true false b e = grind (arith, e)
 
 -- the test on bits is equality
 pub same_bit_is : (b c : Bit) → same_bit b c ≡ true → b ≡ c
 same_bit_is b c e =
-    let outer = both_true (pointwise same_name b.path c.path && same_name b.net c.net) (b.place == c.place) e in
-    let inner = both_true (pointwise same_name b.path c.path) (same_name b.net c.net) outer.0 in
+    let outer = and_both (pointwise same_name b.path c.path && same_name b.net c.net) (b.place == c.place) e in
+    let inner = and_both (pointwise same_name b.path c.path) (same_name b.net c.net) outer.0 in
     let path : b.path ≡ c.path = (pointwise_decides {E = same_name} bytes_decides b.path c.path).0 inner.0 in
     let net : b.net ≡ c.net = (bytes_decides b.net c.net).0 inner.1 in
     let place : b.place ≡ c.place = grind (arith, outer.1) in
@@ -43,16 +39,6 @@ same_bit_self b =
     let net = (bytes_decides b.net b.net).1 refl in
     let place : (b.place == b.place) ≡ true = grind arith in
     grind (arith, path, net, place)
-
-pub into_filter_map : {A B : Type 0} (h : A → Option B) (xs : List A) (x : A) (y : B) → Contains xs x → h x ≡ Some y → Contains (filter_map h xs) y
-into_filter_map h [] x y has e = absurd (none_in_nil x has)
-into_filter_map h (z ∷ zs) x y has e = by (contains_cases z zs x has) (h z) refl (λ more. into_filter_map h zs x y more e)
-  where
-    by : (z ≡ x) ⊎ Contains zs x → (o : Option _) → h z ≡ o → (Contains zs x → Contains (filter_map h zs) y) → Contains (cons_option o (filter_map h zs)) y
-    by (inl same) None n more = absurd (grind (arith, sym n ∙ ap h same ∙ e))
-    by (inl same) (Some u) n more = let eq : u ≡ y = grind (arith, sym n ∙ ap h same ∙ e) in subst (Contains (u ∷ filter_map h zs)) eq (contains_here u (filter_map h zs))
-    by (inr there) None n more = more there
-    by (inr there) (Some u) n more = contains_there u (filter_map h zs) y (more there)
 
 -- a drive without source
 
@@ -83,7 +69,7 @@ free_stored (s, BoxContents) x has free = let z = from_map (λ y. driven (Box s 
 pub stored_register : (d : Design) (r : RegisterBit) → Contains (stored d) r → Contains (net_order d) r.bit → (q : RegisterBit) × Contains (registers d) q × (q.bit ≡ r.bit)
 stored_register d r has there =
     let f = find_there (λ q. same_bit r.bit q.bit) (stored d) r has (same_bit_self r.bit) in
-    (f.0, into_filter_map (λ b. find (λ q. same_bit b q.bit) (stored d)) (net_order d) r.bit f.0 there f.1, sym (same_bit_is r.bit f.0.bit f.2))
+    (f.0, into_filter (λ b. find (λ q. same_bit b q.bit) (stored d)) (net_order d) r.bit f.0 there f.1, sym (same_bit_is r.bit f.0.bit f.2))
 
 -- it has the bit of the vector
 free_bit : (d : Design) (x : Vector) (w v : World) → BitsAreThere d → HasVector d x w → HasVector d x v → (y : Drive) → Contains (drives d) y → y.source ≡ Free → bit_in w y.bit ≡ bit_in v y.bit

@@ -1,9 +1,10 @@
 -- What may be assigned has the bits that are written there.
-use Rattle.std.proofs.Common.{◌≡◌, ℕ, ◌+◌, ◌≤◌, ◌-◌, Bool, true, false, ◌&&◌, List, [], ◌∷◌, ◌++◌, map, length, replicate, refl, sym, ap, ap₂, ◌∙◌, arith, length-append, le_of_eq, true≢false}
+use Rattle.std.proofs.Common.{◌≡◌, ℕ, ◌+◌, ◌≤◌, ◌-◌, Bool, true, false, List, [], ◌∷◌, ◌++◌, map, length, replicate, refl, sym, ap, ap₂, ◌∙◌, arith, length-append, le_of_eq, true≢false}
 use Rattle.std.proofs.lemmas.Grind.{common_steps}
 use Rattle.std.proofs.lemmas.List.{length-map, map-append}
 use Rattle.std.specs.Prelude.{sum}
 use Rattle.std.specs.List.{flat_map, list_all, range_with_len}
+use Rattle.bb_lists.proofs.Bits.{and_both}
 use Rattle.bb_ast.specs.Assignable.{assigning, is_assignable}
 use Rattle.bb_ast.specs.Folds.{of_parts}
 use Rattle.bb_ast.specs.Syntax.{Expression, Net, Bit, Part, Sized, Plain, Not, Fold, Chain, Words, Cond, Concat, Repeat, Parts, no_part, part}
@@ -51,11 +52,6 @@ parts_long law env s (part e rest) =
     let there = parts_long law env s rest in
     length-append _ _ ∙ ap₂ ◌+◌ here there ∙ sym (sum_first _ (of_parts (λ x a. a) (widths (range_of s.source)) rest))
 
-both : (a b : Bool) → (a && b) ≡ true → (a ≡ true) × (b ≡ true)
-both true true e = (refl, refl)
-both true false e = absurd (true≢false (sym e))
-both false b e = absurd (true≢false (sym e))
-
 mutual
   written : ValuesHaveWidth → (w : World) (s : Scope) (e : Expression) → is_assignable e ≡ true → bits_in w (written_bits s e) ≡ value_in (w s.path) s e (width_of s e)
   written law w s (Net n) may = net_written w s n 0 (range_width (range_of s.source n))
@@ -75,7 +71,7 @@ mutual
       → bits_in w (flat_map (λ bits. bits) (of_parts (λ e a. a) (assigned s) p)) ≡ flat_map (alone {A = List Bool}) (of_parts (seen s) (values (range_of s.source) (w s.path)) p)
   parts_written law w s no_part may = refl
   parts_written law w s (part e rest) may =
-      let split = both (is_assignable e) _ may in
+      let split = and_both (is_assignable e) _ may in
       map-append (bit_in w) (written_bits s e) _ ∙ ap₂ ◌++◌ (written law w s e split.0) (parts_written law w s rest split.1)
 
 pub written_bits_are_value : ValuesHaveWidth → WrittenBitsAreValue

@@ -6,6 +6,7 @@ use Rattle.std.proofs.lemmas.Bool.{cases_Bool}
 use Rattle.std.proofs.lemmas.List.{length-map}
 use Rattle.std.proofs.lemmas.List.Elements.{All-nil, All-cons, All-head}
 use Rattle.std.proofs.lemmas.List.Folds.{list_any-append}
+use Rattle.bb_lists.proofs.Bits.{or_right}
 use Rattle.bb_bits.specs.Numbers.{number_of, bits_of}
 use Rattle.bb_net.specs.declared.cell.Cell.TheVariants.{Const, Input, Not, And, Or, Xor, Mux, BoxOut}
 use Rattle.bb_net.specs.Kinds.{shown}
@@ -37,16 +38,12 @@ other_bit true false = refl
 other_bit false true = refl
 other_bit false false = refl
 
-or_true : (a b : Bool) → b ≡ true → (a || b) ≡ true
-or_true true b e = refl
-or_true false b e = e
-
 -- the literals of a row are all false where the pins have its bits, and one is true elsewhere
 abbrev Differs : (ℕ → Bool) → (ℕ → ℕ) → List ℕ → List Bool → Type 0
 Differs v var pins row = ((clause_bit v (differing var pins row) ≡ false) × (map (λ p. v (var p)) pins ≡ row)) ⊎ ((clause_bit v (differing var pins row) ≡ true) × (map (λ p. v (var p)) pins ≡ row → ⊥))
 
 differs_more : (v : ℕ → Bool) (var : ℕ → ℕ) (p : ℕ) (pins : List ℕ) (b : Bool) (row : List Bool) → Differs v var pins row → Differs v var (p ∷ pins) (b ∷ row)
-differs_more v var p pins b row (inr other) = inr (or_true _ (clause_bit v (differing var pins row)) other.0, λ e. other.1 (cc e))
+differs_more v var p pins b row (inr other) = inr (or_right _ (clause_bit v (differing var pins row)) other.0, λ e. other.1 (cc e))
 differs_more v var p pins b row (inl like) = elim (cases_Bool (same (v (var p)) b)) [
   | inl one ↦ inl (rw (other_bit (v (var p)) b, one, like.0) refl, let h = same_is (v (var p)) b one in cc (h, like.1))
   | inr two ↦ inr (rw (other_bit (v (var p)) b, two) refl, λ e. absurd (true≢false (sym (is_same (v (var p)) b (cc e)) ∙ two)))

@@ -1,15 +1,13 @@
 -- Lists that grow by one piece after another.
 use Rattle.std.proofs.Common.{◌≡◌, ℕ, ◌+◌, List, [], ◌∷◌, ◌++◌, map, append_assoc, sym, ap, ◌∙◌, arith}
 use Rattle.std.specs.List.{flat_map, range_with_len}
-use Rattle.std.proofs.lemmas.List.{append-nil, map-id}
+use Rattle.std.proofs.lemmas.List.{append-nil}
 use Rattle.std.proofs.lemmas.List.Concat.{flat_map-append}
 use Rattle.std.proofs.lemmas.List.FromFn.{map-range_with_len_more}
-
-pub range_more : (k : ℕ) → range_with_len 0 (k + 1) ≡ range_with_len 0 k ++ k ∷ []
-range_more k = sym (map-id (range_with_len 0 (k + 1))) ∙ map-range_with_len_more (λ (i : ℕ). i) 0 k k (omega arith) ∙ ap (λ r. r ++ k ∷ []) (map-id (range_with_len 0 k))
+use Rattle.bb_lists.proofs.Ranges.{range_last_from_zero}
 
 pub pieces_more : {A : Type 0} (f : ℕ → List A) (k : ℕ) → flat_map f (range_with_len 0 (k + 1)) ≡ flat_map f (range_with_len 0 k) ++ f k
-pieces_more f k = ap (flat_map f) (range_more k) ∙ flat_map-append f (range_with_len 0 k) (k ∷ []) ∙ ap (λ p. flat_map f (range_with_len 0 k) ++ p) (append-nil (f k))
+pieces_more f k = ap (flat_map f) (range_last_from_zero k) ∙ flat_map-append f (range_with_len 0 k) (k ∷ []) ∙ ap (λ p. flat_map f (range_with_len 0 k) ++ p) (append-nil (f k))
 
 -- one more piece behind those before it
 pub grown : {A : Type 0} (f : ℕ → List A) (k : ℕ) (start before now : List A) → before ≡ start ++ flat_map f (range_with_len 0 k) → now ≡ before ++ f k → now ≡ start ++ flat_map f (range_with_len 0 (k + 1))

@@ -1,9 +1,10 @@
 -- What can be told by trying: whether a formula has a model, and whether tables agree at all vectors.
-use Rattle.std.proofs.Common.{◌≡◌, ◌≢◌, ◌⊎◌, ◌<◌, ◌≤◌, ◌∙◌, ℕ, zero, suc, Bool, true, false, List, [], ◌∷◌, length, All, Contains, refl, sym, subst, inl, inr, arith}
+use Rattle.std.proofs.Common.{◌≢◌, ◌⊎◌, ◌<◌, ◌≤◌, ◌∙◌, ℕ, zero, suc, Bool, List, [], ◌∷◌, length, All, Contains, sym, subst, inl, inr, arith}
 use Rattle.std.proofs.lemmas.Bool.{cases_lt, true≢false}
 use Rattle.std.proofs.lemmas.List.Elements.{All-cons, All-contains, All-nil}
 use Rattle.std.proofs.lemmas.List.Folds.{Any-from_list_any, list_any-from_Any}
 use Rattle.std.specs.List.{list_any}
+use Rattle.bb_lists.proofs.Bits.{same_or_not}
 use Rattle.bb_lists.proofs.Deciding.{Decision}
 use Rattle.bb_lists.proofs.Members.{contains_here, contains_there, either}
 use Rattle.bb_cnf.specs.declared.clauses.Lit.{Lit}
@@ -62,13 +63,6 @@ model_or_none models each formula within =
         from (inr most) (inl more) holds = inl (λ model. let long = model.0 in omega (arith, more, long))
         from (inr most) (inr least) (inl holds) = inr (omega (arith, most, least), holds)
         from (inr most) (inr least) (inr fails) = inl (λ model. fails model.1)
-
--- two bits are one, or they differ
-same_or_not : (a b : Bool) → (a ≡ b) ⊎ (a ≢ b)
-same_or_not true true = inl refl
-same_or_not true false = inr true≢false
-same_or_not false true = inr (λ e. true≢false (sym e))
-same_or_not false false = inl refl
 
 -- the first outputs are right, or one of them is wrong
 right_or_wrong : (spec imp : Netlist) (x bits : List Bool) (n : ℕ) → ((j : ℕ) → j < n → IsRight spec imp x bits j) ⊎ ((j : ℕ) × (j < n) × IsWrong spec imp x bits j)

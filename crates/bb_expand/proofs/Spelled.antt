@@ -1,11 +1,12 @@
 -- Numbers that are spelled in bits one after another, and how large powers of two are.
-use Rattle.std.proofs.Common.{◌≡◌, ℕ, ◌+◌, ◌*◌, ◌-◌, ◌<◌, ◌≤◌, ◌^◌, ◌%◌, suc, Bool, true, false, List, [], ◌∷◌, ◌++◌, length, take, set, Vec, vec_len, append_assoc, sym, ap, ◌∙◌, inl, inr, arith}
+use Rattle.std.proofs.Common.{◌≡◌, ℕ, ◌+◌, ◌*◌, ◌-◌, ◌<◌, ◌≤◌, ◌^◌, ◌%◌, suc, Bool, false, List, [], ◌∷◌, ◌++◌, length, take, set, Vec, vec_len, append_assoc, sym, ap, ◌∙◌, inl, inr, arith}
 use Rattle.std.specs.Prelude.{nat_le, if◌then◌else◌}
 use Rattle.std.proofs.lemmas.Bool.{cases_lt}
 use Rattle.std.proofs.lemmas.List.{take_more_set, with_items_is}
 use Rattle.std.proofs.lemmas.Bool.Decides.{nat_tests}
 use Rattle.std.proofs.lemmas.Nat.{pow_below, mul-le, one_shl}
 use Rattle.std.specs.Vec.{with_items}
+use Rattle.bb_lists.proofs.Tests.{le_to_test}
 use Rattle.bb_bits.specs.Numbers.{bits_of}
 
 -- one more bit is spelled
@@ -20,15 +21,12 @@ spelled_more bits all n i k rest len within left so_far =
     ∙ ap (λ m. take i bits ++ bits_of m rest) (sym now)
     ∙ so_far
 
-nat_le-true : (a b : ℕ) → a ≤ b → nat_le a b ≡ true
-nat_le-true a b h = grind (arith, nat_tests)
-
 nat_le-false : (a b : ℕ) → b < a → nat_le a b ≡ false
 nat_le-false a b h = grind (arith, nat_tests)
 
 -- what is left of a number after a bit
 pub left_taken : (power rest now : ℕ) → power ≤ rest → now ≡ rest - power → now ≡ (if nat_le power rest then rest - power else rest)
-left_taken power rest now h e = rw (nat_le-true power rest h) e
+left_taken power rest now h e = rw (le_to_test power rest h) e
 
 pub left_whole : (power rest now : ℕ) → rest < power → now ≡ rest → now ≡ (if nat_le power rest then rest - power else rest)
 left_whole power rest now h e = rw (nat_le-false power rest h) e

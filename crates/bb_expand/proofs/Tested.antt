@@ -4,6 +4,7 @@ use Rattle.std.specs.Prelude.{if◌then◌else◌}
 use Rattle.std.specs.List.{list_any, list_all}
 use Rattle.std.proofs.lemmas.List.Elements.{All-nil, All-cons, All-head, All-tail}
 use Rattle.std.proofs.lemmas.List.Folds.{Any-from_list_any, list_any-from_Any}
+use Rattle.bb_lists.proofs.Bits.{and_left, and_right, both_true}
 use Rattle.bb_net.specs.Values.{xor}
 use Rattle.bb_cnf.specs.declared.clauses.Lit.{Lit}
 use Rattle.bb_expand.specs.Expansions.{having}
@@ -16,18 +17,6 @@ clause_bit v lits = list_any (truth.literal_bit v) lits
 
 abbrev pub all_bits : (ℕ → Bool) → List (List Lit) → Bool
 all_bits v clauses = list_all (clause_bit v) clauses
-
-and_left : (a b : Bool) → (a && b) ≡ true → a ≡ true
-and_left true b e = refl
-and_left false b e = absurd (true≢false (sym e))
-
-and_right : (a b : Bool) → (a && b) ≡ true → b ≡ true
-and_right true b e = e
-and_right false b e = absurd (true≢false (sym e))
-
-both_true : (a b : Bool) → a ≡ true → b ≡ true → (a && b) ≡ true
-both_true true b ea eb = eb
-both_true false b ea eb = absurd (true≢false (sym ea))
 
 pub satisfies_from : (v : ℕ → Bool) (clauses : List (List Lit)) → all_bits v clauses ≡ true → Satisfies v clauses
 satisfies_from v [] e = All-nil (IsTrueClause v)

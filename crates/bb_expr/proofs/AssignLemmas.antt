@@ -5,6 +5,8 @@ use Rattle.std.proofs.lemmas.List.{length-map}
 use Rattle.std.proofs.lemmas.List.Elements.{All-from_recursion}
 use Rattle.std.specs.Prelude.{replicate, sum}
 use Rattle.std.specs.List.{AllByRecursion, list_all, range_with_len}
+use Rattle.bb_lists.proofs.Ranges.{length-range}
+use Rattle.bb_lists.proofs.Bits.{and_left, and_right}
 use Rattle.bb_ast.specs.Syntax.{Expression, Net, Bit, Part, Sized, Plain, Not, Fold, Chain, Words, Cond, Concat, Repeat, Parts, no_part, part}
 use Rattle.bb_ast.specs.Folds.{of_parts}
 use Rattle.bb_ast.specs.Assignable.{assigning, is_assignable}
@@ -14,10 +16,9 @@ use Rattle.bb_expr.specs.Lists.{extended}
 use Rattle.bb_expr.specs.Terms.{Const, Net as NetTerm}
 use Rattle.bb_expr.specs.Cells.{made, makes, net_terms, part_bits, part_cells}
 use Rattle.bb_expr.specs.Laws.FitLaws.{IsNetBit, AssignableIsNets}
-use Rattle.bb_expr.proofs.ValueLemmas.{length-range, sum-step}
+use Rattle.bb_expr.proofs.ValueLemmas.{sum-step}
 use Rattle.bb_expr.proofs.MadeValue.{made_seen}
 use Rattle.bb_expr.proofs.CellCounts.{length-made}
-use Rattle.bb_expr.proofs.Booleans.{and-first, and-second}
 use Rattle.bb_expr.proofs.ListLemmas.{all-join}
 
 pub extended-own : {A : Type 0} (null : A) (w : ℕ) (bits : List A) → length bits ≡ w → extended null w bits ≡ bits
@@ -68,8 +69,8 @@ mutual
       → (part_cells (of_parts (made_seen ranges) (makes ranges) all) ≡ []) × AllByRecursion IsNetBit (part_bits (of_parts (made_seen ranges) (makes ranges) all))
   parts-assigned ranges no_part h = (refl, tt)
   parts-assigned ranges (part e rest) h =
-      let first = assigned ranges e (and-first (is_assignable e) _ h) in
-      let others = parts-assigned ranges rest (and-second (is_assignable e) _ h) in
+      let first = assigned ranges e (and_left (is_assignable e) _ h) in
+      let others = parts-assigned ranges rest (and_right (is_assignable e) _ h) in
       (ap₂ (λ a b. a ++ b) (first.0 (own_width ranges e)) others.0, all-join IsNetBit (made ranges e (own_width ranges e)).bits _ first.1 others.1)
 
 pub assignable_is_nets : AssignableIsNets

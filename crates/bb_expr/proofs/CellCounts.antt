@@ -4,6 +4,7 @@ use Rattle.std.proofs.lemmas.List.{length-map}
 use Rattle.std.proofs.lemmas.List.Sums.{sum_by-cons}
 use Rattle.std.specs.Prelude.{fold, reverse, sum, sum_by, if◌then◌else◌}
 use Rattle.std.proofs.lemmas.List.{length-reverse}
+use Rattle.bb_lists.proofs.Ranges.{length-range}
 use Rattle.bb_ast.specs.declared.expr.Op.{Op}
 use Rattle.bb_ast.specs.declared.expr.Op.TheVariants as ops
 use Rattle.bb_ast.specs.Syntax.{Expression, Net, Bit, Part, Sized, Plain, Not, Fold, Chain, Words, Cond, Concat, Repeat, Operands, no_operand, operand, WordOperands, no_word, word, Arms, no_arm, arm, Parts, no_part, part}
@@ -21,7 +22,7 @@ use Rattle.bb_expr.specs.Terms.{Term, Const, And, Or, Xor, terms}
 use Rattle.bb_expr.specs.Cells.{Made, made, makes, inverted, operated, chained, any_from, any_bit, selected, arm_made, arms_made, part_bits, part_cells, net_terms, word_made, word_count, op_cells, counts, cell_count}
 use Rattle.bb_word.specs.Folds.{is_odd}
 use Rattle.bb_expr.specs.Laws.{CellsAreCounted}
-use Rattle.bb_expr.proofs.ValueLemmas.{length-extended, length-bitwise, length-copies, length-bits_of, length-range, sum-step, first-fits, second-fits, result-fits, one-width}
+use Rattle.bb_expr.proofs.ValueLemmas.{length-extended, length-bitwise, length-copies, length-bits_of, sum-step, first-fits, second-fits, result-fits, one-width}
 use Rattle.bb_expr.proofs.MadeValue.{made_seen}
 
 -- what an operand of the count is seen as

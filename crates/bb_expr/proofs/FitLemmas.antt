@@ -1,9 +1,12 @@
 -- An expression that is well formed, and at whose spots nothing is at fault, is fit, with all that stands in it.
 use Rattle.std.proofs.Common.{◌≡◌, ℕ, zero, suc, ◌+◌, ◌*◌, ◌≤◌, Bool, true, false, List, [], ◌∷◌, ◌++◌, Option, Some, None, refl, arith}
-use Rattle.std.specs.Prelude.{Contains, codes, nat_lt, ◌==◌, if◌then◌else◌, sum, fold}
+use Rattle.std.specs.Prelude.{Contains, codes, ◌==◌, if◌then◌else◌, sum, fold}
 use Rattle.std.specs.List.{AllByRecursion, flat_map}
 use Rattle.std.proofs.lemmas.Bool.Decides.{nat_tests}
 use Rattle.std.proofs.lemmas.List.Sums.{sum_by-cons}
+use Rattle.bb_lists.proofs.Members.{left_nil, right_nil}
+use Rattle.bb_lists.proofs.Tests.{not_lt_from_test}
+use Rattle.bb_lists.proofs.Bits.{neither_right, not_false}
 use Rattle.bb_ast.specs.declared.module.Range.{Range}
 use Rattle.bb_ast.specs.Syntax.{Expression, Net, Bit, Part, Sized, Plain, Not, Fold, Chain, Words, Cond, Concat, Repeat, Operands, no_operand, operand, WordOperands, no_word, word, Arms, no_arm, arm, Parts, no_part, part, PlainModule}
 use Rattle.bb_ast.specs.Levels.{level_of, AreOfLevel}
@@ -20,16 +23,12 @@ use Rattle.bb_names.specs.Nets.{net_names}
 use Rattle.bb_expr.specs.Inside.Standing.{gathering, expressions_in}
 use Rattle.bb_expr.specs.Inside.Fit.{IsRightIn, IsFitIn}
 use Rattle.bb_expr.proofs.KnownNames.{known-there}
-use Rattle.bb_expr.proofs.Booleans.{not-not, or-second}
-use Rattle.bb_expr.proofs.ListLemmas.{all-front, all-back, all-join, front-nil, back-nil}
+use Rattle.bb_expr.proofs.ListLemmas.{all-front, all-back, all-join}
 use Rattle.bb_expr.proofs.SpotLemmas.{IsClean, AreClean}
 
 told-not : (b : Bool) (n : List ℕ) → told_if b n ≡ [] → b ≡ false
 told-not true n h = cc
 told-not false n h = refl
-
-at-most : (a b : ℕ) → nat_lt a b ≡ false → b ≤ a
-at-most a b h = grind (arith, nat_tests, h)
 
 some-copy : (k : ℕ) → (k == 0) ≡ false → 1 ≤ k
 some-copy k h = grind (arith, nat_tests, h)
@@ -75,23 +74,23 @@ arm_spots how rest = flat_map (λ x. with_inside x.0 ++ with_inside x.1) (of_arm
 module _ (text : List PlainModule) (m : PlainModule) where
   plain-use : (how : Use) (n : List ℕ) (bits : Option (ℕ × ℕ)) → wrong_role text m (Used how n bits) ≡ [] → is_instance m n ≡ false
   plain-use Read n bits h = told-not _ n h
-  plain-use Driven n bits h = or-second _ (is_instance m n) (told-not _ n h)
-  plain-use Stored n bits h = or-second _ (is_instance m n) (told-not _ n h)
+  plain-use Driven n bits h = neither_right _ (is_instance m n) (told-not _ n h)
+  plain-use Stored n bits h = neither_right _ (is_instance m n) (told-not _ n h)
 
   net-used : (how : Use) (n : List ℕ) (bits : Option (ℕ × ℕ)) → IsClean text m (Used how n bits) → Contains (net_names m) n
-  net-used how n bits clean = known-there m n (not-not _ (told-not _ n clean.unknown)) (plain-use how n bits clean.role)
+  net-used how n bits clean = known-there m n (not_false _ (told-not _ n clean.unknown)) (plain-use how n bits clean.role)
 
   bits-used : (how : Use) (n : List ℕ) (i j : ℕ) → IsClean text m (Used how n (Some (i, j))) → has_bits (range_of m n) i j ≡ true
-  bits-used how n i j clean = not-not _ (told-not _ n clean.select)
+  bits-used how n i j clean = not_false _ (told-not _ n clean.select)
 
   copies-used : (k : ℕ) (all : Parts) → IsClean text m (Whole (Repeat k all)) → 1 ≤ k
-  copies-used k all clean = some-copy k (told-not _ _ (front-nil (told_if (k == 0) (codes "repeat")) _ clean.width))
+  copies-used k all clean = some-copy k (told-not _ _ (left_nil (told_if (k == 0) (codes "repeat")) _ clean.width))
 
   fit : (e : Expression) → IsRightIn m e → 1 ≤ own_width (range_of m) e → IsClean text m (Whole e) → IsFitIn m e
   fit e right some clean = record {
     right = right;
     some = some;
-    bounded = at-most widest (own_width (range_of m) e) (told-not _ (codes "wide") (back-nil (told_if (is_no_copy e) (codes "repeat")) _ clean.width));
+    bounded = not_lt_from_test widest (own_width (range_of m) e) (told-not _ (codes "wide") (right_nil (told_if (is_no_copy e) (codes "repeat")) _ clean.width));
   }
 
   part-clean : (b : Bool) (spots : List Spot) → AreClean text m (if b then Number ∷ spots else spots) → AreClean text m spots

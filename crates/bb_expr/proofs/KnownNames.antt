@@ -8,7 +8,9 @@ use Rattle.std.proofs.lemmas.Bool.{false≢true}
 use Rattle.std.proofs.lemmas.List.{map-id}
 use Rattle.std.proofs.lemmas.List.Elements.{All-from_recursion}
 use Rattle.std.proofs.lemmas.List.Folds.{list_any-append}
-use Rattle.std.proofs.lemmas.Slice.Eq.{bytes_eq-Decides}
+use Rattle.bb_lists.proofs.Places.{there_at, got-map}
+use Rattle.bb_lists.proofs.Names.{same_equal, same_self}
+use Rattle.bb_lists.proofs.Members.{either}
 use Rattle.bb_bits.specs.Names.{same_name, placed}
 use Rattle.bb_ast.specs.Syntax.{PlainModule}
 use Rattle.bb_bits.specs.Earlier.{once, has_name}
@@ -17,14 +19,7 @@ use Rattle.bb_names.specs.Nets.{net_names, net_of, nets_of}
 use Rattle.bb_names.specs.Inside.Checked.{ModuleFacts, syntax, HasNets}
 use Rattle.bb_expr.specs.Inside.Fit.{HasNet}
 use Rattle.bb_expr.specs.Laws.FitLaws.{NetNamesDiffer}
-use Rattle.bb_expr.proofs.Booleans.{either, or-true}
-use Rattle.bb_expr.proofs.ListLemmas.{slice_get-map}
-
-pub same_equal : (a b : List ℕ) → same_name a b ≡ true → a ≡ b
-same_equal a b = (bytes_eq-Decides a b).0
-
-pub same_self : (a : List ℕ) → same_name a a ≡ true
-same_self a = (bytes_eq-Decides a a).1 refl
+use Rattle.bb_expr.proofs.Booleans.{or-true}
 
 any-left : {X : Type 0} (p : X → Bool) (xs ys : List X) → list_any p xs ≡ true → list_any p (xs ++ ys) ≡ true
 any-left p xs ys h = list_any-append p xs ys ∙ ap (λ b. b || list_any p ys) h
@@ -108,17 +103,9 @@ names-of-nets : (m : PlainModule) (names : List (List ℕ)) → map (λ net. net
 names-of-nets m [] = refl
 names-of-nets m (n ∷ names) = ap (λ r. n ∷ r) (names-of-nets m names)
 
-got-there : {X : Type 0} (xs : List X) (k : ℕ) (x : X) → slice_get xs k ≡ Some x → Contains xs x
-got-there [] k x h = cc
-got-there (y ∷ xs) zero x h = (0, omega arith, some-is y x h)
-  where
-    some-is : {X : Type 0} (y x : X) → Some y ≡ Some x → y ≡ x
-    some-is y x h = cc
-got-there (y ∷ xs) (suc k) x h = let rest = got-there xs k x h in (suc rest.0, omega (arith, rest.1), rest.2)
-
 -- a name that is known and no instance's is that of a net
 pub known-there : (m : PlainModule) (n : List ℕ) → is_known m n ≡ true → is_instance m n ≡ false → Contains (net_names m) n
-known-there m n known plain = let at = placed-found n (net_names m) 0 (known-listed m n known plain) in got-there (net_names m) at.0 n at.2
+known-there m n known plain = let at = placed-found n (net_names m) 0 (known-listed m n known plain) in there_at (net_names m) at.0 n at.2
 
 there-listed : (n : List ℕ) (names : List (List ℕ)) (k : ℕ) → k < length names → get_or names k n ≡ n → list_any (same_name n) names ≡ true
 there-listed n [] k lt is = absurd (omega (arith, lt))
@@ -129,7 +116,7 @@ there-listed n (m ∷ names) (suc k) lt is = ap (λ b. same_name n m || b) (ther
 pub net-at : (m : PlainModule) (n : List ℕ) → Contains (net_names m) n → (k : ℕ) × (lookup (same_name n) (placed 0 (net_names m)) ≡ Some k) × (slice_get (nets_of m) k ≡ Some (net_of m n))
 net-at m n has =
     let at = placed-found n (net_names m) 0 (there-listed n (net_names m) has.0 has.1 has.2) in
-    (at.0, at.1 ∙ ap Some (zero-plus at.0), slice_get-map (net_of m) (net_names m) at.0 n at.2)
+    (at.0, at.1 ∙ ap Some (zero-plus at.0), got-map (net_of m) (net_names m) at.0 n at.2)
   where
     zero-plus : (k : ℕ) → 0 + k ≡ k
     zero-plus k = omega arith

@@ -1,7 +1,8 @@
 -- Facts on lists: what holds of each element of joined lists, lists that are empty, a list of one element, and elements by place.
-use Rattle.std.proofs.Common.{◌≡◌, ◌<◌, ℕ, zero, suc, List, [], ◌∷◌, ◌++◌, map, get_or, Some, refl, arith}
-use Rattle.std.specs.Prelude.{Contains, slice_get}
+use Rattle.std.proofs.Common.{◌≡◌, ◌<◌, ℕ, zero, suc, List, [], ◌∷◌, ◌++◌, get_or, arith}
+use Rattle.std.specs.Prelude.{Contains}
 use Rattle.std.specs.List.{AllByRecursion, flat_map}
+use Rattle.bb_lists.proofs.Members.{left_nil, right_nil}
 
 pub all-front : {X : Type 0} (P : X → Type 0) (xs ys : List X) → AllByRecursion P (xs ++ ys) → AllByRecursion P xs
 all-front P [] ys h = tt
@@ -15,21 +16,9 @@ pub all-join : {X : Type 0} (P : X → Type 0) (xs ys : List X) → AllByRecursi
 all-join P [] ys front back = back
 all-join P (x ∷ xs) ys front back = (front.0, all-join P xs ys front.1 back)
 
-pub front-nil : {X : Type 0} (xs ys : List X) → xs ++ ys ≡ [] → xs ≡ []
-front-nil [] ys h = refl
-front-nil (x ∷ xs) ys h = cc
-
-pub back-nil : {X : Type 0} (xs ys : List X) → xs ++ ys ≡ [] → ys ≡ []
-back-nil [] ys h = h
-back-nil (x ∷ xs) ys h = cc
-
-pub map-nil : {X Y : Type 0} (f : X → Y) (xs : List X) → map f xs ≡ [] → xs ≡ []
-map-nil f [] h = refl
-map-nil f (x ∷ xs) h = cc
-
 pub flat-nil : {X Y : Type 0} (f : X → List Y) (xs : List X) → flat_map f xs ≡ [] → AllByRecursion (λ x. f x ≡ []) xs
 flat-nil f [] h = tt
-flat-nil f (x ∷ xs) h = (front-nil (f x) (flat_map f xs) h, flat-nil f xs (back-nil (f x) (flat_map f xs) h))
+flat-nil f (x ∷ xs) h = (left_nil (f x) (flat_map f xs) h, flat-nil f xs (right_nil (f x) (flat_map f xs) h))
 
 pub all-mapped : {X : Type 0} (P Q : X → Type 0) → ((x : X) → P x → Q x) → (xs : List X) → AllByRecursion P xs → AllByRecursion Q xs
 all-mapped P Q f [] h = tt
@@ -42,7 +31,3 @@ single-at a x (suc k) lt same = absurd (omega (arith, lt))
 pub single : {X : Type 0} (a x : X) → Contains (a ∷ []) x → a ≡ x
 single a x h = single-at a x h.0 h.1 h.2
 
-pub slice_get-map : {X Y : Type 0} (f : X → Y) (xs : List X) (k : ℕ) (x : X) → slice_get xs k ≡ Some x → slice_get (map f xs) k ≡ Some (f x)
-slice_get-map f [] k x h = cc
-slice_get-map f (y ∷ xs) zero x h = grind (arith, h)
-slice_get-map f (y ∷ xs) (suc k) x h = slice_get-map f xs k x h

@@ -1,9 +1,10 @@
 -- The bits that the cells of an expression make have its value.
 use Rattle.std.proofs.Common.{◌≡◌, ℕ, zero, suc, ◌+◌, ◌≤◌, Bool, true, false, List, [], ◌∷◌, ◌++◌, length, map, refl, sym, ap, ap₂, ◌∙◌, subst, arith}
 use Rattle.std.proofs.lemmas.List.{length-map}
-use Rattle.std.specs.Prelude.{replicate, fold, reverse, not, ◌||◌, if◌then◌else◌}
+use Rattle.std.specs.Prelude.{fold, reverse, not, ◌||◌, if◌then◌else◌}
 use Rattle.std.specs.List.{flat_map, list_any, range_with_len}
-use Rattle.bb_lists.proofs.Maps.{reverse-map}
+use Rattle.bb_lists.proofs.Bits.{or_assoc}
+use Rattle.bb_lists.proofs.Maps.{reverse-map, replicate-map, or-false}
 use Rattle.bb_ast.specs.declared.expr.Op.{Op}
 use Rattle.bb_ast.specs.declared.expr.Op.TheVariants as ops
 use Rattle.bb_ast.specs.Syntax.{Expression, Net, Bit, Part, Sized, Plain, Not, Fold, Chain, Words, Cond, Concat, Repeat, Operands, no_operand, operand, WordOperands, no_word, word, Arms, no_arm, arm, Parts, no_part, part}
@@ -31,12 +32,8 @@ pub map-append : {A B : Type 0} (f : A → B) (xs ys : List A) → map f (xs ++ 
 map-append f [] ys = refl
 map-append f (x ∷ xs) ys = ap (λ r. f x ∷ r) (map-append f xs ys)
 
-pub map-replicate : {A B : Type 0} (f : A → B) (n : ℕ) (x : A) → map f (replicate n x) ≡ replicate n (f x)
-map-replicate f zero x = refl
-map-replicate f (suc n) x = ap (λ r. f x ∷ r) (map-replicate f n x)
-
 pub map-extended : (env : Bits) (w : ℕ) (bits : List Term) → map (term_bit env) (extended (Const false) w bits) ≡ extended false w (map (term_bit env) bits)
-map-extended env w bits = rw (map-append, map-replicate, length-map) refl
+map-extended env w bits = rw (map-append, replicate-map, length-map) refl
 
 pub map-net_terms : (env : Bits) (n : List ℕ) (places : List ℕ) → map (term_bit env) (map (NetTerm n) places) ≡ map (env n) places
 map-net_terms env n [] = refl
@@ -72,14 +69,6 @@ map-operated env ops.Or xs ys = map-bitwise env Or (op_bit ops.Or) (λ a b. refl
 map-operated env ops.Xor xs ys = map-bitwise env Xor (op_bit ops.Xor) (λ a b. refl) xs ys
 map-operated env ops.Xnor xs ys = xnor-inverted env xs ys
 
-or-false : (a : Bool) → (a || false) ≡ a
-or-false true = refl
-or-false false = refl
-
-or-assoc : (a b c : Bool) → ((a || b) || c) ≡ (a || (b || c))
-or-assoc true b c = refl
-or-assoc false b c = refl
-
 not-if : (o b : Bool) → not (if o then not b else b) ≡ (if not o then not b else b)
 not-if true true = refl
 not-if true false = refl
@@ -105,7 +94,7 @@ inverted-by env false f same x = map-same f same (map (term_bit env) x.bits)
 
 any-from : (env : Bits) (a : Term) (bits : List Term) → term_bit env (any_from a bits).0 ≡ (term_bit env a || list_any (λ b. b) (map (term_bit env) bits))
 any-from env a [] = sym (or-false (term_bit env a))
-any-from env a (b ∷ bits) = any-from env (Or a b) bits ∙ or-assoc (term_bit env a) (term_bit env b) _
+any-from env a (b ∷ bits) = any-from env (Or a b) bits ∙ or_assoc (term_bit env a) (term_bit env b) _
 
 pub any-bit : (env : Bits) (bits : List Term) → term_bit env (any_bit bits).0 ≡ list_any (λ b. b) (map (term_bit env) bits)
 any-bit env [] = refl

@@ -4,7 +4,9 @@ use Rattle.std.specs.Prelude.{◌⊎◌, IfSome, slice_get, nat_le}
 use Rattle.std.specs.List.{range_with_len}
 use Rattle.std.specs.Map.{lookup}
 use Rattle.std.specs.Option.{option_map_or}
-use Rattle.std.proofs.lemmas.Bool.Decides.{nat_tests}
+use Rattle.bb_lists.proofs.Places.{some_same}
+use Rattle.bb_lists.proofs.Tests.{le_from_test}
+use Rattle.bb_lists.proofs.Bits.{or_cases, and_left, and_right}
 use Rattle.bb_bits.specs.Names.{same_name}
 use Rattle.bb_ast.specs.declared.module.Range.{Range}
 use Rattle.bb_names.specs.declared.net.NetInfo.{NetInfo}
@@ -17,31 +19,27 @@ use Rattle.bb_expr.specs.Cells.{without_cells, net_terms}
 use Rattle.bb_expr.specs.Lowered.{name_at}
 use Rattle.bb_expr.specs.Inside.Fit.{HasNet, ranges_in}
 use Rattle.bb_expr.specs.Inside.Growing.{Adds, AddsRow}
-use Rattle.bb_expr.proofs.Booleans.{and-first, and-second, or-cases}
 use Rattle.bb_expr.proofs.AddLemmas.{AreLeaves, leaf_term, adds-leaves}
-
-at-most : (a b : ℕ) → nat_le a b ≡ true → a ≤ b
-at-most a b h = grind (arith, nat_tests, h)
 
 -- an index of a range lies between its ends
 between : (r : Range) (i : ℕ) → is_index r i ≡ true → ((r.left ≤ i) × (i ≤ r.right)) ⊎ ((r.right ≤ i) × (i ≤ r.left))
-between r i h = elim (or-cases (nat_le r.left i && nat_le i r.right) _ h) [
-  | inl up ↦ inl (at-most _ _ (and-first (nat_le r.left i) _ up), at-most _ _ (and-second (nat_le r.left i) _ up))
-  | inr down ↦ inr (at-most _ _ (and-first (nat_le r.right i) _ down), at-most _ _ (and-second (nat_le r.right i) _ down))
+between r i h = elim (or_cases (nat_le r.left i && nat_le i r.right) _ h) [
+  | inl up ↦ inl (le_from_test _ _ (and_left (nat_le r.left i) _ up), le_from_test _ _ (and_right (nat_le r.left i) _ up))
+  | inr down ↦ inr (le_from_test _ _ (and_left (nat_le r.right i) _ down), le_from_test _ _ (and_right (nat_le r.right i) _ down))
 ]
 
 -- the bits from an index to another are among those of the net
 pub part-fits : (r : Option Range) (i j : ℕ) → has_bits r i j ≡ true → place_of r i + (distance i j + 1) ≤ range_width r
 part-fits None i j h = cc
 part-fits (Some r) i j h =
-    let both = and-first (is_index r i && is_index r j) _ h in
-    let order : distance r.left i ≤ distance r.left j = at-most _ _ (and-second (is_index r i && is_index r j) _ h) in
-    elim (between r i (and-first (is_index r i) _ both)) [
-      | inl a ↦ elim (between r j (and-second (is_index r i) _ both)) [
+    let both = and_left (is_index r i && is_index r j) _ h in
+    let order : distance r.left i ≤ distance r.left j = le_from_test _ _ (and_right (is_index r i && is_index r j) _ h) in
+    elim (between r i (and_left (is_index r i) _ both)) [
+      | inl a ↦ elim (between r j (and_right (is_index r i) _ both)) [
         | inl b ↦ omega (arith, a.0, a.1, b.0, b.1, order)
         | inr b ↦ omega (arith, a.0, a.1, b.0, b.1, order)
       ]
-      | inr a ↦ elim (between r j (and-second (is_index r i) _ both)) [
+      | inr a ↦ elim (between r j (and_right (is_index r i) _ both)) [
         | inl b ↦ omega (arith, a.0, a.1, b.0, b.1, order)
         | inr b ↦ omega (arith, a.0, a.1, b.0, b.1, order)
       ]
@@ -51,9 +49,6 @@ got-within : {X : Type 0} (xs : List X) (k : ℕ) (x : X) → slice_get xs k ≡
 got-within [] k x h = cc
 got-within (y ∷ xs) zero x h = omega arith
 got-within (y ∷ xs) (suc k) x h = omega (arith, got-within xs k x h)
-
-some-same : {X : Type 0} (x y : X) → Some x ≡ Some y → x ≡ y
-some-same x y h = cc
 
 module _ (nets : List NetInfo) where
   net-leaves : (k : ℕ) (net : NetInfo) → slice_get nets k ≡ Some net → (from count : ℕ) → from + count ≤ range_width net.range → AreLeaves nets (map (steps.Net k) (range_with_len from count))
@@ -95,5 +90,5 @@ adds-net-at nets n net k from count old new places there name fits row =
 pub adds-net : (m : ModuleFacts) (n : List ℕ) (k from count : ℕ) (old new : List BitStep) (places : List ℕ) → HasNet m n → lookup (same_name n) m.index ≡ Some k → from + count ≤ range_width (ranges_in m n)
     → AddsRow (map (steps.Net k) (range_with_len from count)) old new places → Adds m.nets (without_cells (net_terms n from count)) old new places
 adds-net m n k from count old new places has kept fits row =
-    let same : has.place ≡ k = some-same has.place k (sym has.kept ∙ kept) in
+    let same : has.place ≡ k = some_same has.place k (sym has.kept ∙ kept) in
     adds-net-at m.nets n has.net k from count old new places (ap (slice_get m.nets) (sym same) ∙ has.there) has.name (subst (λ w. from + count ≤ w) (ap range_width (sym has.range)) fits) row

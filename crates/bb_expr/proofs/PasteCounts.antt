@@ -3,6 +3,7 @@ use Rattle.std.proofs.Common.{◌≡◌, ℕ, zero, suc, ◌+◌, ◌*◌, ◌�
 use Rattle.std.specs.Prelude.{nat_eq}
 use Rattle.std.specs.List.{list_any}
 use Rattle.std.proofs.lemmas.Bool.{or_parts, or_from}
+use Rattle.bb_lists.proofs.Bits.{never_both}
 use Rattle.bb_ast.specs.declared.operators.WordOp.{WordOp}
 use Rattle.bb_ast.specs.declared.operators.WordOp.TheVariants as ops
 use Rattle.bb_ast.specs.declared.operators.FoldOp.{FoldOp}
@@ -28,13 +29,9 @@ constant-itself : (bit : Bool) → is_constant bit (Const bit) ≡ true
 constant-itself true = refl
 constant-itself false = refl
 
-clash : (b : Bool) → b ≡ true → b ≡ false → ⊥
-clash true is differs = cc
-clash false is differs = cc
-
 module _ (part : ℕ → Formula) (bit : Bool) (place : ℕ) (is : part place ≡ Const bit) where
   other : (a : ℕ) → is_constant bit (part a) ≡ false → nat_eq a place ≡ false
-  other a h = apart a place (λ e. clash (is_constant bit (part a)) (ap (λ k. is_constant bit (part k)) e ∙ ap (is_constant bit) is ∙ constant-itself bit) h)
+  other a h = apart a place (λ e. never_both (is_constant bit (part a)) (ap (λ k. is_constant bit (part k)) e ∙ ap (is_constant bit) is ∙ constant-itself bit) h)
 
   two : (a b : ℕ) → (is_constant bit (part a) || is_constant bit (part b)) ≡ false → (nat_eq a place || nat_eq b place) ≡ false
   two a b h =

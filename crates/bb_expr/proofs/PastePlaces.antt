@@ -6,6 +6,8 @@ use Rattle.std.proofs.lemmas.Bool.Decides.{eqb_tells}
 use Rattle.std.proofs.lemmas.List.{get_or-drop, get_or-take, length-take, length-drop}
 use Rattle.std.proofs.lemmas.List.Elements.{All-head, All-tail, All-weaker}
 use Rattle.std.proofs.lemmas.List.FromFn.{length-map-range_with_len, get_or-map-range_with_len}
+use Rattle.bb_lists.proofs.Tests.{not_lt_to_test}
+use Rattle.bb_lists.proofs.Bits.{or_cases}
 use Rattle.bb_net.specs.declared.cell.Cell.{Cell}
 use Rattle.bb_net.specs.declared.cell.Cell.TheVariants as cells
 use Rattle.bb_net.specs.Netlists.{Netlist, IsNetlist, cell_at, first_cells, ReadsBefore}
@@ -13,7 +15,6 @@ use Rattle.bb_word.specs.Laws.Formulas.{Const, Input, cell_formula, formula_at}
 use Rattle.bb_word.specs.Laws.FormulaLaws.{formula_at-meets}
 use Rattle.bb_expr.specs.declared.circuits.Pasting.{Pasting}
 use Rattle.bb_expr.specs.Inside.Pasting.{is_out, behind_inputs, constant_steps, moved}
-use Rattle.bb_expr.proofs.Booleans.{or-cases}
 use Rattle.bb_expr.proofs.StepLemmas.{either-side}
 
 -- a place is a constant's, an input's, or that of a cell behind them
@@ -37,9 +38,6 @@ apart a b not = elim (eqb_tells a b) [
   | inr differs ↦ differs.0
 ]
 
-not_below : (a b : ℕ) → b ≤ a → nat_lt a b ≡ false
-not_below a b le = grind (arith, le)
-
 pub moved-input : (at : Pasting) (inputs : List ℕ) (k : ℕ) → k < length inputs → moved at inputs (2 + k) ≡ slice_index_or inputs k 0
 moved-input at inputs k lt =
     let zero' : nat_eq (2 + k) 0 ≡ false = apart (2 + k) 0 (λ e. omega (arith, e)) in
@@ -56,7 +54,7 @@ moved-behind at inputs i =
     let n = 2 + length inputs in
     let zero' : nat_eq (n + i) 0 ≡ false = apart (n + i) 0 (λ e. omega (arith, e)) in
     let one' : nat_eq (n + i) 1 ≡ false = apart (n + i) 1 (λ e. omega (arith, e)) in
-    let in' : nat_lt (n + i) n ≡ false = not_below (n + i) n (omega arith) in
+    let in' : nat_lt (n + i) n ≡ false = not_lt_to_test (n + i) n (omega arith) in
     let back : (n + i) - n ≡ i = omega arith in
     ap (λ b. if b then at.zero else (if nat_eq (n + i) 1 then at.one else (if nat_lt (n + i) n then slice_index_or inputs ((n + i) - 2) 0 else at.first + ((n + i) - n)))) zero'
     ∙ ap (λ b. if b then at.one else (if nat_lt (n + i) n then slice_index_or inputs ((n + i) - 2) 0 else at.first + ((n + i) - n))) one'
@@ -115,7 +113,7 @@ module _ (net : Netlist) (kept : IsNetlist net) where
 -- what holds of all outputs holds of each
 pub out-there : (P : ℕ → Type 0) (outs : List ℕ) → All P outs → (j : ℕ) → is_out j outs ≡ true → P j
 out-there P [] all j h = cc
-out-there P (out ∷ outs) all j h = elim (or-cases (nat_eq out j) (is_out j outs) h) [
+out-there P (out ∷ outs) all j h = elim (or_cases (nat_eq out j) (is_out j outs) h) [
   | inl is ↦ subst P (eqb-true out j is) (All-head P out outs all)
   | inr other ↦ out-there P outs (All-tail P out outs all) j other
 ]

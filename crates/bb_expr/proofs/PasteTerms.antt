@@ -3,6 +3,7 @@ use Rattle.std.proofs.Common.{◌≡◌, ℕ, zero, suc, ◌+◌, ◌<◌, true,
 use Rattle.std.specs.Prelude.{nat_eq}
 use Rattle.std.proofs.lemmas.List.{get_or-append-add}
 use Rattle.std.proofs.lemmas.Bool.{eq-eqb, eqb-true, or_left, or_right}
+use Rattle.bb_lists.proofs.Bits.{or_cases}
 use Rattle.bb_names.specs.declared.net.NetInfo.{NetInfo}
 use Rattle.bb_net.specs.Netlists.{ReadsBefore}
 use Rattle.bb_net.specs.declared.cell.Cell.{Cell}
@@ -13,7 +14,6 @@ use Rattle.bb_word.specs.Inside.Nets.{inputs_from}
 use Rattle.bb_expr.specs.Terms.{Term, Const, Not, And, Or, Xor, terms}
 use Rattle.bb_expr.specs.Lowered.{step_term, Reads, is_operator}
 use Rattle.bb_expr.specs.Inside.Pasting.{is_read, pasted, formula_term, is_gate}
-use Rattle.bb_expr.proofs.Booleans.{or-cases}
 
 pub formulas-map : (inputs : List Term) → IsMap formulas terms (formula_term inputs)
 formulas-map inputs = record {
@@ -71,7 +71,7 @@ pasted-reads nets place to (cells.Mux c t e) below = (
 pasted-reads nets place to (cells.BoxOut b p) below = tt
 
 one-of : (a b k place : ℕ) → a < place → b < place → (nat_eq a k || nat_eq b k) ≡ true → k < place
-one-of a b k place p q h = elim (or-cases (nat_eq a k) (nat_eq b k) h) [
+one-of a b k place p q h = elim (or_cases (nat_eq a k) (nat_eq b k) h) [
   | inl is ↦ subst (λ j. j < place) (eqb-true a k is) p
   | inr is ↦ subst (λ j. j < place) (eqb-true b k is) q
 ]
@@ -84,7 +84,7 @@ read-before inputs place k (cells.Not a) h is = subst (λ j. j < place) (eqb-tru
 read-before inputs place k (cells.And a b) h is = one-of a b k place h.0 h.1 is
 read-before inputs place k (cells.Or a b) h is = one-of a b k place h.0 h.1 is
 read-before inputs place k (cells.Xor a b) h is = one-of a b k place h.0 h.1 is
-read-before inputs place k (cells.Mux c t e) h is = elim (or-cases (nat_eq c k) (nat_eq t k || nat_eq e k) is) [
+read-before inputs place k (cells.Mux c t e) h is = elim (or_cases (nat_eq c k) (nat_eq t k || nat_eq e k) is) [
   | inl first ↦ subst (λ j. j < place) (eqb-true c k first) h.0
   | inr other ↦ one-of t e k place h.1 h.2 other
 ]

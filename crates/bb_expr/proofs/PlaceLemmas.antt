@@ -4,6 +4,7 @@ use Rattle.std.specs.Prelude.{replicate, nat_le, if◌then◌else◌, ◌^◌}
 use Rattle.std.specs.List.{range_with_len}
 use Rattle.std.proofs.lemmas.List.{length-map, length-take-le, length-replicate, map_more, take_all, replicate_more, map_push}
 use Rattle.std.proofs.lemmas.List.FromFn.{length-range_with_len}
+use Rattle.bb_lists.proofs.Ranges.{range_last}
 use Rattle.bb_bits.specs.Numbers.{bits_of}
 use Rattle.bb_names.specs.declared.net.NetInfo.{NetInfo}
 use Rattle.bb_expr.specs.declared.step.BitStep.{BitStep}
@@ -14,19 +15,6 @@ use Rattle.bb_expr.specs.Inside.Growing.{Adds, AddsRow, paired, widened}
 use Rattle.bb_expr.proofs.AddLemmas.{adds-extended}
 use Rattle.bb_expr.proofs.GateLemmas.{length-paired}
 
-pub range-more : (a n : ℕ) → range_with_len a (n + 1) ≡ range_with_len a n ++ (a + n) ∷ []
-range-more a zero = ap (λ k. k ∷ []) (same a)
-  where
-    same : (a : ℕ) → a ≡ a + 0
-    same a = omega arith
-range-more a (suc n) = ap (range_with_len a) (next n) ∙ ap (λ r. a ∷ r) (range-more (a + 1) n ∙ ap (λ k. range_with_len (a + 1) n ++ k ∷ []) (same a n))
-  where
-    next : (n : ℕ) → suc n + 1 ≡ suc (n + 1)
-    next n = omega arith
-
-    same : (a n : ℕ) → (a + 1) + n ≡ a + suc n
-    same a n = omega arith
-
 pub row-start : (old : List BitStep) → AddsRow [] old old []
 row-start old = record { grows = sym (append-nil old); numbered = refl }
 
@@ -34,7 +22,7 @@ pub row-more : (rows old mid new : List BitStep) (places later : List ℕ) (step
     → AddsRow (rows ++ step ∷ []) old new later
 row-more rows old mid new places later step place row grows at more = record {
   grows = grows ∙ ap (λ l. l ++ step ∷ []) row.grows ∙ append_assoc old rows (step ∷ []);
-  numbered = more ∙ ap₂ (λ a k. a ++ k ∷ []) row.numbered (at ∙ ap length row.grows ∙ length-append old rows) ∙ sym (range-more (length old) (length rows)) ∙ ap (range_with_len (length old)) (sym (length-append rows (step ∷ [])));
+  numbered = more ∙ ap₂ (λ a k. a ++ k ∷ []) row.numbered (at ∙ ap length row.grows ∙ length-append old rows) ∙ sym (range_last (length old) (length rows)) ∙ ap (range_with_len (length old)) (sym (length-append rows (step ∷ [])));
 }
 
 pub row-length : (rows old new : List BitStep) (places : List ℕ) → AddsRow rows old new places → length new ≡ length old + length rows
@@ -58,7 +46,7 @@ pub ranged-length : (f : ℕ → BitStep) (from n : ℕ) (old new : List BitStep
 ranged-length f from n old new places row = row-length (map f (range_with_len from n)) old new places row ∙ ap (λ k. length old + k) (length-map (range_with_len from n) f ∙ length-range_with_len from n)
 
 pub ranged-more : (f : ℕ → BitStep) (from n : ℕ) (old new : List BitStep) (places : List ℕ) → AddsRow (map f (range_with_len from n) ++ f (from + n) ∷ []) old new places → AddsRow (map f (range_with_len from (n + 1))) old new places
-ranged-more f from n old new places row = subst (λ rows. AddsRow rows old new places) (sym (ap (map f) (range-more from n) ∙ map_push f (range_with_len from n) (from + n))) row
+ranged-more f from n old new places row = subst (λ rows. AddsRow rows old new places) (sym (ap (map f) (range_last from n) ∙ map_push f (range_with_len from n) (from + n))) row
 
 pub repeated-length : (s : BitStep) (n : ℕ) (old new : List BitStep) (places : List ℕ) → AddsRow (replicate n s) old new places → length new ≡ length old + n
 repeated-length s n old new places row = row-length (replicate n s) old new places row ∙ ap (λ k. length old + k) (length-replicate n s)

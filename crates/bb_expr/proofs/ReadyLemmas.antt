@@ -24,8 +24,9 @@ use Rattle.bb_expr.proofs.FitLemmas.{operator-some}
 use Rattle.bb_expr.proofs.OperandLemmas.{fit-here, fit-left, fit-words, fit-folded}
 use Rattle.std.proofs.lemmas.List.{at_drop_all}
 use Rattle.std.specs.Prelude.{min}
+use Rattle.bb_lists.proofs.Turns.{all_here}
 use Rattle.bb_expr.proofs.AskLemmas.{IsAsked}
-use Rattle.bb_expr.proofs.Loops.{All-here, rest-here}
+use Rattle.bb_expr.proofs.Loops.{rest-here}
 use Rattle.bb_expr.proofs.LevelLemmas.{first-some, second-some, first-most, second-most, operator-most, word-some, cells-hold, level-tail, left-fits, taken-most, words-cells, level-width}
 
 -- the next operator with its right operand: how wide both are taken, what there is room for, and what is left then
@@ -190,7 +191,7 @@ module _ (m : ModuleFacts) where
       → l ≤ 65536 → w ≤ 65536 → right ≡ own_width (ranges_in m) (f x).1 → result ≡ operator_width (f x).0 l right → context ≡ taken (ranges_in m) result (map f (drop (i + 1) rest)) w
       → (right ≤ 65536) × (result ≤ 65536) × (context ≤ 65536)
   here-most f rest i x w l right result context fit within at left top is_right is_result is_context =
-      let here = fit-here m (f x).1 (All-here (λ x. AreFit m x.1) f rest i x within at fit) in
+      let here = fit-here m (f x).1 (all_here (λ x. AreFit m x.1) f rest i x within at fit) in
       let one : right ≤ 65536 = omega (arith, is_right, here.bounded) in
       let two : result ≤ 65536 = omega (arith, is_result, operator-most (f x).0 l right 65536 left one (omega arith)) in
       let each = each-most (map f (drop (i + 1) rest)) (all-dropped f rest (i + 1) (recursion_from_All (λ x. AreFit m x.1) (map f rest) fit)) in

@@ -3,6 +3,7 @@ use Rattle.std.proofs.Common.{◌≡◌, ℕ, zero, suc, ◌<◌, List, [], ◌�
 use Rattle.std.specs.Prelude.{IsSomeAnd, slice_get}
 use Rattle.std.specs.Option.{option_and_then, option_map_or}
 use Rattle.std.proofs.lemmas.List.{length-map}
+use Rattle.bb_lists.proofs.Places.{got-map}
 use Rattle.bb_ast.specs.Syntax.{Expression}
 use Rattle.bb_names.specs.declared.checked.CheckedModule.{CheckedModule}
 use Rattle.bb_names.specs.Declarations.{range_of}
@@ -10,7 +11,6 @@ use Rattle.bb_names.specs.Inside.Checked.{ModuleFacts, module_facts, syntax, IsC
 use Rattle.bb_expr.specs.Inside.Standing.{StandsAt, nets_at, ranges_at}
 use Rattle.bb_expr.specs.Inside.Fit.{AreFit, ranges_in}
 use Rattle.bb_expr.specs.Laws.FitLaws.{StandingIsFit}
-use Rattle.bb_expr.proofs.ListLemmas.{slice_get-map}
 
 some-within : {X : Type 0} (P : X → Type 0) (xs : List X) (k : ℕ) → IsSomeAnd (slice_get xs k) P → k < length xs
 some-within P [] k h = absurd h
@@ -32,7 +32,7 @@ module _ (checked : List ModuleFacts) (modules : List CheckedModule) (same : map
 
   module _ (item : CheckedModule) (at : item ≡ get_or modules k item) (lt : k < length modules) where
     pub module-is : slice_get checked k ≡ Some (module_facts item)
-    module-is = ap (λ l. slice_get l k) (sym same) ∙ slice_get-map module_facts modules k item (got modules k item lt at)
+    module-is = ap (λ l. slice_get l k) (sym same) ∙ got-map module_facts modules k item (got modules k item lt at)
 
     pub module-fit : StandingIsFit → IsChecked checked → (e : Expression) → StandsAt checked k e → AreFit (module_facts item) e
     module-fit law ok e stands = some-of (λ m. AreFit m e) (slice_get checked k) (module_facts item) module-is (law checked k e ok stands)

@@ -3,6 +3,7 @@ use Rattle.std.proofs.Common.{◌≡◌, ℕ, ◌+◌, ◌≤◌, List, [], ◌�
 use Rattle.std.specs.Prelude.{fold, Contains}
 use Rattle.std.specs.List.{AllByRecursion, flat_map}
 use Rattle.std.proofs.lemmas.List.Elements.{recursion_from_All}
+use Rattle.bb_lists.proofs.Members.{either}
 use Rattle.bb_ast.specs.Syntax.{Expression, Net, Bit, Part, Sized, Plain, Not, Fold, Chain, Words, Cond, Concat, Repeat, Operands, no_operand, operand, WordOperands, no_word, word, Arms, no_arm, arm, Parts, no_part, part, PlainModule}
 use Rattle.bb_ast.specs.Folds.{of_operands, of_words, of_arms, of_parts}
 use Rattle.bb_bits.specs.Numbers.{bits_of}
@@ -22,7 +23,6 @@ use Rattle.bb_expr.specs.Terms.{Const}
 use Rattle.bb_expr.specs.Cells.{Made, without_cells, net_terms, made, makes, chained, operated, arms_made, part_bits, part_cells, word_made}
 use Rattle.bb_word.specs.Folds.{is_odd}
 use Rattle.bb_expr.specs.Inside.Growing.{Adds, widened, word_joined, fold_joined}
-use Rattle.bb_expr.proofs.Booleans.{either}
 use Rattle.bb_expr.proofs.CellCounts.{length-made, length-operated, IsLong, word-makes}
 use Rattle.bb_expr.proofs.KnownNames.{net-at}
 use Rattle.bb_expr.proofs.ListLemmas.{all-front, all-back}

@@ -4,6 +4,7 @@ use Rattle.std.specs.Prelude.{option_to_list}
 use Rattle.std.specs.List.{AllByRecursion, flat_map, enumerate_from}
 use Rattle.std.specs.Option.{option_and_then}
 use Rattle.std.proofs.lemmas.List.{take-append-drop}
+use Rattle.bb_lists.proofs.Members.{left_nil, right_nil, map_nil}
 use Rattle.bb_ast.specs.Syntax.{Expression, PlainConns, Order, Named, PlainBody, Ports, Nets, Regs, Supply, Assign, Gates, Calls, Always, PlainItem, PlainModule}
 use Rattle.bb_ast.specs.declared.module.Gate.{Gate}
 use Rattle.bb_ast.specs.declared.module.Range.{Range}
@@ -15,7 +16,7 @@ use Rattle.bb_names.specs.Declarations.{Declaration, declared_by_head, declared_
 use Rattle.bb_names.specs.Spots.{Use, Read, Driven, Stored, Spot, Pin, Terminal, PortName, Declared, Placed, module_named, pin_named, pin_at, place_count, spots_in, gate_spots, joined_spots, conns_spots, initial_spots, header_spots, item_spots, use_at}
 use Rattle.bb_names.specs.Faults.{twice, unknown, wrong_select, wrong_width, wrong_role, statement_faults, module_faults, IsSound}
 use Rattle.bb_expr.specs.Inside.Standing.{conns_expressions, item_expressions}
-use Rattle.bb_expr.proofs.ListLemmas.{all-front, all-back, all-join, all-mapped, front-nil, back-nil, map-nil, flat-nil}
+use Rattle.bb_expr.proofs.ListLemmas.{all-front, all-back, all-join, all-mapped, flat-nil}
 
 -- nothing is at fault at a spot
 pub record IsClean (text : List PlainModule) (m : PlainModule) (s : Spot) : Type 0 where
@@ -36,7 +37,7 @@ HasCleanSpots text m e = (how : Use) × AreClean text m (spots_in how e)
 each-nil : {X Y : Type 0} (gives : List X → X → List Y) (before xs : List X) → each_from gives before xs ≡ [] → AllByRecursion (λ x. (earlier : List X) × (gives earlier x ≡ [])) xs
 each-nil gives before [] h = tt
 each-nil gives before (x ∷ xs) h =
-    ((before, front-nil (gives before x) (each_from gives (before ++ x ∷ []) xs) h), each-nil gives (before ++ x ∷ []) xs (back-nil (gives before x) _ h))
+    ((before, left_nil (gives before x) (each_from gives (before ++ x ∷ []) xs) h), each-nil gives (before ++ x ∷ []) xs (right_nil (gives before x) _ h))
 
 clean-from : (text : List PlainModule) (m : PlainModule) (spots : List Spot) → AllByRecursion (λ s. twice text m s ≡ []) spots → AllByRecursion (λ s. unknown text m s ≡ []) spots
     → AllByRecursion (λ s. wrong_select text m s ≡ []) spots → AllByRecursion (λ s. wrong_width text m s ≡ []) spots → AllByRecursion (λ s. wrong_role text m s ≡ []) spots → AreClean text m spots
@@ -46,18 +47,18 @@ clean-from text m (s ∷ spots) a b c d e = (record { twice = a.0; unknown = b.0
 -- a statement without faults
 statement-clean : (text : List PlainModule) (m : PlainModule) (line : ℕ) (spots : List Spot) → statement_faults text m line spots ≡ [] → AreClean text m spots
 statement-clean text m line spots none =
-    let a = front-nil (map _ (flat_map (twice text m) spots)) _ none in
-    let none1 = back-nil (map _ (flat_map (twice text m) spots)) _ none in
-    let b = front-nil (map _ (flat_map (unknown text m) spots)) _ none1 in
-    let none2 = back-nil (map _ (flat_map (unknown text m) spots)) _ none1 in
-    let c = front-nil (map _ (flat_map (wrong_select text m) spots)) _ none2 in
-    let none3 = back-nil (map _ (flat_map (wrong_select text m) spots)) _ none2 in
-    let d = front-nil (map _ (flat_map (wrong_width text m) spots)) _ none3 in
-    let none4 = back-nil (map _ (flat_map (wrong_width text m) spots)) _ none3 in
-    let e = front-nil (map _ (flat_map (wrong_role text m) spots)) _ none4 in
+    let a = left_nil (map _ (flat_map (twice text m) spots)) _ none in
+    let none1 = right_nil (map _ (flat_map (twice text m) spots)) _ none in
+    let b = left_nil (map _ (flat_map (unknown text m) spots)) _ none1 in
+    let none2 = right_nil (map _ (flat_map (unknown text m) spots)) _ none1 in
+    let c = left_nil (map _ (flat_map (wrong_select text m) spots)) _ none2 in
+    let none3 = right_nil (map _ (flat_map (wrong_select text m) spots)) _ none2 in
+    let d = left_nil (map _ (flat_map (wrong_width text m) spots)) _ none3 in
+    let none4 = right_nil (map _ (flat_map (wrong_width text m) spots)) _ none3 in
+    let e = left_nil (map _ (flat_map (wrong_role text m) spots)) _ none4 in
     clean-from text m spots
-    (flat-nil (twice text m) spots (map-nil _ _ a)) (flat-nil (unknown text m) spots (map-nil _ _ b)) (flat-nil (wrong_select text m) spots (map-nil _ _ c))
-    (flat-nil (wrong_width text m) spots (map-nil _ _ d)) (flat-nil (wrong_role text m) spots (map-nil _ _ e))
+    (flat-nil (twice text m) spots (map_nil _ _ a)) (flat-nil (unknown text m) spots (map_nil _ _ b)) (flat-nil (wrong_select text m) spots (map_nil _ _ c))
+    (flat-nil (wrong_width text m) spots (map_nil _ _ d)) (flat-nil (wrong_role text m) spots (map_nil _ _ e))
 
 -- the item's spots are clean, after some earlier declarations
 abbrev pub IsCleanItem : List PlainModule → PlainModule → PlainItem → Type 0
@@ -79,7 +80,7 @@ Faultless text m item = (before : List PlainItem) × (item_faults text m before 
 module-clean : (text earlier : List PlainModule) (m : PlainModule) → module_faults text earlier m ≡ [] → IsCleanModule text m
 module-clean text earlier m none =
     all-mapped (Faultless text m) (IsCleanItem text m) (λ item h. (earlier_of m h.0, statement-clean text m item.line (item_spots text (earlier_of m h.0) item.body) h.1)) m.items
-    (each-nil (item_faults text m) [] m.items (back-nil (statement_faults text m m.line (header_spots earlier m)) _ none))
+    (each-nil (item_faults text m) [] m.items (right_nil (statement_faults text m m.line (header_spots earlier m)) _ none))
 
 pub sound-clean : (text : List PlainModule) → IsSound text → AllByRecursion (IsCleanModule text) text
 sound-clean text sound =

@@ -3,7 +3,8 @@ use Rattle.std.proofs.Common.{◌≡◌, ℕ, zero, suc, ◌+◌, ◌*◌, ◌�
 use Rattle.std.proofs.lemmas.Grind.{common_steps}
 use Rattle.std.proofs.lemmas.List.{length-map, length-replicate}
 use Rattle.std.specs.Prelude.{sum, fold, if◌then◌else◌}
-use Rattle.std.specs.List.{flat_map, list_any, range_with_len}
+use Rattle.std.specs.List.{flat_map, list_any}
+use Rattle.bb_lists.proofs.Ranges.{length-range}
 use Rattle.bb_ast.specs.Syntax.{Expression, Net, Bit, Part, Sized, Plain, Not, Fold, Chain, Words, Cond, Concat, Repeat, Operands, no_operand, operand, WordOperands, no_word, word, Arms, no_arm, arm, Parts, no_part, part}
 use Rattle.bb_ast.specs.Folds.{fold_by, of_operands, of_words, of_arms, of_parts}
 use Rattle.bb_bits.specs.Numbers.{bits_of}
@@ -35,10 +36,6 @@ length-copies (suc k) xs = rw (length-append, length-copies k xs) (grind arith)
 pub length-bits_of : (n x : ℕ) → length (bits_of n x) ≡ n
 length-bits_of zero x = refl
 length-bits_of (suc n) x = ap suc (length-bits_of n _)
-
-pub length-range : (a n : ℕ) → length (range_with_len a n) ≡ n
-length-range a zero = refl
-length-range a (suc n) = ap suc (length-range (a + 1) n)
 
 pub length-net_bits : (env : Bits) (n : List ℕ) (place count : ℕ) → length (net_bits env n place count) ≡ count
 length-net_bits env n place count = rw (length-map, length-range) refl

@@ -2,6 +2,7 @@
 use Rattle.std.proofs.Common.{◌≡◌, ℕ, zero, suc, ◌+◌, ◌-◌, ◌*◌, ◌≤◌, Bool, true, false, List, [], ◌∷◌, ◌++◌, length, map, refl, ap, ap₂, ◌∙◌, arith}
 use Rattle.std.specs.Prelude.{max, replicate, fold, ◌&&◌, if◌then◌else◌}
 use Rattle.std.specs.List.{flat_map, list_any, list_all}
+use Rattle.bb_lists.proofs.Bits.{and_left, and_right}
 use Rattle.bb_ast.specs.declared.expr.Op.{Op}
 use Rattle.bb_ast.specs.declared.expr.Op.TheVariants as ops
 use Rattle.bb_ast.specs.Syntax.{Expression, Net, Bit, Part, Sized, Plain, Not, Fold, Chain, Words, Cond, Concat, Repeat, Operands, no_operand, operand, WordOperands, no_word, word, Arms, no_arm, arm}
@@ -43,14 +44,6 @@ wider-bitwise op keeps (suc k) xs ys = ap₂ (λ a r. a ∷ r) (zero-bit op keep
     zero-bit ops.Xor keeps = refl
     zero-bit ops.Xnor keeps = grind (arith, keeps)
 
-and-first : (a b : Bool) → (a && b) ≡ true → a ≡ true
-and-first true b both = refl
-and-first false b both = both
-
-and-second : (a b : Bool) → (a && b) ≡ true → b ≡ true
-and-second true b both = both
-and-second false b both = grind (arith, both)
-
 if-wider : (b : Bool) (k : ℕ) (x y u v : List Bool) → x ≡ replicate k false ++ u → y ≡ replicate k false ++ v → (if b then x else y) ≡ replicate k false ++ (if b then u else v)
 if-wider true k x y u v first second = first
 if-wider false k x y u v first second = second
@@ -87,13 +80,13 @@ mutual
   wider ranges env (Plain n) w k fits steady = wider-extended k w _ (bits_of 32 n) (length-bits_of 32 n) fits
   wider ranges env (Not m e) w k fits steady = grind (arith, steady)
   wider ranges env (Chain e rest) w k fits steady =
-      wider-chain ranges env rest w k _ _ (wider ranges env e w k (omega (arith, fits)) (and-first (is_steady e) _ steady)) (omega (arith, fits)) (and-second (is_steady e) _ steady)
+      wider-chain ranges env rest w k _ _ (wider ranges env e w k (omega (arith, fits)) (and_left (is_steady e) _ steady)) (omega (arith, fits)) (and_right (is_steady e) _ steady)
   wider ranges env (Fold op e) w k fits steady = wider-extended k w 1 (fold_bit op (value ranges env e (own_width ranges e)) ∷ []) refl fits
   wider ranges env (Words e rest) w k fits steady =
       wider-words ranges env rest (seen ranges e (value ranges env e)) (is_steady e) (λ here v j h. wider ranges env e v j h here) steady w k
       (omega (arith, words-width ranges word_value (values ranges env) rest (seen ranges e (value ranges env e)), fits))
   wider ranges env (Cond all last) w k fits steady =
-      wider-arms ranges env all w k last (omega (arith, fits)) (and-first _ (is_steady last) steady) (wider ranges env last w k (omega (arith, fits)) (and-second _ (is_steady last) steady))
+      wider-arms ranges env all w k last (omega (arith, fits)) (and_left _ (is_steady last) steady) (wider ranges env last w k (omega (arith, fits)) (and_right _ (is_steady last) steady))
   wider ranges env (Concat all) w k fits steady = wider-extended k w _ (flat_map alone (of_parts (seen ranges) (values ranges env) all)) (parts-length ranges env all) fits
   wider ranges env (Repeat m all) w k fits steady =
       wider-extended k w _ (copies m (flat_map alone (of_parts (seen ranges) (values ranges env) all))) (length-copies m _ ∙ ap (λ n. m * n) (parts-length ranges env all)) fits
@@ -105,10 +98,10 @@ mutual
       ≡ replicate k false ++ fold (λ b x. bitwise (op_bit x.0) b (x.1.at w)) bits (of_operands (seen ranges) (values ranges env) rest)
   wider-chain ranges env no_operand w k wide bits same fits steady = same
   wider-chain ranges env (operand op e rest) w k wide bits same fits steady =
-      let here : (keeps_zero op && is_steady e) ≡ true = and-first _ _ steady in
+      let here : (keeps_zero op && is_steady e) ≡ true = and_left _ _ steady in
       wider-chain ranges env rest w k _ _
-      (ap₂ (bitwise (op_bit op)) same (wider ranges env e w k (omega (arith, fits)) (and-second (keeps_zero op) _ here)) ∙ wider-bitwise op (and-first (keeps_zero op) _ here) k bits (value ranges env e w))
-      (omega (arith, fits)) (and-second (keeps_zero op && is_steady e) _ steady)
+      (ap₂ (bitwise (op_bit op)) same (wider ranges env e w k (omega (arith, fits)) (and_right (keeps_zero op) _ here)) ∙ wider-bitwise op (and_left (keeps_zero op) _ here) k bits (value ranges env e w))
+      (omega (arith, fits)) (and_right (keeps_zero op && is_steady e) _ steady)
 
   wider-words : (ranges : Ranges) (env : Bits) (rest : WordOperands) (left : Operand (List Bool)) (s : Bool) → (s ≡ true → IsSteady left)
       → fold (λ l x. gives_one_bit x.0) s (of_words (λ x a. a) steadying rest) ≡ true → IsSteady (fold (word_step word_value) left (of_words (seen ranges) (values ranges env) rest))
@@ -125,8 +118,8 @@ mutual
   wider-arms ranges env no_arm w k last fits steady same = same
   wider-arms ranges env (arm c e rest) w k last fits steady same =
       if-wider (list_any (λ b. b) (value ranges env c (own_width ranges c))) k _ _ _ _
-      (wider ranges env e w k (omega (arith, fits)) (and-first (is_steady e) _ steady))
-      (wider-arms ranges env rest w k last (omega (arith, fits)) (and-second (is_steady e) _ steady) same)
+      (wider ranges env e w k (omega (arith, fits)) (and_left (is_steady e) _ steady))
+      (wider-arms ranges env rest w k last (omega (arith, fits)) (and_right (is_steady e) _ steady) same)
 
 pub wider_adds_zeros : WiderAddsZeros
 wider_adds_zeros ranges env e w k fits steady = wider ranges env e w k fits steady

@@ -8,7 +8,7 @@ use Rattle.std.proofs.lemmas.List.Elements.{All-cons, All-map, All-nil, All-weak
 use Rattle.bb_bits.specs.Tables.{TableBits}
 use Rattle.bb_lists.proofs.Members.{contains-map, into_flat}
 use Rattle.bb_lists.proofs.Orders.{less_or_not}
-use Rattle.bb_lists.proofs.Ranges.{range_there}
+use Rattle.bb_lists.proofs.Ranges.{range_there, range_last_from_zero}
 use Rattle.bb_net.specs.declared.cell.Cell.{Cell}
 use Rattle.bb_net.specs.declared.cell.Cell.TheVariants as cells
 use Rattle.bb_net.specs.CutPoints.{register_texts}
@@ -23,7 +23,6 @@ use Rattle.bb_fill.proofs.Driven.{cell-driven, nets_of}
 use Rattle.bb_fill.proofs.LineBits.{word_past}
 use Rattle.bb_fill.proofs.Lists.{all_reverse, all_three, all_two}
 use Rattle.bb_fill.proofs.MetCells.{pin_copy, pin_tree, tables_fit}
-use Rattle.bb_fill.proofs.Sheets.{range_next}
 use Rattle.bb_fill.proofs.SizeLemmas.{column-length, pins-length}
 use Rattle.bb_fill.proofs.Stands.{IsKnown, Stand, stand_append, stand_numbers}
 use Rattle.bb_fill.proofs.TreeStands.{tree_stands}
@@ -99,6 +98,6 @@ module _ (f : FlatNet) (tables : List TableBits) (ready : IsReady f tables) wher
 
         next : (k : ℕ) → nets_before f (k + 1) ≡ nets_before f k ++ flat_map driven (cell_lines f tables k (cell_at f.net.cells k))
         next k =
-            ap (λ l. port_words f ++ l) (ap (flat_map nets_at) (range_next k) ∙ flat_map-append nets_at (range_with_len 0 k) (k ∷ []) ∙ ap (λ l. flat_map nets_at (range_with_len 0 k) ++ l)
+            ap (λ l. port_words f ++ l) (ap (flat_map nets_at) (range_last_from_zero k) ∙ flat_map-append nets_at (range_with_len 0 k) (k ∷ []) ∙ ap (λ l. flat_map nets_at (range_with_len 0 k) ++ l)
             (append-nil (nets_at k) ∙ sym (cell-driven f tables (tables_fit tables f.net.boxes ready.fit) k (cell_at f.net.cells k))))
             ∙ sym (append_assoc (port_words f) (flat_map nets_at (range_with_len 0 k)) (flat_map driven (cell_lines f tables k (cell_at f.net.cells k))))

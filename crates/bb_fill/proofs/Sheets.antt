@@ -1,7 +1,8 @@
 -- What is put on a sheet one after another is put on it together.
-use Rattle.std.proofs.Common.{◌≡◌, ◌∙◌, ℕ, zero, suc, get_or, take, ◌+◌, ◌-◌, ◌^◌, ◌<◌, ◌≤◌, ◌⊎◌, inl, inr, List, [], ◌∷◌, ◌++◌, append_assoc, append-nil, length, refl, subst, sym, ap, arith, length-append}
+use Rattle.std.proofs.Common.{◌≡◌, ◌∙◌, ℕ, get_or, take, ◌+◌, ◌-◌, ◌^◌, ◌<◌, ◌≤◌, ◌⊎◌, inl, inr, List, [], ◌∷◌, ◌++◌, append_assoc, append-nil, length, refl, subst, sym, ap, arith, length-append}
 use Rattle.std.specs.List.{flat_map, range_with_len}
 use Rattle.std.proofs.lemmas.List.{flat_map_more, take_more}
+use Rattle.bb_lists.proofs.Ranges.{range_last, range_last_from_zero}
 use Rattle.bb_lists.proofs.Orders.{less_or_not}
 use Rattle.bb_fill.specs.Inside.Sheets.{Writing, Adds}
 
@@ -46,16 +47,5 @@ all_of f xs i all adds = same (ap (flat_map f) all) adds
 
 -- what stands for each number of a range
 
-range_behind : (a n : ℕ) → range_with_len a (n + 1) ≡ range_with_len a n ++ (a + n) ∷ []
-range_behind a zero = ap (λ (k : ℕ). k ∷ []) (omega arith)
-range_behind a (suc n) =
-    let one : suc n + 1 ≡ suc (n + 1) = omega arith in
-    ap (range_with_len a) one ∙ ap (λ l. a ∷ l) (range_behind (a + 1) n ∙ ap (λ (k : ℕ). range_with_len (a + 1) n ++ k ∷ []) (omega arith))
-
-pub range_next : (k : ℕ) → range_with_len 0 (k + 1) ≡ range_with_len 0 k ++ k ∷ []
-range_next k =
-    let at : 0 + k ≡ k = omega arith in
-    range_behind 0 k ∙ ap (λ (j : ℕ). range_with_len 0 k ++ j ∷ []) at
-
 pub one_number_more : {a b c : Writing} (f : ℕ → List ℕ) (k : ℕ) → Adds a b (flat_map f (range_with_len 0 k)) → Adds b c (f k) → Adds a c (flat_map f (range_with_len 0 (k + 1)))
-one_number_more f k before next = same (flat_map_more f [] (range_with_len 0 k) k ∙ ap (flat_map f) (sym (range_next k))) (both before next)
+one_number_more f k before next = same (flat_map_more f [] (range_with_len 0 k) k ∙ ap (flat_map f) (sym (range_last_from_zero k))) (both before next)

@@ -4,6 +4,7 @@ use Rattle.std.specs.List.{filter, flat_map, range_with_len}
 use Rattle.std.proofs.lemmas.Grind.{flat_map-append}
 use Rattle.std.proofs.lemmas.List.{append-nil, length-map, length-reverse}
 use Rattle.std.proofs.lemmas.List.FromFn.{length-range_with_len}
+use Rattle.bb_lists.proofs.Ranges.{range_last_from_zero}
 use Rattle.bb_bits.specs.Tables.{TableBits, table_bit}
 use Rattle.bb_net.specs.declared.cell.Cell.TheVariants.{BoxOut}
 use Rattle.bb_net.specs.Netlists.{box_at}
@@ -14,7 +15,6 @@ use Rattle.bb_fill.specs.Lines.{Line, Gate, Buf}
 use Rattle.bb_fill.specs.Trees.{column, halved, choice_nets, tree_lines, tree_values}
 use Rattle.bb_fill.specs.Filled.{cell_lines, choice_count, first_choice, lines_of_cells, pin_bits, pin_words}
 use Rattle.bb_fill.specs.Sizes.{cell_count, makes_cell, net_count}
-use Rattle.bb_fill.proofs.Sheets.{range_next}
 
 halved-length : (pin : Word) (k n : ℕ) (values : List Word) → length values ≡ 2 * n → length (halved pin k values) ≡ n
 halved-length pin k n [] long = omega (arith, long)
@@ -56,7 +56,7 @@ pin_choices f tables k b p fit = let same : 2 ^ (table_at tables b).inputs ≡ 2
 -- lines of one number more
 pub length_more : (g : ℕ → List Line) (k : ℕ) → length (flat_map g (range_with_len 0 (k + 1))) ≡ length (flat_map g (range_with_len 0 k)) + length (g k)
 length_more g k =
-    ap (λ l. length (flat_map g l)) (range_next k)
+    ap (λ l. length (flat_map g l)) (range_last_from_zero k)
     ∙ ap length (flat_map-append g (range_with_len 0 k) (k ∷ []) ∙ ap (λ l. flat_map g (range_with_len 0 k) ++ l) (append-nil (g k)))
     ∙ length-append (flat_map g (range_with_len 0 k)) (g k)
 

@@ -1,6 +1,6 @@
 -- A tree stays one when cells are put behind, and two trees and a choice are one.
 use Rattle.std.proofs.Common.{slice_index, ◌≡◌, ℕ, zero, suc, ◌+◌, ◌^◌, ◌/◌, ◌<◌, ◌≤◌, Bool, true, false, if◌then◌else◌, List, [], ◌∷◌, ◌++◌, length, map, All, get_or, refl, sym, ap, ◌∙◌, ◌⊎◌, inl, inr, subst, arith, length-append, append_assoc}
-use Rattle.std.specs.List.{range_with_len, slice_index_or}
+use Rattle.std.specs.List.{slice_index_or}
 use Rattle.std.specs.Prelude.{Result, Ok, Err, OnOk, IfOk}
 use Rattle.std.proofs.lemmas.List.Elements.{All-nil, All-cons, All-head, All-tail}
 use Rattle.std.proofs.lemmas.List.{get_or_append_left, get_or_push, get_or_read_under}
@@ -157,12 +157,6 @@ pushed_tree (Ok p) a b pin rest pins column lower upper low high is at named who
     (subst (λ (l : List ℕ). IsTree (a.cells ++ Mux pin high low ∷ []) l column p) (sym named)
     (subst (IsTree (a.cells ++ Mux pin high low ∷ []) (pin ∷ rest) column) (sym at) (choice_tree a.cells pin rest column lower upper low high whole same down up)))
 pushed_tree (Err e) a b pin rest pins column lower upper low high is at named whole same down up = tt
-
-pub range_next : (a n : ℕ) → range_with_len a (n + 1) ≡ range_with_len a n ++ (a + n) ∷ []
-range_next a zero = ap (λ (k : ℕ). k ∷ []) (omega arith)
-range_next a (suc n) =
-    let one : suc n + 1 ≡ suc (n + 1) = omega arith in
-    ap (range_with_len a) one ∙ ap (λ l. a ∷ l) (range_next (a + 1) n ∙ ap (λ (k : ℕ). range_with_len (a + 1) n ++ k ∷ []) (omega arith))
 
 pub all_mapped : {A B : Type 0} (f : A → B) (P : B → Type 0) (xs : List A) → All (λ x. P (f x)) xs → All P (map f xs)
 all_mapped f P [] all = All-nil P

@@ -1,6 +1,7 @@
 -- the boxes quantified, as choices one after another
 use Rattle.std.proofs.Common.{◌≡◌, ℕ, zero, suc, ◌+◌, Bool, true, false, ◌&&◌, ◌||◌, List, [], ◌∷◌, ◌++◌, length, take, drop, refl, sym, ap, ◌∙◌, subst, arith, length-append, length-take, length-drop, append-nil, append_assoc, take-append-drop}
 use Rattle.std.proofs.lemmas.List.Sums.{sum_by-append, sum_by-cons}
+use Rattle.bb_lists.proofs.Bits.{never_both}
 use Rattle.bb_bits.specs.Truth.{Truth, IsTruthTable, truth_at, quantified_block}
 use Rattle.bb_bits.specs.Laws.TruthLaws.{QuantifierLaws, TableLaws}
 use Rattle.bb_net.specs.Conditions.{Suit, Wins, SomeChoicesSuit, NoChoicesSuit}
@@ -11,10 +12,6 @@ use Rattle.bb_input.specs.InputFunctions.{pins_and_inputs, pin_bits, refutes, re
 use Rattle.bb_input.proofs.OrderLemmas.{pins_of}
 use Rattle.bb_input.proofs.Points.{bits_push}
 use Rattle.bb_input.proofs.Suits.{suits_of_false, false_of_suits}
-
-never_both : (b : Bool) → b ≡ true → b ≡ false → ⊥
-never_both true e f = let g : true ≡ false = f in cc
-never_both false e f = let g : false ≡ true = e in cc
 
 -- parts of a list
 three_parts : (k m : ℕ) (w : List Bool) → w ≡ take k w ++ (take m (drop k w) ++ drop m (drop k w))

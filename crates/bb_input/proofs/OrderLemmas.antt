@@ -1,23 +1,16 @@
 -- one more box behind the first ones
-use Rattle.std.proofs.Common.{◌≡◌, ◌<◌, ◌≤◌, ℕ, zero, suc, ◌+◌, List, [], ◌∷◌, ◌++◌, length, take, map-id, refl, sym, ap, ◌∙◌, arith, append_assoc, append-nil}
+use Rattle.std.proofs.Common.{◌≡◌, ◌<◌, ◌≤◌, ℕ, zero, suc, ◌+◌, List, [], ◌∷◌, ◌++◌, length, take, sym, ap, ◌∙◌, arith, append_assoc, append-nil}
 use Rattle.std.specs.List.{range_with_len}
-use Rattle.std.proofs.lemmas.List.FromFn.{map-range_with_len_more}
 use Rattle.std.proofs.lemmas.List.Sums.{sum_by-cons}
+use Rattle.bb_lists.proofs.Orders.{plus_one}
 use Rattle.bb_net.specs.Netlists.{Pins, box_at}
 use Rattle.bb_net.specs.Pairs.{pin_count}
 use Rattle.bb_input.specs.InputFunctions.{in_places}
 use Rattle.bb_input.specs.Inside.Order.{in_variables}
 
-pub range_more : (first k : ℕ) → range_with_len first (k + 1) ≡ range_with_len first k ++ (first + k) ∷ []
-range_more first k =
-    sym (map-id (range_with_len first (k + 1))) ∙ (map-range_with_len_more (λ x. x) first k (first + k) refl ∙ ap (λ xs. xs ++ (first + k) ∷ []) (map-id (range_with_len first k)))
-
 -- the pins of a box
 abbrev pub pins_of : Pins → ℕ
 pins_of box = length box.ins + length box.outs
-
-next : (i : ℕ) → i + 1 ≡ suc i
-next i = omega arith
 
 count_next : (boxes : List Pins) (i : ℕ) → i < length boxes → pin_count (take (suc i) boxes) ≡ pin_count (take i boxes) + pins_of (box_at boxes i)
 count_next [] i l = absurd (omega (arith, l))
@@ -27,7 +20,7 @@ count_next (box ∷ boxes) (suc i) l =
     omega (arith, rest, sum_by-cons pins_of box (take (suc i) boxes), sum_by-cons pins_of box (take i boxes))
 
 pub count_more : (boxes : List Pins) (i : ℕ) → i < length boxes → pin_count (take (i + 1) boxes) ≡ pin_count (take i boxes) + pins_of (box_at boxes i)
-count_more boxes i l = ap (λ k. pin_count (take k boxes)) (next i) ∙ count_next boxes i l
+count_more boxes i l = ap (λ k. pin_count (take k boxes)) (plus_one i) ∙ count_next boxes i l
 
 pub count_within : (boxes : List Pins) (i : ℕ) → pin_count (take i boxes) ≤ pin_count boxes
 count_within [] zero = omega arith
@@ -51,7 +44,7 @@ variables_next (box ∷ boxes) first (suc i) l =
 
 pub variables_more : (boxes : List Pins) (i : ℕ) → i < length boxes → in_variables 0 (take (i + 1) boxes) ≡ in_variables 0 (take i boxes) ++ range_with_len (pin_count (take i boxes)) (length (box_at boxes i).ins)
 variables_more boxes i l =
-    ap (λ k. in_variables 0 (take k boxes)) (next i)
+    ap (λ k. in_variables 0 (take k boxes)) (plus_one i)
     ∙ (variables_next boxes 0 i l ∙ ap (λ k. in_variables 0 (take i boxes) ++ range_with_len k (length (box_at boxes i).ins)) (let e : 0 + pin_count (take i boxes) ≡ pin_count (take i boxes) = omega arith in e))
 
 places_next : (boxes : List Pins) (i : ℕ) → i < length boxes → in_places (take (suc i) boxes) ≡ in_places (take i boxes) ++ (box_at boxes i).ins
@@ -61,4 +54,4 @@ places_next (box ∷ boxes) (suc i) l =
     ap (λ ps. box.ins ++ ps) (places_next boxes i (omega (arith, l))) ∙ sym (append_assoc box.ins (in_places (take i boxes)) (box_at boxes i).ins)
 
 pub places_more : (boxes : List Pins) (i : ℕ) → i < length boxes → in_places (take (i + 1) boxes) ≡ in_places (take i boxes) ++ (box_at boxes i).ins
-places_more boxes i l = ap (λ k. in_places (take k boxes)) (next i) ∙ places_next boxes i l
+places_more boxes i l = ap (λ k. in_places (take k boxes)) (plus_one i) ∙ places_next boxes i l

@@ -1,6 +1,7 @@
 -- the function of a stage, at each point
-use Rattle.std.proofs.Common.{◌≡◌, ◌↔◌, ◌<◌, ℕ, ◌+◌, Bool, true, false, List, [], ◌++◌, length, take, drop, refl, sym, ap, ◌∙◌, subst, arith, length-take, length-drop, take-append-drop}
+use Rattle.std.proofs.Common.{◌≡◌, ◌↔◌, ◌<◌, ℕ, ◌+◌, Bool, false, List, [], ◌++◌, length, take, drop, refl, sym, ap, ◌∙◌, subst, arith, length-take, length-drop, take-append-drop}
 use Rattle.std.proofs.lemmas.List.Sums.{sum_by-append}
+use Rattle.bb_lists.proofs.Bits.{not_true}
 use Rattle.bb_bits.specs.Truth.{Truth, truth_at}
 use Rattle.bb_bits.specs.Laws.TruthLaws.{QuantifierLaws, TableLaws}
 use Rattle.bb_net.specs.Conditions.{Suit, Wins, SomeChoicesSuit}
@@ -11,10 +12,6 @@ use Rattle.bb_input.specs.InputFunctions.{pins_and_inputs, pin_bits, refuted, lo
 use Rattle.bb_input.proofs.Game.{won, lost_game}
 use Rattle.bb_input.proofs.OrderLemmas.{pins_of}
 use Rattle.bb_input.proofs.Points.{bits_front}
-
-unless_true : (b : Bool) → (b ≡ true → ⊥) → b ≡ false
-unless_true true h = absurd (h refl)
-unless_true false h = refl
 
 module _ (quantifiers : QuantifierLaws) (tables : TableLaws) (functions : FunctionLaws) (spec imp : Netlist) where
   -- the boxes up to one and those behind it
@@ -44,7 +41,7 @@ module _ (quantifiers : QuantifierLaws) (tables : TableLaws) (functions : Functi
     pub boxes_say : (truth_at t p ≡ false) ↔ Wins (Suit spec imp) rest (pin_bits done p)
     boxes_say = (
       (λ none. subst (Wins (Suit spec imp) rest) (sym bits) (won quantifiers tables functions spec imp rest done split (take at p) (drop at p) front behind (point ∙ none))),
-      (λ wins. unless_true (truth_at t p) (λ some. lost_game quantifiers tables functions spec imp rest done split (take at p) (drop at p) front behind (point ∙ some) (subst (Wins (Suit spec imp) rest) bits wins))),
+      (λ wins. not_true (truth_at t p) (λ some. lost_game quantifiers tables functions spec imp rest done split (take at p) (drop at p) front behind (point ∙ some) (subst (Wins (Suit spec imp) rest) bits wins))),
     )
 
   pub stages_say : (b : ℕ) → b < length imp.boxes → (p : List Bool) → length p ≡ pins_and_inputs imp

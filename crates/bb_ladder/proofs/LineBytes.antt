@@ -4,6 +4,7 @@ use Rattle.std.specs.Prelude.{◌==◌, codes, decimal, nat_lt}
 use Rattle.std.specs.Fmt.{digits, digits_onto, digit_glyph}
 use Rattle.std.specs.List.{AllByRecursion}
 use Rattle.std.proofs.lemmas.List.{append-nil}
+use Rattle.bb_lists.proofs.Bits.{and_right}
 use Rattle.bb_bits.specs.Names.{IsPrintable}
 use Rattle.bb_ladder.specs.FilledTexts.{HasNoLine}
 
@@ -96,14 +97,10 @@ decimal_quiet n = digits_quiet 64 n [] nothing_quiet
 
 -- a text in which no line begins so has none that begins as that of a table
 
-right_of : (a b : Bool) → (a && b) ≡ true → b ≡ true
-right_of true b is = is
-right_of false b is = absurd (true≢false (sym is))
-
 found : (begins : Bool) (before behind : List ℕ) → begins_behind begins before ≡ true → begin_apart begins (before ++ codes "table" ++ behind) ≡ true → ⊥
 found true [] behind at is = true≢false (sym is)
 found false [] behind at is = true≢false (sym at)
-found begins (byte ∷ before) behind at is = found (byte == 10) before behind at (right_of (not (begins && (byte == 116))) _ is)
+found begins (byte ∷ before) behind at is = found (byte == 10) before behind at (and_right (not (begins && (byte == 116))) _ is)
 
 behind_feed : (begins : Bool) (front : List ℕ) → begins_behind begins (front ++ codes "\n") ≡ true
 behind_feed begins [] = refl

@@ -1,5 +1,6 @@
 pub mod Apart
 pub mod AtPlaces
+pub mod Bits
 pub mod Deciding
 pub mod Each
 pub mod Earlier
@@ -15,6 +16,7 @@ pub mod Orders
 pub mod Picked
 pub mod Places
 pub mod Ranges
+pub mod Tests
 pub mod Turns
 pub mod Walks
 pub mod Zips

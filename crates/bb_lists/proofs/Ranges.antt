@@ -1,5 +1,5 @@
 -- Numbers in a row.
-use Rattle.std.proofs.Common.{◌+◌, ◌<◌, ◌≡◌, ◌≤◌, ◌⊎◌, Contains, ap, arith, inl, inr, length, refl, subst, suc, zero, ℕ, map, ◌∙◌}
+use Rattle.std.proofs.Common.{◌+◌, ◌++◌, ◌∷◌, [], ap₂, ◌<◌, ◌≡◌, ◌≤◌, ◌⊎◌, Contains, ap, arith, inl, inr, length, refl, subst, suc, zero, ℕ, map, ◌∙◌}
 use Rattle.std.specs.List.{range_with_len}
 use Rattle.bb_lists.proofs.Members.{contains_cases, contains_here, contains_there, none_in_nil}
 use Rattle.bb_lists.proofs.Orders.{less_or_same}
@@ -28,3 +28,16 @@ from_range a (suc n) k has = by (contains_cases a (range_with_len (a + 1) n) k h
 
 pub length-run : {A : Type 0} (f : ℕ → A) (a n : ℕ) → length (map f (range_with_len a n)) ≡ n
 length-run f a n = length-map (range_with_len a n) f ∙ length-range a n
+
+-- two parts of a row, and its last number
+pub range_parts : (a n m : ℕ) → range_with_len a (n + m) ≡ range_with_len a n ++ range_with_len (a + n) m
+range_parts a zero m = ap₂ range_with_len (omega arith) (omega arith)
+range_parts a (suc n) m =
+    let one : suc n + m ≡ suc (n + m) = omega arith in
+    ap (range_with_len a) one ∙ ap (λ l. a ∷ l) (range_parts (a + 1) n m ∙ ap (λ b. range_with_len (a + 1) n ++ range_with_len b m) (omega arith))
+
+pub range_last : (a n : ℕ) → range_with_len a (n + 1) ≡ range_with_len a n ++ (a + n) ∷ []
+range_last a n = range_parts a n 1
+
+pub range_last_from_zero : (n : ℕ) → range_with_len 0 (n + 1) ≡ range_with_len 0 n ++ n ∷ []
+range_last_from_zero n = range_last 0 n ∙ ap (λ k. range_with_len 0 n ++ k ∷ []) (omega arith)

@@ -14,10 +14,6 @@ use Rattle.bb_match.proofs.CareLemmas.{care_is_taken_out}
 use Rattle.bb_match.proofs.Decisions.{NoneBefore, none_at_first, none_more, refused}
 use Rattle.bb_match.proofs.RefusalLaws.{not_fit_and_refused, first_refusals_are_one}
 
-pub if_err : {A E : Type 0} (r : Result A E) (P : E → Type 0) (e : E) → IsErrAnd r (λ x. x ≡ e) → P e → IfErr r P
-if_err (Ok x) P e same p = tt
-if_err (Err x) P e same p = subst P (sym same) p
-
 pub if_err_weaker : {A E : Type 0} (r : Result A E) (P Q : E → Type 0) → ((e : E) → P e → Q e) → IfErr r P → IfErr r Q
 if_err_weaker (Ok x) P Q f h = tt
 if_err_weaker (Err x) P Q f h = f x h

@@ -4,6 +4,7 @@ use Rattle.std.specs.Prelude.{IsTrue, MatchBool}
 use Rattle.std.proofs.lemmas.List.{length-map, get_or-map, get_or_default}
 use Rattle.std.proofs.lemmas.Option.{slice_get_within, get_or_from_slice_get}
 use Rattle.std.proofs.lemmas.Slice.Eq.{bytes_eq-Decides}
+use Rattle.bb_lists.proofs.Bits.{same_or_not}
 use Rattle.bb_bits.specs.Names.{same_name}
 use Rattle.bb_net.specs.declared.flat.Reg.{Reg}
 use Rattle.bb_net.specs.Flats.{FlatNet}
@@ -11,7 +12,7 @@ use Rattle.bb_net.specs.CutPoints.{register_texts, clock_text}
 use Rattle.bb_match.specs.Inside.Places.{ArePlaces, text_place}
 use Rattle.bb_match.specs.Refusals.{IsClockedApart, IsClockedAlike}
 use Rattle.bb_lists.proofs.Orders.{less_or_same}
-use Rattle.bb_match.proofs.Decisions.{decide_bool, decide_optional}
+use Rattle.bb_match.proofs.Decisions.{decide_optional}
 use Rattle.bb_match.proofs.PlaceLemmas.{place_right}
 
 pub apart_not_alike : (f g : FlatNet) (r : Reg) → IsClockedApart f g r → IsClockedAlike f g r → ⊥
@@ -68,7 +69,7 @@ alike_there f g r p k apart at within is alike q has same =
     subst (λ x. (x.falling ≡ r.falling) × (clock_text g x ≡ clock_text f r)) same_reg alike
 
 apart_there : (f g : FlatNet) (r p : Reg) (k : ℕ) → p ≡ get_or g.regs k p → k < length g.regs → p.text ≡ r.text → ((p.falling ≡ r.falling) × (clock_text g p ≡ clock_text f r) → ⊥) → IsClockedApart f g r
-apart_there f g r p k at within is off = (p, (k, within, sym at), is, by (decide_bool p.falling r.falling) (decide_optional (clock_text g p) (clock_text f r)))
+apart_there f g r p k at within is off = (p, (k, within, sym at), is, by (same_or_not p.falling r.falling) (decide_optional (clock_text g p) (clock_text f r)))
   where
     by : (p.falling ≡ r.falling) ⊎ (p.falling ≢ r.falling) → (clock_text g p ≡ clock_text f r) ⊎ (clock_text g p ≢ clock_text f r) → (p.falling ≢ r.falling) ⊎ (clock_text g p ≢ clock_text f r)
     by (inr edge) clock = inl edge

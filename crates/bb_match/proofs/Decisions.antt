@@ -4,6 +4,7 @@ use Rattle.std.specs.Prelude.{IfSome, IsSome}
 use Rattle.std.proofs.lemmas.Bool.{cases_lt}
 use Rattle.std.proofs.lemmas.List.Elements.{All-contains, All-cons, All-nil, All-weaker}
 use Rattle.std.proofs.lemmas.Slice.Eq.{bytes_eq-Decides}
+use Rattle.bb_lists.proofs.Bits.{same_or_not}
 use Rattle.bb_bits.specs.Names.{same_name}
 use Rattle.bb_net.specs.Pairs.{BoxTexts}
 use Rattle.bb_net.specs.declared.flat.Reg.{Reg}
@@ -26,12 +27,6 @@ decide_text a b = by (same_name a b) refl
     by : (t : Bool) → same_name a b ≡ t → (a ≡ b) ⊎ (a ≢ b)
     by true e = inl ((bytes_eq-Decides a b).0 e)
     by false e = inr (λ same. true≢false (sym ((bytes_eq-Decides a b).1 same) ∙ e))
-
-pub decide_bool : (a b : Bool) → (a ≡ b) ⊎ (a ≢ b)
-decide_bool true true = inl refl
-decide_bool false false = inl refl
-decide_bool true false = inr true≢false
-decide_bool false true = inr (λ e. true≢false (sym e))
 
 some_one : {A : Type 0} (d a b : A) → Some a ≡ Some b → a ≡ b
 some_one d a b e = cc e
@@ -97,7 +92,7 @@ other_not_alike f g r q other alike = elim other.1 [ inl edge ↦ edge (alike ot
 
 other_or_alike : (f g : FlatNet) (r q : Reg) → IsOther f g r q ⊎ IsAlike f g r q
 unfolding IsOther IsAlike
-other_or_alike f g r q = by (decide_text q.text r.text) (decide_bool q.falling r.falling) (decide_optional (clock_text g q) (clock_text f r))
+other_or_alike f g r q = by (decide_text q.text r.text) (same_or_not q.falling r.falling) (decide_optional (clock_text g q) (clock_text f r))
   where
     by : (q.text ≡ r.text) ⊎ (q.text ≢ r.text) → (q.falling ≡ r.falling) ⊎ (q.falling ≢ r.falling) → (clock_text g q ≡ clock_text f r) ⊎ (clock_text g q ≢ clock_text f r)
         → ((q.text ≡ r.text) × ((q.falling ≢ r.falling) ⊎ (clock_text g q ≢ clock_text f r))) ⊎ (q.text ≡ r.text → (q.falling ≡ r.falling) × (clock_text g q ≡ clock_text f r))

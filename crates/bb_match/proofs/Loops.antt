@@ -1,5 +1,5 @@
 -- What a loop over a list finds: the first element of which something holds, or the opposite of all.
-use Rattle.std.proofs.Common.{◌≡◌, ℕ, false, Option, Some, None, is_some, true≢false, zero, suc, ◌+◌, ◌<◌, List, [], ◌∷◌, ◌++◌, take, drop, length, get_or, All, refl, sym, ap, ◌∙◌, arith}
+use Rattle.std.proofs.Common.{◌≡◌, ℕ, zero, suc, ◌+◌, ◌<◌, List, [], ◌∷◌, ◌++◌, take, drop, length, get_or, All, sym, ap, ◌∙◌, arith}
 use Rattle.std.proofs.lemmas.List.{take_more}
 use Rattle.std.proofs.lemmas.List.Elements.{All-contains, All-push}
 use Rattle.bb_bits.specs.Closures.{IsFirst}
@@ -21,6 +21,3 @@ first_at P Q clash xs i x lt at before holds = record {
 pub all_more : {A : Type 0} (P : A → Type 0) (xs : List A) (i : ℕ) (x : A) → i < length xs → x ≡ get_or xs i x → All P (take i xs) → P x → All P (take (i + 1) xs)
 all_more P xs i x within at all p = rw (take_more xs i x within ∙ ap (λ y. take i xs ++ y ∷ []) (sym at)) (All-push P (take i xs) x all p)
 
-pub none_where_not_some : {A : Type 0} (o : Option A) → is_some o ≡ false → o ≡ None
-none_where_not_some None e = refl
-none_where_not_some (Some x) e = absurd (true≢false e)

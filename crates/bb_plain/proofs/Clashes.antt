@@ -1,6 +1,7 @@
 -- No declaration clashes with another: the names differ, or an output is the register of the same name, and then neither has a range.
-use Rattle.std.proofs.Common.{◌≡◌, ◌≢◌, ◌⊎◌, inl, inr, ℕ, Bool, true, false, true≢false, ◌&&◌, List, ◌++◌, map, AllPairs, Contains, ◌∙◌, refl, sym, subst, subst₂}
+use Rattle.std.proofs.Common.{◌≡◌, ◌≢◌, ◌⊎◌, inl, inr, ℕ, Bool, true, false, ◌&&◌, List, ◌++◌, map, AllPairs, Contains, ◌∙◌, refl, sym, subst, subst₂}
 use Rattle.std.proofs.lemmas.List.Elements.{All-contains, Contains-append_cases}
+use Rattle.bb_lists.proofs.Bits.{and_false}
 use Rattle.bb_bits.specs.Names.{same_name}
 use Rattle.bb_ast.specs.Syntax.{PlainModule}
 use Rattle.bb_names.specs.Declarations.{Declaration, is_port}
@@ -32,10 +33,6 @@ names_differ a b differ = by (either (same_name a b))
     by (inl same) = absurd (differ (same_equal a b same))
     by (inr other) = other
 
-first_fails : (a b : Bool) → a ≡ false → (a && b) ≡ false
-first_fails false b e = refl
-first_fails true b e = absurd (true≢false e)
-
 last_fails : (a b : Bool) → (a && (b && true && true && false)) ≡ false
 last_fails false b = refl
 last_fails true false = refl
@@ -46,7 +43,7 @@ module _ (m : PlainModule) where
   NoClash d e = clashes m d e ≡ false
 
   other_names : (d e : Declaration) → d.name ≢ e.name → NoClash d e
-  other_names d e differ = first_fails (same_name d.name e.name) _ (names_differ d.name e.name differ)
+  other_names d e differ = and_false (same_name d.name e.name) _ (names_differ d.name e.name differ)
 
   -- the direction and the kind of an output
   output_then_register : (a b : List ℕ) → NoClash (said_of_output a) (said_of_register b)

@@ -2,6 +2,7 @@
 use Rattle.std.proofs.Common.{◌≡◌, ◌∙◌, ℕ, true, false, true≢false, ◌&&◌, Some, None, List, ◌++◌, Contains, refl, sym, ap, subst}
 use Rattle.std.specs.Option.{option_and_then}
 use Rattle.std.proofs.lemmas.List.Elements.{Contains-append_left, Contains-append_right}
+use Rattle.bb_lists.proofs.Bits.{and_both}
 use Rattle.bb_bits.specs.Names.{same_name}
 use Rattle.bb_ast.specs.declared.module.Dir.{Dir}
 use Rattle.bb_ast.specs.declared.module.Dir.TheVariants as directions
@@ -14,7 +15,7 @@ use Rattle.bb_lists.proofs.Names.{same_equal, same_self}
 use Rattle.bb_plain.proofs.Clashes.{AreOthers, no_output}
 use Rattle.bb_plain.proofs.Lists.{find_gives}
 use Rattle.bb_plain.proofs.Said.{Declares, HoldsOf, each_said, input_said, output_said, said_of_input, said_of_output}
-use Rattle.bb_plain.proofs.SaidNames.{both_true, direction_is, found_direction, has_direction, same_is}
+use Rattle.bb_plain.proofs.SaidNames.{direction_is, found_direction, has_direction, same_is}
 
 module _ (m : PlainModule) (f : FlatNet) (declares : Declares m f) (others : AreOthers f) (n : List ℕ) where
   -- a name that is declared with a direction, where each declaration of it that has one has this one
@@ -29,14 +30,14 @@ module _ (m : PlainModule) (f : FlatNet) (declares : Declares m f) (others : Are
   input_directed input = directed directions.Input (said_of_input n) (input_said m f declares n input) (ap (λ b. b && true) (same_self n)) (record {
     input = λ k has passes. refl;
     output = λ k has passes. absurd (no_output f others n input (same_is f.outs k n true passes has));
-    register = λ k has passes. absurd (true≢false (sym (both_true (same_name k n) false passes).1));
+    register = λ k has passes. absurd (true≢false (sym (and_both (same_name k n) false passes).1));
   })
 
   output_directed : Contains f.outs n → direction_of m n ≡ Some directions.Output
   output_directed output = directed directions.Output (said_of_output n) (output_said m f declares n output) (ap (λ b. b && true) (same_self n)) (record {
     input = λ k has passes. absurd (no_output f others n (same_is f.ins k n true passes has) output);
     output = λ k has passes. refl;
-    register = λ k has passes. absurd (true≢false (sym (both_true (same_name k n) false passes).1));
+    register = λ k has passes. absurd (true≢false (sym (and_both (same_name k n) false passes).1));
   })
 
   in_header : Contains (f.ins ++ f.outs) n → port_direction m n ≡ direction_of m n

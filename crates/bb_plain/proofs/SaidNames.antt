@@ -3,6 +3,7 @@ use Rattle.std.proofs.Common.{◌≡◌, ◌∙◌, ◌⊎◌, inl, inr, ℕ, Bo
 use Rattle.std.specs.List.{list_any}
 use Rattle.std.specs.Option.{option_and_then, option_map_or}
 use Rattle.std.proofs.lemmas.List.Elements.{Contains-append_cases}
+use Rattle.bb_lists.proofs.Bits.{and_both}
 use Rattle.bb_bits.specs.Names.{same_name}
 use Rattle.bb_ast.specs.declared.module.Dir.{Dir}
 use Rattle.bb_ast.specs.Syntax.{PlainHead, PlainModule}
@@ -18,10 +19,6 @@ use Rattle.bb_lists.proofs.Names.{same_equal, same_self}
 use Rattle.bb_plain.proofs.Lists.{any_here, find_gives}
 use Rattle.bb_plain.proofs.Said.{Declares, each_said, input_said, output_said, register_said, said_of_input, said_of_output, said_of_register}
 
-pub both_true : (a b : Bool) → (a && b) ≡ true → (a ≡ true) × (b ≡ true)
-both_true true b e = (refl, e)
-both_true false b e = absurd (true≢false (sym e))
-
 -- the kind and the direction of a declaration that is found, or of none
 abbrev found_kind : Option Declaration → NetKind
 found_kind o = unwrap_or (option_and_then (λ d. d.kind) o) Wire
@@ -31,7 +28,7 @@ found_direction o = option_and_then (λ d. d.dir) o
 
 -- the name is another one
 pub same_is : (names : List (List ℕ)) (k n : List ℕ) (b : Bool) → (same_name k n && b) ≡ true → Contains names k → Contains names n
-same_is names k n b passes has = subst (Contains names) (same_equal k n (both_true (same_name k n) b passes).0) has
+same_is names k n b passes has = subst (Contains names) (same_equal k n (and_both (same_name k n) b passes).0) has
 
 module _ (m : PlainModule) (f : FlatNet) (declares : Declares m f) where
   -- no name is that of an instance, and none has a range
@@ -78,7 +75,7 @@ module _ (m : PlainModule) (f : FlatNet) (declares : Declares m f) where
       ap is_reg (kind_is n) ∙ ap (λ o. is_reg (found_kind o)) first.1
       ∙ each_said m f declares (λ e. is_some e.kind ≡ true → is_reg (unwrap_or e.kind Wire) ≡ true)
       (record { input = λ k h some. absurd (true≢false (sym some)); output = λ k h some. absurd (true≢false (sym some)); register = λ k h some. refl })
-      first.0 first.3 (both_true (same_name first.0.name n) (is_some first.0.kind) first.2).1
+      first.0 first.3 (and_both (same_name first.0.name n) (is_some first.0.kind) first.2).1
 
   pub other_is_no_reg : (n : List ℕ) → (Contains (register_texts f) n → ⊥) → is_reg (kind_of m n) ≡ false
   other_is_no_reg n other =
@@ -93,7 +90,7 @@ module _ (m : PlainModule) (f : FlatNet) (declares : Declares m f) where
   directed n d has passes =
       let first = find_there (has_direction n) (declarations m) d has passes in
       ap is_none (direction_is n) ∙ ap (λ o. is_none (found_direction o)) first.1
-      ∙ by first.0.dir (both_true (same_name first.0.name n) (is_some first.0.dir) first.2).1
+      ∙ by first.0.dir (and_both (same_name first.0.name n) (is_some first.0.dir) first.2).1
     where
       by : (o : Option Dir) → is_some o ≡ true → is_none o ≡ false
       by None some = absurd (true≢false (sym some))

@@ -4,6 +4,7 @@ use Rattle.std.proofs.Common.{◌≡◌, ◌⊎◌, ◌<◌, ◌^◌, ◌&&◌, 
 use Rattle.std.specs.Prelude.{codes}
 use Rattle.std.specs.List.{AllZip, list_any}
 use Rattle.std.proofs.lemmas.List.Elements.{All-head}
+use Rattle.bb_lists.proofs.Apart.{pairs_tail}
 use Rattle.bb_lists.proofs.Members.{contains_here, contains_there}
 use Rattle.bb_net.specs.Kinds.{shown}
 use Rattle.bb_net.specs.Pairs.{NetPair, IsPair}
@@ -27,7 +28,7 @@ use Rattle.bb_rungs.specs.TableLines.{table_lines}
 use Rattle.bb_rungs.specs.Inside.AlikeLaws.{PairLaws}
 use Rattle.bb_rungs.proofs.AlikeShared.{Share, alike_itself, bits_alike, share, share_back, shared_completion_alike}
 use Rattle.bb_rungs.proofs.AlikeTold.{IsRefuted, told_or_refuted}
-use Rattle.bb_rungs.proofs.StayLaw.{asked_rise, first_rises, rest_rises}
+use Rattle.bb_rungs.proofs.StayLaw.{asked_rise, first_rises}
 use Rattle.bb_rungs.proofs.AlikeChecks.{depends_alike}
 use Rattle.bb_rungs.proofs.OneWord.{IsFixed, OneLaws, SayAlike, above, by_told, said_alike, say_alike}
 
@@ -132,7 +133,7 @@ module _ (laws : OneLaws) (p q : NetPair) (to : Share p q) (from : Share q p) (a
   ]
   climbs_alike (r ∷ rest) asked rise (l ∷ ls) (m ∷ ms) (Step at says on behind) (Step also tells off more) = (
     lines_alike r l m (asked r (contains_here r rest)) at also says tells,
-    climbs_alike rest (λ s has. asked s (contains_there r rest s has)) (rest_rises (λ r s. rank r < rank s) r rest rise) ls ms behind more,
+    climbs_alike rest (λ s has. asked s (contains_there r rest s has)) (pairs_tail (λ r s. rank r < rank s) r rest rise) ls ms behind more,
   )
 
   all_alike : (lines others : List Line) → IsClimb p o lines → IsClimb q o others → AllZip AreLines lines others

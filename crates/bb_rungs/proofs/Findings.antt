@@ -5,6 +5,7 @@ use Rattle.std.specs.Prelude.{drop, vec_items, Result, Ok, Err, IfOk, IfSome, If
 use Rattle.bb_bits.specs.Truth.{Truth}
 use Rattle.bb_net.specs.Conditions.{IsFirstHit}
 use Rattle.std.proofs.lemmas.Bool.{cases_lt}
+use Rattle.bb_lists.proofs.Places.{some_same}
 use Rattle.bb_expand.specs.declared.expanded.Expanded.{Expanded}
 use Rattle.bb_expand.specs.declared.expanded.ExpandFault.{ExpandFault}
 use Rattle.bb_expand.specs.declared.expanded.ExpandFault.TheVariants as expand
@@ -23,15 +24,12 @@ use Rattle.bb_options.specs.declared.options.Options.{Options}
 use Rattle.bb_options.specs.declared.rung.Rung.{Rung}
 use Rattle.bb_rungs.specs.Rungs.{AreTooMany, MayFind, Finding, TooMany, Without, MayHit, MayExpand, Decided, MaySay, Hit, Climbs, End, Step, ends, tried, told, told_expanded}
 
-some_one : {A : Type 0} (a b : A) → Some a ≡ Some b → a ≡ b
-some_one a b e = cc e
-
 pub finds : {E : Type 0} (o : Options) (functions : List Truth) (Finds : Found → Type 0) (none : Type 0) (answer : Result (Option Found) RungFault) (result : Result Said E)
     → IfOk answer (λ a. IfSome a Finds) → IfOk answer (λ a. IfNone a none) → (IsErrOf answer faults.Nodes → AreTooMany o functions) → (AreTooMany o functions → OnOk answer ⊥)
     → IfOk result (λ said. told answer ≡ Some said) → IfOk result (MayFind o functions Finds none)
-finds o functions Finds none (Ok (Some f)) (Ok said) found missing nodes within e = Finding within f found (sym (some_one _ said e))
-finds o functions Finds none (Ok None) (Ok said) found missing nodes within e = Without within missing (sym (some_one _ said e))
-finds o functions Finds none (Err faults.Nodes) (Ok said) found missing nodes within e = TooMany (nodes refl) (sym (some_one _ said e))
+finds o functions Finds none (Ok (Some f)) (Ok said) found missing nodes within e = Finding within f found (sym (some_same _ said e))
+finds o functions Finds none (Ok None) (Ok said) found missing nodes within e = Without within missing (sym (some_same _ said e))
+finds o functions Finds none (Err faults.Nodes) (Ok said) found missing nodes within e = TooMany (nodes refl) (sym (some_same _ said e))
 finds o functions Finds none (Err faults.NoMemory) (Ok said) found missing nodes within e = cc e
 finds o functions Finds none (Ok a) (Err x) found missing nodes within e = tt
 finds o functions Finds none (Err f) (Err x) found missing nodes within e = tt
@@ -57,7 +55,7 @@ each_long n tried all same long k d fits =
 
 pub some_holds : {A : Type 0} (o : Option A) (P : A → Type 0) → IfSome o P → (h : A) → o ≡ Some h → P h
 some_holds None P all h is = cc is
-some_holds (Some x) P all h is = subst P (some_one x h is) all
+some_holds (Some x) P all h is = subst P (some_same x h is) all
 
 pub hits : (p : NetPair) (o : Options) (patterns : List (List Bool)) → patterns ≡ tried p o → (found : Found) (j : ℕ) → found.output ≡ Some j → IsFirstHit p.spec p.imp patterns found.input.items j → MayHit p o (Error (Vector found))
 hits p o patterns same found j is hit = Hit found j is (subst (λ all. IsFirstHit p.spec p.imp all found.input.items j) same hit) refl

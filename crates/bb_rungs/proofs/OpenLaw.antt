@@ -4,6 +4,7 @@ use Rattle.std.proofs.Common.{◌≡◌, ◌&&◌, ◌||◌, Bool, true, false, 
 use Rattle.std.specs.List.{list_any}
 use Rattle.std.proofs.lemmas.Bool.{cases_lt}
 use Rattle.std.proofs.lemmas.List.Elements.{All-nil, All-cons, All-contains, All-head, All-tail}
+use Rattle.bb_lists.proofs.Bits.{neither}
 use Rattle.bb_net.specs.Completions.{table_bits}
 use Rattle.bb_net.specs.Kinds.{shown}
 use Rattle.bb_net.specs.Pairs.{NetPair}
@@ -24,11 +25,6 @@ use Rattle.bb_options.specs.Rungs.{asked_rungs}
 use Rattle.bb_rungs.specs.Rungs.{MaySay, Hit, NoHit, TooMany, Finding, Without, ChoicesTooMany, Answered, TooWide, ClausesTooMany, Decided, Climbs, Top, End, Step, says_error, says_repair, is_error, is_repair}
 use Rattle.bb_rungs.proofs.ErrorLaw.{contained}
 use Rattle.bb_rungs.proofs.StayLaw.{known_not_right}
-
-pub neither : (a b : Bool) → (a || b) ≡ false → (a ≡ false) × (b ≡ false)
-neither false false e = (refl, refl)
-neither true b e = absurd (true≢false e)
-neither false true e = absurd (true≢false e)
 
 no_end : (r a b : Bool) → (r || (a && b)) ≡ true → r ≡ false → a ≡ false → ⊥
 no_end false true b e none off = true≢false off

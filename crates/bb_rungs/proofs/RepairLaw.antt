@@ -5,6 +5,7 @@ use Rattle.std.specs.Prelude.{Vec}
 use Rattle.std.specs.declared.alloc.Global.{Global}
 use Rattle.std.proofs.lemmas.List.{append-nil}
 use Rattle.std.proofs.lemmas.List.Elements.{All-contains}
+use Rattle.bb_lists.proofs.Bits.{neither, neither_left}
 use Rattle.bb_bits.specs.Tables.{TableBits}
 use Rattle.bb_net.specs.Kinds.{AreSharedCompletion, shown}
 use Rattle.bb_net.specs.Pairs.{NetPair, IsPair}
@@ -22,7 +23,6 @@ use Rattle.bb_rungs.specs.Laws.{GivenTablesAgree, RepairsAgree, TablesAreGivenOn
 use Rattle.bb_rungs.specs.Reports.{GivesTables, details, line_text, rung_line, verdict_line}
 use Rattle.bb_rungs.specs.Rungs.{MaySay, Hit, NoHit, TooMany, Finding, Without, ChoicesTooMany, Answered, TooWide, ClausesTooMany, Decided, Climbs, Top, End, Step, says_error, says_repair, is_error, is_repair}
 use Rattle.bb_rungs.specs.TableLines.{table_lines}
-use Rattle.bb_rungs.proofs.OpenLaw.{neither}
 use Rattle.bb_rungs.proofs.ShownBoxes.{apart_shared}
 use Rattle.bb_lists.proofs.Members.{contains_cases, contains_here, contains_there, none_in_nil}
 use Rattle.bb_rungs.proofs.ToldLaw.{climb_each}
@@ -32,9 +32,6 @@ repairs_alone : (a b : Bool) → (if a then verdicts.Error else (if b then verdi
 repairs_alone false true e = (refl, refl)
 repairs_alone true b e = cc e
 repairs_alone false false e = cc e
-
-goes_on : (r e : Bool) → (r || e) ≡ false → r ≡ false
-goes_on r e h = (neither r e h).0
 
 in_rest : (a b : Bool) → (a || b) ≡ true → a ≡ false → b ≡ true
 in_rest true b h off = absurd (true≢false off)
@@ -138,7 +135,7 @@ module _ (kinds : KindLaws) (p : NetPair) (o : Options) (kept : IsPair p) where
   climb_gives (r ∷ rest) (line ∷ []) (End is says last) off any = last_line line (gives line.said (agrees r line.said says) (only (is_repair line) any))
   climb_gives (r ∷ rest) (line ∷ more) (Step is says on behind) off any =
       let error_off = neither (is_error line) (list_any is_error more) off in
-      let repair_off = goes_on (is_repair line) (is_error line && not o.all) on in
+      let repair_off = neither_left (is_repair line) (is_error line && not o.all) on in
       one_more line more (quiet p o line.said error_off.0 repair_off) (climb_gives rest more behind error_off.1 (in_rest (is_repair line) (list_any is_repair more) any repair_off))
 
 pub repairs_agree : KindLaws → RepairsAgree
@@ -179,7 +176,7 @@ given_once p o (r ∷ rest) (line ∷ []) tables others (End is says last) gives
     let other = last_gives line others also in
     sym one.2 ∙ ap (λ (z : Vec TableBits Global). z.items) (same_tables one.0 other.0 (sym one.1 ∙ other.1)) ∙ other.2
 given_once p o (r ∷ rest) (line ∷ more) tables others (Step is says on behind) gives also =
-    let off = goes_on (is_repair line) (is_error line && not o.all) on in
+    let off = neither_left (is_repair line) (is_error line && not o.all) on in
     given_once p o rest more tables others behind (only_later line more tables off gives) (only_later line more others off also)
 
 pub tables_are_given_once : TablesAreGivenOnce

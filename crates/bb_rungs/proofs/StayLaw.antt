@@ -3,6 +3,7 @@ use Rattle.std.proofs.Common.{◌≡◌, ◌<◌, ◌-◌, ℕ, suc, Bool, true,
 use Rattle.std.specs.Prelude.{IfSome}
 use Rattle.std.proofs.lemmas.List.Elements.{All-nil, All-cons, All-head, All-tail}
 use Rattle.std.proofs.lemmas.List.Kept.{AllPairs-filter}
+use Rattle.bb_lists.proofs.Apart.{pairs_tail}
 use Rattle.bb_net.specs.Agreement.{wanted_bit}
 use Rattle.bb_net.specs.Conditions.{MayBeRight, IsKnownWrong}
 use Rattle.bb_net.specs.Netlists.{Netlist}
@@ -28,9 +29,6 @@ known_not_right spec imp x j (bit, known, wrong) right = wrong (subst (λ v. IfS
 
 pub first_rises : {X : Type 0} (R : X → X → Type 0) (x : X) (xs : List X) → AllPairs R (x ∷ xs) → All (R x) xs
 first_rises R x xs pairs k d within = pairs 0 (suc k) d (omega arith) (omega (arith, within))
-
-pub rest_rises : {X : Type 0} (R : X → X → Type 0) (x : X) (xs : List X) → AllPairs R (x ∷ xs) → AllPairs R xs
-rest_rises R x xs pairs i j d before within = pairs (suc i) (suc j) d (omega (arith, before)) (omega (arith, within))
 
 -- what a check says where its condition holds: neither that there is none, nor tables
 abbrev pub Stays : Said → Type 0
@@ -86,8 +84,8 @@ module _ (weakens : Weakens) (vectors : PatternsAreVectors) (p : NetPair) (o : O
   stay (r ∷ rest) [] line [] rise climb on = All-nil (λ (l : Line). Stays l.said)
   stay (r ∷ rest) [] line (next ∷ after) rise (Step is says goes behind) on =
       all_stay r rest (next ∷ after) (first_rises (λ r s. rank r < rank s) r rest rise) behind (shows weakens vectors p o kept r line.said says on)
-  stay (r ∷ rest) (first ∷ []) line after rise (Step is says goes behind) on = stay rest [] line after (rest_rises (λ r s. rank r < rank s) r rest rise) behind on
-  stay (r ∷ rest) (first ∷ second ∷ before) line after rise (Step is says goes behind) on = stay rest (second ∷ before) line after (rest_rises (λ r s. rank r < rank s) r rest rise) behind on
+  stay (r ∷ rest) (first ∷ []) line after rise (Step is says goes behind) on = stay rest [] line after (pairs_tail (λ r s. rank r < rank s) r rest rise) behind on
+  stay (r ∷ rest) (first ∷ second ∷ before) line after rise (Step is says goes behind) on = stay rest (second ∷ before) line after (pairs_tail (λ r s. rank r < rank s) r rest rise) behind on
 
 rungs_rise : AllPairs (λ r s. rank r < rank s) all_rungs
 rungs_rise = search rules

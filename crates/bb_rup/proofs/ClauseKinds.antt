@@ -3,10 +3,12 @@ use Rattle.std.proofs.Common.{ℕ, ◌<◌, ◌∙◌, ap, sym, length, get_or, 
 use Rattle.std.proofs.lemmas.List.{take-append-drop}
 use Rattle.std.proofs.lemmas.List.Elements.{All-nil, All-cons}
 use Rattle.std.proofs.lemmas.List.Folds.{list_any-append, list_any_at}
+use Rattle.bb_lists.proofs.Bits.{or_right, or_left}
+use Rattle.bb_lists.proofs.Members.{either}
 use Rattle.bb_cnf.specs.declared.clauses.Lit.{Lit}
 use Rattle.bb_cnf.specs.Clauses.{Literals, literals_of, same_literal}
 use Rattle.bb_rup.specs.Propagation.{complement, IsFalseClause, IsUnitClause, HasTwo, IsOpen}
-use Rattle.bb_rup.proofs.Literals.{either, clash, or_true_left, or_true_right, same_literal-itself, not_same, in_cons, in_here, in_there}
+use Rattle.bb_rup.proofs.Literals.{clash, same_literal-itself, not_same, in_cons, in_here, in_there}
 use Rattle.bb_rup.proofs.Splits.{any_here, any_later}
 
 abbrev pub Kind : Literals → List Lit → Type 0
@@ -25,8 +27,8 @@ module _ (f : Literals) (x : Lit) (xs : List Lit) where
   unit_first free all = record { own = in_here x xs; free = free; others = λ m own. by m (in_cons x xs m own) }
     where
       by : (m : Lit) → (x ≡ m) ⊎ (literals_of xs m ≡ true) → (same_literal x m || f m) ≡ true
-      by m (inl is) = or_true_left (same_literal x m) (f m) (subst (λ k. same_literal x k ≡ true) is (same_literal-itself x))
-      by m (inr rest) = or_true_right (same_literal x m) (f m) (all m rest)
+      by m (inl is) = or_left (same_literal x m) (f m) (subst (λ k. same_literal x k ≡ true) is (same_literal-itself x))
+      by m (inr rest) = or_right (same_literal x m) (f m) (all m rest)
 
   unit_cons : (l : Lit) → (same_literal l x || f x) ≡ true → IsUnitClause f xs l → IsUnitClause f (x ∷ xs) l
   unit_cons l here unit = record { own = in_there x xs l unit.own; free = unit.free; others = λ m own. by m (in_cons x xs m own) }
@@ -58,13 +60,13 @@ module _ (f : Literals) (x : Lit) (xs : List Lit) where
   }
 
   by_same : (l : Lit) → (same_literal l x ≡ true) ⊎ (same_literal l x ≡ false) → f x ≡ false → IsUnitClause f xs l → Kind f (x ∷ xs)
-  by_same l (inl same) free unit = inr (inl (l, unit_cons l (or_true_left (same_literal l x) (f x) same) unit))
+  by_same l (inl same) free unit = inr (inl (l, unit_cons l (or_left (same_literal l x) (f x) same) unit))
   by_same l (inr other) free unit = inr (inr (two_first l other free unit))
 
   kind_cons : (f x ≡ true) ⊎ (f x ≡ false) → Kind f xs → Kind f (x ∷ xs)
   kind_cons (inl off) (inl all) = inl (false_cons off all)
   kind_cons (inr free) (inl all) = inr (inl (x, unit_first free all))
-  kind_cons (inl off) (inr (inl u)) = inr (inl (u.0, unit_cons u.0 (or_true_right (same_literal u.0 x) (f x) off) u.1))
+  kind_cons (inl off) (inr (inl u)) = inr (inl (u.0, unit_cons u.0 (or_right (same_literal u.0 x) (f x) off) u.1))
   kind_cons (inr free) (inr (inl u)) = by_same u.0 (either (same_literal u.0 x)) free u.1
   kind_cons b (inr (inr two)) = inr (inr (two_cons two))
 
@@ -101,7 +103,7 @@ module _ (f : Literals) (clause : List Lit) (k : ℕ) (d : Lit) where
   in_front : (l : Lit) → literals_of (take k clause) l ≡ true → literals_of clause l ≡ true
   in_front l own =
       ap (λ xs. literals_of xs l) (sym (take-append-drop k clause)) ∙ list_any-append (λ m. same_literal m l) (take k clause) (drop k clause)
-      ∙ or_true_left (literals_of (take k clause) l) (literals_of (drop k clause) l) own
+      ∙ or_left (literals_of (take k clause) l) (literals_of (drop k clause) l) own
 
   pub two_at : (l : Lit) → k < length clause → IsUnitClause f (take k clause) l → same_literal l (get_or clause k d) ≡ false → f (get_or clause k d) ≡ false
       → HasTwo f clause

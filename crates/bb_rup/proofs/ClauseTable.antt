@@ -3,6 +3,7 @@
 use Rattle.std.proofs.Common.{◌≡◌, ◌⊎◌, ℕ, ◌<◌, ◌≤◌, Bool, true, false, ◌&&◌, ◌||◌, Option, Some, None, Result, Ok, Err, MatchResult, List, [], ◌∷◌, ◌++◌, nat_le, refl, sym, ap, ◌∙◌, subst, inl, inr, ⊎_elim, arith, true≢false, leb-true, leb-false}
 use Rattle.std.proofs.lemmas.Option.{same_Some}
 use Rattle.std.proofs.lemmas.Bool.{cases_Bool, cond-true, cond-false, or_left, or_right, or_from}
+use Rattle.bb_lists.proofs.Bits.{and_right}
 use Rattle.bb_cnf.specs.declared.clauses.Lit.{Lit}
 use Rattle.bb_rup.specs.declared.fault.RupFault.{RupFault}
 use Rattle.bb_rup.specs.declared.fault.RupFault.TheVariants.{Token, Literal, Unclosed}
@@ -106,10 +107,6 @@ sign_is_none : (d e m : Bool) → e ≡ false → (d && m) ≡ false → (e || (
 sign_is_none true e m h k = or_from e m h k
 sign_is_none false e m h k = or_from e false h refl
 
-both_marks : (d m : Bool) → (d && m) ≡ true → m ≡ true
-both_marks true m h = h
-both_marks false m h = absurd (true≢false (sym h))
-
 -- a word that is taken as a literal
 fault_of_literal : (deletions : Bool) (vars : ℕ) (begins : Bool) (word : Word) (fault : RupFault) → is_sign deletions begins word ≡ false → IsLiteralFault vars word fault
     → IsFault deletions vars begins word fault
@@ -154,9 +151,9 @@ told_both deletions vars (word ∷ words) =
     let mark = is_mark word in (
       ⊎_elim
           (λ holds.
-          let other : is_end word ≡ false = mark_is_no_end word (both_marks deletions mark holds) in
+          let other : is_end word ≡ false = mark_is_no_end word (and_right deletions mark holds) in
           let told = subst (λ b. IsTold deletions vars b words (rest_of deletions vars false [] words)) (sym other) (behind.1 false []) in
-          subst (IsTold deletions vars true (word ∷ words)) (sym (from_deletion deletions vars word words holds (both_marks deletions mark holds)))
+          subst (IsTold deletions vars true (word ∷ words)) (sym (from_deletion deletions vars word words holds (and_right deletions mark holds)))
           (told_behind deletions vars true word words (rest_of deletions vars false [] words) (inl (sign_is_mark deletions (is_end word) mark holds)) told))
           (λ fails.
           subst (IsTold deletions vars true (word ∷ words)) (sym (from_clause deletions vars word words fails))

@@ -1,17 +1,19 @@
 -- The literals that are false: more of them with more literals of C, and with more that were found.
 use Rattle.std.proofs.Common.{◌≡◌, Bool, true, false, ◌||◌, List, [], ◌∷◌, ◌++◌, refl, sym, ◌∙◌, ap, subst, ◌⊎◌, inl, inr}
+use Rattle.bb_lists.proofs.Bits.{or_cases, or_right, or_left}
+use Rattle.bb_lists.proofs.Maps.{or-false}
 use Rattle.bb_cnf.specs.declared.clauses.Lit.{Lit}
 use Rattle.bb_cnf.specs.Clauses.{literals_of, same_literal}
 use Rattle.bb_rup.specs.Propagation.{complement, false_after, IsFalseClause, IsUnitClause}
 use Rattle.bb_rup.specs.Laws.{IsPart}
-use Rattle.bb_rup.proofs.Literals.{or_true, or_true_left, or_true_right, or_false, same_literal-is, same_literal-itself, complement_twice, literals_of-push}
+use Rattle.bb_rup.proofs.Literals.{same_literal-is, same_literal-itself, complement_twice, literals_of-push}
 
 pub false_wider : (c d front : List Lit) (l : Lit) → IsPart c d → false_after c front l ≡ true → false_after d front l ≡ true
-false_wider c d front l part is = by (or_true (literals_of c l) (literals_of front (complement l)) is)
+false_wider c d front l part is = by (or_cases (literals_of c l) (literals_of front (complement l)) is)
   where
     by : (literals_of c l ≡ true) ⊎ (literals_of front (complement l) ≡ true) → false_after d front l ≡ true
-    by (inl own) = or_true_left (literals_of d l) (literals_of front (complement l)) (part l own)
-    by (inr told) = or_true_right (literals_of d l) (literals_of front (complement l)) told
+    by (inl own) = or_left (literals_of d l) (literals_of front (complement l)) (part l own)
+    by (inr told) = or_right (literals_of d l) (literals_of front (complement l)) told
 
 or_assoc : (a b c : Bool) → (a || (b || c)) ≡ ((a || b) || c)
 or_assoc true b c = refl
@@ -24,15 +26,15 @@ false_push c front x l =
 
 -- where one more was found, what was false still is, its complement is too, and nothing else
 pub false_kept : (c front : List Lit) (x l : Lit) → false_after c front l ≡ true → false_after c (front ++ x ∷ []) l ≡ true
-false_kept c front x l is = false_push c front x l ∙ or_true_left (false_after c front l) (same_literal x (complement l)) is
+false_kept c front x l is = false_push c front x l ∙ or_left (false_after c front l) (same_literal x (complement l)) is
 
 pub false_found : (c front : List Lit) (x : Lit) → false_after c (front ++ x ∷ []) (complement x) ≡ true
 false_found c front x =
     false_push c front x (complement x)
-    ∙ or_true_right (false_after c front (complement x)) _ (ap (same_literal x) (complement_twice x) ∙ same_literal-itself x)
+    ∙ or_right (false_after c front (complement x)) _ (ap (same_literal x) (complement_twice x) ∙ same_literal-itself x)
 
 pub false_cases : (c front : List Lit) (x l : Lit) → false_after c (front ++ x ∷ []) l ≡ true → (false_after c front l ≡ true) ⊎ (complement x ≡ l)
-false_cases c front x l is = by (or_true (false_after c front l) (same_literal x (complement l)) (sym (false_push c front x l) ∙ is))
+false_cases c front x l is = by (or_cases (false_after c front l) (same_literal x (complement l)) (sym (false_push c front x l) ∙ is))
   where
     by : (false_after c front l ≡ true) ⊎ (same_literal x (complement l) ≡ true) → (false_after c front l ≡ true) ⊎ (complement x ≡ l)
     by (inl old) = inl old
@@ -40,22 +42,22 @@ false_cases c front x l is = by (or_true (false_after c front l) (same_literal x
 
 -- before anything was found
 pub false_first : (c : List Lit) (l : Lit) → false_after c [] l ≡ true → literals_of c l ≡ true
-false_first c l is = sym (or_false (literals_of c l)) ∙ is
+false_first c l is = sym (or-false (literals_of c l)) ∙ is
 
 pub false_own : (c front : List Lit) (l : Lit) → literals_of c l ≡ true → false_after c front l ≡ true
-false_own c front l own = or_true_left (literals_of c l) (literals_of front (complement l)) own
+false_own c front l own = or_left (literals_of c l) (literals_of front (complement l)) own
 
 -- a unit clause is one, or is false, where more literals are false
 module _ (c d front clause : List Lit) (l : Lit) (part : IsPart c d) (unit : IsUnitClause (false_after c front) clause l) where
   pub unit_wider : false_after d front l ≡ false → IsUnitClause (false_after d front) clause l
-  unit_wider free = record { own = unit.own; free = free; others = λ m own. by m (or_true (same_literal l m) (false_after c front m) (unit.others m own)) }
+  unit_wider free = record { own = unit.own; free = free; others = λ m own. by m (or_cases (same_literal l m) (false_after c front m) (unit.others m own)) }
     where
       by : (m : Lit) → (same_literal l m ≡ true) ⊎ (false_after c front m ≡ true) → (same_literal l m || false_after d front m) ≡ true
-      by m (inl same) = or_true_left (same_literal l m) (false_after d front m) same
-      by m (inr is) = or_true_right (same_literal l m) (false_after d front m) (false_wider c d front m part is)
+      by m (inl same) = or_left (same_literal l m) (false_after d front m) same
+      by m (inr is) = or_right (same_literal l m) (false_after d front m) (false_wider c d front m part is)
 
   pub unit_false : false_after d front l ≡ true → IsFalseClause (false_after d front) clause
-  unit_false is m own = by (or_true (same_literal l m) (false_after c front m) (unit.others m own))
+  unit_false is m own = by (or_cases (same_literal l m) (false_after c front m) (unit.others m own))
     where
       by : (same_literal l m ≡ true) ⊎ (false_after c front m ≡ true) → false_after d front m ≡ true
       by (inl same) = subst (λ k. false_after d front k ≡ true) (same_literal-is l m same) is

@@ -1,10 +1,10 @@
 -- Propagations: one more literal is found, and what holds of each literal that is false.
 use Rattle.std.proofs.Common.{◌≡◌, true, false, List, [], ◌∷◌, ◌++◌, All, Any, Contains, refl, sym, ◌∙◌, subst, ◌⊎◌, inl, inr, append-nil}
+use Rattle.bb_lists.proofs.Members.{either}
 use Rattle.bb_cnf.specs.declared.clauses.Lit.{Lit}
 use Rattle.bb_cnf.specs.Clauses.{literals_of}
 use Rattle.bb_rup.specs.Propagation.{complement, false_after, IsFalseClause, IsUnitClause, IsPropagation, Follows}
 use Rattle.bb_rup.specs.Laws.{IsPart}
-use Rattle.bb_rup.proofs.Literals.{either}
 use Rattle.bb_rup.proofs.Splits.{split_push, no_split, next_split, any_weaker, any_in}
 use Rattle.bb_rup.proofs.Falses.{false_cases, false_first, false_wider, unit_wider, unit_false}
 

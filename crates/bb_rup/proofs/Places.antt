@@ -3,11 +3,14 @@ use Rattle.std.proofs.Common.{cond, ◌≡◌, ◌<◌, ◌+◌, ◌*◌, ℕ, B
 use Rattle.std.proofs.lemmas.List.{get_or-set_same, get_or-set_other}
 use Rattle.std.proofs.lemmas.List.Sums.{sum_by-set}
 use Rattle.std.proofs.lemmas.List.Folds.{Any-from_list_any}
+use Rattle.bb_lists.proofs.Tests.{number_equal, number_self}
+use Rattle.bb_lists.proofs.Maps.{or-false}
+use Rattle.bb_lists.proofs.Members.{either}
 use Rattle.bb_cnf.specs.declared.clauses.Lit.{Lit}
 use Rattle.bb_cnf.specs.Clauses.{literals_of, same_literal}
 use Rattle.bb_rup.specs.Propagation.{complement}
 use Rattle.bb_rup.specs.Inside.Trails.{mark_place, marked, HasMarks, unmarked}
-use Rattle.bb_rup.proofs.Literals.{either, clash, or_false, same_literal-is, same_literal-itself, same_number, number_itself}
+use Rattle.bb_rup.proofs.Literals.{clash, same_literal-is, same_literal-itself}
 
 one_place : (x y : ℕ) (s t : Bool) → 2 * x + (if s then 1 else 0) ≡ 2 * y + (if t then 1 else 0) → (x ≡ y) × (s ≡ t)
 one_place x y true true e = (omega (arith, e), refl)
@@ -39,7 +42,7 @@ marked-set marks l within m = by (either (same_literal l m))
         ∙ sym (ap (λ b. marked marks m || b) same ∙ right (marked marks m))
     by (inr other) =
         get_or-set_other marks (mark_place l) (mark_place m) true false (apart l m other)
-        ∙ sym (ap (λ b. marked marks m || b) other ∙ or_false (marked marks m))
+        ∙ sym (ap (λ b. marked marks m || b) other ∙ or-false (marked marks m))
 
 -- what is true of the places is true of the literals
 pub marked-unset : (old new : List Bool) (l : Lit) → ((k : ℕ) → get_or new k false ≡ (get_or old k false && not (k == mark_place l)))
@@ -47,11 +50,11 @@ pub marked-unset : (old new : List Bool) (l : Lit) → ((k : ℕ) → get_or new
 marked-unset old new l is m = is (mark_place m) ∙ ap (λ b. marked old m && not b) (same (either (same_literal l m)))
   where
     same : (same_literal l m ≡ true) ⊎ (same_literal l m ≡ false) → (mark_place m == mark_place l) ≡ same_literal l m
-    same (inl s) = ap (λ k. mark_place m == mark_place k) (same_literal-is l m s) ∙ number_itself (mark_place m) ∙ sym s
+    same (inl s) = ap (λ k. mark_place m == mark_place k) (same_literal-is l m s) ∙ number_self (mark_place m) ∙ sym s
     same (inr s) = by (either (mark_place m == mark_place l)) ∙ sym s
       where
         by : ((mark_place m == mark_place l) ≡ true) ⊎ ((mark_place m == mark_place l) ≡ false) → (mark_place m == mark_place l) ≡ false
-        by (inl e) = absurd (apart l m s (same_number (mark_place m) (mark_place l) e))
+        by (inl e) = absurd (apart l m s (number_equal (mark_place m) (mark_place l) e))
         by (inr e) = e
 
 -- a literal and its complement have places, where these have marks

@@ -2,12 +2,14 @@
 use Rattle.std.proofs.Common.{◌≡◌, ℕ, Bool, true, false, not, if◌then◌else◌, List, [], ◌∷◌, Contains, refl, sym, ◌∙◌, ap, subst, ◌⊎◌, inl, inr}
 use Rattle.std.specs.List.{list_any}
 use Rattle.std.proofs.lemmas.List.Folds.{Any-from_list_any, list_any_at}
+use Rattle.bb_lists.proofs.Bits.{or_cases, neither as or_both_false}
+use Rattle.bb_lists.proofs.Members.{either}
 use Rattle.bb_cnf.specs.declared.clauses.Lit.{Lit}
 use Rattle.bb_cnf.specs.Clauses.{Literals, literals_of, same_literal}
 use Rattle.bb_cnf.specs.Truth.{literal_bit, IsTrueClause, Satisfies}
 use Rattle.bb_rup.specs.Propagation.{complement, false_after, IsFalseClause, IsUnitClause, IsOpen, Follows, Stays}
 use Rattle.bb_rup.specs.Laws.{PropagationLaws}
-use Rattle.bb_rup.proofs.Literals.{either, clash, or_true, or_both_false, same_literal-is, same_literal-itself, in_cons}
+use Rattle.bb_rup.proofs.Literals.{clash, same_literal-is, same_literal-itself, in_cons}
 use Rattle.bb_rup.proofs.Splits.{pick}
 use Rattle.bb_rup.proofs.Found.{IsFound, each_false, found_for_more, more_clauses, more_literals}
 use Rattle.bb_rup.proofs.Reaching.{follows_or_stays}
@@ -20,7 +22,7 @@ open_not_false f clause all (inr t) = clash (f t.first) (all t.first t.first_own
 -- an open clause whose other literals are false finds nothing new
 module _ (f g : Literals) (clause : List Lit) (l : Lit) (within : (m : Lit) → g m ≡ true → f m ≡ true) (unit : IsUnitClause g clause l) where
   only_one : (m : Lit) → literals_of clause m ≡ true → f m ≡ false → l ≡ m
-  only_one m own free = by (or_true (same_literal l m) (g m) (unit.others m own))
+  only_one m own free = by (or_cases (same_literal l m) (g m) (unit.others m own))
     where
       by : (same_literal l m ≡ true) ⊎ (g m ≡ true) → l ≡ m
       by (inl same) = same_literal-is l m same
@@ -66,7 +68,7 @@ none_true v (x ∷ xs) off m own = by (or_both_false (literal_bit v x) (list_any
 -- where the literals of C are not true, neither is any that is false by propagation
 module _ (v : ℕ → Bool) (clauses : List (List Lit)) (c : List Lit) (solves : Satisfies v clauses) where
   true_step : (front : List Lit) (l : Lit) → ((m : Lit) → false_after c front m ≡ true → literal_bit v m ≡ false) → IsFound clauses c front l → literal_bit v (complement l) ≡ false
-  true_step front l known found = by (or_true (same_literal l t.1) (false_after c front t.1) (found.4.others t.1 (member found.1 t.1 (t.0, t.2, t.3))))
+  true_step front l known found = by (or_cases (same_literal l t.1) (false_after c front t.1) (found.4.others t.1 (member found.1 t.1 (t.0, t.2, t.3))))
     where
       t : IsTrueClause v found.1
       t = pick (λ clause. IsUnitClause (false_after c front) clause l) (IsTrueClause v) clauses found solves

@@ -4,6 +4,7 @@ use Rattle.std.proofs.lemmas.List.{take_at, take-append-drop, length-take-le}
 use Rattle.std.proofs.lemmas.List.Elements.{All-weaker, All-append, All-take}
 use Rattle.std.proofs.lemmas.List.Folds.{list_any-append}
 use Rattle.std.proofs.lemmas.Option.{slice_get_within, get_or_from_slice_get}
+use Rattle.bb_lists.proofs.Bits.{or_right, or_left}
 use Rattle.bb_lists.proofs.Places.{split, take_at as taken_to}
 use Rattle.bb_cnf.specs.declared.clauses.Lit.{Lit}
 use Rattle.bb_cnf.specs.Clauses.{Literals, literals_of, same_literal, IsWithin}
@@ -15,7 +16,6 @@ use Rattle.bb_rup.specs.Inside.Steps.{FollowsThere, StaysThere}
 use Rattle.bb_rup.specs.declared.trail.Trail.{Trail}
 use Rattle.bb_rup.specs.declared.refutation.RupAnswer.{RupAnswer}
 use Rattle.bb_rup.specs.declared.refutation.RupAnswer.TheVariants as answers
-use Rattle.bb_rup.proofs.Literals.{or_true_left, or_true_right}
 use Rattle.bb_rup.proofs.Reached.{reached_own, reached_false, reached_by_more}
 use Rattle.bb_rup.proofs.Successes.{each_none, each_push, each_from, each_succeeds, all_front, no_model, yes_or_no, one_number}
 
@@ -31,12 +31,12 @@ module _ (clauses : List (List Lit)) (c : List Lit) (a b d : Trail) (makes : Mak
   still_false : (l : Lit) → marked_by b l ≡ true → marked_by d l ≡ true
   still_false l is =
       goes.trail.same l ∙ ap (λ k. literals_of k l) goes.grows ∙ list_any-append (λ m. same_literal m l) b.lits.items goes.more
-      ∙ or_true_left (literals_of b.lits.items l) (literals_of goes.more l) (sym (makes.trail.same l) ∙ is)
+      ∙ or_left (literals_of b.lits.items l) (literals_of goes.more l) (sym (makes.trail.same l) ∙ is)
 
   pub stays_then : All (IsOpen (marked_by d)) clauses → Stays clauses c
   stays_then all = record {
     falses = marked_by d;
-    own = λ l own. still_false l (makes.marks l ∙ or_true_right (marked_by a l) (literals_of c l) own);
+    own = λ l own. still_false l (makes.marks l ∙ or_right (marked_by a l) (literals_of c l) own);
     each = all;
   }
 

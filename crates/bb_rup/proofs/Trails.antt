@@ -1,11 +1,14 @@
 -- The trail grows and shrinks.
 use Rattle.std.proofs.Common.{◌≡◌, ◌<◌, Bool, true, false, not, ◌&&◌, ◌||◌, List, [], ◌∷◌, ◌++◌, length, set, refl, sym, ◌∙◌, ap, subst, ◌⊎◌, inl, inr, append_assoc, append-nil}
 use Rattle.std.proofs.lemmas.List.{length-set}
+use Rattle.bb_lists.proofs.Bits.{or_right, or_assoc}
+use Rattle.bb_lists.proofs.Maps.{or-false}
+use Rattle.bb_lists.proofs.Members.{either}
 use Rattle.bb_cnf.specs.declared.clauses.Lit.{Lit}
 use Rattle.bb_cnf.specs.Clauses.{Literals, literals_of, same_literal}
 use Rattle.bb_rup.specs.Inside.Trails.{mark_place, marked, marked_by, AreOnce, IsTrail, Makes}
 use Rattle.bb_rup.specs.declared.trail.Trail.{Trail}
-use Rattle.bb_rup.proofs.Literals.{clash, either, or_false, or_true_right, same_literal-is, literals_of-push}
+use Rattle.bb_rup.proofs.Literals.{clash, same_literal-is, literals_of-push}
 use Rattle.bb_rup.proofs.Splits.{split_push}
 use Rattle.bb_rup.proofs.Places.{marked-set}
 
@@ -51,15 +54,11 @@ makes_old t l is old = record {
 }
   where
     by : (m : Lit) → (same_literal l m ≡ true) ⊎ (same_literal l m ≡ false) → marked_by t m ≡ (marked_by t m || same_literal l m)
-    by m (inl same) = subst (λ k. marked_by t k ≡ true) (same_literal-is l m same) old ∙ sym (or_true_right (marked_by t m) (same_literal l m) same)
-    by m (inr other) = sym (ap (λ b. marked_by t m || b) other ∙ or_false (marked_by t m))
-
-or_assoc : (a b c : Bool) → ((a || b) || c) ≡ (a || (b || c))
-or_assoc true b c = refl
-or_assoc false b c = refl
+    by m (inl same) = subst (λ k. marked_by t k ≡ true) (same_literal-is l m same) old ∙ sym (or_right (marked_by t m) (same_literal l m) same)
+    by m (inr other) = sym (ap (λ b. marked_by t m || b) other ∙ or-false (marked_by t m))
 
 pub makes_none : (t : Trail) → IsTrail t → Makes t t (literals_of [])
-makes_none t is = record { trail = is; more = []; grows = sym (append-nil t.lits.items); room = refl; marks = λ m. sym (or_false (marked_by t m)) }
+makes_none t is = record { trail = is; more = []; grows = sym (append-nil t.lits.items); room = refl; marks = λ m. sym (or-false (marked_by t m)) }
 
 pub makes_both : (a b c : Trail) (first second both : Literals) → ((m : Lit) → both m ≡ (first m || second m)) → Makes a b first → Makes b c second → Makes a c both
 makes_both a b c first second both is one two = record {

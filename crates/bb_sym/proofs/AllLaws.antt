@@ -1,12 +1,13 @@
 -- the laws, each from its lemma
 use Rattle.std.proofs.Common.{◌≡◌, ◌<◌, ℕ, Bool, true, List, inl, inr, arith}
+use Rattle.bb_lists.proofs.Bits.{not_true, never_both}
 use Rattle.bb_bits.specs.Laws.TruthLaws.{SizeLaws}
 use Rattle.bb_uniq.specs.Laws.{SequenceLaws}
 use Rattle.bb_sym.specs.Laws.{FunctionLaws, MakingLaws, PointLaws}
 use Rattle.bb_sym.specs.Plain.{Function, one_of}
 use Rattle.bb_sym.proofs.Budget.{all_refused, all_fit}
 use Rattle.bb_sym.proofs.FunctionTables.{truth_at-table, table_size, table_same, combined-table, constant-table, variable-table}
-use Rattle.bb_sym.proofs.LeastVectors.{bit_cases, never_both, number_of-append, number_of-zeros, first_is_least}
+use Rattle.bb_sym.proofs.LeastVectors.{number_of-append, number_of-zeros, first_is_least}
 use Rattle.bb_sym.proofs.MadeLemmas.{Makes-none, Makes-one, Makes-then, Makes-same, too_many_one, too_many_then, too_many_within, any_cases, within_append_left, within_append_right, StandsFor-kept, StandForAll-kept}
 use Rattle.bb_sym.proofs.PickedRefs.{picked_refs, picked_stand}
 use Rattle.bb_sym.proofs.WrongTables.{HaveCells-kept}
@@ -26,7 +27,7 @@ function_laws = record {
   one_true = λ f count p. (one_there f count p, λ h. any_of (λ j. f j p) count h.0 h.1 h.2);
   one_false = λ f count p. (
     λ e j l. none_of (λ j. f j p) count j l e,
-    λ h. bit_cases (one_of f count p) (λ e. let found = one_there f count p e in never_both (f found.0 p) found.2 (h found.0 found.1)),
+    λ h. not_true (one_of f count p) (λ e. let found = one_there f count p e in never_both (f found.0 p) found.2 (h found.0 found.1)),
   );
 }
 

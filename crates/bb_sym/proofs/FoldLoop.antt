@@ -1,9 +1,9 @@
 -- the disjunction of functions, one after another
-use Rattle.std.proofs.Common.{◌≡◌, ◌<◌, ℕ, ◌+◌, Bool, true, false, ◌||◌, List, [], ◌∷◌, ◌++◌, length, map, map-id, refl, sym, ap, ap₂, ◌∙◌, subst, arith}
+use Rattle.std.proofs.Common.{◌≡◌, ◌<◌, ℕ, ◌+◌, Bool, true, false, ◌||◌, List, [], ◌∷◌, length, map, refl, sym, ap, ap₂, ◌∙◌, subst, arith}
 use Rattle.std.specs.List.{list_any, range_with_len}
-use Rattle.std.proofs.lemmas.List.FromFn.{map-range_with_len_more}
 use Rattle.std.proofs.lemmas.List.Folds.{list_any-append}
 use Rattle.std.proofs.lemmas.Simd.{map-map}
+use Rattle.bb_lists.proofs.Ranges.{range_last_from_zero}
 use Rattle.bb_bits.specs.Truth.{joined}
 use Rattle.bb_uniq.specs.declared.store.Ref.{Ref}
 use Rattle.bb_uniq.specs.Laws.{StoreLaws}
@@ -14,16 +14,13 @@ use Rattle.bb_sym.specs.Inside.Made.{Makes, AreTooMany, StandsFor, StandForAll, 
 use Rattle.bb_sym.proofs.FunctionTables.{table_same, combined-table, constant-table}
 use Rattle.bb_sym.proofs.MadeLemmas.{Makes-none, Makes-more, refused_more}
 
-range_more : (i : ℕ) → range_with_len 0 (i + 1) ≡ range_with_len 0 i ++ i ∷ []
-range_more i = sym (map-id (range_with_len 0 (i + 1))) ∙ (map-range_with_len_more (λ x. x) 0 i i (omega arith) ∙ ap (λ xs. xs ++ i ∷ []) (map-id (range_with_len 0 i)))
-
 or-false : (b : Bool) → b || false ≡ b
 or-false true = refl
 or-false false = refl
 
 one_more : (f : ℕ → Function) (i : ℕ) (p : List Bool) → one_of f (i + 1) p ≡ one_of f i p || f i p
 one_more f i p =
-    ap (list_any (λ j. f j p)) (range_more i)
+    ap (list_any (λ j. f j p)) (range_last_from_zero i)
     ∙ (list_any-append (λ j. f j p) (range_with_len 0 i) (i ∷ []) ∙ ap (λ b. one_of f i p || b) (or-false (f i p)))
 
 -- the Ref is the disjunction of the first functions, and each on the way was made

@@ -1,5 +1,6 @@
 -- what the check of unknown boxes finds, as a condition on vectors
 use Rattle.std.proofs.Common.{◌≡◌, ◌≢◌, ◌<◌, ℕ, Bool, true, false, not, ◌&&◌, ◌||◌, List, length, take, drop, ◌++◌, Option, Some, None, IfSome, slice_index, refl, sym, ap, ◌∙◌, subst, subst₂, arith, append-nil, drop_of_length-le, take_all}
+use Rattle.bb_lists.proofs.Bits.{not_true}
 use Rattle.bb_bits.specs.Truth.{truth_at}
 use Rattle.bb_net.specs.Netlists.{Netlist}
 use Rattle.bb_net.specs.Agreement.{IsVector, wanted_bit}
@@ -15,7 +16,6 @@ use Rattle.bb_sym.specs.Finds.{IsLeastVector, IsFirstFound}
 use Rattle.bb_sym.specs.Inside.Made.{IsNowhereTrue, StandForAll, ref_at}
 use Rattle.bb_sym.proofs.FunctionTables.{truth_at-table, combined-table}
 use Rattle.bb_sym.proofs.KnownTables.{sum-table}
-use Rattle.bb_sym.proofs.LeastVectors.{bit_cases}
 
 -- a value in three values is known and is not the wanted bit
 abbrev pub differs_known : Option Bool → Bool → Bool
@@ -66,7 +66,7 @@ module _ (spec imp : Netlist) where
       }
 
   may_be_right : (j : ℕ) → IsNowhereTrue imp.inputs (mismatch spec imp j) → (x : List Bool) → IsVector imp x → MayBeRight spec imp x j
-  may_be_right j none x e = not_wrong (tern_of (tern imp x) (slice_index imp.outs j)) (wanted_bit spec x j) (bit_cases (differs_at j x) (λ is. none x e (mismatch_at j x e ∙ is)))
+  may_be_right j none x e = not_wrong (tern_of (tern imp x) (slice_index imp.outs j)) (wanted_bit spec x j) (not_true (differs_at j x) (λ is. none x e (mismatch_at j x e ∙ is)))
 
   table_at : (s : NodeStore) (refs : List Ref) (j : ℕ) → s.vars ≡ imp.inputs → StandForAll s (mismatch spec imp) refs → j < length refs → IsNowhereTrue s.vars (truth_of s (ref_at refs j).0) → IsNowhereTrue imp.inputs (mismatch spec imp j)
   table_at s refs j e stand l none = subst₂ IsNowhereTrue e (stand j l).table none

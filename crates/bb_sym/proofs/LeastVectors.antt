@@ -1,6 +1,7 @@
 -- points of the inputs and the output pins: what "for all pins" says of the inputs, and the least such inputs
 use Rattle.std.proofs.Common.{◌≡◌, ◌<◌, ◌≤◌, ℕ, zero, suc, ◌+◌, ◌*◌, ◌^◌, Bool, true, false, ◌&&◌, List, [], ◌∷◌, ◌++◌, length, take, drop, replicate, refl, sym, ap, ap₂, ◌∙◌, subst, subst₂, arith, append-nil, length-append, length-take, length-drop, take-append-drop, drop_of_length-le, take_all, pow-add, pow-suc, zero-mul}
 use Rattle.std.proofs.lemmas.List.{length-replicate}
+use Rattle.bb_lists.proofs.Bits.{not_true}
 use Rattle.bb_bits.specs.Numbers.{number_of}
 use Rattle.bb_bits.specs.Truth.{Truth, IsTruthTable, truth_at, quantified_block}
 use Rattle.bb_bits.specs.Laws.TruthLaws.{QuantifierLaws}
@@ -9,14 +10,6 @@ use Rattle.bb_quant.specs.Inside.LeastPoints.{IsLeastPoint}
 use Rattle.bb_sym.specs.Plain.{Function, table}
 use Rattle.bb_sym.specs.Finds.{IsLeastVector}
 use Rattle.bb_sym.proofs.FunctionTables.{truth_at-table, table_size}
-
-pub bit_cases : (b : Bool) → (b ≡ true → ⊥) → b ≡ false
-bit_cases true h = absurd (h refl)
-bit_cases false h = refl
-
-pub never_both : (b : Bool) → b ≡ true → b ≡ false → ⊥
-never_both true e f = let g : true ≡ false = f in cc
-never_both false e f = let g : false ≡ true = e in cc
 
 -- bits behind others: the first ones count more
 pub number_of-append : (x w : List Bool) → number_of (x ++ w) ≡ number_of x * 2 ^ length w + number_of w
@@ -73,7 +66,7 @@ module _ (laws : QuantifierLaws) (inputs pins : ℕ) (f : Function) where
   one_of_none none x e =
       let y = replicate pins false in
       let h : length y ≡ pins = length-replicate pins false in
-      let zero : truth_at block (x ++ (y ++ [])) ≡ false = bit_cases (truth_at block (x ++ (y ++ []))) (none (x ++ (y ++ [])) (omega (arith, length-append x (y ++ []), length-append y [], e, h))) in
+      let zero : truth_at block (x ++ (y ++ [])) ≡ false = not_true (truth_at block (x ++ (y ++ []))) (none (x ++ (y ++ [])) (omega (arith, length-append x (y ++ []), length-append y [], e, h))) in
       let found = (laws.all_false inputs pins (table (inputs + pins) f) x y [] e h sized).0 zero in
       (found.0, found.1, sym (at x found.0 e found.1) ∙ found.2)
 

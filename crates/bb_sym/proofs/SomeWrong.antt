@@ -3,6 +3,7 @@ use Rattle.std.proofs.Common.{◌≡◌, ◌<◌, ℕ, zero, suc, ◌+◌, Bool,
 use Rattle.std.specs.List.{list_any, range_with_len}
 use Rattle.std.proofs.lemmas.List.FromFn.{length-range_with_len, get_or-range_with_len}
 use Rattle.std.proofs.lemmas.List.Folds.{list_any_at}
+use Rattle.bb_lists.proofs.Bits.{not_true, never_both}
 use Rattle.bb_bits.specs.Laws.TruthLaws.{QuantifierLaws}
 use Rattle.bb_net.specs.Netlists.{Netlist}
 use Rattle.bb_net.specs.Values.{flat, output_pins}
@@ -12,7 +13,7 @@ use Rattle.bb_quant.specs.Inside.LeastPoints.{IsLeastPoint}
 use Rattle.bb_sym.specs.Functions.{is_wrong, some_wrong, all_always_wrong, inputs_and_pins}
 use Rattle.bb_sym.specs.Finds.{IsLeastVector}
 use Rattle.bb_sym.specs.Inside.Made.{IsNowhereTrue}
-use Rattle.bb_sym.proofs.LeastVectors.{least_inputs, one_of_none, bit_cases, never_both}
+use Rattle.bb_sym.proofs.LeastVectors.{least_inputs, one_of_none}
 use Rattle.bb_sym.proofs.WrongOutputs.{wrong_bit, xor_differ, differ_xor, xor_same}
 
 here : (p : ℕ → Bool) (a n : ℕ) (b : Bool) → p a ≡ b → b || list_any p (range_with_len (a + 1) n) ≡ true → (list_any p (range_with_len (a + 1) n) ≡ true → (j : ℕ) × (j < a + 1 + n) × (p j ≡ true)) → (j : ℕ) × (j < a + suc n) × (p j ≡ true)
@@ -29,7 +30,7 @@ any_of p n j l h =
     list_any_at p (range_with_len 0 n) j 0 (omega (arith, l, whole)) (ap p (get_or-range_with_len 0 n j 0 l ∙ (let e : 0 + j ≡ j = omega arith in e)) ∙ h)
 
 pub none_of : (p : ℕ → Bool) (n j : ℕ) → j < n → list_any p (range_with_len 0 n) ≡ false → p j ≡ false
-none_of p n j l e = bit_cases (p j) (λ h. never_both (list_any p (range_with_len 0 n)) (any_of p n j l h) e)
+none_of p n j l e = not_true (p j) (λ h. never_both (list_any p (range_with_len 0 n)) (any_of p n j l h) e)
 
 module _ (laws : QuantifierLaws) (spec imp : Netlist) where
   pub least_some : (old p : List Bool) → length old ≡ inputs_and_pins imp → IsLeastPoint (all_always_wrong spec imp) true 0 old p → IsLeastVector imp (HasAlwaysWrong spec imp) (take imp.inputs p)

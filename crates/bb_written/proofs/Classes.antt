@@ -1,8 +1,9 @@
 -- Runs of bytes of a class at the front, and how the classes of bytes lie to one another.
 use Rattle.std.proofs.Common.{◌≡◌, ℕ, ◌≤◌, Bool, true, false, cond, List, [], ◌∷◌, ◌++◌, refl, ap, ◌∙◌, arith}
-use Rattle.std.specs.Prelude.{◌==◌, ◌||◌, ◌&&◌}
+use Rattle.std.specs.Prelude.{◌==◌, ◌&&◌}
 use Rattle.std.specs.List.{AllByRecursion}
 use Rattle.std.proofs.lemmas.Bool.Decides.{nat_tests}
+use Rattle.bb_lists.proofs.Bits.{neither_left, and_both}
 use Rattle.bb_lex.specs.Bytes.{is_white, begins_identifier, is_identifier_byte, is_word_byte, is_graphic, Each, BeginsNot, past}
 use Rattle.bb_lex.specs.Pieces.{IsIdentifier}
 use Rattle.bb_lex.specs.Inside.Runs.{run_of}
@@ -56,14 +57,10 @@ graphic_in_line b h = grind (arith, nat_tests)
 pub byte_in_line : (b : ℕ) → is_identifier_byte b ≡ true → (b == 10) ≡ false
 byte_in_line b h = grind (arith, nat_tests)
 
-left_false : (a b : Bool) → (a || b) ≡ false → a ≡ false
-left_false true b h = absurd (cc)
-left_false false b h = refl
-
 -- what ends a word of any class ends an identifier
 pub ends_identifier : (after : List ℕ) → BeginsNot is_word_byte after → BeginsNot is_identifier_byte after
 ends_identifier [] h = tt
-ends_identifier (b ∷ after) h = left_false (is_identifier_byte b) (b == 63) h
+ends_identifier (b ∷ after) h = neither_left (is_identifier_byte b) (b == 63) h
 
 pub each_graphic : (name : List ℕ) → AllByRecursion (λ b. (33 ≤ b) × (b ≤ 126)) name → Each is_graphic name
 each_graphic [] h = tt
@@ -78,14 +75,10 @@ abbrev is_identifier : List ℕ → Bool
 is_identifier [] = false
 is_identifier (b ∷ bytes) = begins_identifier b && all_bytes bytes
 
-both_true : (a b : Bool) → (a && b) ≡ true → (a ≡ true) × (b ≡ true)
-both_true true b h = (refl, h)
-both_true false b h = absurd (cc)
-
 each_byte : (bytes : List ℕ) → all_bytes bytes ≡ true → Each is_identifier_byte bytes
 each_byte [] h = tt
-each_byte (b ∷ bytes) h = let parts = both_true (is_identifier_byte b) (all_bytes bytes) h in (parts.0, each_byte bytes parts.1)
+each_byte (b ∷ bytes) h = let parts = and_both (is_identifier_byte b) (all_bytes bytes) h in (parts.0, each_byte bytes parts.1)
 
 pub is_formed : (bytes : List ℕ) → is_identifier bytes ≡ true → IsIdentifier bytes
 is_formed [] h = absurd (cc)
-is_formed (b ∷ bytes) h = let parts = both_true (begins_identifier b) (all_bytes bytes) h in (parts.0, each_byte bytes parts.1)
+is_formed (b ∷ bytes) h = let parts = and_both (begins_identifier b) (all_bytes bytes) h in (parts.0, each_byte bytes parts.1)

@@ -1,6 +1,7 @@
 -- A piece that fits at the front of a text is the one that is read there.
 use Rattle.std.proofs.Common.{◌≡◌, ℕ, ◌<◌, Bool, true, false, Some, None, List, [], ◌∷◌, ◌++◌, length, refl, ap, ap₂, ◌∙◌, arith}
 use Rattle.std.specs.Prelude.{◌||◌, ◌==◌}
+use Rattle.bb_lists.proofs.Bits.{neither_left, neither_right}
 use Rattle.bb_lex.specs.declared.class.Opening.TheVariants as opening
 use Rattle.bb_lex.specs.declared.mark.Mark.{Mark}
 use Rattle.bb_lex.specs.declared.mark.Mark.TheVariants.{LeftRound, Equals, Bang, Less, Greater, Amp, Bar, Caret, Tilde}
@@ -51,28 +52,20 @@ number-front true after ends = rw (run-each is_word_byte [] after tt ends, past-
 number-front false after ends = rw (run-each is_word_byte [] after tt ends, past-each is_word_byte [] after tt ends) refl
 
 -- a mark that stands apart
-left_false : (a b : Bool) → (a || b) ≡ false → a ≡ false
-left_false true b h = absurd (cc)
-left_false false b h = refl
-
-right_false : (a b : Bool) → (a || b) ≡ false → b ≡ false
-right_false true b h = absurd (cc)
-right_false false b h = h
-
 mark-front : (mark : Mark) (after : List ℕ) → StandsApart mark after
     → piece_at (written mark ++ after) ≡ Some (Some (kinds.Mark mark), after)
 mark-front LeftRound [] apart = refl
 mark-front LeftRound (b ∷ after) apart = cond_false (b == 42) _ (Some (Some (kinds.Mark LeftRound), b ∷ after)) apart
 mark-front Equals (b ∷ after) apart = rw apart refl
 mark-front Bang (b ∷ after) apart = rw apart refl
-mark-front Less (b ∷ after) apart = rw (left_false (b == 60) (b == 61) apart, right_false (b == 60) (b == 61) apart) refl
-mark-front Greater (b ∷ after) apart = rw (left_false (b == 61) (b == 62) apart, right_false (b == 61) (b == 62) apart) refl
+mark-front Less (b ∷ after) apart = rw (neither_left (b == 60) (b == 61) apart, neither_right (b == 60) (b == 61) apart) refl
+mark-front Greater (b ∷ after) apart = rw (neither_left (b == 61) (b == 62) apart, neither_right (b == 61) (b == 62) apart) refl
 mark-front Amp (b ∷ after) apart = rw apart refl
 mark-front Bar (b ∷ after) apart = rw apart refl
 mark-front Caret (b ∷ after) apart = rw apart refl
 mark-front Tilde (b ∷ after) apart =
-    let others : (b == 94 || b == 124) ≡ false = right_false (b == 38) (b == 94 || b == 124) apart in
-    rw (left_false (b == 38) (b == 94 || b == 124) apart, left_false (b == 94) (b == 124) others, right_false (b == 94) (b == 124) others) refl
+    let others : (b == 94 || b == 124) ≡ false = neither_right (b == 38) (b == 94 || b == 124) apart in
+    rw (neither_left (b == 38) (b == 94 || b == 124) apart, neither_left (b == 94) (b == 124) others, neither_right (b == 94) (b == 124) others) refl
 mark-front mark [] apart = refl
 mark-front mark (b ∷ after) apart = refl
 

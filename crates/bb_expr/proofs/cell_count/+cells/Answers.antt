@@ -1,6 +1,7 @@
 -- What an operand needs, and that the cells of operands are added up.
 use Rattle.std.proofs.Common.{◌≡◌, ◌+◌, ◌-◌, ◌*◌, map, drop, refl, sym, ap, ap₂, ◌∙◌, subst, arith, rules}
 use Rattle.std.specs.Prelude.{◌^◌, All, sum_by, min}
+use Rattle.bb_lists.proofs.Turns.{all_here}
 use Rattle.bb_ast.specs.Inside.Views.{expression, operand_view, arm_view}
 use Rattle.bb_ast.specs.declared.expr.Expr.{the_lemmas}
 use Rattle.bb_names.specs.Inside.Checked.{module_facts}
@@ -17,7 +18,6 @@ use Rattle.bb_expr.specs.Inside.Levels.{taken, words_cells}
 use Rattle.bb_word.specs.Words.{word_cells}
 use Rattle.bb_expr.proofs.LevelLemmas.{first-most, second-most, words-cells}
 use Rattle.bb_expr.proofs.ReadyLemmas.{here-most, level-most, cells-here, level-share}
-use Rattle.bb_expr.proofs.Loops.{All-here}
 use denote.Param.Weighed.{at_most}
 use Rattle.bb_ast.specs.declared.expr.Expr.TheShapes.{weighed-Expr-Words-1-at-2}
 use Rattle.bb_ast.proofs.expr.Expr.TheLaws.{the_size}
@@ -139,7 +139,7 @@ pub operand_cells-cells_at-inner-requires : goal.operand_cells-cells_at-inner-re
 operand_cells-cells_at-inner-requires t c = (
   search (rules, the_lemmas),
   (
-    All-here (λ x. AreFit (module_facts c.args.scope.now) x.1) operand_view c.args.rest.now c.loop-op.op-index c.loop-op-item.result c.loop-op-test.true c.loop-op-item.is c.requires.fit,
+    all_here (λ x. AreFit (module_facts c.args.scope.now) x.1) operand_view c.args.rest.now c.loop-op.op-index c.loop-op-item.result c.loop-op-test.true c.loop-op-item.is c.requires.fit,
     c.requires.width,
   ),
 )
@@ -161,12 +161,12 @@ operand_cells-returns t c =
 pub arm_cells-width_of-own-requires : goal.arm_cells-width_of-own-requires
 arm_cells-width_of-own-requires t c =
     let m = module_facts c.args.scope.now in
-    record { fit = (All-here (λ x. AreFit m x.0 × AreFit m x.1) arm_view c.args.all.now c.loop-condition.condition-index c.loop-condition-item.result c.loop-condition-test.true c.loop-condition-item.is c.requires.fit).0 }
+    record { fit = (all_here (λ x. AreFit m x.0 × AreFit m x.1) arm_view c.args.all.now c.loop-condition.condition-index c.loop-condition-item.result c.loop-condition-test.true c.loop-condition-item.is c.requires.fit).0 }
 
 pub arm_cells-cells_at-requires : goal.arm_cells-cells_at-requires
 arm_cells-cells_at-requires t c =
     let m = module_facts c.args.scope.now in
-    let fit = All-here (λ x. AreFit m x.0 × AreFit m x.1) arm_view c.args.all.now c.loop-condition.condition-index c.loop-condition-item.result c.loop-condition-test.true c.loop-condition-item.is c.requires.fit in (
+    let fit = all_here (λ x. AreFit m x.0 × AreFit m x.1) arm_view c.args.all.now c.loop-condition.condition-index c.loop-condition-item.result c.loop-condition-test.true c.loop-condition-item.is c.requires.fit in (
       search (rules, the_lemmas),
       (fit.0, omega (arith, c.width_of-own.ensures, (fit-here m (expression c.loop-condition-item.result.0) fit.0).bounded)),
     )
@@ -174,19 +174,19 @@ arm_cells-cells_at-requires t c =
 pub arm_cells-cells_at-requires-in-loop-condition : goal.arm_cells-cells_at-requires-in-loop-condition
 arm_cells-cells_at-requires-in-loop-condition t c =
     let m = module_facts c.args.scope.now in
-    let fit = All-here (λ x. AreFit m x.0 × AreFit m x.1) arm_view c.args.all.now c.loop-condition.condition-index c.loop-condition-item.result c.loop-condition-test.true c.loop-condition-item.is c.requires.fit in
+    let fit = all_here (λ x. AreFit m x.0 × AreFit m x.1) arm_view c.args.all.now c.loop-condition.condition-index c.loop-condition-item.result c.loop-condition-test.true c.loop-condition-item.is c.requires.fit in
     (search (rules, the_lemmas), (fit.1, c.requires.width))
 
 pub arm_cells-overflow_sub-own : goal.arm_cells-overflow_sub-own
 arm_cells-overflow_sub-own t c =
     let m = module_facts c.args.scope.now in
-    let fit = All-here (λ x. AreFit m x.0 × AreFit m x.1) arm_view c.args.all.now c.loop-condition.condition-index c.loop-condition-item.result c.loop-condition-test.true c.loop-condition-item.is c.requires.fit in
+    let fit = all_here (λ x. AreFit m x.0 × AreFit m x.1) arm_view c.args.all.now c.loop-condition.condition-index c.loop-condition-item.result c.loop-condition-test.true c.loop-condition-item.is c.requires.fit in
     omega (arith, c.width_of-own.ensures, (fit-here m (expression c.loop-condition-item.result.0) fit.0).some)
 
 pub arm_cells-overflow_add-own : goal.arm_cells-overflow_add-own
 arm_cells-overflow_add-own t c =
     let m = module_facts c.args.scope.now in
-    let fit = All-here (λ x. AreFit m x.0 × AreFit m x.1) arm_view c.args.all.now c.loop-condition.condition-index c.loop-condition-item.result c.loop-condition-test.true c.loop-condition-item.is c.requires.fit in
+    let fit = all_here (λ x. AreFit m x.0 × AreFit m x.1) arm_view c.args.all.now c.loop-condition.condition-index c.loop-condition-item.result c.loop-condition-test.true c.loop-condition-item.is c.requires.fit in
     omega (arith, c.width_of-own.ensures, (fit-here m (expression c.loop-condition-item.result.0) fit.0).bounded, c.requires.width)
 
 pub arm_cells-loop-condition-preserved : goal.arm_cells-loop-condition-preserved
@@ -195,7 +195,7 @@ arm_cells-loop-condition-preserved t c =
     let condition = expression c.loop-condition-item.result.0 in
     let value = expression c.loop-condition-item.result.1 in
     let own = own_width (ranges_in m) condition in
-    let fit = All-here (λ x. AreFit m x.0 × AreFit m x.1) arm_view c.args.all.now c.loop-condition.condition-index c.loop-condition-item.result c.loop-condition-test.true c.loop-condition-item.is c.requires.fit in
+    let fit = all_here (λ x. AreFit m x.0 × AreFit m x.1) arm_view c.args.all.now c.loop-condition.condition-index c.loop-condition-item.result c.loop-condition-test.true c.loop-condition-item.is c.requires.fit in
     let rest : c.from.result ≡ (own - 1) + c.args.width = c.from.ensures ∙ ap (λ n. (n - 1) + c.args.width) c.width_of-own.ensures in
     share-more (arm_cells (ranges_in m) c.args.width) arm_view c.args.all.now c.loop-condition.condition-index c.loop-condition-item.result (2 ^ 64 - 1)
     c.loop-condition.total c.saturating_add.result c.saturating_add-total.result c.loop-condition-test.true c.loop-condition-item.is c.loop-condition.invariant
@@ -217,13 +217,13 @@ part_cells-loop-part-preserved t c =
 
 pub part_cells-width_of-own-requires : goal.part_cells-width_of-own-requires
 part_cells-width_of-own-requires t c = record {
-  fit = All-here (AreFit (module_facts c.args.scope.now)) expression c.args.all.now c.loop-part.part-index c.part-item.result c.loop-part-test.true c.part-item.is c.requires.fit;
+  fit = all_here (AreFit (module_facts c.args.scope.now)) expression c.args.all.now c.loop-part.part-index c.part-item.result c.loop-part-test.true c.part-item.is c.requires.fit;
 }
 
 pub part_cells-cells_at-requires : goal.part_cells-cells_at-requires
 part_cells-cells_at-requires t c =
     let m = module_facts c.args.scope.now in
-    let fit = All-here (AreFit m) expression c.args.all.now c.loop-part.part-index c.part-item.result c.loop-part-test.true c.part-item.is c.requires.fit in
+    let fit = all_here (AreFit m) expression c.args.all.now c.loop-part.part-index c.part-item.result c.loop-part-test.true c.part-item.is c.requires.fit in
     (search (rules, the_lemmas), (fit, omega (arith, c.width_of-own.ensures, (fit-here m (expression c.part-item.result) fit).bounded)))
 
 pub part_cells-returns : goal.part_cells-returns
@@ -318,7 +318,7 @@ cells_at-returns-in-Words t c =
 
 pub level_cells-widths_at-at-requires-clause-operand : goal.level_cells-widths_at-at-requires-clause-operand
 level_cells-widths_at-at-requires-clause-operand t c =
-    All-here (λ x. AreFit (module_facts c.args.scope.now) x.1) operand_view c.args.rest.now c.loop-op.op-index c.loop-op-item.result c.loop-op-test.true c.loop-op-item.is c.requires.fit
+    all_here (λ x. AreFit (module_facts c.args.scope.now) x.1) operand_view c.args.rest.now c.loop-op.op-index c.loop-op-item.result c.loop-op-test.true c.loop-op-item.is c.requires.fit
 
 pub level_cells-cells_at-inner-requires : goal.level_cells-cells_at-inner-requires
 level_cells-cells_at-inner-requires t c = (
@@ -335,7 +335,7 @@ level_cells-cells_at-inner-requires t c = (
       = c.widths_at-at.ensures.context ∙ ap (λ k. taken (ranges_in m) c.widths_at-at.result.own (map operand_view (drop (k + 1) c.args.rest.now)) c.args.width) c.loop-op.invariant.next in
       let most = here-most m operand_view c.args.rest.now c.loop-op.op-index x c.args.width c.loop-op.own (own_width (ranges_in m) (expression x.1)) c.widths_at-at.result.own c.widths_at-at.result.context
       c.requires.fit c.loop-op-test.true c.loop-op-item.is c.loop-op.invariant.bounded c.requires.width refl c.widths_at-at.ensures.own context in (
-        All-here (λ x. AreFit m x.1) operand_view c.args.rest.now c.loop-op.op-index x c.loop-op-test.true c.loop-op-item.is c.requires.fit,
+        all_here (λ x. AreFit m x.1) operand_view c.args.rest.now c.loop-op.op-index x c.loop-op-test.true c.loop-op-item.is c.requires.fit,
         omega (arith, c.widths_at-at.ensures.second, second-most x.0 c.loop-op.own (own_width (ranges_in m) (expression x.1)) c.widths_at-at.result.context 65536 c.loop-op.invariant.bounded most.0 most.2),
       ),
 )

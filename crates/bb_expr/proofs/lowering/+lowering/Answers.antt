@@ -30,7 +30,8 @@ use Rattle.bb_expr.proofs.ViewLemmas.{expression-net, expression-bit, expression
 use Rattle.bb_expr.proofs.ValueLemmas.{length-copies}
 use Rattle.bb_expr.proofs.OperandLemmas.{fit-folded, fit-left, fit-words, fit-here, fit-first, fit-operands, fit-arms, fit-last, fit-parts, fit-copied}
 use Rattle.bb_expr.proofs.AskLemmas.{IsAsked, asked-not, asked-odd, asked-first, asked-operands, asked-chain, asked-arms, asked-last, asked-cond, asked-concat, asked-repeat}
-use Rattle.bb_expr.proofs.Loops.{All-here, sum-here, last-share}
+use Rattle.bb_lists.proofs.Turns.{all_here}
+use Rattle.bb_expr.proofs.Loops.{sum-here, last-share}
 use Rattle.bb_expr.proofs.ShareLemmas.{one-share}
 use Rattle.bb_expr.proofs.OperatorLemmas.{op-some}
 use Rattle.bb_expr.proofs.RowLemmas.{adds-nothing}
@@ -187,9 +188,9 @@ chain-lower_at-requires t c =
     let x = c.loop-op-item.result in (
       search (rules, the_lemmas),
       (
-        All-here (λ x. AreFit m x.1) operand_view c.args.rest.now i x c.loop-op-test.true c.loop-op-item.is c.requires.fit,
+        all_here (λ x. AreFit m x.1) operand_view c.args.rest.now i x c.loop-op-test.true c.loop-op-item.is c.requires.fit,
         (
-          All-here (λ x. own_width (ranges_in m) x.1 ≤ c.args.width) operand_view c.args.rest.now i x c.loop-op-test.true c.loop-op-item.is c.requires.owns,
+          all_here (λ x. own_width (ranges_in m) x.1 ≤ c.args.width) operand_view c.args.rest.now i x c.loop-op-test.true c.loop-op-item.is c.requires.owns,
           (
             c.requires.width,
             (
@@ -205,7 +206,7 @@ pub chain-operate-requires-clause-same : goal.chain-operate-requires-clause-same
 chain-operate-requires-clause-same t c =
     let m = module_facts c.args.scope.now in
     let x = c.loop-op-item.result in
-    let own = All-here (λ x. own_width (ranges_in m) x.1 ≤ c.args.width) operand_view c.args.rest.now c.loop-op.op-index x c.loop-op-test.true c.loop-op-item.is c.requires.owns in
+    let own = all_here (λ x. own_width (ranges_in m) x.1 ≤ c.args.width) operand_view c.args.rest.now c.loop-op.op-index x c.loop-op-test.true c.loop-op-item.is c.requires.owns in
     ap length c.deref.ensures.value ∙ c.loop-op.invariant.width
     ∙ sym (ap length c.deref-in-loop-op.ensures.value ∙ bits-long c.args.scope.now.nets.items (ranges_in m) (expression x.1) c.args.width c.loop-op.steps.items c.lower_at.new.steps.items c.in_ok-right.right.items own c.in_ok-right.ensures)
 
@@ -214,7 +215,7 @@ chain-operate-requires-clause-room t c =
     let m = module_facts c.args.scope.now in
     let i = c.loop-op.op-index in
     let x = c.loop-op-item.result in
-    let own = All-here (λ x. own_width (ranges_in m) x.1 ≤ c.args.width) operand_view c.args.rest.now i x c.loop-op-test.true c.loop-op-item.is c.requires.owns in
+    let own = all_here (λ x. own_width (ranges_in m) x.1 ≤ c.args.width) operand_view c.args.rest.now i x c.loop-op-test.true c.loop-op-item.is c.requires.owns in
     omega (
       arith,
       c.loop-op.invariant.room,
@@ -239,7 +240,7 @@ chain-loop-op-preserved t c =
     let i = c.loop-op.op-index in
     let x = c.loop-op-item.result in
     let w = c.args.width in
-    let own = All-here (λ x. own_width ranges x.1 ≤ w) operand_view c.args.rest.now i x c.loop-op-test.true c.loop-op-item.is c.requires.owns in
+    let own = all_here (λ x. own_width ranges x.1 ≤ w) operand_view c.args.rest.now i x c.loop-op-test.true c.loop-op-item.is c.requires.owns in
     record {
       made = λ first old adds.
           chain-more nets ranges operand_view w c.args.rest.now i x (chained_on ranges w first (map operand_view c.args.rest.now)) old c.loop-op.steps.items c.lower_at.new.steps.items c.operate.new.steps.items
@@ -337,7 +338,7 @@ pub conditional-width_of-own-requires : goal.conditional-width_of-own-requires
 conditional-width_of-own-requires t c =
     let m = module_facts c.args.scope.now in
     let i = length c.args.all.now - 1 - c.loop-turn.turn in
-    record { fit = (All-here (λ x. AreFit m x.0 × AreFit m x.1) arm_view c.args.all.now i c.index-all-all.result (omega (arith, c.loop-turn-test.true)) c.index-all-all.is c.requires.fit).0 }
+    record { fit = (all_here (λ x. AreFit m x.0 × AreFit m x.1) arm_view c.args.all.now i c.index-all-all.result (omega (arith, c.loop-turn-test.true)) c.index-all-all.is c.requires.fit).0 }
 
 pub conditional-lower_at-requires : goal.conditional-lower_at-requires
 conditional-lower_at-requires t c =
@@ -346,7 +347,7 @@ conditional-lower_at-requires t c =
     let i = length all - 1 - c.loop-turn.turn in
     let x = c.index-all-all.result in
     let within : i < length all = omega (arith, c.loop-turn-test.true) in
-    let fit = All-here (λ x. AreFit m x.0 × AreFit m x.1) arm_view all i x within c.index-all-all.is c.requires.fit in
+    let fit = all_here (λ x. AreFit m x.0 × AreFit m x.1) arm_view all i x within c.index-all-all.is c.requires.fit in
     let here = fit-here m (expression x.0) fit.0 in
     let shares = last-share (arm_cells (ranges_in m) c.args.width) arm_view all c.loop-turn.turn x c.loop-turn-test.true c.index-all-all.is in (
       search (rules, the_lemmas),
@@ -375,7 +376,7 @@ conditional-any_bit-requires-clause-some t c =
     let x = c.index-all-all.result in
     let w = c.args.width in
     let within : i < length all = omega (arith, c.loop-turn-test.true) in
-    let fit = All-here (λ x. AreFit m x.0 × AreFit m x.1) arm_view all i x within c.index-all-all.is c.requires.fit in
+    let fit = all_here (λ x. AreFit m x.0 × AreFit m x.1) arm_view all i x within c.index-all-all.is c.requires.fit in
     let here = fit-here m (expression x.0) fit.0 in
     let own = own_width ranges (expression x.0) in
     let tested : Adds nets (made ranges (expression x.0) own) c.loop-turn.steps.items c.lower_at.new.steps.items c.in_ok-tested.tested.items
@@ -393,7 +394,7 @@ conditional-any_bit-requires-clause-room t c =
     let x = c.index-all-all.result in
     let w = c.args.width in
     let within : i < length all = omega (arith, c.loop-turn-test.true) in
-    let fit = All-here (λ x. AreFit m x.0 × AreFit m x.1) arm_view all i x within c.index-all-all.is c.requires.fit in
+    let fit = all_here (λ x. AreFit m x.0 × AreFit m x.1) arm_view all i x within c.index-all-all.is c.requires.fit in
     let here = fit-here m (expression x.0) fit.0 in
     let own = own_width ranges (expression x.0) in
     let tested : Adds nets (made ranges (expression x.0) own) c.loop-turn.steps.items c.lower_at.new.steps.items c.in_ok-tested.tested.items
@@ -414,7 +415,7 @@ conditional-lower_at-requires-in-loop-turn t c = (
       let x = c.index-all-all.result in
       let w = c.args.width in
       let within : i < length all = omega (arith, c.loop-turn-test.true) in
-      let fit = All-here (λ x. AreFit m x.0 × AreFit m x.1) arm_view all i x within c.index-all-all.is c.requires.fit in
+      let fit = all_here (λ x. AreFit m x.0 × AreFit m x.1) arm_view all i x within c.index-all-all.is c.requires.fit in
       let here = fit-here m (expression x.0) fit.0 in
       let own = own_width ranges (expression x.0) in
       let tested : Adds nets (made ranges (expression x.0) own) c.loop-turn.steps.items c.lower_at.new.steps.items c.in_ok-tested.tested.items
@@ -422,7 +423,7 @@ conditional-lower_at-requires-in-loop-turn t c = (
       let count = ap length c.deref.ensures.value ∙ bits-long nets ranges (expression x.0) own c.loop-turn.steps.items c.lower_at.new.steps.items c.in_ok-tested.tested.items (omega arith) tested in
       let few = steps-few nets ranges (expression x.0) own c.loop-turn.steps.items c.lower_at.new.steps.items c.in_ok-tested.tested.items (omega arith) tested in
       let shares = last-share (arm_cells ranges w) arm_view all c.loop-turn.turn x c.loop-turn-test.true c.index-all-all.is in
-      let fits = All-here (λ x. own_width ranges x.1 ≤ w) arm_view all i x within c.index-all-all.is c.requires.owns in
+      let fits = all_here (λ x. own_width ranges x.1 ≤ w) arm_view all i x within c.index-all-all.is c.requires.owns in
       (fit.1, (fits, (c.requires.width, (omega (arith, count, few, shares, c.loop-turn.invariant.room, c.in_ok-any.ensures.grown, here.some, c.requires.some), omega (arith, c.requires.few, one-share (arm_cells ranges w) arm_view all i x within c.index-all-all.is))))),
 )
 
@@ -436,7 +437,7 @@ conditional-select-requires-clause-same t c =
     let x = c.index-all-all.result in
     let w = c.args.width in
     let within : i < length all = omega (arith, c.loop-turn-test.true) in
-    let fit = All-here (λ x. AreFit m x.0 × AreFit m x.1) arm_view all i x within c.index-all-all.is c.requires.fit in
+    let fit = all_here (λ x. AreFit m x.0 × AreFit m x.1) arm_view all i x within c.index-all-all.is c.requires.fit in
     let here = fit-here m (expression x.0) fit.0 in
     let own = own_width ranges (expression x.0) in
     let tested : Adds nets (made ranges (expression x.0) own) c.loop-turn.steps.items c.lower_at.new.steps.items c.in_ok-tested.tested.items
@@ -444,7 +445,7 @@ conditional-select-requires-clause-same t c =
     let count = ap length c.deref.ensures.value ∙ bits-long nets ranges (expression x.0) own c.loop-turn.steps.items c.lower_at.new.steps.items c.in_ok-tested.tested.items (omega arith) tested in
     let few = steps-few nets ranges (expression x.0) own c.loop-turn.steps.items c.lower_at.new.steps.items c.in_ok-tested.tested.items (omega arith) tested in
     let shares = last-share (arm_cells ranges w) arm_view all c.loop-turn.turn x c.loop-turn-test.true c.index-all-all.is in
-    let fits = All-here (λ x. own_width ranges x.1 ≤ w) arm_view all i x within c.index-all-all.is c.requires.owns in
+    let fits = all_here (λ x. own_width ranges x.1 ≤ w) arm_view all i x within c.index-all-all.is c.requires.owns in
     let chosen = steps-few nets ranges (expression x.1) w c.any_bit.new.steps.items c.lower_at-in-loop-turn.new.steps.items c.in_ok-chosen.chosen.items fits c.in_ok-chosen.ensures in
     let wide = ap length c.deref-in-loop-turn.ensures.value ∙ bits-long nets ranges (expression x.1) w c.any_bit.new.steps.items c.lower_at-in-loop-turn.new.steps.items c.in_ok-chosen.chosen.items fits c.in_ok-chosen.ensures in
     wide ∙ sym (ap length c.deref-in-loop-turn-2.ensures.value ∙ c.loop-turn.invariant.width)
@@ -459,7 +460,7 @@ conditional-select-requires-clause-some t c =
     let x = c.index-all-all.result in
     let w = c.args.width in
     let within : i < length all = omega (arith, c.loop-turn-test.true) in
-    let fit = All-here (λ x. AreFit m x.0 × AreFit m x.1) arm_view all i x within c.index-all-all.is c.requires.fit in
+    let fit = all_here (λ x. AreFit m x.0 × AreFit m x.1) arm_view all i x within c.index-all-all.is c.requires.fit in
     let here = fit-here m (expression x.0) fit.0 in
     let own = own_width ranges (expression x.0) in
     let tested : Adds nets (made ranges (expression x.0) own) c.loop-turn.steps.items c.lower_at.new.steps.items c.in_ok-tested.tested.items
@@ -467,7 +468,7 @@ conditional-select-requires-clause-some t c =
     let count = ap length c.deref.ensures.value ∙ bits-long nets ranges (expression x.0) own c.loop-turn.steps.items c.lower_at.new.steps.items c.in_ok-tested.tested.items (omega arith) tested in
     let few = steps-few nets ranges (expression x.0) own c.loop-turn.steps.items c.lower_at.new.steps.items c.in_ok-tested.tested.items (omega arith) tested in
     let shares = last-share (arm_cells ranges w) arm_view all c.loop-turn.turn x c.loop-turn-test.true c.index-all-all.is in
-    let fits = All-here (λ x. own_width ranges x.1 ≤ w) arm_view all i x within c.index-all-all.is c.requires.owns in
+    let fits = all_here (λ x. own_width ranges x.1 ≤ w) arm_view all i x within c.index-all-all.is c.requires.owns in
     let chosen = steps-few nets ranges (expression x.1) w c.any_bit.new.steps.items c.lower_at-in-loop-turn.new.steps.items c.in_ok-chosen.chosen.items fits c.in_ok-chosen.ensures in
     let wide = ap length c.deref-in-loop-turn.ensures.value ∙ bits-long nets ranges (expression x.1) w c.any_bit.new.steps.items c.lower_at-in-loop-turn.new.steps.items c.in_ok-chosen.chosen.items fits c.in_ok-chosen.ensures in
     omega (arith, wide, c.requires.some)
@@ -482,7 +483,7 @@ conditional-select-requires-clause-room t c =
     let x = c.index-all-all.result in
     let w = c.args.width in
     let within : i < length all = omega (arith, c.loop-turn-test.true) in
-    let fit = All-here (λ x. AreFit m x.0 × AreFit m x.1) arm_view all i x within c.index-all-all.is c.requires.fit in
+    let fit = all_here (λ x. AreFit m x.0 × AreFit m x.1) arm_view all i x within c.index-all-all.is c.requires.fit in
     let here = fit-here m (expression x.0) fit.0 in
     let own = own_width ranges (expression x.0) in
     let tested : Adds nets (made ranges (expression x.0) own) c.loop-turn.steps.items c.lower_at.new.steps.items c.in_ok-tested.tested.items
@@ -490,7 +491,7 @@ conditional-select-requires-clause-room t c =
     let count = ap length c.deref.ensures.value ∙ bits-long nets ranges (expression x.0) own c.loop-turn.steps.items c.lower_at.new.steps.items c.in_ok-tested.tested.items (omega arith) tested in
     let few = steps-few nets ranges (expression x.0) own c.loop-turn.steps.items c.lower_at.new.steps.items c.in_ok-tested.tested.items (omega arith) tested in
     let shares = last-share (arm_cells ranges w) arm_view all c.loop-turn.turn x c.loop-turn-test.true c.index-all-all.is in
-    let fits = All-here (λ x. own_width ranges x.1 ≤ w) arm_view all i x within c.index-all-all.is c.requires.owns in
+    let fits = all_here (λ x. own_width ranges x.1 ≤ w) arm_view all i x within c.index-all-all.is c.requires.owns in
     let chosen = steps-few nets ranges (expression x.1) w c.any_bit.new.steps.items c.lower_at-in-loop-turn.new.steps.items c.in_ok-chosen.chosen.items fits c.in_ok-chosen.ensures in
     let wide = ap length c.deref-in-loop-turn.ensures.value ∙ bits-long nets ranges (expression x.1) w c.any_bit.new.steps.items c.lower_at-in-loop-turn.new.steps.items c.in_ok-chosen.chosen.items fits c.in_ok-chosen.ensures in
     omega (arith, count, few, shares, chosen, wide, c.loop-turn.invariant.room, c.in_ok-any.ensures.grown, here.some, c.requires.some)
@@ -505,7 +506,7 @@ conditional-loop-turn-preserved t c =
     let x = c.index-all-all.result in
     let w = c.args.width in
     let within : i < length all = omega (arith, c.loop-turn-test.true) in
-    let fit = All-here (λ x. AreFit m x.0 × AreFit m x.1) arm_view all i x within c.index-all-all.is c.requires.fit in
+    let fit = all_here (λ x. AreFit m x.0 × AreFit m x.1) arm_view all i x within c.index-all-all.is c.requires.fit in
     let here = fit-here m (expression x.0) fit.0 in
     let own = own_width ranges (expression x.0) in
     let tested : Adds nets (made ranges (expression x.0) own) c.loop-turn.steps.items c.lower_at.new.steps.items c.in_ok-tested.tested.items
@@ -513,7 +514,7 @@ conditional-loop-turn-preserved t c =
     let count = ap length c.deref.ensures.value ∙ bits-long nets ranges (expression x.0) own c.loop-turn.steps.items c.lower_at.new.steps.items c.in_ok-tested.tested.items (omega arith) tested in
     let few = steps-few nets ranges (expression x.0) own c.loop-turn.steps.items c.lower_at.new.steps.items c.in_ok-tested.tested.items (omega arith) tested in
     let shares = last-share (arm_cells ranges w) arm_view all c.loop-turn.turn x c.loop-turn-test.true c.index-all-all.is in
-    let fits = All-here (λ x. own_width ranges x.1 ≤ w) arm_view all i x within c.index-all-all.is c.requires.owns in
+    let fits = all_here (λ x. own_width ranges x.1 ≤ w) arm_view all i x within c.index-all-all.is c.requires.owns in
     let chosen = steps-few nets ranges (expression x.1) w c.any_bit.new.steps.items c.lower_at-in-loop-turn.new.steps.items c.in_ok-chosen.chosen.items fits c.in_ok-chosen.ensures in
     let wide = ap length c.deref-in-loop-turn.ensures.value ∙ bits-long nets ranges (expression x.1) w c.any_bit.new.steps.items c.lower_at-in-loop-turn.new.steps.items c.in_ok-chosen.chosen.items fits c.in_ok-chosen.ensures in
     record {
@@ -628,7 +629,7 @@ side_by_side-loop-part-init t c = record {
 
 pub side_by_side-width_of-own-requires : goal.side_by_side-width_of-own-requires
 side_by_side-width_of-own-requires t c = record {
-  fit = All-here (AreFit (module_facts c.args.scope.now)) expression c.args.all.now c.loop-part.part-index c.part-item.result c.loop-part-test.true c.part-item.is c.requires.fit;
+  fit = all_here (AreFit (module_facts c.args.scope.now)) expression c.args.all.now c.loop-part.part-index c.part-item.result c.loop-part-test.true c.part-item.is c.requires.fit;
 }
 
 pub side_by_side-lower_at-requires : goal.side_by_side-lower_at-requires
@@ -636,7 +637,7 @@ side_by_side-lower_at-requires t c =
     let m = module_facts c.args.scope.now in
     let i = c.loop-part.part-index in
     let x = c.part-item.result in
-    let fit = All-here (AreFit m) expression c.args.all.now i x c.loop-part-test.true c.part-item.is c.requires.fit in (
+    let fit = all_here (AreFit m) expression c.args.all.now i x c.loop-part-test.true c.part-item.is c.requires.fit in (
       search (rules, the_lemmas),
       (
         fit,

@@ -1,12 +1,12 @@
 use Rattle.std.proofs.Common.{◌≡◌, ◌<◌, ℕ, true, length, sym, ap, ◌∙◌, arith}
 use Rattle.std.specs.Prelude.{nat_lt}
 use Rattle.std.proofs.lemmas.Bool.Decides.{nat_tests}
+use Rattle.bb_lists.proofs.Turns.{all_here}
 use Rattle.bb_ast.specs.Inside.Views.{operand_view}
 use Rattle.bb_names.specs.Inside.Checked.{module_facts}
 use Rattle.bb_names.specs.Widths.{first_at}
 use Rattle.bb_expr.specs.Inside.Fit.{AreFit, ranges_in}
 use Rattle.bb_expr.proofs.LevelLemmas.{taken-here}
-use Rattle.bb_expr.proofs.Loops.{All-here}
 use Rattle.bb_expr.proofs.operands.taken_at.Goals as goal
 
 below : (a b : ℕ) → true ≡ nat_lt a b → a < b
@@ -18,7 +18,7 @@ width_of-requires c =
     let x = c.in-Some.field-0.now in
     let found = c.in-Some.ensures.lookup in
     let within = below c.args.next (length rest) found.0 in
-    record { fit = All-here (λ x. AreFit (module_facts c.args.scope.now) x.1) operand_view rest c.args.next x within found.1 c.requires.fit }
+    record { fit = all_here (λ x. AreFit (module_facts c.args.scope.now) x.1) operand_view rest c.args.next x within found.1 c.requires.fit }
 
 pub returns-in-Some : goal.returns-in-Some
 returns-in-Some c =

@@ -9,9 +9,10 @@ use Rattle.bb_expr.specs.Inside.Fit.{AreFit, ranges_in}
 use Rattle.bb_expr.proofs.ViewLemmas.{expression-not, expression-chain, expression-cond, expression-concat, expression-repeat, expression-words}
 use Rattle.bb_expr.proofs.OperandLemmas.{fit-not, fit-first, fit-operands, fit-left, fit-words, fit-arms, fit-last, fit-parts, fit-copied, parts-bounded, copied-bounded, copies-bounded, chain-width, cond-width, concat-width, repeat-width}
 use Rattle.std.proofs.lemmas.List.{at_drop_all}
+use Rattle.bb_lists.proofs.Turns.{all_here}
 use Rattle.bb_expr.specs.Inside.Levels.{width_on}
 use Rattle.bb_expr.proofs.LevelLemmas.{level-width}
-use Rattle.bb_expr.proofs.Loops.{All-here, rest-here}
+use Rattle.bb_expr.proofs.Loops.{rest-here}
 use Rattle.bb_expr.proofs.width.+width.Goals as goal
 
 pub width_of-width_of-requires : goal.width_of-width_of-requires
@@ -25,19 +26,19 @@ width_of-width_of-requires t c =
 pub total_width-width_of-total-requires : goal.total_width-width_of-total-requires
 total_width-width_of-total-requires t c = (
   search (rules, the_lemmas),
-  All-here (AreFit (module_facts c.args.scope.now)) expression c.args.all.now c.loop-part.part-index c.part-item.result c.loop-part-test.true c.part-item.is c.requires.fit,
+  all_here (AreFit (module_facts c.args.scope.now)) expression c.args.all.now c.loop-part.part-index c.part-item.result c.loop-part-test.true c.part-item.is c.requires.fit,
 )
 
 pub widest_operand-width_of-requires : goal.widest_operand-width_of-requires
 widest_operand-width_of-requires t c = (
   search (rules, the_lemmas),
-  All-here (λ x. AreFit (module_facts c.args.scope.now) x.1) operand_view c.args.rest.now c.loop-operand.operand-index c.loop-operand-item.result c.loop-operand-test.true c.loop-operand-item.is c.requires.fit,
+  all_here (λ x. AreFit (module_facts c.args.scope.now) x.1) operand_view c.args.rest.now c.loop-operand.operand-index c.loop-operand-item.result c.loop-operand-test.true c.loop-operand-item.is c.requires.fit,
 )
 
 pub widest_value-width_of-requires : goal.widest_value-width_of-requires
 widest_value-width_of-requires t c = (
   search (rules, the_lemmas),
-  All-here (λ x. AreFit (module_facts c.args.scope.now) x.1) arm_view c.args.all.now c.loop-value.value-index c.loop-value-item.result c.loop-value-test.true c.loop-value-item.is c.requires.fit,
+  all_here (λ x. AreFit (module_facts c.args.scope.now) x.1) arm_view c.args.all.now c.loop-value.value-index c.loop-value-item.result c.loop-value-test.true c.loop-value-item.is c.requires.fit,
 )
 
 pub width_of-width_of-requires-in-Chain : goal.width_of-width_of-requires-in-Chain
@@ -167,7 +168,7 @@ width_of-returns-in-Words t c =
 pub level_width-width_of-requires : goal.level_width-width_of-requires
 level_width-width_of-requires t c = (
   search (rules, the_lemmas),
-  All-here (λ x. AreFit (module_facts c.args.scope.now) x.1) operand_view c.args.rest.now c.loop-op.op-index c.loop-op-item.result c.loop-op-test.true c.loop-op-item.is c.requires.fit,
+  all_here (λ x. AreFit (module_facts c.args.scope.now) x.1) operand_view c.args.rest.now c.loop-op.op-index c.loop-op-item.result c.loop-op-test.true c.loop-op-item.is c.requires.fit,
 )
 
 pub level_width-loop-op-preserved : goal.level_width-loop-op-preserved

@@ -1,11 +1,12 @@
 use Rattle.std.proofs.Common.{◌≡◌, ◌+◌, ◌<◌, ◌≤◌, [], All, ◌∙◌, subst, inr}
 use Rattle.std.specs.Prelude.{IsSome, None}
+use Rattle.bb_lists.proofs.Tests.{if_err}
 use Rattle.bb_net.specs.Pairs.{pin_count}
 use Rattle.bb_match.specs.declared.fault.MatchFault.TheVariants.{PortDiffers, RegDiffers, TooManyPins}
 use Rattle.bb_net.specs.CutPoints.{register_texts}
 use Rattle.bb_match.specs.Refusals.{AreAmong, Box, SpecInput, SpecOutput, ImpInput, ImpOutput, SpecRegister, ImpRegister, SpecClock, ImpClock, Clocks, Pins, Fit, most_pins}
 use Rattle.bb_match.proofs.Decisions.{none_at_first, none_more, fit_from}
-use Rattle.bb_match.proofs.CheckLemmas.{if_err, if_err_weaker, on_ok_weaker, MayRefuse, past_care, refusal, Missing, WithBox, box_told, WithoutClock, clock_told}
+use Rattle.bb_match.proofs.CheckLemmas.{if_err_weaker, on_ok_weaker, MayRefuse, past_care, refusal, Missing, WithBox, box_told, WithoutClock, clock_told}
 use Rattle.bb_match.proofs.checking.check.Goals as goal
 
 pub returns-in_err-check_boxes-clause-fault : goal.returns-in_err-check_boxes-clause-fault

@@ -1,9 +1,10 @@
 use Rattle.std.proofs.Common.{◌≡◌, ◌<◌, [], length, None, Some, sym, ap, subst, ◌∙◌}
 use Rattle.std.specs.Prelude.{slice_get}
 use Rattle.std.specs.List.{slice_index_or}
+use Rattle.bb_lists.proofs.Tests.{if_err}
 use Rattle.bb_match.specs.Refusals.{Box, Care}
 use Rattle.bb_match.proofs.CarePairs.{care_there, has_room}
-use Rattle.bb_match.proofs.CheckLemmas.{if_err, MayRefuse, WithBox, WithoutCare, box_told, care_told, refusal, taken_out}
+use Rattle.bb_match.proofs.CheckLemmas.{MayRefuse, WithBox, WithoutCare, box_told, care_told, refusal, taken_out}
 use Rattle.bb_match.proofs.Decisions.{none_at_first, none_more}
 use Rattle.bb_match.proofs.pairing.cared_pair.Goals as goal
 

@@ -1,6 +1,7 @@
 use Rattle.std.proofs.Common.{None, refl, inl}
+use Rattle.bb_lists.proofs.Tests.{if_err}
 use Rattle.bb_match.specs.declared.fault.MatchFault.TheVariants.{NoMemory}
-use Rattle.bb_match.proofs.CheckLemmas.{if_err, MayRefuse}
+use Rattle.bb_match.proofs.CheckLemmas.{MayRefuse}
 use Rattle.bb_match.proofs.pairing.index_and_number.Goals as goal
 
 pub returns-in_err-of_imp-clause-fault : goal.returns-in_err-of_imp-clause-fault

@@ -1,9 +1,10 @@
 use Rattle.std.proofs.Common.{◌≡◌, ◌⊎◌, subst}
 use Rattle.std.specs.Prelude.{option_copied}
+use Rattle.bb_lists.proofs.Tests.{if_err}
 use Rattle.bb_match.specs.declared.fault.MatchFault.TheVariants.{NoMemory}
 use Rattle.bb_match.specs.Pairing.{IsPairOf}
 use Rattle.bb_match.proofs.CarePairs.{pair_small, pairs_fit, plain_small}
-use Rattle.bb_match.proofs.CheckLemmas.{if_err, match_err, only_fit, only_fault}
+use Rattle.bb_match.proofs.CheckLemmas.{match_err, only_fit, only_fault}
 use Rattle.bb_match.proofs.RefusalLaws.{not_fit_and_refused}
 use Rattle.bb_match.proofs.pairing.pair.Goals as goal
 
