@@ -45,6 +45,8 @@ def run_script(name: str, main: Callable[[], None]) -> None:
     sys.setrecursionlimit(20_000)  # The language nests to 200, each of which takes several calls.
     signal.signal(signal.SIGTERM, lambda number, _frame: sys.exit(128 + number))
     sys.stdout = sys.stdout or Closed()  # type: ignore[assignment]
+    # Where standard error is closed, what is printed there would go to standard output.
+    sys.stderr = sys.stderr or open(os.devnull, "w", encoding="ascii", errors="replace")
     for stream in (sys.stdout, sys.stderr):
         if hasattr(stream, "reconfigure"):
             stream.reconfigure(errors="backslashreplace")
@@ -64,6 +66,15 @@ def run_script(name: str, main: Callable[[], None]) -> None:
         for line in text.splitlines():
             print(f"{name}: {line}", file=sys.stderr)
         end(1)
+
+
+def write_bytes(text: bytes) -> None:
+    """Writes to standard output as it is."""
+    sys.stdout.flush()
+    if isinstance(sys.stdout, Closed):
+        sys.stdout.write("")
+    sys.stdout.buffer.write(text)
+    sys.stdout.flush()
 
 
 def end(status: int) -> NoReturn:

@@ -37,8 +37,9 @@ def blocks_of(text):
 
 
 def told(command, shop):
+    """What a command prints, but for what `solve` says of the run that was first and its time."""
     done = run(["sh", "-c", f"{{ {command}\n}} 2>&1"], shop)
-    return done.out.splitlines()
+    return [line for line in done.out.splitlines() if not line.startswith("solve: ")]
 
 
 def try_console(tally, name, lines, shop):

@@ -2,16 +2,21 @@
 import contextlib
 import io
 import os
+import shlex
 import signal
 import sys
 import tempfile
+import time
 import unittest
 
 from bbeq_tools.cli import Fault, Output, Words, python_call
 from bbeq_tools.runs import timed
-from bbeq_tools.runs.climbs import more_nodes, value_of, with_value
+from bbeq_tools.runs.climbs import budgets, more_nodes, value_of, with_value
+from bbeq_tools.runs.guard import Guard
 from bbeq_tools.runs.joined import joined, padded
 from bbeq_tools.runs.kept import Answer, Job, Kept, answer_of, digest
+from bbeq_tools.runs.portfolio import Portfolio
+from bbeq_tools.runs.ways import Attempt
 
 PAIR = {"inputs": ["a", "b"], "words": [],
         "boxes": [{"path": "u", "module": "m", "inputs": 1, "outputs": ["o"], "is_read": True},
@@ -151,3 +156,42 @@ class Options(unittest.TestCase):
             self.assertEqual(value_of(job.words, "nodes", None), str(taken))
         with self.assertRaises(Fault):
             more_nodes(Job("1", "s", "i", ("--nodes=x",)), None)
+
+
+class Portfolios(Place):
+    """Ways of commands that are no program."""
+
+    def solved(self, jobs, budget, **ways):
+        guard = Guard(os.path.join(self.folder, "none"))
+        portfolio = Portfolio({name: way for name, way in ways.items()}, jobs, budget, guard)
+        try:
+            turn = portfolio.solve(time.monotonic() + 30)
+        finally:
+            portfolio.close()
+            guard.close()
+        return turn.name if turn else None, portfolio
+
+    @staticmethod
+    def way(text, memory=0):
+        answer = yield Attempt("a run", ("sh", "-c", text), memory)
+        return answer if answer.is_decided else None
+
+    def test_first(self):
+        for jobs in (1, 2, 3):
+            name, _ = self.solved(jobs, 10**10, slow=self.way("sleep 60"),
+                                  other=self.way("echo verdict open; exit 3"),
+                                  quick=self.way("sleep 0.3; echo verdict error; exit 1"))
+            self.assertEqual(name, "quick")
+
+    def test_memory(self):
+        """A run that needs more than there may be is left out, and one that takes more is ended."""
+        takes = "exec " + shlex.join([sys.executable, "-c", "x = b'1' * 10**8\nwhile True: pass"]) + " 2>/dev/null"
+        name, portfolio = self.solved(2, 6 * 10**7, wide=self.way("echo verdict error", 10**8),
+                                      large=self.way(takes), other=self.way("sleep 0.2"))
+        self.assertIsNone(name)
+        said = {attempt.label + said for attempt, _, said in portfolio.found()}
+        self.assertTrue(any("more than half" in text for text in said), said)
+
+    def test_budgets(self):
+        self.assertEqual(list(budgets(20, 100)), [20, 80, 100])
+        self.assertEqual(list(budgets(20, 10)), [10])

@@ -32,14 +32,25 @@ def with_value(words, option, value):
     return (*kept, f"--{option}={value}")
 
 
+def budgets(first, most, factor=4):
+    """Budgets that grow up to the most that there may be."""
+    while first < most:
+        yield first
+        first *= factor
+    yield most
+
+
+def order_command(specification, top, path):
+    """Writes the specification with its ports in the order of `order`."""
+    return [*python_call("rtl.order"), "--no-count", *([f"--top-spec={top}"] if top else []), "-o",
+            path, "--", specification]
+
+
 def ordered(job, folder):
     """The job with its specification's ports in the order of `order`."""
     path = os.path.join(folder, f"{job.name}.v")
-    top = value_of(job.words, "top-spec", None)
-    words = ["--no-count", *([f"--top-spec={top}"] if top else []), "-o", path, "--",
-             job.specification]
-    done = subprocess.run([*python_call("rtl.order"), *words], stderr=subprocess.DEVNULL,
-                          check=False)
+    done = subprocess.run(order_command(job.specification, value_of(job.words, "top-spec", None),
+                                        path), stderr=subprocess.DEVNULL, check=False)
     return job if done.returncode else job._replace(specification=path)
 
 

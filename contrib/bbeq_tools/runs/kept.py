@@ -7,6 +7,7 @@ from typing import NamedTuple, Optional
 
 from bbeq_tools.cli import Fault
 from bbeq_tools.program import kind_of
+from bbeq_tools.report.reports import is_verdict
 from bbeq_tools.runs.timed import OVER
 
 KEPT_STATUSES = (0, 1, 3)
@@ -35,8 +36,9 @@ class Answer(NamedTuple):
     def verdict(self):
         """The verdict, or what ended the run without one."""
         lines = self.report.splitlines()
-        if self.status in KEPT_STATUSES and lines and lines[-1].startswith("verdict "):
-            return lines[-1].split()[1]
+        found = next((line for line in lines if is_verdict(line)), None)
+        if self.status in KEPT_STATUSES and found:
+            return found.split()[1]
         if self.status is None:
             return f"no answer in {self.seconds:.1f} s"
         return lines[0] if lines else f"status {self.status}"

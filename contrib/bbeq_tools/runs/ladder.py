@@ -11,10 +11,9 @@ import time
 
 from bbeq_tools.cli import Fault, Output, Words, run_script
 from bbeq_tools.program import find_program
+from bbeq_tools.runs.program_words import CHECKS, add_program_words, program_words
 from bbeq_tools.runs.timed import finished
 
-CHECKS = ("ternary", "symbolic", "local", "output", "input", "expand")
-VALUES = ("top-spec", "top-impl", "patterns", "seed", "nodes", "clauses", "cache", "care")
 LEFT_OUT = 7  # A check was ended at its limit, and those before it leave the question open.
 STATUSES = {"repairable": 0, "error": 1, "open": 3}
 
@@ -31,10 +30,7 @@ def parse_words():
     parser.add_argument("--to", dest="last", choices=CHECKS, default="expand",
                         help="the last check, as for bbeq")
     parser.add_argument("--all", action="store_true", help="go on after a mistake, as for bbeq")
-    for option in VALUES:
-        parser.add_argument(f"--{option}", metavar="VALUE", help="as for bbeq")
-    parser.add_argument("--proof", action="store_true", help="as for bbeq")
-    parser.add_argument("--shared", action="store_true", help="as for bbeq")
+    add_program_words(parser)
     parser.add_argument("--limit", type=float, metavar="SECONDS",
                         help="end a check that takes longer")
     parser.add_argument("--json", metavar="FILE",
@@ -44,9 +40,7 @@ def parse_words():
         parser.error("--from stands behind --to")
     if words.limit is not None and words.limit <= 0:
         parser.error("--limit is more than 0")
-    given = {option: getattr(words, option.replace("-", "_")) for option in VALUES}
-    words.others = [f"--{option}={value}" for option, value in given.items() if value is not None]
-    words.others += ["--proof"] * words.proof + ["--shared"] * words.shared
+    words.others = program_words(words)
     return words
 
 

@@ -1,45 +1,94 @@
 """Runs a command with a limit of time, and says what it printed, its seconds and its memory. As a
 script of its own it runs bbeq on a pair where `run` sends it, on another host too, so it needs no
 other file."""
+import ctypes
 import json
 import os
+import resource
 import signal
 import subprocess
 import sys
-import threading
+import tempfile
 import time
 
 OVER = "over"  # In the place of a status: the time was over.
+LONGEST_SLEEP = 0.05  # Seconds between two looks at a run.
+SET_PARENT_DEATH_SIGNAL = 1
+LIBC = ctypes.CDLL(None)
 
 
-def end(child):
-    """Ends a command with all that it started."""
-    try:
-        os.killpg(child.pid, signal.SIGKILL)
-    except ProcessLookupError:
-        pass
+class Started:
+    """A command that runs in a session of its own. Its output goes to a file, so that nobody has
+    to read it meanwhile. Where this process is killed, the kernel kills the command."""
+
+    def __init__(self, command, most_memory=None):
+        self.output = tempfile.TemporaryFile()
+        self.began, self.seconds = time.monotonic(), 0.0
+        self.status, self.memory, parent = None, 0, os.getpid()
+
+        def bound():
+            LIBC.prctl(SET_PARENT_DEATH_SIGNAL, signal.SIGKILL)
+            if os.getppid() != parent:
+                os._exit(1)
+            if most_memory is not None:
+                resource.setrlimit(resource.RLIMIT_AS, (most_memory, most_memory))
+
+        self.child = subprocess.Popen(command, stdout=self.output, start_new_session=True,
+                                      preexec_fn=bound)
+
+    @property
+    def group(self):
+        return self.child.pid
+
+    def has_ended(self):
+        """Whether it has ended; then its status, its seconds and its most memory are known."""
+        if self.status is None:
+            ended, status, usage = os.wait4(self.child.pid, os.WNOHANG)
+            if ended:
+                self.status = self.child.returncode = os.waitstatus_to_exitcode(status)
+                self.seconds = time.monotonic() - self.began
+                self.memory = usage.ru_maxrss * 1024
+        return self.status is not None
+
+    def wait(self, limit):
+        """Whether it ended before so many seconds were over; without a limit it does."""
+        while not self.has_ended():
+            passed = time.monotonic() - self.began
+            if limit and passed >= limit:
+                return False
+            time.sleep(min(LONGEST_SLEEP, 0.001 + passed / 20))
+        return True
+
+    def send(self, number):
+        """Sends a signal to the command and all that it started."""
+        if self.status is None:
+            try:
+                os.killpg(self.group, number)
+            except ProcessLookupError:
+                pass
+
+    def end(self):
+        """Ends it, with all that it started."""
+        self.send(signal.SIGKILL)
+        while not self.has_ended():
+            time.sleep(0.001)
+
+    def printed(self):
+        self.output.seek(0)
+        return self.output.read()
 
 
 def finished(command, limit):
     """What a command printed, its status, the most memory that it took in bytes, and whether its
     time was over."""
-    with subprocess.Popen(command, stdout=subprocess.PIPE, text=True, errors="replace",
-                          start_new_session=True) as child:
-        over = []
-        timer = threading.Timer(limit
-                                or threading.TIMEOUT_MAX, lambda: (over.append(True), end(child)))
-        timer.daemon = True
-        timer.start()
-        try:
-            text = child.stdout.read()
-            _, status, usage = os.wait4(child.pid, 0)
-            child.returncode = os.waitstatus_to_exitcode(status)
-        except BaseException:
-            end(child)
-            raise
-        finally:
-            timer.cancel()
-    return text, child.returncode, usage.ru_maxrss * 1024, bool(over)
+    run = Started(command)
+    try:
+        is_over = not run.wait(limit)
+    finally:
+        run.end()
+    with run.output:
+        text = run.printed().decode("utf-8", "replace")
+    return text, run.status, run.memory, is_over
 
 
 def answer(command, limit):

@@ -1,0 +1,173 @@
+"""Runs bbeq on a pair in several ways at once, and prints the report of the first that decides.
+
+The check `expand` with ever more clauses, the checks by diagrams with ever more nodes, these with
+the specification's ports in the order of `order`, and the independent parts of the pair: which of
+them decides soon nobody knows before. A line on standard error each few seconds says what runs and
+what was found. The report and the status are those of one run of bbeq, or of `run` on the parts."""
+import os
+import shlex
+import shutil
+import sys
+import tempfile
+import time
+
+from bbeq_tools.cli import Fault, Words, run_script, write_bytes
+from bbeq_tools.program import find_program
+from bbeq_tools.runs.climbs import MOST_CLAUSES, MOST_NODES
+from bbeq_tools.runs.guard import Guard
+from bbeq_tools.runs.joined import advice_on, last_rung
+from bbeq_tools.runs.kept import Answer
+from bbeq_tools.runs.portfolio import (Portfolio, available_memory, told_bytes, told_found)
+from bbeq_tools.runs.program_words import add_program_words, program_words
+from bbeq_tools.runs.timed import Started
+from bbeq_tools.runs.ways import BY_ORDER, BY_PARTS, Request, first_run, ways_of
+
+TOO_LONG = 7  # The seconds of --limit were over.
+HELPS = {"nodes": f"at most so many nodes in a check by diagrams (default {MOST_NODES})",
+         "clauses": f"at most so many clauses in `expand` (default {MOST_CLAUSES})"}
+
+
+def parse_words():
+    parser = Words(prog="solve", description=__doc__.split("\n\n")[0], allow_abbrev=False,
+                   epilog="The status is that of the run whose report is printed, or 7 where the "
+                   "seconds of --limit were over. All runs together take at most half of the "
+                   "memory that is free. The program is $BBEQ, or bbeq on the PATH, or the one "
+                   "that was built in this repository.")
+    parser.add_argument("specification", metavar="SPEC", help="the specification")
+    parser.add_argument("implementation", metavar="IMPL", help="the implementation")
+    parser.add_argument("--limit", type=float, metavar="SECONDS",
+                        help="end without a verdict after these seconds")
+    parser.add_argument("--jobs", type=int, metavar="N",
+                        help="how many runs go at once (otherwise one a processor); the others "
+                        "take turns with them")
+    add_program_words(parser, HELPS)
+    parser.add_argument("--fill", action="store_true",
+                        help="print the finished circuit, where the boxes can be filled")
+    words = parser.parse_args()
+    for option, most in (("nodes", MOST_NODES), ("clauses", MOST_CLAUSES)):
+        value = getattr(words, option)
+        if value is not None and not (value.isdecimal() and 0 < int(value) <= most):
+            parser.error(f"--{option} is a number from 1 to {most}")
+    if words.limit is not None and not words.limit > 0:
+        parser.error("--limit is more than 0")
+    if words.jobs is not None and words.jobs < 1:
+        parser.error("--jobs is 1 or more")
+    words.jobs = words.jobs or len(os.sched_getaffinity(0))
+    words.others = program_words(words, ("nodes", "clauses")) + ["--fill"] * words.fill
+    return words
+
+
+def say(text):
+    print(f"solve: {text}", file=sys.stderr, flush=True)
+
+
+def lasting(path, folder):
+    """A file that can be read again: a pipe is copied."""
+    if os.path.exists(path) and not os.path.isfile(path) and not os.path.isdir(path):
+        copy = os.path.join(folder, f"copy{len(os.listdir(folder))}.v")
+        with open(path, "rb") as source, open(copy, "wb") as target:
+            shutil.copyfileobj(source, target)
+        return copy
+    return path
+
+
+def ask_first(request, guard, until):
+    """The answer of the first run, or None where the time was over."""
+    run = Started(first_run(request).command)
+    guard.add(run.group)
+    try:
+        limit = until - time.monotonic() if until is not None else None
+        if not run.wait(limit):
+            return None
+    finally:
+        run.end()
+        guard.drop(run.group)
+    with run.output:
+        return Answer(run.status, run.seconds, run.memory, run.printed().decode("latin-1"))
+
+
+def finish(answer):
+    """Prints a report byte for byte, and ends with its status."""
+    write_bytes(answer.report.encode("latin-1"))
+    sys.exit(answer.status if answer.status >= 0 else 128 - answer.status)
+
+
+def told_way(turn, request):
+    """How the answer came, so that it can come again. A report may be of another pair than that of
+    the two files."""
+    attempt = turn.found[-1][0]
+    if turn.name == BY_PARTS:
+        return "its independent parts, whose reports are joined (`parts`, `run`)"
+    files = {request.specification: "SPEC", request.implementation: "IMPL",
+             os.path.join(request.folder, "ordered.v"): "ORDERED"}
+    words = [files.get(word, word) for word in attempt.command[1:] if word != "--"]
+    source = ", where `order SPEC` writes ORDERED" if turn.name == BY_ORDER else ""
+    return f"bbeq {shlex.join(words)}{source}"
+
+
+def tell_open(portfolio, why):
+    """What the runs found that decided nothing, and what to try."""
+    say(f"nothing decided{why}")
+    for found in portfolio.found():
+        say(f"  {told_found(found)}")
+    left = [answer for _, answer, _ in portfolio.found() if answer.status == 3]
+    rungs = dict.fromkeys(last_rung(answer) for answer in reversed(left))
+    for rung in list(rungs)[:2]:
+        for advice in advice_on(rung) if rung else ():
+            say(f"  try ({rung}): {advice}")
+
+
+def farthest(portfolio, first):
+    """The open report of the run on the two files that had the largest budget."""
+    whole = [(attempt.memory, answer) for turn in portfolio.turns
+             if turn.name not in (BY_PARTS, BY_ORDER)
+             for attempt, answer, _ in turn.found if answer.status == 3]
+    return max(whole, key=lambda found: found[0], default=(0, first))[1]
+
+
+def solve(words, program, folder, guard):
+    began = time.monotonic()
+    until = began + words.limit if words.limit else None
+    files = [lasting(path, folder) for path in (words.specification, words.implementation)]
+    request = Request(program, tuple(words.others), *files, folder,
+                      int(words.nodes or MOST_NODES), int(words.clauses or MOST_CLAUSES))
+    first = ask_first(request, guard, until)
+    if first is None:
+        say(f"nothing decided in {words.limit:g} s, in which the pair was not read; --limit more")
+        sys.exit(TOO_LONG)
+    if first.status != 3:
+        finish(first)
+    request = request._replace(memory=first.memory)
+    budget = available_memory() // 2
+    portfolio = Portfolio(ways_of(request, words.fill or words.proof), words.jobs, budget, guard,
+                          (BY_ORDER, BY_PARTS))
+    try:
+        turn = portfolio.solve(until)
+    finally:
+        portfolio.close()
+    seconds = time.monotonic() - began
+    if turn:
+        say(f"{turn.answer.verdict} after {seconds:.1f} s by {told_way(turn, request)}")
+        finish(turn.answer)
+    if until is not None and time.monotonic() >= until:
+        tell_open(portfolio, f" in {words.limit:g} s; a larger --limit gives the runs more time")
+        sys.exit(TOO_LONG)
+    tell_open(portfolio, f": each run has ended, with at most {told_bytes(budget)} of memory")
+    finish(farthest(portfolio, first))
+
+
+def command():
+    words = parse_words()
+    program = find_program()
+    if not program:
+        raise Fault("bbeq is not there; run ./bbeq once, or set BBEQ")
+    with tempfile.TemporaryDirectory(prefix="bbeq-solve") as folder:
+        guard = Guard(folder)
+        try:
+            solve(words, os.path.realpath(program), folder, guard)
+        finally:
+            guard.close()
+
+
+def main():
+    run_script("solve", command)

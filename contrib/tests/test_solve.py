@@ -1,0 +1,153 @@
+"""The tries of `solve`: its report is that of one run of the program, nothing is left of it however
+it ends, and it takes turns where processors are few."""
+import os
+import random
+import re
+import shlex
+import signal
+import subprocess
+import time
+
+from tests.tries import BBEQ, LIMIT, Tries, bbeq, example, is_told, read, run, script, write
+
+PAIRS = ("adder", "alu", "buffer", "carry", "counter", "lanes", "nor", "stages", "twins")
+# A program that reads a pair and then takes long, but for the checks that $QUICK names.
+SLOW = """#!/bin/sh
+case " $* " in *" --to=ternary "*) exec {bbeq} "$@" ;; esac
+case " $* " in *" --from=$QUICK "*) exec {bbeq} "$@" ;; esac
+sleep 300
+"""
+
+
+def processes(mark):
+    """The processes whose words or surroundings have this text, but for this one."""
+    found = []
+    for name in os.listdir("/proc"):
+        try:
+            if name.isdecimal() and int(name) != os.getpid():
+                if any(mark in read(f"/proc/{name}/{part}") for part in ("cmdline", "environ")):
+                    found.append(int(name))
+        except OSError:
+            pass
+    return found
+
+
+def is_gone(mark, place):
+    """Whether nothing is left within ten seconds, neither a process nor a file."""
+    until = time.monotonic() + 10
+    while time.monotonic() < until and (processes(mark) or os.listdir(place)):
+        time.sleep(0.05)
+    return not processes(mark) and not os.listdir(place)
+
+
+def verdict(report):
+    return [line for line in report.splitlines() if line.startswith("verdict ")]
+
+
+class Solve(Tries):
+    part = "solve"
+    needs = ()
+
+    def again(self, done, spec, implementation):
+        """The run that a call of `solve` says that it was."""
+        told = re.search(r" by (bbeq .*)", done.err)
+        words = {"SPEC": spec, "IMPL": implementation}
+        return bbeq(*(words.get(word, word)
+                      for word in shlex.split(told[1])[1:])) if told else None
+
+    def test_reports(self):
+        for name in PAIRS:
+            spec, implementation = example(name, "spec.v"), example(name, "impl.v")
+            own, done = bbeq(spec, implementation), run([script("solve"), spec, implementation])
+            same = own if "\ninput " in done.out else self.again(done, spec, implementation)
+            is_right = (own.status, verdict(own.out)) == (done.status, verdict(done.out))
+            self.note(f"solve {name}", is_right and same is not None and same.out == done.out,
+                      done.why())
+        spec, implementation = example("mixer", "spec.v"), example("mixer", "impl.v")
+        done = run([script("solve"), spec, implementation, "--jobs", "1"])
+        self.note("solve of a pair of four parts", done.status == 0
+                  and verdict(done.out) == ["verdict repairable"], done.why())
+        filled = run([script("fill"), "--style", "assign", write(self.folder, "report", done.out),
+                      implementation, "-o", os.path.join(self.folder, "filled.v")])
+        agrees = bbeq(spec, os.path.join(self.folder, "filled.v"))
+        self.note("its tables agree", filled.status == 0 and agrees.status == 0, filled.why())
+
+    def test_words(self):
+        spec, implementation = example("twins", "spec.v"), example("twins", "impl.v")
+        done = run([script("solve"), spec, implementation, "--shared"])
+        self.note("solve --shared", done.status == 1 and verdict(done.out) == ["verdict error"],
+                  done.why())
+        done = run([script("solve"), spec, implementation, "--fill"])
+        self.note("solve --fill", done.status == 0 and "\nfill\nmodule " in done.out, done.why())
+        done = run([script("solve"), example("lanes", "spec.v"), example("lanes", "impl.v"),
+                    "--proof"])
+        self.note("solve --proof", done.status == 1 and "\nclause 0 " in done.out, done.why())
+        odd = [write(self.folder, name, read(path)) for name, path in
+               (("-a 'b\" c.v", spec), ("--x y.v", implementation))]
+        done = run([script("solve"), "--", *map(os.path.basename, odd)], self.folder)
+        self.note("solve of odd names", done.status == 0, done.why())
+        for words in (["--limit", "0"], ["--jobs", "0"], ["--nodes", "x"], ["--clauses", "0"],
+                      ["--nothing"], ["--make", "4"], ["--nodes", "60000000"]):
+            done = run([script("solve"), spec, implementation, *words])
+            self.note(f"solve {' '.join(words)}", is_told(done, "solve"), done.why())
+
+    def test_refusals(self):
+        spec, implementation = example("carry", "spec.v"), example("carry", "impl.v")
+        broken = write(self.folder, "broken.v", "module m(a; endmodule\n")
+        for words in ([broken, implementation], [spec, "nowhere.v"], [spec, self.folder],
+                      [implementation, implementation], ["--top-spec=other", spec, implementation]):
+            own, done = bbeq(*words), run([script("solve"), *words])
+            self.note(f"solve {' '.join(map(os.path.basename, words))}",
+                      (own.status, own.out) == (done.status, done.out) and not done.err, done.why())
+        pipe = os.path.join(self.folder, "pipe")
+        os.mkfifo(pipe)
+        with subprocess.Popen(["cp", spec, pipe]):
+            done = run([script("solve"), pipe, implementation])
+        self.note("solve of a pipe", done.status == 0, done.why())
+
+    def slow(self, quick):
+        program = write(self.folder, "slow", SLOW.format(bbeq=shlex.quote(BBEQ)))
+        os.chmod(program, 0o755)
+        place = os.path.join(self.folder, "place")
+        os.makedirs(place, exist_ok=True)
+        return {**os.environ, "BBEQ": program, "QUICK": quick, "TMPDIR": place}, place
+
+    def test_turns(self):
+        words = [script("solve"), example("carry", "spec.v"), example("carry", "impl.v")]
+        for quick in ("expand", "input", "symbolic"):
+            for jobs in ("1", "2", "8"):
+                env, place = self.slow(quick)
+                done = run([*words, "--jobs", jobs, "--limit", "60"], env=env)
+                self.note(f"solve --jobs {jobs} where {quick} alone is quick",
+                          done.status == 0 and is_gone(self.folder, place), done.why())
+        env, place = self.slow("nothing")
+        done = run([*words, "--limit", "6"], env=env)
+        self.note("solve --limit", done.status == 7 and not done.out and "nothing decided" in
+                  done.err and " 4 s: " in done.err and is_gone(self.folder, place), done.why())
+
+    def test_open(self):
+        """Where each run has ended the report is that of one that is open, and what to try is
+        said."""
+        spec, implementation = example("holes", "spec.v"), example("holes", "impl.v")
+        done = run([script("solve"), spec, implementation, "--clauses", "1000", "--nodes", "1000"])
+        is_said = "nothing decided" in done.err and "solve:   try (rung expand clauses): " in done.err
+        self.note("solve of a pair that stays open", done.status == 3 and is_said
+                  and done.out == "rung expand clauses\nverdict open\n", done.why())
+
+    def test_ended(self):
+        """Ended at random moments, by a signal that it sees or does not, it leaves nothing."""
+        draw, wrong = random.Random(70), []
+        words = [script("solve"), example("mixer", "spec.v"), example("mixer", "impl.v")]
+        signals = (signal.SIGKILL, signal.SIGTERM, signal.SIGINT, signal.SIGHUP)
+        for number in range(20):
+            env, place = self.slow("nothing" if number % 2 else "expand")
+            running = subprocess.Popen(words, env=env, stdin=subprocess.DEVNULL,
+                                       stdout=subprocess.PIPE, stderr=subprocess.PIPE,
+                                       preexec_fn=lambda: signal.signal(signal.SIGINT,
+                                                                        signal.SIG_DFL))
+            time.sleep(draw.random() * 2)
+            running.send_signal(signals[number % 4])
+            out, _ = running.communicate(timeout=LIMIT)
+            if out and running.returncode < 0 or not is_gone(self.folder, place):
+                wrong.append((number, running.returncode, processes(self.folder)))
+        self.note("solve ended at twenty moments", not wrong, wrong)
