@@ -10,7 +10,7 @@ cache=${XDG_CACHE_HOME:-${HOME:+$HOME/.cache}}
 cache=${cache:+$cache/bbeq}
 
 say() {
-    echo "$name: $*" >&2
+    printf '%s: %s\n' "$name" "$*" >&2
 }
 
 # The lines of a list of crates for the program and the libraries below it, the lowest first.

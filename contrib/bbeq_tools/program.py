@@ -5,6 +5,8 @@ import subprocess
 import sys
 from typing import Optional, Tuple
 
+from bbeq_tools.cli import Fault
+
 TOP = os.path.dirname(os.path.dirname(os.path.dirname(os.path.realpath(__file__))))
 WRAPPER, BUILT = os.path.join(TOP, "bbeq"), os.path.join(TOP, "crates", "bbeq", "out", "bbeq")
 FIND = os.path.join(TOP, "build", "find")
@@ -26,16 +28,28 @@ def built_here() -> Tuple[str, str]:
 
 
 def find_program() -> Optional[str]:
-    """$BBEQ, or bbeq beside an installed command, or on the PATH, or what was built here; ./bbeq
-    itself is no program, but names the one that it runs."""
+    """$BBEQ, or bbeq beside an installed command, or on the PATH, or what was built here. ./bbeq
+    and an installed bbeq are no programs, but run one, which is taken. A $BBEQ that names none is a
+    fault."""
+    named = os.environ.get("BBEQ")
+    if named and not is_program(named):
+        raise Fault(f"$BBEQ is {named}, which is no program")
     folder, command = os.path.split(os.path.realpath(sys.argv[0]))
     beside = os.path.join(folder, "bbeq") if command.startswith("bbeq-") else None
-    for program in (os.environ.get("BBEQ"), beside, shutil.which("bbeq"), WRAPPER):
+    for program in (named, beside, shutil.which("bbeq"), WRAPPER):
         if program and is_program(program):
-            found = built_here()[1] if os.path.realpath(program) == WRAPPER else program
+            found = program_of(os.path.realpath(program))
             warn(found)
             return found or None
     return None
+
+
+def program_of(path: str) -> str:
+    """The program that a wrapper runs, or the path itself."""
+    if path == WRAPPER:
+        return built_here()[1]
+    installed = f"{path}-proved"
+    return installed if os.path.basename(path) == "bbeq" and is_program(installed) else path
 
 
 def kind_of(program: str) -> str:

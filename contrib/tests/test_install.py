@@ -31,13 +31,18 @@ class Install(Tries):
         install = os.path.join(TOP, "install")
         done = run([install, prefix])
         there = [os.path.join(prefix, name) for name in (
-            "bin/bbeq", "share/man/man1/bbeq.1", "share/man/man1/bbeq-tools.1", "bin/bbeq-gates",
+            "bin/bbeq", "bin/bbeq-proved", "share/man/man1/bbeq.1", "share/man/man1/bbeq-tools.1", "bin/bbeq-gates",
             "bin/bbeq-fill", "lib/bbeq/bbeq_tools/cli.py", "lib/bbeq/bbeq_tools/runs/REPORT.md")]
         self.note("install PREFIX", done.status == 0 and all(map(os.path.exists, there)),
                   done.why())
         done = run([there[0], example("nor", "spec.v"), example("nor", "impl.v")], self.folder)
         self.note("the installed program runs",
                   done.status == 1 and done.out.endswith("verdict error\n"), done.why())
+        done = run([there[0], "--version"], self.folder)
+        self.note("the installed bbeq says its version", done.status == 0
+                  and done.out.startswith("bbeq, "), done.why())
+        done = run([there[0], "--help"], self.folder)
+        self.note("the installed bbeq says its words", "--nodes number" in done.out, done.why())
         installed_commands(self, self.folder, prefix)
         done = run([install, "--remove", prefix])
         left = [name for _, _, names in os.walk(prefix) for name in names]
@@ -91,7 +96,7 @@ def build_part(tally, folder):
                and "bb_net is not proved" in done.err, done.why())
     done = run([install, prefix], env=env)
     tally.note("install proves what is not proved",
-               done.status == 0 and done.out.split("\n")[0] == program
+               done.status == 0 and done.out.split("\n")[0] == f"{program}-proved"
                and "bb_net is proved" in done.err and "bb_run_tests" not in done.err, done.why())
     done = run([install, prefix], env=env)
     tally.note("install takes what is proved",
