@@ -1,5 +1,5 @@
-"""The tries of `ladder`, whose report is the program's own, of `names`, whose renames `gates`
-follows, and of `why`."""
+"""The tries of `ladder`, whose report is the program's own, and of `names`, whose renames
+`gates` follows."""
 import json
 import os
 import re
@@ -110,63 +110,3 @@ class Names(Tries):
                       done.why())
         done = run([script("names"), spec, "nowhere.v"])
         self.note("names with a file that is not there", is_told(done, "names"), done.why())
-
-
-WHOLE = """module m(clk, a, b, c, y, z, w);
-  input clk, a, b, c; output [1:0] y; output z, w; reg [1:0] r; reg s; wire t;
-  {body}
-  and(y[1], a, c); xor(z, b, c); xor(w, r[0], s);
-  always @(posedge clk) r <= {{t, b}};
-  always @(posedge clk) s <= c;
-endmodule
-"""
-RIGHT = "and(t, a, b); buf(y[0], t);"
-# No contents of the box are both: the one output needs it to be an and, and the next state an or.
-TWO = (WHOLE.format(body="bx u(a, b, t); buf(y[0], t);")
-       + "module bx(i, j, o); input i, j; output o; endmodule\n")
-OTHER_WAY = WHOLE.format(body="wire v; and(t, a, b); or(v, a, b); buf(y[0], v);")
-# The same where c is 1.
-CARED_WAY = OTHER_WAY.replace("z, w)", "z, w, k)").replace("z, w;", "z, w, k; buf(k, c);")
-# Here the box lacks the pin b.
-SHORT = (WHOLE.format(body="bx u(a, t); buf(y[0], t);")
-         + "module bx(i, o); input i; output o; endmodule\n")
-
-
-class Why(Tries):
-    part = "why"
-
-    def test_why(self):
-        for name, spec, implementation, wanted in (("two that cannot be right together", OTHER_WAY,
-                                                    TWO, "next r[1]\noutput y[0]\nboxes u\n"),
-                                                   ("a pin that a box lacks",
-                                                    WHOLE.format(body=RIGHT), SHORT, None)):
-            left, right = write(self.folder, "spec.v", spec), write(self.folder, "impl.v",
-                                                                    implementation)
-            report = write(self.folder, "report", bbeq(left, right).out)
-            done = run([script("why"), report, left, right])
-            lines = done.out.splitlines()
-            self.note(f"why: {name}",
-                      done.status == 0 and (done.out == wanted if wanted else len(lines) == 2
-                                            and lines[1] == "boxes u"), done.why())
-            done = run([script("why"), "--runs", report, left, right, "--", "--to", "input"])
-            self.note(f"why --runs: {name}", "outputs: verdict " in done.out
-                      and done.out.splitlines()[-1] == "boxes u", done.why())
-        left, right = write(self.folder, "spec.v", CARED_WAY), write(self.folder, "impl.v", TWO)
-        done = run([script("why"), "--care", "k",
-                    write(self.folder, "report", bbeq(left, right, "--care", "k").out), left,
-                    right])
-        self.note("why --care", done.out == "next r[1]\noutput y[0]\nboxes u\n", done.why())
-        spec, implementation = example("carry", "spec.v"), example("carry", "impl.v")
-        done = run([script("why"), write(self.folder, "report", bbeq(spec, implementation).out),
-                    spec, implementation])
-        self.note("why of a report without an error", is_told(done, "why"), done.why())
-        report = write(self.folder, "report", "rung input error\nverdict error\n")
-        done = run([script("why"), report, spec, implementation])
-        self.note("why of a report of other texts", is_told(done, "why"), done.why())
-        for pair in ("adder", "alu", "counter", "lanes", "nor"):
-            left, right = example(pair, "spec.v"), example(pair, "impl.v")
-            own = bbeq(left, right)
-            if own.status == 1:
-                done = run([script("why"), write(self.folder, "report", own.out), left, right])
-                self.note(f"why {pair}",
-                          done.status == 0 and re.search("^(output|next) ", done.out), done.why())

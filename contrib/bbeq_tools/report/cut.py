@@ -28,12 +28,16 @@ class Cut:
             raise Fault(f"{path}: an instance has registers of its own; give texts that `gates` "
                         "made, which are flat")
 
-    def with_outputs(self, kept):
-        """`kept` has pairs of a kind, `output` or `next`, and a text of a bit."""
+    def with_outputs(self, kept, extra=None):
+        """`kept` has pairs of a kind, `output` or `next`, and a text of a bit; `extra` may be an
+        output more and the lines that make it."""
         nexts = {bit for bit in self.registers if ("next", bit_text(*bit)) in kept}
         wanted = [bit for bit in self.outputs if ("output", bit_text(*bit)) in kept
                   and (bit not in self.registers or bit in nexts)]
         ports, lines = self.ports(nexts, wanted)
+        if extra:
+            ports.append(extra[0])
+            lines += [f"output {extra[0]};", *extra[1]]
         body, place = [], self.top.header_end
         edits = [(start, end, "") for start, end in self.top.port_items + self.top.reg_items]
         edits += [(*register.place, self.clocked(number, register, nexts))

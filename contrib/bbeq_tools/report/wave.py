@@ -1,18 +1,21 @@
-"""Shows a vector of a report in both netlists, as waves.
+"""Shows the vectors of a report in both netlists, as waves.
 
-A report names the vector at which the implementation is wrong. This script writes a testbench that
-applies it to both netlists, runs it by iverilog and leaves a VCD file for a wave viewer. Registers
-hold the bits of the vector, and the value that each takes next stands beside it under its name with
-`.next`. The outputs of boxes are x. A table compares what both netlists give: x is what a box
-leaves open."""
+A report names the vector at which the implementation is wrong, and `why -o` writes several. This
+script writes a testbench that applies them to both netlists, runs it by iverilog and leaves a VCD
+file for a wave viewer. Registers hold the bits of a vector, and the value that each takes next is
+beside it under its name with `.next`. The outputs of boxes are x. A table compares what both
+netlists give, buses in hexadecimal: x is what a box leaves open."""
 import os
 import shutil
 import subprocess
 import tempfile
 
 from bbeq_tools.cli import Fault, Output, Words, run_script
+from bbeq_tools.report.buses import grouped, hexadecimal, shown
 from bbeq_tools.report.reports import OTHER, read_report, vectors, verdict
 from bbeq_tools.verilog.language import bit_text, read_modules, top_of, written
+
+NARROW = 4  # Buses of fewer bits are shown bit by bit.
 
 
 def parse_words():
@@ -23,8 +26,10 @@ def parse_words():
     parser.add_argument("implementation", metavar="IMPL", help="the implementation that bbeq read")
     parser.add_argument("--top-spec", help="the top module, as for bbeq")
     parser.add_argument("--top-impl", help="the top module, as for bbeq")
-    parser.add_argument("--vector", type=int, default=1, metavar="N",
-                        help="which input line of the report, from 1 (default 1)")
+    parser.add_argument("--vector", type=int, metavar="N",
+                        help="which input line of the report, from 1 (otherwise all)")
+    parser.add_argument("--wrong-only", action="store_true",
+                        help="leave out of the table what is not wrong at any vector")
     parser.add_argument("--vcd", default="wave.vcd", metavar="FILE",
                         help="where the waves go (default wave.vcd)")
     parser.add_argument("--testbench", metavar="FOLDER",
@@ -33,21 +38,24 @@ def parse_words():
 
 
 def chosen(path, number):
+    """The vectors with their numbers."""
     lines = read_report(path)
     found = vectors(lines)
     if not found:
         raise Fault(f"{path}: {no_vector(lines)}")
+    if number is None:
+        return list(enumerate(found, 1))
     if not 1 <= number <= len(found):
         raise Fault(f"{path}: the report has {len(found)} vectors, and no number {number}")
-    return found[number - 1]
+    return [(number, found[number - 1])]
 
 
 def no_vector(lines):
     """Why a report shows no vector."""
     if verdict(lines) != "error":
         return f"the verdict is {verdict(lines)}, so there is no wrong vector to show"
-    return ("the report shows no vector: its check found that no contents suit all vectors "
-            "together, and shows no single one")
+    return ("the report shows no vector, since no single one is wrong whatever the boxes give: "
+            "`why` shows several that are wrong together")
 
 
 class Side:
@@ -160,8 +168,8 @@ def check_names(vector, spec, impl):
                             f"lacks; {OTHER}")
 
 
-def testbench(vector, spec, impl, vcd):
-    """The text of the testbench: nothing is driven up to time 10, and from then on the vector."""
+def testbench(found, spec, impl, vcd):
+    """The text of the testbench: nothing is driven up to time 10, and then each vector in turn."""
     yield "`timescale 1ns/1ns"
     yield "module testbench;"
     for name in spec.bits("input"):
@@ -178,6 +186,15 @@ def testbench(vector, spec, impl, vcd):
     yield '    $dumpfile("' + vcd.replace("\\", "\\\\").replace('"', '\\"') + '");'
     yield "    $dumpvars(0, testbench);"
     yield "    #10;"
+    for vector in found:
+        yield from applied(vector, spec, impl)
+    yield "    $finish;"
+    yield "  end"
+    yield "endmodule"
+
+
+def applied(vector, spec, impl):
+    """Applies a vector for 20 ns, and prints what both give in the middle."""
     for name, bit in vector.items():
         for place in [written(name)] if name not in spec.registers else [spec.registers[name],
                                                                          impl.registers[name]]:
@@ -187,26 +204,30 @@ def testbench(vector, spec, impl, vcd):
              for name, place in spec.outputs().items() if name in impl.outputs()]
     pairs += [("next", name, place, impl.nexts[name]) for name, place in spec.nexts.items()]
     for kind, name, left, right in pairs:
-        shown = name.replace("\\", "\\\\").replace("%", "%%").replace('"', '\\"')
-        yield f'    $display("{kind} {shown} %b %b", {left}, {right});'
-    yield "    #10 $finish;"
-    yield "  end"
-    yield "endmodule"
+        shown_name = name.replace("\\", "\\\\").replace("%", "%%").replace('"', '\\"')
+        yield f'    $display("{kind} {shown_name} %b %b", {left}, {right});'
+    yield '    $display("end");'
+    yield "    #10;"
 
 
-def simulate(folder, spec, impl, vector, vcd):
-    """Runs the testbench; gives its lines and its waves."""
+def simulate(folder, spec, impl, found, vcd):
+    """Runs the testbench; gives the lines for each vector, and the waves."""
     files = {"spec.v": spec.copy(), "impl.v": impl.copy(),
-             "testbench.v": "\n".join(testbench(vector, spec, impl, vcd)) + "\n"}
+             "testbench.v": "\n".join(testbench(found, spec, impl, vcd)) + "\n"}
     for name, text in files.items():
         with open(os.path.join(folder, name), "w", encoding="latin-1") as file:
             file.write(text)
     paths = [os.path.join(folder, name) for name in files]
     program = os.path.join(folder, "testbench.vvp")
     run(["iverilog", "-g2005", "-s", "testbench", "-o", program, *paths])
-    lines = run(["vvp", "-n", program]).splitlines()
+    blocks = [[]]
+    for line in run(["vvp", "-n", program]).splitlines():
+        if line == "end":
+            blocks.append([])
+        else:
+            blocks[-1].append(line)
     with open(vcd, encoding="latin-1") as file:
-        return lines, file.read()
+        return blocks[:len(found)], file.read()
 
 
 def run(command):
@@ -216,51 +237,85 @@ def run(command):
     return done.stdout
 
 
-def compared(lines, wrong):
-    """The rows of the comparison; one that the report calls wrong, if it names one, may not have a
-    known bit that both give."""
-    rows = [line.split(" ") for line in lines if line.startswith(("output ", "next "))]
-    suspects = [row for row in rows if wrong in (None, (row[0], row[1]))]
+def compared(lines, check, wrong):
+    """What both give, by kind and name. What the report calls wrong, if it names something, may not
+    have a known bit that both give; where no check shows the vector, it is one of several."""
+    rows = {(kind, name): (left, right) for kind, name, left, right in
+            (line.split(" ") for line in lines if line.startswith(("output ", "next ")))}
+    suspects = [bits for key, bits in rows.items() if wrong in (None, key)]
     if not suspects:
         raise Fault(f"the report names {' '.join(wrong)}, which the netlists lack; {OTHER}")
-    if all(left == right and left in ("0", "1") for _, _, left, right in suspects):
+    if check and all(left == right and left in ("0", "1") for left, right in suspects):
         named = f"for {' '.join(wrong)} " if wrong else ""
         raise Fault(f"both netlists give the same {named}at this vector; {OTHER}")
     return rows
 
 
-def show(rows, wrong, vector):
-    """The vector, and a line for each output and each register, with what is wrong marked; x is
-    what a box leaves open."""
-    print("input " + " ".join(f"{name}={bit}" for name, bit in vector.items()))
-    width = max([len(f"{kind} {name}") for kind, name, _, _ in rows], default=0)
-    print(f"{'':{width}}  spec  impl")
-    for kind, name, left, right in rows:
-        note = ("  wrong" if "x" not in left + right and "z" not in left + right and left != right
-                else "")
-        note += "  (named by the report)" if wrong == (kind, name) else ""
-        print(f"{kind + ' ' + name:{width}}  {left:4}  {right}{'   ' * bool(note)}{note}")
+def is_wrong(left, right):
+    return left != right and not set(left + right) - {"0", "1"}
+
+
+def bus_rows(rows):
+    """For each bus, or bit of one that is narrow, its bits in the specification and the
+    implementation, at each vector."""
+    for kind in ("output", "next"):
+        names = [name for own, name in rows[0] if own == kind]
+        for name, texts in grouped(names, NARROW):
+            yield kind, name, texts, [tuple("".join(at[kind, text][side] for text in texts)
+                                            for side in (0, 1)) for at in rows]
+
+
+def show(rows, named, wrong_only):
+    """A line for each output and each register, with what is wrong marked; x is what a box leaves
+    open. Several vectors are side by side."""
+    table = [["", *["spec", "impl"] * len(rows), ""]]
+    if len(rows) > 1:
+        table.insert(0, ["", *[word for number in range(1, len(rows) + 1)
+                               for word in (str(number), "")], ""])
+    for kind, name, texts, values in bus_rows(rows):
+        at = [number for number, bits in enumerate(values, 1)
+              if any(is_wrong(*pair) for pair in zip(*bits))]
+        told = [f"{text}" for own, text in named if own == kind and text in texts]
+        note = "wrong" + (f" at {', '.join(map(str, at))}" if len(rows) > 1 else "") if at else ""
+        if told:
+            note += "  (named by the report" + (f": {told[0]})" if len(texts) > 1 else ")")
+        if at or told or not wrong_only:
+            table.append([f"{kind} {name}", *[hexadecimal(side) if len(texts) > 1 else side
+                                              for bits in values for side in bits], note])
+    widths = [max(len(word) for word in column) for column in zip(*table)]
+    for line in table:
+        print("  ".join(word.ljust(width) for word, width in zip(line, widths)).rstrip())
 
 
 def command():
     words = parse_words()
     output = Output(words.vcd, [words.report, words.specification, words.implementation])
-    check, wrong, vector = chosen(words.report, words.vector)
+    found = chosen(words.report, words.vector)
     spec = Side("spec", words.specification, words.top_spec)
     impl = Side("impl", words.implementation, words.top_impl)
-    check_names(vector, spec, impl)
+    for _, (_, _, vector) in found:
+        check_names(vector, spec, impl)
     for tool in ("iverilog", "vvp"):
         if not shutil.which(tool):
             raise Fault(f"{tool} is not installed (Debian: apt-get install iverilog)")
     with tempfile.TemporaryDirectory(prefix="wave") as folder:
         if words.testbench:
             os.makedirs(words.testbench, exist_ok=True)
-        lines, waves = simulate(words.testbench or folder, spec, impl, vector,
-                                os.path.join(folder, "wave.vcd"))
-    rows = compared(lines, wrong)
+        blocks, waves = simulate(words.testbench or folder, spec, impl,
+                                 [vector for _, (_, _, vector) in found],
+                                 os.path.join(folder, "wave.vcd"))
+    rows = [compared(lines, check, wrong) for lines, (_, (check, wrong, _)) in zip(blocks, found)]
     output.write(waves)
-    print(f"{words.vcd} has the vector that the check {check} shows, from time 10 on.")
-    show(rows, wrong, vector)
+    tell_vectors(words.vcd, found)
+    show(rows, [wrong for _, (_, wrong, _) in found if wrong], words.wrong_only)
+
+
+def tell_vectors(path, found):
+    """Which vectors there are, and from which time on."""
+    for place, (number, (check, _, vector)) in enumerate(found):
+        source = f"that the check {check} shows" if check else f"{number} of the report"
+        print(f"{path} has the vector {source}, from time {10 + 20 * place} on.")
+        print(f"input {shown(vector, NARROW)}")
 
 
 def main():

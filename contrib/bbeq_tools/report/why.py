@@ -1,26 +1,29 @@
-"""Finds outputs and next states that no contents of the boxes make right together, and of which
-none can be left out.
+"""Shows why no contents of the boxes are right: vectors at which boxes see the same and have to
+answer differently.
 
 Where `input` or `expand` finds a mistake, the report shows no vector: at each vector some contents
-would do, and no contents suit all. This script leaves outputs out as long as the verdict stays
-`error`, and tells what is left and the boxes that it sees. Both texts have their registers in the
-top, as those of `gates` have."""
-import os
-import subprocess
+would do, and no contents suit all. This script takes the vectors of a report with `--proof`, or has
+the program find some, and leaves out vectors, outputs and differences as long as the verdict stays
+`error`; so none of what it shows can be left out. For each vector it says what the boxes see and
+must give, and at last which inputs and registers would tell the vectors apart. Both texts have
+their registers in the top, as those of `gates` have."""
 import tempfile
 
-from bbeq_tools.cli import Fault, Words, run_script
+from bbeq_tools.cli import Fault, Output, Words, run_script
 from bbeq_tools.program import find_program
-from bbeq_tools.report.cut import Cut
-from bbeq_tools.report.reports import read_report, verdict
-from bbeq_tools.verilog.fan_in import FanIn
-from bbeq_tools.verilog.language import bit_text, read_modules, top_of
+from bbeq_tools.report.alike import boxes_seen, sight, telling, told_answers
+from bbeq_tools.report.buses import shown
+from bbeq_tools.report.least import least
+from bbeq_tools.report.reports import read_report, vectors as shown_vectors, verdict
+from bbeq_tools.report.restricted import Restricted
+
+MOST_NAMED = 8
 
 
 def parse_words():
     parser = Words(prog="why", description=__doc__.split("\n\n")[0],
                    epilog="The program is $BBEQ, or bbeq on the PATH, or the one that was built in "
-                   "this repository. Words of bbeq behind `--` are handed to it.")
+                   "this repository. Words of bbeq after `--` are handed to it.")
     parser.add_argument("report", metavar="REPORT",
                         help="a file with what bbeq printed; - is standard input")
     parser.add_argument("specification", metavar="SPEC", help="the specification that bbeq read")
@@ -29,120 +32,125 @@ def parse_words():
     parser.add_argument("--top-impl", help="the top module, as for bbeq")
     parser.add_argument("--care", metavar="NAME",
                         help="the output that says where the two have to agree, as for bbeq")
-    parser.add_argument("--runs", action="store_true", help="tell each run: how many outputs it "
+    parser.add_argument("-o", "--output", metavar="FILE",
+                        help="write the vectors there, as a report that `wave` shows")
+    parser.add_argument("--runs", action="store_true", help="print each run: how many outputs it "
                         "had, its verdict, its words, and the outputs")
     words, others = parser.parse_known_args()
     words.others = [word for word in others if word != "--"]
     return words
 
 
-class Runs:
-    """Runs of the program on the two texts with some outputs left out."""
+def vectors_in(lines, names):
+    """The vectors of a report, from its proof or from its lines `input`."""
+    found = [line.split(" ")[1] for line in lines if line.startswith("vector ")]
+    if any(len(bits) != len(names) for bits in found):
+        raise Fault("the report is of other texts: its vectors have another length")
+    if found:
+        return [dict(zip(names, bits)) for bits in found]
+    inputs = [bits for _, _, bits in shown_vectors(lines)]
+    return [{name: bits[name[1]] for name in names} for bits in inputs
+            if all(name[1] in bits for name in names)]
 
-    def __init__(self, words, folder, program):
-        self.words, self.folder, self.program, self.opened = words, folder, program, 0
-        self.sides, self.modules, self.tops, self.care = ([], [], [], {("output", words.care)}
-                                                          if words.care else set())
-        for path, name in ((words.specification, words.top_spec),
-                           (words.implementation, words.top_impl)):
-            text, modules = read_modules(path)
-            top = top_of(path, modules, name)
-            self.sides.append(Cut(path, text, modules, top))
-            self.modules.append(modules)
-            self.tops.append(top)
 
-    def all(self):
-        spec, implementation = ({*(("output", bit_text(*bit)) for bit in side.outputs),
-                                 *(("next", bit_text(*bit)) for bit in side.registers)}
-                                for side in self.sides)
-        if spec - self.care != implementation or not self.care <= spec:
-            raise Fault("the two texts have other outputs or registers; bbeq tells the "
-                        "first that differs")
-        # The output of a register is the register, which is one in both.
-        registers = {text for kind, text in implementation if kind == "next"}
-        return sorted(item
-                      for item in implementation if item[0] == "next" or item[1] not in registers)
+class Explained:
+    """Outputs and vectors of which none can be left out."""
 
-    def verdict(self, kept):
-        paths = []
-        for name, side in zip(("spec.v", "impl.v"), self.sides):
-            paths.append(os.path.join(self.folder, name))
-            with open(paths[-1], "w", encoding="latin-1") as file:
-                file.write(side.with_outputs({*kept, *self.care} if side is self.sides[0]
-                                             else set(kept)))
-        tops = ["--top-spec", self.tops[0].name, "--top-impl", self.tops[1].name,
-                *[f"--care={name}" for _, name in self.care]]
-        done = subprocess.run([self.program, *tops, *self.words.others, *paths],
-                              capture_output=True, text=True, errors="replace", check=False)
-        found = done.stdout.splitlines()[-1:] or [f"status {done.returncode}"]
-        if not found[0].startswith("verdict "):
-            raise Fault(f"bbeq says `{found[0]}` of the texts with {len(kept)} outputs")
-        self.opened += found[0] == "verdict open"
-        if self.words.runs:
-            names = ", ".join(f"{kind} {text}" for kind, text in kept)
-            print(f"{len(kept)} outputs: {found[0]}; bbeq "
-                  f"{' '.join([*tops, *self.words.others])}; {names}", flush=True)
-        return found[0].split()[1]
+    def __init__(self, runs, lines):
+        self.runs, self.kept = runs, runs.all()
+        self.vectors = vectors_in(lines, runs.names)
+        if not self.vectors:
+            self.vectors = vectors_in(runs.whole("--from=expand", "--proof"), runs.names)
+        if self.vectors and self.is_wrong(self.kept, self.vectors):
+            self.leave_out()
+        else:
+            self.vectors = []
+            self.by_outputs()
 
-    def least(self, kept):
-        """Leaves out parts of the outputs, ever smaller ones, as long as the verdict stays."""
-        size = len(kept)
-        while size:
-            size = (size + 1) // 2 if size > 1 else 0
-            place = 0
-            while size and place < len(kept):
-                rest = kept[:place] + kept[place + size:]
-                if rest and self.verdict(rest) == "error":
-                    kept = rest
-                else:
-                    place += size
-            if size == 1:
-                break
-        return kept
+    def is_wrong(self, kept, vectors=None):
+        return self.runs.verdict(kept, vectors) == "error"
 
-    def boxes(self, kept):
-        """The boxes of the implementation that these outputs see."""
-        top, modules = self.tops[1], self.modules[1]
-        fan_in = FanIn(modules, top)
-        stack = [("", *bit) for bit in self.sides[1].outputs if ("output", bit_text(*bit)) in kept]
-        for register in top.registers:
-            bits = top.left_bits(register.left)
-            width = max(len(bits), fan_in.width(top, register.value))
-            for bit, read in zip(bits,
-                                 fan_in.value(top, "", register.value, width)[width - len(bits):]):
-                if ("next", bit_text(*bit)) in kept:
-                    stack += read
-        seen = set()
-        while stack:
-            bit = stack.pop()
-            if bit not in seen:
-                seen.add(bit)
-                stack += fan_in.sources.get(bit, ())
-        return [instance.name for instance in top.instances
-                if any(scope == f"{instance.name}." for scope, _, _ in seen)]
+    def by_outputs(self):
+        """Where no vectors are known: outputs are left out, and then `expand` may find some."""
+        if not self.is_wrong(self.kept):
+            raise Fault("the verdict is no error of these texts; the report is of others, or "
+                        "of other words")
+        self.kept = least(self.kept, self.is_wrong)
+
+    def leave_out(self):
+        self.vectors = least(self.vectors, lambda left: self.is_wrong(self.kept, left))
+        self.kept = least(self.kept, lambda left: self.is_wrong(left, self.vectors))
+        self.vectors = least(self.vectors, lambda left: self.is_wrong(self.kept, left))
+        for at in range(1, len(self.vectors)):
+            self.draw_near(at)
+
+    def draw_near(self, at):
+        """Makes a vector as like the first as it can be."""
+        first, own = self.vectors[0], self.vectors[at]
+
+        def with_own(names):
+            return [*self.vectors[:at], first | {name: own[name] for name in names},
+                    *self.vectors[at + 1:]]
+
+        apart = least([name for name in own if own[name] != first[name]],
+                      lambda names: self.is_wrong(self.kept, with_own(names)))
+        self.vectors = with_own(apart)
+
+
+def told_name(name):
+    kind, text = name
+    return f"{kind} {text}"
+
+
+def tell(explained):
+    runs, kept, found = explained.runs, explained.kept, explained.vectors
+    for name in kept:
+        print(told_name(name))
+    boxes = boxes_seen(runs.designs[1], kept, found or [{name: "0" for name in runs.names}])
+    print(f"boxes {' '.join(box.path for box in boxes)}" if boxes else "no box is seen")
+    sights = [sight(*runs.designs, boxes, kept, vector) for vector in found]
+    for number, (vector, seen) in enumerate(zip(found, sights), 1):
+        print(f"vector {number}: {shown({text: bit for (_, text), bit in vector.items()})}")
+        for path, row in seen.rows.items():
+            print(f"  {path} sees {shown(row) or 'nothing'}")
+        answer = told_answers(boxes, seen.right)
+        if answer and boxes:
+            forced = ", ".join(map(told_name, seen.forced))
+            print(f"  {answer}" + (f", for {forced}" if forced else ""))
+    for path, names in telling(boxes, sights, found):
+        listed = ", ".join(text for _, text in names[:MOST_NAMED])
+        print(f"give {path} a pin on {' or '.join(listed.rsplit(', ', 1))}"
+              + (" or .." if len(names) > MOST_NAMED else "")
+              + ", which is different at vectors at which it sees the same")
+    if not found:
+        print("`expand` finds no vectors within its clauses; --clauses after `--` gives it more")
+
+
+def as_report(found):
+    lines = [" ".join(["input", *(f"{text}={bit}" for (_, text), bit in vector.items())])
+             for vector in found]
+    return "".join(f"{line}\n" for line in [*lines, "verdict error"])
 
 
 def command():
     words = parse_words()
-    found = verdict(read_report(words.report))
-    if found != "error":
-        raise Fault(f"{words.report}: the verdict is {found}, so there is no error to explain")
+    output = Output(words.output, [words.report, words.specification,
+                                   words.implementation]) if words.output else None
+    lines = read_report(words.report)
+    if verdict(lines) != "error":
+        raise Fault(f"{words.report}: the verdict is {verdict(lines)}, so there is no error to "
+                    "explain")
     program = find_program()
     if not program:
         raise Fault("bbeq is not there; run ./bbeq once, or set BBEQ")
     with tempfile.TemporaryDirectory(prefix="why") as folder:
-        runs = Runs(words, folder, program)
-        kept = runs.all()
-        if runs.verdict(kept) != "error":
-            raise Fault("the verdict is no error of these texts; the report is of others, or "
-                        "of other words")
-        kept = runs.least(kept)
-        for kind, text in kept:
-            print(f"{kind} {text}")
-        boxes = runs.boxes(set(kept))
-        print(f"boxes {' '.join(boxes)}" if boxes else "no box is seen")
-        if runs.opened:
-            print(f"{runs.opened} runs were open, so that perhaps more could be left out")
+        runs = Restricted(words, folder, program)
+        explained = Explained(runs, lines)
+        tell(explained)
+    if runs.opened:
+        print(f"{runs.opened} runs were open, so that perhaps more could be left out")
+    if output:
+        output.write(as_report(explained.vectors))
 
 
 def main():

@@ -19,8 +19,8 @@ def value_of(words, option, without):
     return without
 
 
-def with_value(words, option, value):
-    """The words with another value of an option."""
+def without(words, option):
+    """The words without an option that has a value."""
     kept, passed = [], False
     for word in words:
         if passed:
@@ -29,7 +29,12 @@ def with_value(words, option, value):
             passed = True
         elif not word.startswith(f"--{option}="):
             kept.append(word)
-    return (*kept, f"--{option}={value}")
+    return kept
+
+
+def with_value(words, option, value):
+    """The words with another value of an option."""
+    return (*without(words, option), f"--{option}={value}")
 
 
 def budgets(first, most, factor=4):
