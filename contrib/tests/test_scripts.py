@@ -3,6 +3,7 @@ import os
 import re
 import sys
 
+from bbeq_tools.report.filler import STYLES
 from tests.tries import (BBEQ, DESIGNS, SMALL_PROOF, Tries, bbeq, designs_in, example, is_told,
                          read, run, script, write)
 
@@ -96,7 +97,7 @@ class Fill(Tries):
 
     def test_fill(self):
         for name, report, implementation, spec in list(repairs(self.folder)):
-            for style in ("case", "casez", "assign"):
+            for style in STYLES:
                 right, done = repaired(report, implementation, spec, self.folder, "--style", style)
                 self.note(f"fill --style {style}: {name}", right, done.why())
         report, spec = write(self.folder, "shared", SHARED_REPORT), write(self.folder, "ss.v",
@@ -117,8 +118,8 @@ class Fill(Tries):
                   == [0, 0] and done[1].out != done[2].out, done[0].why())
         done = run([script("fill"), "--style", "casez", "--only",
                     write(self.folder, "joined", JOINED_REPORT), write(self.folder, "j.v", JOINED)])
-        self.note("fill --style casez joins rows", done.status == 0 and done.out.count("3'b") == 3
-                  and "3'b1??: o = 2'b01;" in done.out, done.why())
+        self.note("fill --style casez joins rows", done.status == 0 and done.out.count("3'b") == 2
+                  and "default: contents = 2'b01;" in done.out, done.why())
         rtl = write(self.folder, "rtl.v", "module bx #(parameter W = 3 /* pins */)(input [W-1:0] "
                     "i, output [1:0] o); endmodule\n")
         done = run([script("fill"), "--only", "--rtl", rtl, os.path.join(self.folder, "joined"),
@@ -220,7 +221,7 @@ class Order(Tries):
         for name, text in (("an adder of 8 bits", ripple(8)), ("a sum of two words", SUM)):
             spec = write(self.folder, "adder.v", text)
             done = run([script("order"), spec, "-o", ordered])
-            counts = re.search(r"(\d+) beads in the old order, (\d+) in the new one", done.err)
+            counts = re.search(r"(\d+) nodes in the old order, (\d+) in the new one", done.err)
             fell = counts and 4 * int(counts.group(2)) < int(counts.group(1))
             self.note(f"order: {name}; {done.err.strip()}", done.status == 0 and fell, done.why())
             done = bbeq(ordered, spec, "--to", "output")

@@ -66,7 +66,8 @@ def turn(folder, source, words, asked):
              for source, made in ((part, spec), (hole, implementation))]
     steps.append(bbeq(spec, implementation, *asked))
     report = write(folder, "report", steps[2].out)
-    steps.append(run([script("fill"), report, implementation, "-o", filled]))
+    steps.append(run([script("fill"), "--style", "case", report, implementation, "-o",
+                      filled]))
     only = ["--only", "--style", "casez", "--rtl", hole, "--spec", spec]
     steps.append(run([script("fill"), *only, report, implementation, "-o", modules]))
     return steps, [design, part], [filled], [design, modules]

@@ -6,6 +6,7 @@ import unittest
 from bbeq_tools.cli import Fault
 from bbeq_tools.report import lrat
 from bbeq_tools.report.contents import assign_lines, case_lines, casez_lines, cubes, tree
+from bbeq_tools.report.sums import expression
 from bbeq_tools.report.drat import proof_lines, resolve
 from bbeq_tools.report.reports import (OTHER, other_texts, read_filled, read_report, tables,
                                        vectors, verdict)
@@ -80,18 +81,20 @@ class Contents(unittest.TestCase):
 
     def test_case(self):
         self.assertEqual(list(case_lines(BOX, ["0001", "0110"])), [
-            "  always @*", "    case (a)", "      2'b00: {y, z} = 2'b00;",
-            "      2'b01: {y, z} = 2'b01;", "      2'b10: {y, z} = 2'b01;",
-            "      2'b11: {y, z} = 2'b10;", "    endcase"])
+            "  function [1:0] contents;", "    input [1:0] pins;", "    begin",
+            "      contents = 2'bxx;", "      case (pins)", "        2'b00: contents = 2'b00;",
+            "        2'b01: contents = 2'b01;", "        2'b10: contents = 2'b01;",
+            "        2'b11: contents = 2'b10;", "      endcase", "    end", "  endfunction",
+            "  assign {y, z} = contents(a);"])
 
     def test_default(self):
         lines = list(case_lines(BOX, ["0-01", "0-10"]))
-        self.assertIn("      default: {y, z} = 2'b00;", lines)
+        self.assertIn("        default: contents = 2'b00;", lines)
         self.assertFalse(any("2'b01:" in line for line in lines))
 
     def test_casez(self):
-        self.assertEqual(list(casez_lines(BOX, ["0001", "0001"]))[2:-1],
-                         ["      2'b0?, 2'b10: {y, z} = 2'b00;", "      2'b11: {y, z} = 2'b11;"])
+        self.assertEqual(list(casez_lines(BOX, ["0001", "0001"]))[5:-4],
+                         ["        2'b11: contents = 2'b11;", "        default: contents = 2'b00;"])
 
     def test_cubes(self):
         """Each row is in one cube, and has its outputs."""
@@ -105,6 +108,17 @@ class Contents(unittest.TestCase):
     def test_assign(self):
         self.assertEqual(list(assign_lines(BOX, ["0001", "0110"])),
                          ["  assign y = a[1] ? a[0] : 1'b0;", "  assign z = a[1] ? ~a[0] : a[0];"])
+
+    def test_sums(self):
+        for names, bits, text in (("ab", "0001", "a & b"), ("ab", "1110", "~a | ~b"),
+                                  ("ab", "0110", "a ^ b"), ("ab", "1001", "a ^ ~b"),
+                                  ("abc", "01101001", "a ^ b ^ c"), ("abc", "00110101",
+                                                                    "a ? c : b"),
+                                  ("abc", "0---1---", "a"), ("ab", "1111", "1'b1"),
+                                  ("ab", "0-0-", "1'b0"), ("abc", "00010111",
+                                                           "a ? (b | c) : (b & c)"),
+                                  ("abcd", "0001000100011111", "(a & b) | (c & d)")):
+            self.assertEqual(expression(list(names), bits), text)
 
     def test_tree(self):
         for bits, text in (("0000", "1'b0"), ("1111", "1'b1"), ("0011", "a"), ("1010", "~b"),

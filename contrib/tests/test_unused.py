@@ -5,6 +5,7 @@ import re
 
 from bbeq_tools.developing.drawn import drawn_pair
 from bbeq_tools.reference.truths import by_rows, chosen_row, lists
+from bbeq_tools.report.filler import STYLES
 from bbeq_tools.report.reports import tables
 from tests.test_reports import pair_in
 from tests.tries import Tries, bbeq, is_told, read, run, script, write
@@ -82,7 +83,7 @@ def drawn_tries(tally, folder):
                         for name, text in zip(("spec.v", "impl.v"), texts))).out
         rows = rows_that_come(texts, report)
         if rows is not None:
-            text, done = filled(folder, texts, report=report)
+            text, done = filled(folder, texts, "--style", "case", report=report)
             joined, tried = joined + text.count("default"), tried + 1
             tally.note(f"fill --spec: drawn pair {seed - 1} has the rows that come",
                        re.findall(r" \d'b([01]+): ", text) == rows, done.why())
@@ -102,7 +103,7 @@ class Unused(Tries):
                                             ("a box below the top", DEEP, 8, 0),
                                             ("directions in the header", FLAT, 4, 1),
                                             ("a row that comes once", RARE, 4, 1)):
-            for style in ("case", "casez", "assign"):
+            for style in STYLES:
                 text, done = filled(self.folder, texts, "--style", style)
                 right = done.status == 0 and agrees(self.folder, ["--top", "t"])
                 self.note(f"fill --spec --style {style}: {name}, agrees", right, done.why())
@@ -110,11 +111,11 @@ class Unused(Tries):
                 if style == "case" and rows is not None:
                     self.note(f"fill --spec: {name}: {found[0]} rows, {found[1]} default",
                               found == (rows, defaults), text)
-        text, done = filled(self.folder, TWICE, report=SAME)
+        text, done = filled(self.folder, TWICE, "--style", "case", report=SAME)
         right = text.count("module bx") == 1 and "default" not in text
         self.note("fill --spec: one module for two boxes has the rows that either needs", right,
                   text)
-        text, done = filled(self.folder, BEHIND)
+        text, done = filled(self.folder, BEHIND, "--style", "case")
         self.note("fill --spec: rows that another box keeps away", "default" in text, text)
         told = run([script("fill"), os.path.join(self.folder, "report"),
                     os.path.join(self.folder, "impl.v"), "--spec", "nowhere.v"])

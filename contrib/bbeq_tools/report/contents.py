@@ -1,8 +1,10 @@
-"""The contents of a box as text: as a case statement with a line for each row or for rows that are
-joined, or as assignments. Where no vector brings a row to the pins, `-` stands for the bits of its
-outputs."""
-from typing import Dict, Iterable, Iterator, List, Sequence, Tuple
+"""The contents of a box as text: as short expressions, as a case statement with a line for each row
+or for rows that are joined, or as trees of choices. All are continuous assignments, which have
+their values from time 0 on: `always @*` waits for a pin to change. Where no vector brings a row to
+the pins, `-` stands for the bits of its outputs."""
+from typing import Callable, Dict, Iterable, Iterator, List, Optional, Sequence, Tuple
 
+from bbeq_tools.report.sums import MOST_PINS, expression
 from bbeq_tools.verilog.language import Module, Net, bit_text, written
 
 Contents = Sequence[str]  # The bits of each output pin, row by row.
@@ -22,19 +24,25 @@ def case_lines(module: Module, contents: Contents) -> Iterator[str]:
     """A row of the table a line: the inputs, the first pin most significant, and the outputs in the
     same order."""
     pins, rows = len(module.pins("input")), rows_of(module, contents)
-    yield from framed("case", module, [([f"{row:0{pins}b}"], bits)
-                                       for row, bits in enumerate(rows) if "-" not in bits], rows)
+    lines = [([f"{row:0{pins}b}"], bits) for row, bits in enumerate(rows) if "-" not in bits]
+    default = "0" * len(rows[0]) if any("-" in bits for bits in rows) else None
+    yield from framed("case", module, lines, default,
+                      default and "No vector brings another row to the pins.")
 
 
 def casez_lines(module: Module, contents: Contents) -> Iterator[str]:
     """As `case_lines`, with rows of equal outputs joined: `?` is a pin that may be either, and
-    several stand before one colon."""
+    several stand before one colon. The outputs that most lines have are the default."""
     rows = rows_of(module, contents)
     groups: Dict[str, List[str]] = {}
     for cube, bits in cubes(len(module.pins("input")), rows):
         groups.setdefault(bits, []).append(cube)
-    yield from framed("casez", module, [(cubes_of, bits) for bits, cubes_of in groups.items()],
-                      rows)
+    default = max(groups, default="0" * len(rows[0]),
+                  key=lambda bits: (len(groups[bits]), sum(2 ** cube.count("?")
+                                                           for cube in groups[bits])))
+    never = "Some of these rows come at no vector." if any("-" in bits for bits in rows) else None
+    yield from framed("casez", module, [(listed, bits) for bits, listed in groups.items()
+                                        if bits != default], default, never)
 
 
 def rows_of(module: Module, contents: Contents) -> List[str]:
@@ -44,27 +52,37 @@ def rows_of(module: Module, contents: Contents) -> List[str]:
 
 
 def framed(word: str, module: Module, lines: Iterable[Tuple[List[str], str]],
-           rows: List[str]) -> Iterator[str]:
-    """The statement with a line for each of these lists of inputs and their outputs."""
-    pins, outputs = len(module.pins("input")), joined(ports_of(module, "output"))
-    yield "  always @*"
-    yield f"    {word} ({joined(ports_of(module, 'input'))})"
+           default: Optional[str], note: Optional[str]) -> Iterator[str]:
+    """A function with a line for each of these lists of inputs and their outputs, and its call."""
+    pins, outs = len(module.pins("input")), len(module.pins("output"))
+    name = "contents"
+    while name in module.nets:
+        name += "_"
+    yield f"  function {f'[{outs - 1}:0] ' if outs > 1 else ''}{name};"
+    yield f"    input {f'[{pins - 1}:0] ' if pins > 1 else ''}pins;"
+    yield "    begin"
+    yield f"      {name} = {outs}'b{'x' * outs};"
+    yield f"      {word} (pins)"
     for listed, bits in lines:
-        yield from wrapped([f"{pins}'b{row}" for row in listed],
-                           f": {outputs} = {len(bits)}'b{bits};")
-    if any("-" in bits for bits in rows):
-        yield "      // No vector brings another row to the pins."
-        yield f"      default: {outputs} = {len(rows[0])}'b{'0' * len(rows[0])};"
-    yield "    endcase"
+        yield from wrapped([f"{pins}'b{row}" for row in listed], f": {name} = {outs}'b{bits};")
+    if default is not None:
+        if note:
+            yield f"        // {note}"
+        yield f"        default: {name} = {outs}'b{default};"
+    yield "      endcase"
+    yield "    end"
+    yield "  endfunction"
+    yield (f"  assign {joined(ports_of(module, 'output'))} = "
+           f"{name}({joined(ports_of(module, 'input'))});")
 
 
 def wrapped(parts: List[str], end: str) -> Iterator[str]:
     """Parts with commas between them, as lines that are not too long."""
-    line = "      "
+    line = "        "
     for part in parts[:-1]:
         if len(line) + len(part) > WIDTH:
             yield line.rstrip()
-            line = "        "
+            line = "          "
         line += part + ", "
     yield line + parts[-1] + end
 
@@ -87,13 +105,24 @@ def cubes(width: int, rows: List[str]) -> List[Tuple[str, str]]:
     return sorted(found.items(), key=lambda cube: cube[0].replace("?", "0"))
 
 
+def sum_lines(module: Module, contents: Contents) -> Iterator[str]:
+    """A short expression for each output pin; of more than ten input pins a tree."""
+    if len(module.pins("input")) > MOST_PINS:
+        return assign_lines(module, contents)
+    return assigned(module, contents, expression)
+
+
 def assign_lines(module: Module, contents: Contents) -> Iterator[str]:
-    """An assignment for each output pin: a tree of conditions on the input pins, the first pin
-    outermost; `-` is 0."""
+    """A tree of conditions on the input pins for each output pin, the first pin outermost; `-` is
+    0."""
+    return assigned(module, contents, lambda names, bits: tree(names, bits.replace("-", "0")))
+
+
+def assigned(module: Module, contents: Contents,
+             made: Callable[[List[str], str], str]) -> Iterator[str]:
     names = [bit_text(written(net.name), index) for net, index in module.pins("input")]
     for (net, index), bits in zip(module.pins("output"), contents):
-        yield (f"  assign {bit_text(written(net.name), index)} = "
-               f"{tree(names, bits.replace('-', '0'))};")
+        yield f"  assign {bit_text(written(net.name), index)} = {made(names, bits)};"
 
 
 def tree(names: List[str], bits: str) -> str:

@@ -1,8 +1,8 @@
 """Writes an implementation with its boxes filled, from the tables of a report.
 
 A report that ends with `verdict repairable` has a table line for each output of each box. This
-script puts a module with these contents in the place of each empty module, as a case statement that
-a person can read or as assignments that bbeq can read. Where instances of one module have different
+script puts a module with these contents in the place of each empty module, as expressions or as a
+case statement. Where instances of one module have different
 contents, each content gets a module of its own, and so do the modules above it. With --shared a
 module has the same contents in all its instances, and is filled once. No proof speaks of what this
 script writes.
@@ -14,7 +14,7 @@ import re
 import sys
 
 from bbeq_tools.cli import Fault, Output, Words, run_script
-from bbeq_tools.report.filler import Filler
+from bbeq_tools.report.filler import STYLES, Filler
 from bbeq_tools.report.ports import around
 from bbeq_tools.report.reports import other_texts, read_filled, read_report, tables, verdict
 from bbeq_tools.report.unused import with_unused
@@ -30,9 +30,10 @@ def parse_words():
     parser.add_argument("-o", "--output", metavar="OUT",
                         help="where to write (otherwise standard output)")
     parser.add_argument("--top", help="the top module, as --top-impl of bbeq")
-    parser.add_argument("--style", choices=("case", "casez", "assign"),
-                        help="contents as case statements with a line a row (the default), or with "
-                        "rows of equal outputs joined, or as assignments, which bbeq reads")
+    parser.add_argument("--style", choices=tuple(STYLES),
+                        help="contents as short expressions (sums, the default), as a case "
+                        "statement with a line a row, or with rows of equal outputs joined "
+                        "(casez), or as trees of choices (assign); bbeq reads sums and assign")
     whose = parser.add_mutually_exclusive_group()
     whose.add_argument("--shared", action="store_true", help="the report is one with --shared: its "
                        "tables are those of modules, each of which is filled in its place")
@@ -57,7 +58,7 @@ def parse_words():
         parser.error("--flat stands with REPORT, --ports and its --top, and -o alone")
     if not words.flat and (words.implementation is None or words.ports):
         parser.error("--ports stands with --flat alone" if words.ports else "IMPL is missing")
-    words.style = words.style or "case"
+    words.style = words.style or "sums"
     return words
 
 

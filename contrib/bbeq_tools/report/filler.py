@@ -3,8 +3,10 @@ ones."""
 import re
 
 from bbeq_tools.cli import Fault
-from bbeq_tools.report.contents import assign_lines, case_lines, casez_lines
+from bbeq_tools.report.contents import assign_lines, case_lines, casez_lines, sum_lines
 from bbeq_tools.verilog.language import bit_text, tokens, written
+
+STYLES = {"sums": sum_lines, "case": case_lines, "casez": casez_lines, "assign": assign_lines}
 
 
 class Filler:
@@ -41,8 +43,11 @@ class Filler:
         rows = 2 ** len(module.pins("input"))
         lines = self.tables.get(self.key(module, path), [])
         if [pin for pin, _ in lines] != pins or any(len(bits) != rows for _, bits in lines):
-            other = ("its tables are those of modules, so give --shared" if not self.shared
-                     and module.name in self.tables else self.other)
+            other = self.other
+            if not self.shared and module.name in self.tables:
+                other = "its tables are those of modules, so give --shared"
+            elif self.shared and path in self.tables:
+                other = "its tables are those of boxes: leave --shared out, or give it to bbeq too"
             raise Fault(f"the report has no tables that fit box {path} of module "
                         f"{module.name}; {other}")
         return tuple(bits for _, bits in lines)
@@ -140,14 +145,12 @@ class Filler:
         same = 1 if self.shared else sum(1 for other in self.filled_keys
                                          if self.tables.get(other) == self.tables[key])
         whose = key if same == 1 else f"{key} and {same - 1} more"
-        kind = "reg " if self.style != "assign" and module.pins("input") else ""
         ports = [module.nets[port] for port in module.ports]
         lines = [f"// The contents of {whose}, as bbeq found them.",
                  f"module {written(name)}{self.parameters_of.get(module.name, '')}("
                  f"{', '.join(written(net.name) for net in ports)});"]
         for net in ports:
             bounds = f"[{net.range[0]}:{net.range[1]}] " if net.range else ""
-            lines.append(f"  {net.direction} "
-                         f"{kind if net.direction == 'output' else ''}{bounds}{written(net.name)};")
-        body = {"case": case_lines, "casez": casez_lines}[self.style] if kind else assign_lines
+            lines.append(f"  {net.direction} {bounds}{written(net.name)};")
+        body = STYLES[self.style] if module.pins("input") else assign_lines
         return "\n".join([*lines, *body(module, contents), "endmodule"])
