@@ -6,11 +6,19 @@ import os
 import signal
 import sys
 import tempfile
+import traceback
 from typing import Callable, Iterable, List, NoReturn, Optional, TextIO
+
+
+WRONG_WORDS, FAILED = 64, 125  # Statuses; 0 to 6 are the program's own.
 
 
 class Fault(Exception):
     """A text or a report that a script cannot work with; the message is one line."""
+
+
+class Misuse(Fault):
+    """Words that a script does not take."""
 
 
 def python_call(module: str) -> List[str]:
@@ -25,7 +33,7 @@ class Words(argparse.ArgumentParser):
 
     def error(self, message: str) -> NoReturn:
         print(f"{self.prog}: {message} ({self.prog} --help lists the words)", file=sys.stderr)
-        sys.exit(1)
+        sys.exit(WRONG_WORDS)
 
 
 class Closed:
@@ -39,8 +47,8 @@ class Closed:
 
 
 def run_script(name: str, main: Callable[[], None]) -> None:
-    """Runs a script; what it cannot work with is told on standard error, and the status is 1. Where
-    a person or a signal ends it, what it started is ended too, and the status is that of the
+    """Runs a script; what it cannot do is said on standard error, and the status is 125. Where a
+    person or a signal ends it, what it started is ended too, and the status is that of the
     signal."""
     sys.setrecursionlimit(20_000)  # The language nests to 200, each of which takes several calls.
     signal.signal(signal.SIGTERM, lambda number, _frame: sys.exit(128 + number))
@@ -59,13 +67,16 @@ def run_script(name: str, main: Callable[[], None]) -> None:
     except KeyboardInterrupt:
         end(128 + signal.SIGINT)
     except BrokenPipeError:
-        end(1)
+        end(FAILED)
     except (Fault, OSError) as fault:
         text = (f"{fault.filename or 'standard output'}: {fault.strerror}"
                 if isinstance(fault, OSError) else str(fault))
         for line in text.splitlines():
             print(f"{name}: {line}", file=sys.stderr)
-        end(1)
+        end(WRONG_WORDS if isinstance(fault, Misuse) else FAILED)
+    except Exception:  # pylint: disable=broad-except
+        traceback.print_exc()
+        end(FAILED)
 
 
 def write_bytes(text: bytes) -> None:

@@ -11,7 +11,7 @@ import resource
 import sys
 import time
 
-from bbeq_tools.cli import Words
+from bbeq_tools.cli import FAILED, Words
 from gate_tools.gate_log import lines_of, longest_chain, read_gate
 from gate_tools.kinds import EDITS, KINDS, PROOF, RUN, SEED, TESTS, by_work
 from gate_tools.processes import watched
@@ -69,7 +69,9 @@ def read(path):
     with open(path, encoding="utf-8", errors="replace") as file:
         gate = read_gate(file)
     if gate is None:
-        sys.exit(f"minutes: {path}: no times are in this log: `minutes --run LOG` writes them")
+        print(f"minutes: {path}: no times are in this log: `minutes --run LOG` writes them",
+              file=sys.stderr)
+        sys.exit(FAILED)
     return gate
 
 

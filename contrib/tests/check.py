@@ -12,7 +12,7 @@ import time
 import unittest
 from concurrent.futures import ThreadPoolExecutor
 
-from bbeq_tools.cli import Fault, Words, run_script
+from bbeq_tools.cli import WRONG_WORDS, Fault, Words, run_script
 from bbeq_tools.program import kind_of
 from tests.tries import BBEQ, HERE, WAS_TOLD, Tries
 
@@ -130,7 +130,7 @@ def parse_words(names):
     if unknown:
         print(f"check: there is no part {unknown[0]}; the parts are {', '.join(names)}",
               file=sys.stderr)
-        sys.exit(1)
+        sys.exit(WRONG_WORDS)
     return words
 
 

@@ -57,7 +57,7 @@ class Async(Tries):
             path, made = write(self.folder, "m.v", source), os.path.join(self.folder, "m_gates.v")
             done = run([script("gates"), path])
             self.note(f"gates names --async for {name}",
-                      done.status == 1 and "; --async keeps it" in done.err, done.why())
+                      done.status == 125 and "; --async keeps it" in done.err, done.why())
             done = run([script("gates"), "--async", path, "-o", made])
             self.note(f"gates --async takes {name}", done.status == 0 and ".stored" in read(made),
                       done.why())

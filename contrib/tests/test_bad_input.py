@@ -12,7 +12,7 @@ from tests.tries import (BBEQ, LIMIT, REFUSED, SMALL_PROOF, Tries, bbeq, example
 # bad
 
 SCRIPTS = ("gates", "fill", "wave", "order", "ladder", "names", "why", "drat", "lrat", "edits",
-           "evaluate", "made", "parts", "run", "minutes", "check")
+           "evaluate", "made", "parts", "run", "minutes", "solve", "check")
 
 
 class Bad(Tries):
@@ -38,11 +38,20 @@ class Bad(Tries):
             if name != "check":
                 for words in ([], ["--no-such-word", "a", "b"]):
                     done = run([script(name), *words])
-                    self.note(f"{name} {' '.join(words) or 'without words'}", is_told(done, name),
-                              done.why())
+                    self.note(f"{name} {' '.join(words) or 'without words'}",
+                              is_told(done, name) and done.status == 64, done.why())
             done = run([script(name), "--help"])
             self.note(f"{name} --help", done.status == 0 and len(done.out) > 100 and not done.err,
                       done.why())
+
+    def test_program(self):
+        """A $BBEQ that names no program is said, and no other is taken for it."""
+        env = {**os.environ, "BBEQ": os.path.join(self.folder, "nowhere")}
+        for name in ("ladder", "solve", "parts", "order"):
+            done = run([script(name), *self.sides, *["-o", "out"] * (name in ("parts", "order"))],
+                       self.folder, env=env)
+            self.note(f"{name} where $BBEQ is no program", is_told(done, name)
+                      and done.status == 125 and "$BBEQ is " in done.err, done.why())
 
     def test_reports(self):
         spec, implementation = self.sides
@@ -195,7 +204,7 @@ class Messages(Tries):
         done = run([script("gates"), os.path.basename(plain)], self.folder)
         told = ("m.sv:7: warning: BUSY is not declared, and is taken for a wire of one bit; a name "
                 "of a package is PACKAGE::BUSY\n")
-        self.note("gates warns of a name of a package", done.status == 1 and told in done.err,
+        self.note("gates warns of a name of a package", done.status == 125 and told in done.err,
                   done.why())
         boxed = (MODULE.format("part u(a, y);")
                  + "module part(input logic [1:0] a, output logic [3:0] y); endmodule\n")
@@ -274,7 +283,7 @@ def names_part(tally, folder):
         named(folder, name, BROKEN)
         done = run([script("gates"), name], folder)
         is_told_so = done.err.startswith("gates: ") and "folder" not in done.err
-        tally.note(f"gates tells of {shown[:40]}", done.status == 1 and is_told_so, done.why())
+        tally.note(f"gates tells of {shown[:40]}", done.status == 125 and is_told_so, done.why())
         os.remove(path)
 
 
@@ -304,7 +313,7 @@ def files_part(tally, folder):
     done = run([script("gates"), "--include", "nowhere", plain], folder)
     tally.note("gates: an --include that is not there", is_told(done, "gates"), done.why())
     done = run([script("gates"), "--define", "", plain], folder)
-    tally.note("gates: an empty --define", done.status == 1 and len(done.err.splitlines()) == 1,
+    tally.note("gates: an empty --define", done.status == 125 and len(done.err.splitlines()) == 1,
                done.why())
 
 
@@ -354,7 +363,7 @@ def outputs_part(tally, folder):
                    is_told(done, name) and is_aside, done.why())
         done = run([script(name), *words, to, "/dev/full"])
         is_named = done.err.startswith(f"{name}: /dev/full: ")
-        tally.note(f"{name} names the device that is full", done.status == 1 and is_named,
+        tally.note(f"{name} names the device that is full", done.status == 125 and is_named,
                    done.why())
         done = run([script(name), *words, to, out])
         beside = [left for left in os.listdir(folder) if left.endswith(".part")]
@@ -364,7 +373,7 @@ def outputs_part(tally, folder):
             done = run(["bash", "-c", '"$0" "$@" >&-', script(name), *words])
             told = f"{name}: standard output: it is closed\n"
             tally.note(f"{name} with a standard output that is closed",
-                       done.status == 1 and done.err == told, done.why())
+                       done.status == 125 and done.err == told, done.why())
     same = write(folder, "same.v", PLAIN)
     done = run([script("gates"), same, "-o", same])
     tally.note("gates writes over its source", done.status == 0 and "endmodule" in read(same),
@@ -372,7 +381,7 @@ def outputs_part(tally, folder):
     same = write(folder, "same.v", BROKEN)
     done = run([script("gates"), same, "-o", same])
     tally.note("gates keeps a source that it cannot read",
-               done.status == 1 and read(same) == BROKEN, done.why())
+               done.status == 125 and read(same) == BROKEN, done.why())
 
 
 def cut_part(tally, folder):
@@ -408,7 +417,7 @@ def cut_part(tally, folder):
 def failing_part(tally, _folder):
     done = run([script("order"), example("carry", "spec.v")],
                env={**os.environ, "BBEQ": "/bin/false"})
-    tally.note("order with a program that fails", done.status == 1
+    tally.note("order with a program that fails", done.status == 125
                and done.err.startswith("order: /bin/false ended with 1"), done.why())
 
 

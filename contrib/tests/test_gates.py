@@ -81,7 +81,7 @@ class Gates(Tries):
             lines = [line.removeprefix("gates: ") for line in done.err.splitlines()]
             told += lines
             self.note(f"gates refuses {os.path.basename(source)}: {lines[0] if lines else ''}",
-                      done.status == 1 and not done.out and lines
+                      done.status == 125 and not done.out and lines
                       and all(line in expected for line in lines), done.why())
         self.note("gates tells all that is expected of the refused designs",
                   sorted(told) == sorted(expected))
@@ -177,7 +177,7 @@ def yosys_tests(tally, folder):
         else:
             lines = done.err.splitlines()
             tally.note(f"gates refuses {os.path.basename(source)}: {lines[0] if lines else ''}",
-                       done.status == 1 and lines
+                       done.status == 125 and lines
                        and all(line.startswith("gates: ") for line in lines), done.why())
 
 
@@ -204,4 +204,4 @@ class Cells(Tries):
                 self.note(f"gates --top {top} {path}: read", right, answer.why())
             else:
                 self.note(f"gates --top {top} {path}: {wanted}",
-                          done.status == 1 and wanted in done.err, done.why())
+                          done.status == 125 and wanted in done.err, done.why())

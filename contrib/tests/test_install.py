@@ -86,13 +86,13 @@ def build_part(tally, folder):
     program, install = os.path.join(prefix, "bin", "bbeq"), os.path.join(top, "install")
     done = run([install, prefix], env={**env, "PATH": os.path.join(folder, "without")})
     tally.note("install without rt",
-               done.status == 1 and not os.path.exists(program) and "PATH" in done.err, done.why())
+               done.status == 125 and not os.path.exists(program) and "PATH" in done.err, done.why())
     done = run([install, "--unproved", prefix], env=env)
     tally.note("install --unproved PREFIX", done.status == 0 and done.out == program + "-unproved\n"
                and not os.path.exists(program), done.why())
     done = run([install, prefix], env={**env, "NOT_PROVED": "bb_net"})
     tally.note("install where a crate is not proved",
-               done.status == 1 and not os.path.exists(program) and "it does not hold\n" in done.err
+               done.status == 125 and not os.path.exists(program) and "it does not hold\n" in done.err
                and "bb_net is not proved" in done.err, done.why())
     done = run([install, prefix], env=env)
     tally.note("install proves what is not proved",

@@ -56,7 +56,7 @@ class Package(unittest.TestCase):
 LIBRARY = set("""
 argparse bbeq_tools bisect collections concurrent contextlib ctypes difflib errno fcntl functools gc
 hashlib itertools json math mmap os pathlib random re resource shlex shutil signal struct
-subprocess sys tempfile threading time typing
+subprocess sys tempfile threading time traceback typing
 """.split())
 
 

@@ -253,6 +253,9 @@ def engine_try(tally, folder):
                 for line in read(os.path.join(made, "kept", "log")).splitlines()[1:]}
         tally.note(f"run on the hosts {', '.join(sorted(used))}",
                    done.status == 0 and counts(done) == "0 kept, 4 run", done.why())
+    if not shutil.which("rsync"):
+        print("left  rsync is not installed, so nothing is sent to a host")
+        return
     both = write(folder, "both", ":\nnobody@127.0.0.1:1\n")
     shutil.rmtree(os.path.join(made, "kept"), ignore_errors=True)
     done = run([script("run"), made, "--hosts", both])
@@ -260,7 +263,7 @@ def engine_try(tally, folder):
                done.status == 0 and "127.0.0.1" in done.err, done.why())
     done = run([script("run"), made, "--hosts", write(folder, "none", "nobody@127.0.0.1:1\n"),
                 "--nodes", "999999"])
-    tally.note("no host can be reached", done.status == 1 and "no run gave an answer" in done.err
+    tally.note("no host can be reached", done.status == 125 and "no run gave an answer" in done.err
                and not done.out, done.why())
 
 
@@ -284,9 +287,17 @@ def words_try(tally, folder):
         done = run([script("run"), made, *words])
         tally.note(f"run {' '.join(words)}", is_told(done, "run") and words[0][:6] in done.err,
                    done.why())
-    own, done = bbeq("a", "b", "--no-such-word"), run([script("run"), made, "--no-such-word"])
-    tally.note("words that the program refuses", (done.status, done.out) == (own.status, own.out),
+    for words in (["--no-such-word"], ["--timout", "3"], ["--all=1"], ["--nodes"], ["3"]):
+        done = run([script("run"), made, *words])
+        tally.note(f"run refuses {' '.join(words)}", is_told(done, "run") and done.status == 64,
+                   done.why())
+    own, done = bbeq("a", "b", "--nodes", "x"), run([script("run"), made, "--nodes", "x"])
+    tally.note("values that the program refuses", (done.status, done.out) == (own.status, own.out),
                done.why())
+    listed = write(folder, "missing", f"{example('carry', 'spec.v')} nowhere.v\n")
+    done = run([script("run"), listed])
+    tally.note("run of a file that is not there", done.status == 7
+               and done.out.startswith("unread impl "), done.why())
     empty = os.path.join(folder, "empty")
     os.mkdir(empty)
     for shown, words in (("a folder without parts", [empty]), ("nothing there", ["nowhere"]),

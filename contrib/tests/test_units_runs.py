@@ -67,7 +67,7 @@ class Outputs(Place):
         told = io.StringIO()
         with contextlib.redirect_stderr(told), self.assertRaises(SystemExit) as ended:
             Words(prog="some").parse_args(["--other"])
-        self.assertEqual(ended.exception.code, 1)
+        self.assertEqual(ended.exception.code, 64)
         self.assertRegex(told.getvalue(), r"^some: .*--other \(some --help lists the words\)\n$")
 
     def test_call(self):

@@ -12,14 +12,17 @@ class Wrong(Exception):
     """What is wrong, as one line."""
 
 
-def fail(message):
+NOT_VERIFIED, WRONG_WORDS, UNREAD = 1, 64, 125  # Statuses.
+
+
+def fail(message, status):
     print(f"lrat: {message}", file=sys.stderr)
-    sys.exit(1)
+    sys.exit(status)
 
 
 def parse_words():
     parser = argparse.ArgumentParser(prog="lrat", description=__doc__.split("\n\n")[0])
-    parser.error = lambda message: fail(f"{message} (lrat --help lists the words)")
+    parser.error = lambda message: fail(f"{message} (lrat --help lists the words)", WRONG_WORDS)
     parser.add_argument("cnf", metavar="CNF", help="the formula, in DIMACS")
     parser.add_argument("proof", metavar="LRAT", help="the proof")
     return parser.parse_args()
@@ -101,7 +104,9 @@ def check(words):
 def main():
     try:
         check(parse_words())
-    except (Wrong, OSError, ValueError) as wrong:
-        text = f"{wrong.filename}: {wrong.strerror}" if isinstance(wrong, OSError) else wrong
-        text = "a file is no text of ASCII" if isinstance(wrong, UnicodeDecodeError) else text
-        fail(text)
+    except UnicodeDecodeError:
+        fail("a file is no text of ASCII", NOT_VERIFIED)
+    except OSError as error:
+        fail(f"{error.filename}: {error.strerror}", UNREAD)
+    except (Wrong, ValueError) as wrong:
+        fail(wrong, NOT_VERIFIED)

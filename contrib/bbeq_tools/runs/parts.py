@@ -60,7 +60,7 @@ def check_pair(words):
         if not done.stdout:
             raise Fault(f"bbeq ended with {done.returncode}")
         sys.stdout.flush()
-        sys.exit(done.returncode)
+        sys.exit(done.returncode if done.returncode >= 0 else 128 - done.returncode)
 
 
 def description(pair, parts, words):

@@ -28,3 +28,18 @@ def program_words(words, without=()):
              for option in VALUES if option not in without}
     return [f"--{option}={value}" for option, value in given.items()
             if value is not None] + [f"--{flag}" for flag in FLAGS if getattr(words, flag)]
+
+
+def unknown_word(words):
+    """The first word that is none of the program, among those that are options and their values."""
+    known = {*FLAGS, "all", "fill"}
+    valued = {*VALUES, "from", "to"}
+    left = iter(words)
+    for word in left:
+        option, is_joined, _ = word[2:].partition("=")
+        if not word.startswith("--") or option not in known | valued or (is_joined
+                                                                         and option in known):
+            return word
+        if option in valued and not is_joined and next(left, None) is None:
+            return f"{word} (without a value)"
+    return None

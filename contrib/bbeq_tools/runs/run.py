@@ -6,14 +6,16 @@ hash of the two texts, the words and the program, and is not made again while th
 a list has SPEC, IMPL and words of bbeq, quoted as in a shell, and behind a word `=` the verdict
 that is due, where one is; files are looked for from the list's folder."""
 import os
+import re
 import shlex
 import sys
 from fcntl import LOCK_SH
 
-from bbeq_tools.cli import Fault, Words, run_script
+from bbeq_tools.cli import Fault, Misuse, Words, run_script
 from bbeq_tools.runs.folders import SIDES, locked, read_parts
 from bbeq_tools.runs.joined import STATUSES, joined
 from bbeq_tools.runs.kept import Job
+from bbeq_tools.runs.program_words import unknown_word
 from bbeq_tools.runs.runs import CLIMB_SECONDS, Runs
 
 REFUSED = ("fill", "make", "rup", "proof")
@@ -53,10 +55,13 @@ def parse_words():
 
 
 def check_others(words):
-    """Words of bbeq whose reports cannot be joined."""
+    """Words of bbeq whose reports cannot be joined, and words that are none of bbeq."""
     for option in REFUSED:
         if any(word == f"--{option}" or word.startswith(f"--{option}=") for word in words):
-            raise Fault(f"--{option} is of a pair and not of its parts; give it to bbeq")
+            raise Misuse(f"--{option} is of a pair and not of its parts; give it to bbeq")
+    unknown = unknown_word(words)
+    if unknown:
+        raise Misuse(f"{unknown} is no word of `run` or of bbeq")
 
 
 def measured(answer):
@@ -119,7 +124,10 @@ def run_folder(words):
 def listed(path):
     """The pairs of a list: a job for each, and the verdict that is due or None."""
     with open(path, encoding="utf-8", errors="surrogateescape") as file:
-        lines = file.read().splitlines()
+        text = file.read()
+    if re.search(r"^\s*(end)?module\b", text, re.MULTILINE):
+        raise Fault(f"{path}: it is a netlist and no list of pairs; `solve SPEC IMPL` compares two")
+    lines = text.splitlines()
     found, folder = [], os.path.dirname(os.path.realpath(path))
     for number, line in enumerate(lines, 1):
         try:
@@ -147,16 +155,24 @@ def is_as_listed(answer, due):
     return answer is not None and answer.verdict == due
 
 
+def unread(job):
+    """What the program says of a file that cannot be read, or nothing."""
+    for side, path in zip(("spec", "impl"), job[1:3]):
+        if not os.path.isfile(path) or not os.access(path, os.R_OK):
+            return f"unread {side}"
+    return ""
+
+
 def run_list(words):
     """Runs the pairs of a list, and tells of each its verdict, seconds and memory."""
     pairs = listed(words.target)
     jobs = [job._replace(words=(*job.words, *words.others)) for job, _ in pairs]
     runs = Runs(words, words.kept or f"{words.target}.kept")
-    answers = runs.all([job for job in jobs if all(map(os.path.isfile, job[1:3]))])
+    answers = runs.all([job for job in jobs if not unread(job)])
     wrong = 0
     for (job, due), asked in zip(pairs, jobs):
         answer = answers.get(job.name)
-        columns = [answer.verdict if answer else "no answer",
+        columns = [answer.verdict if answer else unread(job) or "no answer",
                    *(measured(answer) if answer else ("", ""))]
         notes = [] if is_as_listed(answer, due) else [f"listed as {due}" if due else "no verdict"]
         wrong += bool(notes)
