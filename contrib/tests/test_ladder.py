@@ -89,8 +89,8 @@ class Names(Tries):
         done = run([script("names"), spec, other, "-o", renames])
         lines = done.out.splitlines()
         self.note("names tells all that differ, on both sides", len(lines) == 6
-                  and "spec input b (1): perhaps b_i (1)" in lines and "impl register fsm_state "
-                  "(2): perhaps state (2)" in [re.sub(r"\), .*", ")", line) for line in lines],
+                  and "spec input b (1 bit): perhaps b_i (1 bit)" in lines and "impl register fsm_state "
+                  "(2 bits): perhaps state (2 bits)" in [re.sub(r"\), .*", ")", line) for line in lines],
                   done.why())
         self.note("names writes the likeliest pairs", sorted(read(renames).splitlines())
                   == ["b_i b", "fsm_state state", "q_reg q"], read(renames))
@@ -100,6 +100,17 @@ class Names(Tries):
         done = run([script("names"), spec, wider])
         self.note("names tells of a state machine that was recoded", "2 bits in the specification "
                   "and 3 in the implementation; a state machine" in done.out, done.why())
+        boxed = write(self.folder, "boxed.v", "module m(clk, a, b, q, z); input clk, a, b; output q,"
+                      " z; bx state(clk, a, b, q, z); endmodule\nmodule bx(i, j, k, o, p); input i, "
+                      "j, k; output o, p; endmodule\n")
+        own = write(self.folder, "own.v", "module m(clk, a, b, q, z); input clk, a, b; output q, z; "
+                    "bx state(clk, a, b, q, z); endmodule\nmodule bx(i, j, k, o, p); input i, j, k;"
+                    " output o, p; reg r; always @(posedge i) r <= j; buf(o, r); buf(p, k); "
+                    "endmodule\n")
+        done = run([script("names"), own, boxed])
+        self.note("names tells of a register that would be in a box", done.out == "spec register "
+                  "state.r (1 bit): state is a box there, and registers stay outside boxes\n",
+                  done.why())
         done = run([script("names"), spec, spec])
         self.note("names where nothing differs", done.out
                   == "both have the same ports and registers, of the same widths\n", done.why())

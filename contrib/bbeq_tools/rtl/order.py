@@ -6,7 +6,7 @@ variables in bbeq's diagrams. This script orders them as a walk back from the ou
 states meets them, depth first, or leaves them as they are where it cannot see that this is better;
 `gates` does the same. A port with several bits is taken apart into ports of one bit where the order
 asks for it; these have the texts that bbeq pairs by, so the implementation stays as it is. With the
-program at hand it then says how many beads, that is, nodes, the check needs before and after."""
+program at hand it then says how many nodes the check needs before and after."""
 import os
 import subprocess
 import sys
@@ -33,7 +33,7 @@ def parse_words():
     parser.add_argument("--top-spec", help="the top module, as for bbeq")
     parser.add_argument("--top-impl", help="the top module, as for bbeq")
     parser.add_argument("--check", choices=("symbolic", "local", "output", "input"),
-                        default="local", help="the check whose beads are counted (default local)")
+                        default="local", help="the check whose nodes are counted (default local)")
     parser.add_argument("--care", metavar="NAME", help="the output that says where the two have to "
                         "agree, as for bbeq; with IMPL")
     parser.add_argument("--no-count", action="store_true", help="write the text alone")
@@ -125,7 +125,7 @@ def fits(command, nodes):
     return not any(line.startswith("rung ") and line.endswith(" nodes") for line in lines)
 
 
-def beads(program, specification, words):
+def nodes_needed(program, specification, words):
     """How many nodes the check needs, or None where these are more than `--most`. The program tells
     it exactly: it answers `nodes` where its budget is below this number, and nowhere else."""
     command = [program, specification, words.implementation or specification, "--from", words.check,
@@ -147,21 +147,21 @@ def beads(program, specification, words):
 
 
 def compare(program, text, words):
-    """A line on the beads before and after."""
+    """A line on the nodes before and after."""
     with tempfile.TemporaryDirectory(prefix="order") as folder:
         new = os.path.join(folder, "ordered.v")
         with open(new, "w", encoding="latin-1") as file:
             file.write(text)
-        before = beads(program, words.specification, words)
-        after = beads(program, new, words)
+        before = nodes_needed(program, words.specification, words)
+        after = nodes_needed(program, new, words)
     if after is None:
-        return (f"more than {words.most} beads in the new order"
+        return (f"more than {words.most} nodes in the new order"
                 + ("" if before is None else f", {before} in the old one"))
     if before is None:
-        return f"{after} beads in the new order, more than {words.most} in the old one"
+        return f"{after} nodes in the new order, more than {words.most} in the old one"
     if after > before:
-        return f"{before} beads in the old order, {after} in the new one: stay with the old one"
-    return (f"{before} beads in the old order, {after} in the new one "
+        return f"{before} nodes in the old order, {after} in the new one: stay with the old one"
+    return (f"{before} nodes in the old order, {after} in the new one "
             f"({100 * (before - after) // max(before, 1)} % fewer)")
 
 
@@ -175,6 +175,11 @@ def command():
            for instance in module.instances):
         raise Fault(f"{words.specification}: {top.name} is instantiated, so its ports stay "
                     "in their order")
+    boxes = [instance.module for module in modules.values() for instance in module.instances
+             if instance.module in modules and modules[instance.module].is_box()]
+    if boxes:
+        raise Fault(f"{words.specification}: {boxes[0]} is an empty module, and a specification has "
+                    "none; the order of an implementation counts for nothing")
     if not top.pins("input"):
         raise Fault(f"{words.specification}: {top.name} has no inputs, so there is "
                     "nothing to order")
@@ -184,7 +189,7 @@ def command():
     if not words.no_count:
         program = find_program()
         told = compare(program, ordered,
-                       words) if program else "bbeq is not there, so no beads are counted"
+                       words) if program else "bbeq is not there, so no nodes are counted"
         print(f"order: {told}", file=sys.stderr)
 
 

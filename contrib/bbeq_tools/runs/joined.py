@@ -11,6 +11,7 @@ HERE = os.path.dirname(os.path.realpath(__file__))
 # ./install puts the page beside this module; a checkout has it in docs.
 DOCUMENTS = (os.path.join(HERE, "REPORT.md"),
              os.path.join(HERE, "..", "..", "..", "docs", "REPORT.md"))
+INPUT_NODES = "rung input nodes"  # More of these may decide, whatever `expand` says.
 PRINTED = 2  # A status: the program refused its words.
 
 
@@ -29,7 +30,7 @@ def joined(pair, answers):
     left = [(number, answer)
             for number, answer in enumerate(answers, 1) if not (answer and answer.is_decided)]
     if left or unread is None:
-        return head + open_lines(left) + too_wide(unread) + ["verdict open"], STATUSES["open"]
+        return head + open_lines(pair, left) + too_wide(unread) + ["verdict open"], STATUSES["open"]
     return head + table_lines(pair, answers,
                               unread) + ["verdict repairable"], STATUSES["repairable"]
 
@@ -84,14 +85,18 @@ def last_rung(answer):
                 None)
 
 
-def open_lines(left):
+def open_lines(pair, left):
     """The parts that are open, each with its last check, and what the document says of these."""
     lines, rungs = [], []
     for number, answer in left:
         rung = last_rung(answer) if answer and answer.verdict == "open" else None
         lines.append(f"part {number} {rung or (answer.verdict if answer else 'no answer')}")
-        rungs += [rung] if rung else []
-    return lines + [f"try {advice}" for rung in dict.fromkeys(rungs) for advice in advice_on(rung)]
+        rungs += [line for line in answer.report.splitlines() if line == INPUT_NODES
+                  or line == rung] if rung else []
+    modules = [box["module"] for box in pair["boxes"]]
+    can_share = len(set(modules)) < len(modules)
+    return lines + [f"try {advice}" for rung in dict.fromkeys(rungs) for advice in advice_on(rung)
+                    if can_share or "`--shared`" not in advice]
 
 
 def advice_on(rung):

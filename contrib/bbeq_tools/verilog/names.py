@@ -46,7 +46,7 @@ class Names:
         self.bits, self.owner = {kind: {} for kind in KINDS}, {}
         for net in [self.top.nets[port] for port in self.top.ports]:
             self.add(net.direction, "", net)
-        self.data = {}
+        self.data, self.boxes = {}, {}
         self.find_registers(self.top, "")
         self.widths = {kind: {name: len(bits) for name, bits in names.items()}
                        for kind, names in self.bits.items()}
@@ -73,8 +73,15 @@ class Names:
                 self.data.setdefault(self.add("register", scope, module.nets[name]),
                                      []).extend(read)
         for instance in module.instances:
-            if instance.module in self.modules and not self.modules[instance.module].is_box():
-                self.find_registers(self.modules[instance.module], f"{scope}{instance.name}.")
+            below = self.modules.get(instance.module)
+            if below and below.is_box():
+                self.boxes[f"{scope}{instance.name}."] = below.name
+            elif below:
+                self.find_registers(below, f"{scope}{instance.name}.")
+
+    def box_of(self, name):
+        """The path of the box in which a register of this name would be, or nothing."""
+        return next((path[:-1] for path in self.boxes if name.startswith(path)), "")
 
     def cone(self, bits):
         """The inputs and registers from which these bits are made, within one step of the clock."""
@@ -147,9 +154,15 @@ def listed(spec, impl):
 
 
 def told(side, kind, name, own, other, likely):
-    ranked = ", ".join(f"{right} ({other.widths[kind][right]})" for right in likely)
-    return f"{side} {kind} {name} ({own.widths[kind][name]})" + (f": perhaps {ranked}" if ranked
-                                                                 else ": nothing like it there")
+    ranked = ", ".join(f"{right} ({bits(other.widths[kind][right])})" for right in likely)
+    box = other.box_of(name) if kind == "register" else ""
+    where = (f"{box} is a box there, and registers stay outside boxes" if box
+             else f"perhaps {ranked}" if ranked else "nothing like it there")
+    return f"{side} {kind} {name} ({bits(own.widths[kind][name])}): {where}"
+
+
+def bits(count):
+    return f"{count} bit" + "s" * (count != 1)
 
 
 def command():
