@@ -32,8 +32,8 @@ $CHECK_PARTS, and `run` asks the hosts that the file $CHECK_HOSTS names, where t
 `words` compares 300 drawn expressions, or $CHECK_WORDS, with what iverilog makes of them, and
 `simulated` what `parts` writes of 10 drawn pairs, or of $CHECK_SIMULATED, as yosys reads it. With
 $YOSYS_TESTS, a folder with tests of yosys' sources, such as tests/simple, these are tried as well.
-`units` are the tests of single modules, and `style` asks ruff, or pycodestyle and pyflakes, and
-mypy."""
+`page_shown` opens pages in headless chromium where that is installed. `units` are the tests of
+single modules, and `style` asks ruff, or pycodestyle and pyflakes, and mypy."""
 UNITS = "units"
 SLOW = ("cells", "limits", "made", "refuse")  # Parts of minutes, which --quick leaves out.
 # The longest of the others, which begin where several go at once.
