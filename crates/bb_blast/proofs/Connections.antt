@@ -11,14 +11,13 @@ use Rattle.bb_names.specs.Declarations.{range_of, port_direction}
 use Rattle.bb_names.specs.Faults.{is_input}
 use Rattle.bb_names.specs.Ranges.{range_width}
 use Rattle.bb_names.specs.Spots.{Pin, pin_named, pin_at}
-use Rattle.bb_expr.specs.declared.step.Lowered.{Lowered}
+use Rattle.bb_blast.specs.declared.logic.Logic.{Logic}
 use Rattle.bb_blast.specs.declared.outline.Part.{Part}
 use Rattle.bb_blast.specs.declared.outline.Part.TheVariants as part
-use Rattle.bb_design.specs.Contexts.{width_of}
 use Rattle.bb_design.specs.Constructs.{InputConnection, OutputConnection, connection}
 use Rattle.bb_design.specs.Hierarchy.{Instance}
 use Rattle.bb_design.specs.NetBits.{bits_named, written_bits}
-use Rattle.bb_blast.specs.Inside.Outlines.{AreBitsIn, IsMadeIn, IsPinIn}
+use Rattle.bb_blast.specs.Inside.Outlines.{AreBitsIn, IsPinIn, IsWholeIn}
 use Rattle.bb_blast.specs.Inside.Outlining.{module_in, IsCallAt, IsPartAt}
 
 -- the port of that name and direction, as an instance sees it
@@ -39,7 +38,7 @@ pub pin_in : (checked : List ModuleFacts) (k instance target : ℕ) (called : In
 pin_in checked k instance target called is port dir numbers are = record { called = called; target = module_in checked target; there = is.there; named = refl; meant = is.meant; bits = λ path. are path }
 
 module _ (checked : List ModuleFacts) (k instance target : ℕ) (called : Instance) (is : IsCallAt checked k instance target called) (port : List ℕ) (e : Expression) (pin : Vec ℕ Global) (bits : AreBitsIn (module_in checked target) pin.items (λ s. bits_named s port)) where
-  pub input_part : (value : Lowered) → port_direction (module_in checked target) port ≡ Some dirs.Input → IsMadeIn (module_in checked k) value e (λ s. width_of s e)
+  pub input_part : (value : Logic) → port_direction (module_in checked target) port ≡ Some dirs.Input → IsWholeIn (module_in checked k) value e
       → AllZip (IsPartAt checked k) (part.Input instance pin value ∷ []) (connection called.name (pin_named (module_in checked target) port) (Some e))
   input_part value direction made = stands_for checked k (module_in checked target) called.name port dirs.Input e (part.Input instance pin value) direction (pin_in checked k instance target called is port dirs.Input pin.items bits, made)
 

@@ -22,5 +22,4 @@ pub mod PlacesInRow
 pub mod PortNets
 pub mod RegisterItems
 pub mod ScopesAmong
-pub mod SitedScopes
 pub mod WholeParts

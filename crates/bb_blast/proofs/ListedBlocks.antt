@@ -1,6 +1,6 @@
 -- The constructs of a design one after another: their places are in a row, and their cells are those that the parts of the
 -- modules put there, scope by scope.
-use Rattle.std.proofs.Common.{◌≡◌, ℕ, zero, suc, ◌+◌, ◌-◌, Bool, true, false, if◌then◌else◌, List, [], ◌∷◌, ◌++◌, map, flat_map, take, length, All, Option, Some, None, refl, sym, ap, ap₂, ◌∙◌, subst, arith, length-append, append_assoc, append-nil}
+use Rattle.std.proofs.Common.{◌≡◌, ℕ, zero, suc, ◌+◌, ◌-◌, Bool, true, false, if◌then◌else◌, List, [], ◌∷◌, ◌++◌, map, flat_map, take, length, All, Contains, Option, Some, None, refl, sym, ap, ap₂, ◌∙◌, subst, arith, length-append, append_assoc, append-nil}
 use Rattle.std.specs.Prelude.{slice_get, slice_index}
 use Rattle.std.specs.List.{AllZip, fold, enumerate_from}
 use Rattle.std.specs.Option.{option_map_or}
@@ -16,15 +16,17 @@ use Rattle.bb_design.specs.Hierarchy.{Design, Scope}
 use Rattle.bb_design.specs.NetBits.{Bit}
 use Rattle.bb_design.specs.Constructs.{Construct, BoxContents}
 use Rattle.bb_blast.specs.Inside.Counting.{capped, behind}
-use Rattle.bb_blast.specs.Inside.Listing.{Sources, Site, Sheet, Terminals, given_one, given_all, site_of, with_terminals, with_part, with_parts, with_scope}
-use Rattle.bb_blast.specs.Inside.Steps.{constant_place, with_steps}
+use Rattle.bb_blast.specs.Inside.Listing.{Sources, Site, Sheet, Terminals, given_one, given_all, site_of, with_part, with_parts, with_scope}
+use Rattle.bb_blast.specs.Inside.Logic.{constant_place}
+use Rattle.bb_blast.proofs.LogicSteps.{step_place}
 use Rattle.bb_blast.specs.Inside.Outlines.{IsPartOf}
 use Rattle.bb_cells.specs.Places.{Place, Constant, Input, NetBit, Step, Joined, Inverted, BoxPin, Numbering, Lowering, Steps, IsLoweringOf, AreSteps, given_at, data_at, places_at}
 use Rattle.bb_blast.proofs.BitNumbers.{bit_number, IsSiteOf}
-use Rattle.bb_blast.proofs.ListedConstructs.{HasInputs, part_puts}
+use Rattle.bb_blast.proofs.ListedConstructs.{part_puts}
 use Rattle.bb_blast.proofs.ListedParts.{lowereds, Puts, pair}
 use Rattle.bb_blast.proofs.PlacesInRow.{Entry, AreInRow, both_rows, no_row, cells_in}
-use Rattle.bb_blast.proofs.WholeParts.{Whole, with_whole, IsWholeOf, whole_of}
+use Rattle.bb_lists.proofs.Members.{contains_here, contains_there}
+use Rattle.bb_blast.proofs.WholeParts.{Whole, with_whole, step_terminals, HasInputs, IsWholeOf, whole_of}
 
 -- a part where it stands; a box has none
 pub record Block : Type 0 where
@@ -105,11 +107,11 @@ pub record AreWhole (d : Design) (bs : List Block) (xs : List (Scope × Construc
   pub stand : AllZip (IsWholeBlockOf d) wholes xs
   pub put : (nets start : ℕ) (sheet : Sheet) → fold (with_block nets start) sheet bs ≡ fold (with_whole_block nets start) sheet wholes
 
-pub wholes_of : (d : Design) (bs : List Block) (xs : List (Scope × Construct)) → AllZip (IsBlockOf d) bs xs → AreWhole d bs xs
-wholes_of d [] [] all = record { wholes = []; stand = tt; put = λ nets start sheet. refl }
-wholes_of d [] (x ∷ xs) all = absurd all
-wholes_of d (b ∷ bs) [] all = absurd all
-wholes_of d (b ∷ bs) ((s, c) ∷ xs) all = by b.item refl all.0 (wholes_of d bs xs all.1)
+pub wholes_of : (d : Design) (bs : List Block) (xs : List (Scope × Construct)) → AllZip (IsBlockOf d) bs xs → ((x : Scope × Construct) → Contains xs x → HasInputs x.0.source x.1) → AreWhole d bs xs
+wholes_of d [] [] all some = record { wholes = []; stand = tt; put = λ nets start sheet. refl }
+wholes_of d [] (x ∷ xs) all some = absurd all
+wholes_of d (b ∷ bs) [] all some = absurd all
+wholes_of d (b ∷ bs) ((s, c) ∷ xs) all some = by b.item refl all.0 (wholes_of d bs xs all.1 (λ x has. some x (contains_there (s, c) xs x has)))
   where
     by : (o : Option Part) → b.item ≡ o → IsItemOf d b.site o (s, c) → AreWhole d bs xs → AreWhole d (b ∷ bs) ((s, c) ∷ xs)
     by None e same rest = record {
@@ -118,7 +120,7 @@ wholes_of d (b ∷ bs) ((s, c) ∷ xs) all = by b.item refl all.0 (wholes_of d b
       put = λ nets start sheet. ap (λ (o : Option Part). fold (with_block nets start) (with_item nets start b.site sheet o) bs) e ∙ rest.put nets start sheet;
     }
     by (Some q) e stands rest =
-        let w = whole_of d.text s.source q c stands.1 in
+        let w = whole_of d.text s.source q c stands.1 (some (s, c) (contains_here (s, c) xs)) in
         record {
           wholes = record { site = b.site; item = Some w.whole } ∷ rest.wholes;
           stand = ((stands.0, w.stands), rest.stand);
@@ -200,11 +202,11 @@ module _ (d : Design) (bs : List WholeBlock) (nets start : ℕ) (first : Sheet) 
   sheet_at k = fold (with_whole_block nets start) first (take k bs)
 
   abbrev terminals_at : Site → List Lowered → ℕ → Terminals
-  terminals_at site ls k = with_terminals start (behind nets site.first) site.starts (sheet_at k).cells ls
+  terminals_at site ls k = step_terminals start (behind nets site.first) site.starts (sheet_at k).cells ls
 
-  -- the numbers of the steps of an expression of a block
-  abbrev numbers_at : Site → List Lowered → ℕ → ℕ → List ℕ
-  numbers_at site ls k x = option_map_or (λ l. (with_steps start (behind nets site.first) site.starts (terminals_at site (take x ls) k).cells l).numbers) (slice_get ls x) []
+  -- the place of a step of an expression of a block
+  abbrev number_at : Site → List Lowered → ℕ → ℕ → ℕ → ℕ
+  number_at site ls k x j = option_map_or (λ l. step_place start (behind nets site.first) site.starts (terminals_at site (take x ls) k).cells l j) (slice_get ls x) 0
 
   abbrev site_at : ℕ → Site
   site_at k = option_map_or (λ b. b.site) (slice_get bs k) nowhere
@@ -213,13 +215,13 @@ module _ (d : Design) (bs : List WholeBlock) (nets start : ℕ) (first : Sheet) 
   number_of (Constant b) = constant_place b
   number_of (Input i) = behind 2 i
   number_of (NetBit b) = behind nets (bit_number d b)
-  number_of (Step k x j) = slice_index (numbers_at (site_at k) (lowereds_at bs k) k x) j
+  number_of (Step k x j) = number_at (site_at k) (lowereds_at bs k) k x j
   number_of (Joined k zero) = 0
   number_of (Joined k (suc x)) = capped (start + length (terminals_at (site_at k) (lowereds_at bs k) k).cells + x)
   number_of (Inverted k) = capped (start + length (terminals_at (site_at k) (lowereds_at bs k) k).cells + (length (lowereds_at bs k) - 1))
   number_of (BoxPin b p) = behind (start + pins_before b) p
 
-  pub block_puts : (k : ℕ) (b : WholeBlock) (s : Scope) (c : Construct) → slice_get bs k ≡ Some b → IsWholeBlockOf d b (s, c) → HasInputs c
+  pub block_puts : (k : ℕ) (b : WholeBlock) (s : Scope) (c : Construct) → slice_get bs k ≡ Some b → IsWholeBlockOf d b (s, c) → HasInputs s.source c
       → Puts d (lowering_of bs) number_of nets start (k, (s, c)) (sheet_at k) (sheet_at (suc k))
   unfolding number_of lowering_of
   block_puts k b s c at is some = subst (Puts d (lowering_of bs) number_of nets start (k, (s, c)) (sheet_at k)) (sym (fold_at (with_whole_block nets start) first bs k b at)) (by b.item refl is)
@@ -238,8 +240,8 @@ module _ (d : Design) (bs : List WholeBlock) (nets start : ℕ) (first : Sheet) 
           let site : site_at k ≡ b.site = ap (λ (o : Option WholeBlock). option_map_or (λ (b : WholeBlock). b.site) o nowhere) at in
           part_puts d (lowering_of bs) number_of nets start (λ b. refl) (λ b. refl) k s b.site stands.0 (sheet_at k) q c stands.1 (record {
             is = λ x l there. ap (λ z. steps_of (slice_get z x)) ls ∙ ap steps_of there;
-            stands = λ x l there j. ap₂ (λ z y. slice_index (numbers_at z y k x) j) site ls
-                ∙ ap (λ (o : Option Lowered). slice_index (option_map_or (λ (l : Lowered). (with_steps start (behind nets b.site.first) b.site.starts (terminals_at b.site (take x (lowereds q)) k).cells l).numbers) o []) j) there;
+            stands = λ x l there j. ap₂ (λ z y. number_at z y k x j) site ls
+                ∙ ap (λ (o : Option Lowered). option_map_or (λ (l : Lowered). step_place start (behind nets b.site.first) b.site.starts (terminals_at b.site (take x (lowereds q)) k).cells l j) o 0) there;
             joins = λ i. ap₂ (λ z y. capped (start + length (terminals_at z y k).cells + i)) site ls;
             inverts = ap₂ (λ z y. capped (start + length (terminals_at z y k).cells + (length y - 1))) site ls;
           }) some

@@ -20,8 +20,8 @@ use Rattle.bb_design.specs.Contexts.{width_of, context_width}
 use Rattle.bb_bits.specs.Bits.{low_bits}
 use Rattle.bb_design.specs.Constructs.{Construct, Assignment, GateInstance, Register, SupplyNet, InputConnection, OutputConnection}
 use Rattle.bb_blast.specs.Inside.Counting.{behind}
-use Rattle.bb_blast.specs.Inside.Listing.{Site, Sheet, Terminals, given_all, with_gate, with_terminals}
-use Rattle.bb_blast.specs.Inside.Steps.{constant_place}
+use Rattle.bb_blast.specs.Inside.Listing.{Site, Sheet, Terminals, gate_on, given_all}
+use Rattle.bb_blast.specs.Inside.Logic.{constant_place}
 use Rattle.bb_blast.specs.Inside.Outlines.{IsMadeIn, IsPinIn}
 use Rattle.bb_cells.specs.Places.{Constant, NetBit, Step, Numbering, Lowering, Steps, step_places, terminal_place, gate_place, joining_places, inverting_place, places_at, AreSteps}
 use Rattle.bb_blast.proofs.BitNumbers.{bit_number, IsSiteOf}
@@ -31,7 +31,7 @@ use Rattle.bb_blast.proofs.ListedParts.{lowereds, are_long, Puts, beside_is, all
 use Rattle.bb_blast.proofs.ListedSteps.{TerminalsFit, terminals_fit, steps_from, AllStandWell}
 use Rattle.bb_blast.proofs.PlacesInRow.{Entry, AreInRow, both_rows, no_row, cells_in, map-same}
 use Rattle.bb_lists.proofs.Maps.{map-twice}
-use Rattle.bb_blast.proofs.WholeParts.{Whole, Assigned, Clocked, Other, with_whole, IsWholeOf}
+use Rattle.bb_blast.proofs.WholeParts.{Whole, Assigned, Clocked, Gated, Connected, Other, with_whole, step_terminals, HasInputs, IsWholeOf}
 
 zipped_left : {A B : Type 0} (R : A → B → Type 0) (xs : List A) (ys : List B) → AllZip R xs ys → (k : ℕ) (x : A) → slice_get xs k ≡ Some x → (y : B) × R x y
 zipped_left R [] [] all k x e = absurd (grind (arith, e))
@@ -39,11 +39,6 @@ zipped_left R [] (z ∷ ys) all k x e = absurd all
 zipped_left R (u ∷ xs) [] all k x e = absurd all
 zipped_left R (u ∷ xs) (z ∷ ys) all zero x e = let same : u ≡ x = grind (arith, e) in (z, subst (λ v. R v z) same all.0)
 zipped_left R (u ∷ xs) (z ∷ ys) all (suc k) x e = zipped_left R xs ys all.1 k x e
-
--- the gates among constructs have inputs
-abbrev pub HasInputs : Construct → Type 0
-HasInputs (GateInstance gate outs ins) = 1 ≤ length ins
-HasInputs c = Unit {0}
 
 module _ (d : Design) (lowering : Lowering) (number : Numbering) (nets start : ℕ) (constants : (b : Bool) → number (Constant b) ≡ constant_place b) (net_places : (b : Bit) → number (NetBit b) ≡ behind nets (bit_number d b))
     (k : ℕ) (s : Scope) (site : Site) (is_site : IsSiteOf d s site) (a : Sheet) where
@@ -67,7 +62,7 @@ module _ (d : Design) (lowering : Lowering) (number : Numbering) (nets start : �
     counted = omega (arith, some, AllZip-long (λ l e. IsMadeIn s.source l e (λ s. width_of s e)) ins es made)
 
     abbrev terminals : Terminals
-    terminals = with_terminals start (behind nets site.first) site.starts a.cells ins
+    terminals = step_terminals start (behind nets site.first) site.starts a.cells ins
 
     terminals_are : TerminalsFit lowering number k s start (behind nets site.first) site.starts constants (net_place_is d lowering number nets start constants net_places k s site is_site a) (record { cells = a.cells; places = [] }) terminals 0 (length ins)
     terminals_are = terminals_fit lowering number k s start (behind nets site.first) site.starts constants (net_place_is d lowering number nets start constants net_places k s site is_site a) ins 0 (record { cells = a.cells; places = [] })
@@ -77,7 +72,7 @@ module _ (d : Design) (lowering : Lowering) (number : Numbering) (nets start : �
           earlier = (zipped_left (λ l e. IsMadeIn s.source l e (λ s. width_of s e)) ins es made i l e).1.earlier;
         })
 
-    pub gate_is : GateFits lowering number k gate start terminals.cells (with_gate start (behind nets site.first) site.starts gate a.cells ins) (joining_places lowering number k gate (suc (length ins - 1)) ++ inverting_place lowering number k gate (suc (length ins - 1))) (gate_place lowering gate k (suc (length ins - 1)))
+    pub gate_is : GateFits lowering number k gate start terminals.cells (gate_on start gate (step_terminals start (behind nets site.first) site.starts a.cells ins)) (joining_places lowering number k gate (suc (length ins - 1)) ++ inverting_place lowering number k gate (suc (length ins - 1))) (gate_place lowering gate k (suc (length ins - 1)))
     gate_is = gate_fits lowering number k gate start (length ins - 1) terminals.cells terminals.places (terminals_are.places ∙ ap (λ n. map (λ x. number (terminal_place lowering k x)) (range_with_len 0 n)) counted)
         at.joins at.inverts
 
@@ -87,7 +82,7 @@ module _ (d : Design) (lowering : Lowering) (number : Numbering) (nets start : �
     abbrev gate_steps : List Entry
     gate_steps = steps_from lowering number k s start (behind nets site.first) site.starts constants (net_place_is d lowering number nets start constants net_places k s site is_site a) 0 (length ins)
 
-    gate_cells_are : (with_gate start (behind nets site.first) site.starts gate a.cells ins).cells ≡ a.cells ++ cells_in (gate_steps ++ gate_entries)
+    gate_cells_are : (gate_on start gate (step_terminals start (behind nets site.first) site.starts a.cells ins)).cells ≡ a.cells ++ cells_in (gate_steps ++ gate_entries)
     gate_cells_are = gate_is.cells ∙ ap (λ c. c ++ cells_in gate_entries) terminals_are.cells ∙ append_assoc a.cells (cells_in gate_steps) (cells_in gate_entries) ∙ ap (λ c. a.cells ++ c) (sym (map-append (λ (e : Entry). e.1) gate_steps gate_entries))
 
     gate_row : AreInRow number (start + length a.cells) (gate_steps ++ gate_entries)
@@ -107,7 +102,7 @@ module _ (d : Design) (lowering : Lowering) (number : Numbering) (nets start : �
         ap₂ (λ (n m : ℕ). steps_from lowering number k s start (behind nets site.first) site.starts constants (net_place_is d lowering number nets start constants net_places k s site is_site a) 0 n ++ (joining_places lowering number k gate m ++ inverting_place lowering number k gate m))
         (same ∙ sym (length-map {B = Expression × ℕ} es (λ e. (e, width_of s e)))) (sym counted ∙ same)
 
-    gate_place_is : (with_gate start (behind nets site.first) site.starts gate a.cells ins).place ≡ number (gate_place lowering gate k (length es))
+    gate_place_is : (gate_on start gate (step_terminals start (behind nets site.first) site.starts a.cells ins)).place ≡ number (gate_place lowering gate k (length es))
     gate_place_is = gate_is.place ∙ ap (λ n. number (gate_place lowering gate k n)) (sym counted ∙ sym (AllZip-long (λ l e. IsMadeIn s.source l e (λ s. width_of s e)) ins es made))
 
   abbrev Here : Whole → Construct → Type 0
@@ -123,7 +118,7 @@ module _ (d : Design) (lowering : Lowering) (number : Numbering) (nets start : �
       ∙ map-twice (behind (site.inner instance)) (behind nets) numbers
       ∙ map-same (λ j. behind nets (behind (site.inner instance) j)) (behind (behind nets (site.inner instance))) (λ j. behind_second nets (site.inner instance) j ∙ sym (behind_first nets (site.inner instance) j)) numbers
 
-  pub part_puts : (q : Whole) (c : Construct) → IsWholeOf d.text s.source q c → AreAtHere (lowereds q) → HasInputs c → Here q c
+  pub part_puts : (q : Whole) (c : Construct) → IsWholeOf d.text s.source q c → AreAtHere (lowereds q) → HasInputs s.source c → Here q c
   part_puts (Assigned left right) (Assignment l r) is at some = record {
     cells = one_cells d lowering number nets start constants net_places k s site is_site a right at r (context_width s l r) is.1;
     row = one_row d lowering number nets start constants net_places k s site is_site a right at r (context_width s l r) is.1;
@@ -134,15 +129,15 @@ module _ (d : Design) (lowering : Lowering) (number : Numbering) (nets start : �
     lowered = one_lowered d lowering number nets start constants net_places k s site is_site a right at r (context_width s l r) is.1;
     steps = one_steps d lowering number nets start constants net_places k s site is_site a right at r (context_width s l r) is.1;
   }
-  part_puts (Other (part.Gate gate outs ins)) (GateInstance g os es) is at some =
-      subst (λ (z : Gate). Puts d lowering number nets start (k, (s, GateInstance z os es)) a (with_whole nets start site a (Other (part.Gate gate outs ins)))) is.0 (record {
-        cells = gate_cells_are gate ins.items es is.2 at some ∙ ap (λ l. a.cells ++ cells_in l) (gate_places_are gate ins.items es is.2 at some os);
-        row = subst (AreInRow number (start + length a.cells)) (gate_places_are gate ins.items es is.2 at some os) (gate_row gate ins.items es is.2 at some);
-        sources = ap (given_all a.sources) (sym (all_is d lowering number nets start (flat_map (written_bits s) os) (gate_place lowering gate k (length es)) site.first outs.items (with_gate start (behind nets site.first) site.starts gate a.cells ins.items).place
-            (own_bits d lowering number nets start constants net_places k s site is_site a outs.items (λ s. flat_map (written_bits s) os) is.1) (gate_place_is gate ins.items es is.2 at some)));
+  part_puts (Gated gate outs ins) (GateInstance g os es) is at some =
+      subst (λ (z : Gate). Puts d lowering number nets start (k, (s, GateInstance z os es)) a (with_whole nets start site a (Gated gate outs ins))) is.0 (record {
+        cells = gate_cells_are gate ins es is.2 at some.0 ∙ ap (λ l. a.cells ++ cells_in l) (gate_places_are gate ins es is.2 at some.0 os);
+        row = subst (AreInRow number (start + length a.cells)) (gate_places_are gate ins es is.2 at some.0 os) (gate_row gate ins es is.2 at some.0);
+        sources = ap (given_all a.sources) (sym (all_is d lowering number nets start (flat_map (written_bits s) os) (gate_place lowering gate k (length es)) site.first outs (gate_on start gate (step_terminals start (behind nets site.first) site.starts a.cells ins)).place
+            (own_bits d lowering number nets start constants net_places k s site is_site a outs (λ s. flat_map (written_bits s) os) is.1) (gate_place_is gate ins es is.2 at some.0)));
         next = refl;
-        lowered = gate_lowered 0 ins.items es is.2 (λ x l e. ap (lowering k) (omega arith) ∙ at.is x l e);
-        steps = gate_steps_are gate ins.items es is.2 at some os;
+        lowered = gate_lowered 0 ins es is.2 (λ x l e. ap (lowering k) (omega arith) ∙ at.is x l e);
+        steps = gate_steps_are gate ins es is.2 at some.0 os;
       })
   part_puts (Clocked left right) (Register r) is at some = record {
     cells = one_cells d lowering number nets start constants net_places k s site is_site a right at r.right (context_width s r.left r.right) is.1;
@@ -163,11 +158,11 @@ module _ (d : Design) (lowering : Lowering) (number : Numbering) (nets start : �
     lowered = All-nil _;
     steps = All-nil _;
   }
-  part_puts (Other (part.Input instance pin value)) (InputConnection i port e) is at some = record {
+  part_puts (Connected instance pin value) (InputConnection i port e) is at some = record {
     cells = one_cells d lowering number nets start constants net_places k s site is_site a value at e (width_of s e) is.1;
     row = one_row d lowering number nets start constants net_places k s site is_site a value at e (width_of s e) is.1;
-    sources = ap (given_all a.sources) (sym (beside_is d lowering number nets start (pin_bits (path_to s.path i) port) (step_places lowering k 0) (site.inner instance) pin.items _
-        (inner_bits d lowering number nets start constants net_places k s site is_site a instance pin.items i port is.0) (one_places d lowering number nets start constants net_places k s site is_site a value at e (width_of s e) is.1)));
+    sources = ap (given_all a.sources) (sym (beside_is d lowering number nets start (pin_bits (path_to s.path i) port) (step_places lowering k 0) (site.inner instance) pin _
+        (inner_bits d lowering number nets start constants net_places k s site is_site a instance pin i port is.0) (one_places d lowering number nets start constants net_places k s site is_site a value at e (width_of s e) is.1)));
     next = refl;
     lowered = one_lowered d lowering number nets start constants net_places k s site is_site a value at e (width_of s e) is.1;
     steps = one_steps d lowering number nets start constants net_places k s site is_site a value at e (width_of s e) is.1;

@@ -20,7 +20,7 @@ use Rattle.bb_design.specs.NetBits.{Bit, scope_bits, net_order, input_bits, outp
 use Rattle.bb_design.specs.Constructs.{parts}
 use Rattle.bb_blast.specs.Inside.Counting.{capped, behind}
 use Rattle.bb_blast.specs.Inside.Listing.{Sources, Sheet, Boxed, given_one, given_all, place_or_zero, in_row, bit_count, input_numbers, boxed_in, sheet_on, cells_before, outs_of, finished, first_sources, listed_on, listed}
-use Rattle.bb_blast.specs.Inside.Steps.{constant_place}
+use Rattle.bb_blast.specs.Inside.Logic.{constant_place}
 use Rattle.bb_design.specs.Inside.Allowed.{IsBounded}
 use Rattle.bb_design.specs.Refusals.{most_bits, most_cells}
 use Rattle.bb_design.specs.Sizes.{cells_in as cells_in_design}
@@ -79,6 +79,7 @@ module _ (of_designs : DesignLaws) (names : NetNamesDiffer) (few : PlacesAreFew)
   -- the blocks of the design, with all steps of their expressions
   pub whole : AreWhole d (flat_map (blocks_of placed outlines) placed) (parts d)
   whole = wholes_of d (flat_map (blocks_of placed outlines) placed) (parts d) (blocks_are of_designs names d bounded placed are outlines outlined)
+      (λ x has. has_inputs of_designs d bounded x.0 x.1 has)
 
   abbrev blocks : List WholeBlock
   blocks = whole.wholes
@@ -306,14 +307,14 @@ module _ (of_designs : DesignLaws) (names : NetNamesDiffer) (few : PlacesAreFew)
   exact_front : map (λ (x : Entry). number x.0) (front_places d lowering number) ≡ range_with_len 0 (length (front_places d lowering number))
   exact_front = front_row.row ∙ row_small (length (front_places d lowering number)) (omega (arith, few_places, length-append (front_places d lowering number) (operator_places d lowering number)))
 
-  pub is_list : IsListOf d lowering (finished (length ins) nets top stored boxed.boxes sheet)
+  pub is_list : IsListOf d lowering (finished (length ins) boxed.boxes sheet (outs_of nets top stored sheet.next))
   is_list = record {
     number = number;
     inputs = cut_long;
     front = exact_front;
     numbers = subst (IsPermutation (map (λ (x : Entry). number x.0) (places d lowering number))) (exact_row ∙ ap (range_with_len 0) (sym (length-map {B = LooseCell} (places d lowering number) (λ (e : Entry). e.1)) ∙ ap length (sym cells_are)))
         (IsPermutation-refl (map (λ (x : Entry). number x.0) (places d lowering number)));
-    cells = cells_stand number (places d lowering number) (finished (length ins) nets top stored boxed.boxes sheet) exact_row cells_are;
+    cells = cells_stand number (places d lowering number) (finished (length ins) boxed.boxes sheet (outs_of nets top stored sheet.next)) exact_row cells_are;
     boxes = boxes_fit.boxes;
     outs = outs_are;
     steps = parts_fit.steps;

@@ -12,14 +12,14 @@ use Rattle.bb_expr.specs.declared.step.BitStep.TheVariants as steps
 use Rattle.bb_expr.specs.declared.step.Lowered.{Lowered}
 use Rattle.bb_expr.specs.Lowered.{Reads, IsLowered}
 use Rattle.bb_net.specs.declared.loose.LooseCell.{LooseCell}
-use Rattle.bb_blast.specs.declared.outline.Part.TheVariants as part
 use Rattle.bb_design.specs.Hierarchy.{Design, Scope, path_to}
 use Rattle.bb_design.specs.NetBits.{Bit, scope_bits, pin_bits}
 use Rattle.bb_bits.specs.Bits.{low_bits}
 use Rattle.bb_design.specs.Constructs.{Construct}
 use Rattle.bb_blast.specs.Inside.Counting.{capped, behind}
-use Rattle.bb_blast.specs.Inside.Listing.{Site, Sheet, given_all, beside, all_given_by, with_terminals}
-use Rattle.bb_blast.specs.Inside.Steps.{constant_place, net_bit_place, with_steps, bit_places}
+use Rattle.bb_blast.specs.Inside.Listing.{Site, Sheet, given_all, beside, all_given_by}
+use Rattle.bb_blast.specs.Inside.Logic.{constant_place, net_bit_place}
+use Rattle.bb_blast.proofs.LogicSteps.{with_steps, step_place, bit_places}
 use Rattle.bb_blast.specs.Inside.Outlines.{AreBitsIn, IsPinIn}
 use Rattle.bb_bits.specs.Inside.Places.{AreAt}
 use Rattle.bb_cells.specs.Places.{Place, Constant, NetBit, Step, Joined, Inverted, Numbering, Lowering, Steps, IsLoweringOf, IsStepAt, AreSteps, step_places, step_cells, net_place, given_at, data_at, places_at}
@@ -29,14 +29,14 @@ use Rattle.bb_blast.proofs.CappedNumbers.{behind_first}
 use Rattle.bb_blast.proofs.ListedSteps.{IsLoweredAt, StepsFit, expression_fits}
 use Rattle.bb_blast.proofs.PlacesInRow.{AreInRow, cells_in, map-same}
 use Rattle.bb_lists.proofs.Maps.{map-twice}
-use Rattle.bb_blast.proofs.WholeParts.{Whole, Assigned, Clocked, Other}
+use Rattle.bb_blast.proofs.WholeParts.{Whole, Assigned, Clocked, Gated, Connected, Other, step_terminals}
 
 -- the expressions of a part
 abbrev pub lowereds : Whole → List Lowered
 lowereds (Assigned left right) = right ∷ []
 lowereds (Clocked left right) = right ∷ []
-lowereds (Other (part.Gate gate outs ins)) = ins.items
-lowereds (Other (part.Input instance pin value)) = value ∷ []
+lowereds (Gated gate outs ins) = ins
+lowereds (Connected instance pin value) = value ∷ []
 lowereds (Other q) = []
 
 map-zip : {A B C D : Type 0} (f : A → C) (g : B → D) (xs : List A) (ys : List B) → map (λ (y : A × B). (f y.0, g y.1)) (zip xs ys) ≡ zip (map f xs) (map g ys)
@@ -89,12 +89,12 @@ module _ (d : Design) (lowering : Lowering) (number : Numbering) (nets start : �
 
     -- the cells of so many expressions behind those before
     abbrev pub cells_after : List Lowered → List LooseCell
-    cells_after ls = (with_terminals start (behind nets site.first) site.starts a.cells ls).cells
+    cells_after ls = (step_terminals start (behind nets site.first) site.starts a.cells ls).cells
 
     -- what the places of these expressions and of what joins them are numbered
     pub record AreLoweredAt (ls : List Lowered) : Type 0 where
       pub is : (x : ℕ) (l : Lowered) → slice_get ls x ≡ Some l → lowering k x ≡ record { all = l.steps.items; bits = l.bits.items }
-      pub stands : (x : ℕ) (l : Lowered) → slice_get ls x ≡ Some l → (j : ℕ) → number (Step k x j) ≡ slice_index (with_steps start (behind nets site.first) site.starts (cells_after (take x ls)) l).numbers j
+      pub stands : (x : ℕ) (l : Lowered) → slice_get ls x ≡ Some l → (j : ℕ) → number (Step k x j) ≡ step_place start (behind nets site.first) site.starts (cells_after (take x ls)) l j
       pub joins : (i : ℕ) → number (Joined k (suc i)) ≡ capped (start + length (cells_after ls) + i)
       pub inverts : number (Inverted k) ≡ capped (start + length (cells_after ls) + (length ls - 1))
 
@@ -114,7 +114,7 @@ module _ (d : Design) (lowering : Lowering) (number : Numbering) (nets start : �
       one_at : IsLoweredAt lowering number k s start (behind nets site.first) site.starts constants net_place_is 0 a.cells l
       one_at = record { is = at.is 0 l refl; stands = at.stands 0 l refl; earlier = made.earlier }
 
-      one_fits : StepsFit lowering number k s start (behind nets site.first) site.starts constants net_place_is 0 0 a.cells (with_steps start (behind nets site.first) site.starts a.cells l).cells (lowering k 0).all
+      one_fits : StepsFit lowering number k s start (behind nets site.first) site.starts constants net_place_is 0 0 a.cells (with_steps start (behind nets site.first) site.starts a.cells l) (lowering k 0).all
       one_fits = expression_fits lowering number k s start (behind nets site.first) site.starts constants net_place_is 0 a.cells l one_at
 
       pub one_lowered : All (λ (x : ℕ × (Expression × ℕ)). IsLowered (nets_of s.source) (range_of s.source) x.1.0 x.1.1 (lowering k x.0).all (lowering k x.0).bits) ((0, (e, w)) ∷ [])
@@ -123,7 +123,7 @@ module _ (d : Design) (lowering : Lowering) (number : Numbering) (nets start : �
       alone : (step_cells lowering number k 0 ++ []) ++ [] ≡ step_cells lowering number k 0
       alone = append-nil (step_cells lowering number k 0 ++ []) ∙ append-nil (step_cells lowering number k 0)
 
-      pub one_cells : (with_steps start (behind nets site.first) site.starts a.cells l).cells ≡ a.cells ++ cells_in ((step_cells lowering number k 0 ++ []) ++ [])
+      pub one_cells : with_steps start (behind nets site.first) site.starts a.cells l ≡ a.cells ++ cells_in ((step_cells lowering number k 0 ++ []) ++ [])
       one_cells = one_fits.cells ∙ ap (λ l. a.cells ++ cells_in l) (sym alone)
 
       pub one_row : AreInRow number (start + length a.cells) ((step_cells lowering number k 0 ++ []) ++ [])
@@ -135,7 +135,7 @@ module _ (d : Design) (lowering : Lowering) (number : Numbering) (nets start : �
       pub one_places : map number (step_places lowering k 0) ≡ bit_places start (behind nets site.first) site.starts a.cells l
       one_places =
           ap (λ (z : Steps). map number (map (Step k 0) z.bits)) (at.is 0 l refl) ∙ map-twice (Step k 0) number l.bits.items
-          ∙ map-same (λ j. number (Step k 0 j)) (slice_index (with_steps start (behind nets site.first) site.starts a.cells l).numbers) one_at.stands l.bits.items
+          ∙ map-same (λ j. number (Step k 0 j)) (step_place start (behind nets site.first) site.starts a.cells l) one_at.stands l.bits.items
 
       pub low_places : (n m : ℕ) → n ≡ m → map number (low_bits n (step_places lowering k 0)) ≡ low_bits m (bit_places start (behind nets site.first) site.starts a.cells l)
       low_places n m same = low-map number n (step_places lowering k 0) ∙ ap₂ (λ (i : ℕ) (p : List ℕ). low_bits i p) same one_places

@@ -19,7 +19,7 @@ use Rattle.bb_cells.specs.Places.{NetBit, Numbering, Lowering}
 use Rattle.bb_blast.proofs.BitNumbers.{bit_number, held_bits, site_is}
 use Rattle.bb_blast.proofs.ListedBlocks.{nowhere, blocks_in, blocks_of, IsBlockOf}
 use Rattle.bb_blast.proofs.ListedBoxes.{IsBoxedSo}
-use Rattle.bb_blast.proofs.ListedConstructs.{HasInputs}
+use Rattle.bb_blast.proofs.WholeParts.{HasInputs}
 use Rattle.bb_lists.proofs.Zips.{zip_append}
 use Rattle.bb_design.specs.Laws.DesignLaws.{DesignLaws}
 
@@ -38,9 +38,9 @@ zip_maps Q R f g (x ∷ xs) [] all step = absurd all
 zip_maps Q R f g (x ∷ xs) (y ∷ ys) all step = (step x y all.0, zip_maps Q R f g xs ys all.1 step)
 
 module _ (of_designs : DesignLaws) where
-  -- the gates of a design have inputs
-  pub has_inputs : (d : Design) → IsBounded d → (s : Scope) (c : Construct) → Contains (parts d) (s, c) → HasInputs c
-  has_inputs d bounded s (GateInstance gate outs ins) has = ((of_designs.wired d bounded).gates s gate outs ins has).0
+  -- the gates of a design have inputs, of one bit each
+  pub has_inputs : (d : Design) → IsBounded d → (s : Scope) (c : Construct) → Contains (parts d) (s, c) → HasInputs s.source c
+  has_inputs d bounded s (GateInstance gate outs ins) has = let wired = (of_designs.wired d bounded).gates s gate outs ins has in (wired.0, wired.1)
   has_inputs d bounded s c has = tt
 
 module _ (of_designs : DesignLaws) (names : NetNamesDiffer) (d : Design) (bounded : IsBounded d) (placed : List Placed) (are : ArePlaced d placed) (outlines : List Outline) (outlined : AreOutlined d placed outlines) where

@@ -13,35 +13,14 @@ use Rattle.bb_expr.specs.Lowered.{Reads}
 use Rattle.bb_net.specs.declared.loose.LooseCell.{LooseCell}
 use Rattle.bb_net.specs.declared.loose.LooseCell.TheVariants as cell
 use Rattle.bb_design.specs.Hierarchy.{Scope}
-use Rattle.bb_blast.specs.Inside.Counting.{behind}
-use Rattle.bb_blast.specs.Inside.Listing.{Terminals, with_terminal}
-use Rattle.bb_blast.specs.Inside.Steps.{constant_place, net_bit_place, Numbered, step_number, with_cell, with_step, with_steps}
+use Rattle.bb_blast.specs.Inside.Counting.{capped, behind}
+use Rattle.bb_blast.specs.Inside.Listing.{Terminals}
+use Rattle.bb_blast.specs.Inside.Logic.{Kept, constant_place, net_bit_place, operand_in, operand_place, operator_of, result_of, with_step}
+use Rattle.bb_blast.proofs.LogicSteps.{as_cell, cell_of, operator_next, own_place, put_cell, result_here, results_kept, step_place, with_cell, with_steps}
 use Rattle.bb_cells.specs.Places.{Constant, Step, Numbering, Lowering, Steps, step_cell, IsStepAt, net_place, step_cells, terminal_place}
 use Rattle.bb_lists.proofs.Members.{contains_here, contains_there}
 use Rattle.bb_blast.proofs.PlacesInRow.{Entry, AreInRow, both_rows, no_row, one_row, cells_in}
-
--- an operator stands at the next place
-operator_next : (bits : ℕ) (starts : List ℕ) (next : ℕ) (at : ℕ → ℕ) (step : BitStep) (c : LooseCell) → step_cell at step ≡ Some c → step_number bits starts next step ≡ next
-operator_next bits starts next at (steps.Const b) c e = absurd (grind (arith, e))
-operator_next bits starts next at (steps.Net n i) c e = absurd (grind (arith, e))
-operator_next bits starts next at (steps.Not a) c e = refl
-operator_next bits starts next at (steps.And a b) c e = refl
-operator_next bits starts next at (steps.Or a b) c e = refl
-operator_next bits starts next at (steps.Xor a b) c e = refl
-operator_next bits starts next at (steps.Mux a t f) c e = refl
-
-module _ (start bits : ℕ) (starts : List ℕ) where
-  -- later steps change no number
-  numbers_kept : (all : List BitStep) (n : Numbered) (j : ℕ) → j < length n.numbers → slice_index (fold (with_step start bits starts) n all).numbers j ≡ slice_index n.numbers j
-  numbers_kept [] n j fits = refl
-  numbers_kept (step ∷ all) n j fits =
-      let own = step_number bits starts (behind start (length n.cells)) step in
-      numbers_kept all (with_step start bits starts n step) j (omega (arith, fits, length-append n.numbers (own ∷ []))) ∙ get_or_append_left n.numbers (own ∷ []) 0 j fits
-
-  number_here : (all : List BitStep) (n : Numbered) (step : BitStep) → slice_index (fold (with_step start bits starts) n (step ∷ all)).numbers (length n.numbers) ≡ step_number bits starts (behind start (length n.cells)) step
-  number_here all n step =
-      let own = step_number bits starts (behind start (length n.cells)) step in
-      numbers_kept all (with_step start bits starts n step) (length n.numbers) (omega (arith, length-append n.numbers (own ∷ []))) ∙ get_or_push n.numbers own 0 (length n.numbers) refl
+use Rattle.bb_blast.proofs.WholeParts.{step_terminal}
 
 module _ (lowering : Lowering) (number : Numbering) (k : ℕ) (s : Scope) (start bits : ℕ) (starts : List ℕ) (constants : (b : Bool) → number (Constant b) ≡ constant_place b)
     (nets : (n i : ℕ) → Reads (nets_of s.source) 0 (steps.Net n i) → number (net_place s n i) ≡ net_bit_place bits starts n i) where
@@ -57,14 +36,14 @@ module _ (lowering : Lowering) (number : Numbering) (k : ℕ) (s : Scope) (start
       ap (λ x. Some (cell.Mux x (at t) (at e))) (same c reads.0) ∙ ap₂ (λ x y. Some (cell.Mux (to c) x y)) (same t reads.1) (same e reads.2)
 
   -- a step that is no operator stands where it has to
-  stands_at : (step : BitStep) (place next own : ℕ) → Reads (nets_of s.source) place step → own ≡ step_number bits starts next step → IsStepAt number s step own
-  stands_at (steps.Const b) place next own reads is = is ∙ sym (constants b)
-  stands_at (steps.Net n i) place next own reads is = is ∙ sym (nets n i reads)
-  stands_at (steps.Not a) place next own reads is = tt
-  stands_at (steps.And a b) place next own reads is = tt
-  stands_at (steps.Or a b) place next own reads is = tt
-  stands_at (steps.Xor a b) place next own reads is = tt
-  stands_at (steps.Mux c t e) place next own reads is = tt
+  stands_at : (step : BitStep) (place first next own : ℕ) → Reads (nets_of s.source) place step → own ≡ operand_place bits starts first (result_of next step) → IsStepAt number s step own
+  stands_at (steps.Const b) place first next own reads is = is ∙ sym (constants b)
+  stands_at (steps.Net n i) place first next own reads is = is ∙ sym (nets n i reads)
+  stands_at (steps.Not a) place first next own reads is = tt
+  stands_at (steps.And a b) place first next own reads is = tt
+  stands_at (steps.Or a b) place first next own reads is = tt
+  stands_at (steps.Xor a b) place first next own reads is = tt
+  stands_at (steps.Mux c t e) place first next own reads is = tt
 
   abbrev pub StandsWell : ℕ → ℕ × BitStep → Type 0
   StandsWell x y = IsStepAt number s y.1 (number (Step k x y.0))
@@ -103,34 +82,38 @@ module _ (lowering : Lowering) (number : Numbering) (k : ℕ) (s : Scope) (start
         steps = All-cons (StandsWell x) (i, step) (enumerate_from (i + 1) all) well rest.steps;
       }
 
-  module _ (x : ℕ) where
-    steps_fit : (i : ℕ) (all : List BitStep) (n : Numbered) → length n.numbers ≡ i → ((j : ℕ) → number (Step k x j) ≡ slice_index (fold (with_step start bits starts) n all).numbers j)
-        → ((y : ℕ × BitStep) → Contains (enumerate_from i all) y → Reads (nets_of s.source) y.0 y.1) → StepsFit x i n.cells (fold (with_step start bits starts) n all).cells all
-    steps_fit i [] n long stands reads = record { cells = sym (append-nil n.cells); row = no_row number (start + length n.cells); steps = All-nil (StandsWell x) }
-    steps_fit i (step ∷ all) n long stands reads =
-        one_step x i step all n.cells (fold (with_step start bits starts) n (step ∷ all)).cells (step_cell (slice_index n.numbers) step) (sym here)
-        (λ c is. own ∙ operator_next bits starts (behind start (length n.cells)) (slice_index n.numbers) step c is)
-        (stands_at step i (behind start (length n.cells)) (number (Step k x i)) (reads (i, step) (contains_here (i, step) (enumerate_from (i + 1) all))) own)
-        (steps_fit (i + 1) all (with_step start bits starts n step) (length-append n.numbers (_ ∷ []) ∙ ap (λ m. m + 1) long) stands
-        (λ y has. reads y (contains_there (i, step) (enumerate_from (i + 1) all) y has)))
-      where
-        own : number (Step k x i) ≡ step_number bits starts (behind start (length n.cells)) step
-        own = stands i ∙ ap (slice_index (fold (with_step start bits starts) n (step ∷ all)).numbers) (sym long) ∙ number_here start bits starts all n step
+  module _ (x : ℕ) (cells : List LooseCell) where
+    abbrev after : Kept → List LooseCell
+    after kept = cells ++ map (cell_of start bits starts cells) kept.operators
 
-        here : step_cell (slice_index n.numbers) step ≡ step_cell (λ a. number (Step k x a)) step
-        here = same_cell (slice_index n.numbers) (λ a. number (Step k x a)) i
-            (λ a fits. sym (stands a ∙ numbers_kept start bits starts (step ∷ all) n a (omega (arith, fits, long)))) step (reads (i, step) (contains_here (i, step) (enumerate_from (i + 1) all)))
+    steps_fit : (i : ℕ) (all : List BitStep) (kept : Kept) → length kept.results ≡ i → ((j : ℕ) → number (Step k x j) ≡ own_place start bits starts cells (operand_in (fold with_step kept all).results j))
+        → ((y : ℕ × BitStep) → Contains (enumerate_from i all) y → Reads (nets_of s.source) y.0 y.1) → StepsFit x i (after kept) (after (fold with_step kept all)) all
+    steps_fit i [] kept long stands reads = record { cells = sym (append-nil (after kept)); row = no_row number (start + length (after kept)); steps = All-nil (StandsWell x) }
+    steps_fit i (step ∷ all) kept long stands reads =
+        one_step x i step all (after kept) (after (fold with_step kept (step ∷ all))) (option_map (cell_of start bits starts cells) (operator_of (operand_in kept.results) step)) here
+        (λ c is. own ∙ operator_next start bits starts cells kept.operators (operand_in kept.results) step c is)
+        (stands_at step i (behind start (length cells)) (capped (length kept.operators)) (number (Step k x i)) (reads (i, step) (contains_here (i, step) (enumerate_from (i + 1) all))) own)
+        (subst (λ b. StepsFit x (i + 1) b (after (fold with_step kept (step ∷ all))) all) (sym (put_cell start bits starts cells kept.operators (operator_of (operand_in kept.results) step)))
+        (steps_fit (i + 1) all (with_step kept step) (length-append kept.results (_ ∷ []) ∙ ap (λ m. m + 1) long) stands (λ y has. reads y (contains_there (i, step) (enumerate_from (i + 1) all) y has))))
+      where
+        own : number (Step k x i) ≡ own_place start bits starts cells (result_of (capped (length kept.operators)) step)
+        own = stands i ∙ ap (λ j. own_place start bits starts cells (operand_in (fold with_step kept (step ∷ all)).results j)) (sym long) ∙ ap (own_place start bits starts cells) (result_here all kept step)
+
+        here : step_cell (λ a. number (Step k x a)) step ≡ option_map (cell_of start bits starts cells) (operator_of (operand_in kept.results) step)
+        here = same_cell (λ a. number (Step k x a)) (λ a. own_place start bits starts cells (operand_in kept.results a)) i
+            (λ a fits. stands a ∙ ap (own_place start bits starts cells) (results_kept (step ∷ all) kept a (omega (arith, fits, long)))) step (reads (i, step) (contains_here (i, step) (enumerate_from (i + 1) all)))
+            ∙ as_cell start bits starts cells kept.results step
 
   -- an expression that is lowered so has these numbers where it stands behind these cells
   pub record IsLoweredAt (x : ℕ) (cells : List LooseCell) (l : Lowered) : Type 0 where
     pub is : lowering k x ≡ record { all = l.steps.items; bits = l.bits.items }
-    pub stands : (j : ℕ) → number (Step k x j) ≡ slice_index (with_steps start bits starts cells l).numbers j
+    pub stands : (j : ℕ) → number (Step k x j) ≡ step_place start bits starts cells l j
     pub earlier : All (λ y. Reads (nets_of s.source) y.0 y.1) (enumerate_from 0 l.steps.items)
 
-  pub expression_fits : (x : ℕ) (cells : List LooseCell) (l : Lowered) → IsLoweredAt x cells l → StepsFit x 0 cells (with_steps start bits starts cells l).cells (lowering k x).all
+  pub expression_fits : (x : ℕ) (cells : List LooseCell) (l : Lowered) → IsLoweredAt x cells l → StepsFit x 0 cells (with_steps start bits starts cells l) (lowering k x).all
   expression_fits x cells l low =
-      subst (λ (z : Steps). StepsFit x 0 cells (with_steps start bits starts cells l).cells z.all) (sym low.is)
-      (steps_fit x 0 l.steps.items (record { cells = cells; numbers = [] }) refl low.stands (λ y has. All-contains (λ (y : ℕ × BitStep). Reads (nets_of s.source) y.0 y.1) (enumerate_from 0 l.steps.items) y low.earlier has))
+      subst (λ (z : Steps). StepsFit x 0 cells (with_steps start bits starts cells l) z.all) (sym low.is)
+      (subst (λ before. StepsFit x 0 before (with_steps start bits starts cells l) l.steps.items) (append-nil cells) (steps_fit x cells 0 l.steps.items (record { operators = []; results = [] }) refl low.stands (λ y has. All-contains (λ (y : ℕ × BitStep). Reads (nets_of s.source) y.0 y.1) (enumerate_from 0 l.steps.items) y low.earlier has)))
 
   -- the inputs of a gate from one on
   abbrev pub terminal_at : ℕ → ℕ
@@ -148,27 +131,27 @@ module _ (lowering : Lowering) (number : Numbering) (k : ℕ) (s : Scope) (start
     pub row : AreInRow number (start + length t.cells) (steps_from x n)
     pub steps : All AllStandWell (range_with_len x n)
 
-  pub terminals_fit : (ls : List Lowered) (x : ℕ) (t : Terminals) → ((i : ℕ) (l : Lowered) → slice_get ls i ≡ Some l → IsLoweredAt (x + i) (fold (with_terminal start bits starts) t (take i ls)).cells l)
-      → TerminalsFit t (fold (with_terminal start bits starts) t ls) x (length ls)
+  pub terminals_fit : (ls : List Lowered) (x : ℕ) (t : Terminals) → ((i : ℕ) (l : Lowered) → slice_get ls i ≡ Some l → IsLoweredAt (x + i) (fold (step_terminal start bits starts) t (take i ls)).cells l)
+      → TerminalsFit t (fold (step_terminal start bits starts) t ls) x (length ls)
   terminals_fit [] x t low = record { cells = sym (append-nil t.cells); places = sym (append-nil t.places); row = no_row number (start + length t.cells); steps = All-nil AllStandWell }
   terminals_fit (l ∷ ls) x t low =
-      build (terminals_fit ls (x + 1) (with_terminal start bits starts t l)
-      (λ i m e. subst (λ y. IsLoweredAt y (fold (with_terminal start bits starts) (with_terminal start bits starts t l) (take i ls)).cells m) (omega arith) (low (suc i) m e)))
+      build (terminals_fit ls (x + 1) (step_terminal start bits starts t l)
+      (λ i m e. subst (λ y. IsLoweredAt y (fold (step_terminal start bits starts) (step_terminal start bits starts t l) (take i ls)).cells m) (omega arith) (low (suc i) m e)))
     where
       lowest : IsLoweredAt x t.cells l
       lowest = subst (λ y. IsLoweredAt y t.cells l) (omega arith) (low 0 l refl)
 
-      here : StepsFit x 0 t.cells (with_steps start bits starts t.cells l).cells (lowering k x).all
+      here : StepsFit x 0 t.cells (with_steps start bits starts t.cells l) (lowering k x).all
       here = expression_fits x t.cells l lowest
 
-      long : start + length (with_steps start bits starts t.cells l).cells ≡ start + length t.cells + length (step_cells lowering number k x)
+      long : start + length (with_steps start bits starts t.cells l) ≡ start + length t.cells + length (step_cells lowering number k x)
       long = omega (arith, ap length here.cells ∙ length-append t.cells (cells_in (step_cells lowering number k x)) ∙ ap (λ n. length t.cells + n) (length-map {B = LooseCell} (step_cells lowering number k x) (λ (e : Entry). e.1)))
 
-      place : terminal_at x ≡ slice_index (with_steps start bits starts t.cells l).numbers (slice_index l.bits.items 0)
-      place = lowest.stands (slice_index (lowering k x).bits 0) ∙ ap (λ (z : Steps). slice_index (with_steps start bits starts t.cells l).numbers (slice_index z.bits 0)) lowest.is
+      place : terminal_at x ≡ step_place start bits starts t.cells l (slice_index l.bits.items 0)
+      place = lowest.stands (slice_index (lowering k x).bits 0) ∙ ap (λ (z : Steps). step_place start bits starts t.cells l (slice_index z.bits 0)) lowest.is
 
-      build : TerminalsFit (with_terminal start bits starts t l) (fold (with_terminal start bits starts) (with_terminal start bits starts t l) ls) (x + 1) (length ls)
-          → TerminalsFit t (fold (with_terminal start bits starts) (with_terminal start bits starts t l) ls) x (suc (length ls))
+      build : TerminalsFit (step_terminal start bits starts t l) (fold (step_terminal start bits starts) (step_terminal start bits starts t l) ls) (x + 1) (length ls)
+          → TerminalsFit t (fold (step_terminal start bits starts) (step_terminal start bits starts t l) ls) x (suc (length ls))
       build rest = record {
         cells = rest.cells ∙ ap (λ c. c ++ cells_in (steps_from (x + 1) (length ls))) here.cells ∙ append_assoc t.cells (cells_in (step_cells lowering number k x)) (cells_in (steps_from (x + 1) (length ls)))
             ∙ ap (λ c. t.cells ++ c) (sym (map-append (λ (e : Entry). e.1) (step_cells lowering number k x) (steps_from (x + 1) (length ls))));

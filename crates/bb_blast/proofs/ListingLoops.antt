@@ -1,30 +1,21 @@
 -- Steps of the loops that put cells and given bits behind others.
 use Rattle.std.proofs.Common.{◌≡◌, ℕ, zero, suc, ◌+◌, ◌<◌, ◌≤◌, List, [], ◌∷◌, ◌++◌, map, take, length, get_or, sym, ap, ap₂, ◌∙◌, arith, append_assoc}
-use Rattle.std.specs.Prelude.{min, slice_index, Option, Some}
+use Rattle.std.specs.Prelude.{min, Some}
 use Rattle.std.specs.List.{fold, enumerate_from, range_with_len, zip}
 use Rattle.std.proofs.lemmas.List.{take_more, take_all, length-take-le, map-append, length-map, get_or-map}
 use Rattle.std.proofs.lemmas.List.FromFn.{map-range_with_len_more}
 use Rattle.std.proofs.lemmas.List.Sums.{fold_more, fold_push}
 use Rattle.std.proofs.lemmas.Slice.Zip.{get_or-zip, length-zip}
-use Rattle.bb_expr.specs.declared.step.BitStep.{BitStep}
 use Rattle.bb_net.specs.declared.loose.LooseCell.{LooseCell}
 use Rattle.bb_net.specs.declared.loose.LooseCell.TheVariants as cell
 use Rattle.bb_net.specs.Netlists.{Pins}
 use Rattle.bb_blast.specs.declared.outline.Outline.{Outline}
 use Rattle.bb_blast.specs.Inside.Counting.{capped, behind}
 use Rattle.bb_blast.specs.Inside.Listing.{Sources, given_one, given_all, in_row, beside, Boxed, with_pins}
-use Rattle.bb_blast.specs.Inside.Steps.{Numbered, step_number, with_cell, with_step}
-use Rattle.bb_cells.specs.Places.{step_cell}
 use Rattle.bb_blast.proofs.CappedNumbers.{behind_first}
 
 pub fold_next : {A B : Type 0} (f : B → A → B) (a : B) (xs : List A) (i : ℕ) (x : A) → i < length xs → x ≡ get_or xs i x → fold f a (take (i + 1) xs) ≡ f (fold f a (take i xs)) x
 fold_next f a xs i x lt e = fold_more f a xs i x lt ∙ ap (f (fold f a (take i xs))) (sym e)
-
-pub map_next : {A B : Type 0} (h : A → B) (xs : List A) (i : ℕ) (x : A) → i < length xs → x ≡ get_or xs i x → map h (take (i + 1) xs) ≡ map h (take i xs) ++ h x ∷ []
-map_next h xs i x lt e = ap (map h) (take_more xs i x lt) ∙ map-append h (take i xs) (get_or xs i x ∷ []) ∙ ap (λ y. map h (take i xs) ++ h y ∷ []) (sym e)
-
-pub fold_map_next : {A B C : Type 0} (f : C → B → C) (h : A → B) (a : C) (xs : List A) (i : ℕ) (x : A) → i < length xs → x ≡ get_or xs i x → fold f a (map h (take (i + 1) xs)) ≡ f (fold f a (map h (take i xs))) (h x)
-fold_map_next f h a xs i x lt e = ap (fold f a) (map_next h xs i x lt e) ∙ fold_push f a (map h (take i xs)) (h x)
 
 pub enumerate_push : {A : Type 0} (a : ℕ) (xs : List A) (x : A) → enumerate_from a (xs ++ x ∷ []) ≡ enumerate_from a xs ++ (a + length xs, x) ∷ []
 enumerate_push {A} a [] x = ap (λ (n : ℕ). (n, x) ∷ []) (omega arith)
@@ -75,17 +66,6 @@ pub cells_grow : {A : Type 0} (f : ℕ → A) (old now more : List A) (n k : ℕ
 cells_grow f old now more n k same before after =
     after ∙ ap (λ l. l ++ f k ∷ []) before ∙ append_assoc old (map f (range_with_len 0 n)) (f k ∷ [])
     ∙ ap (λ l. old ++ l) (ap (λ (j : ℕ). map f (range_with_len 0 n) ++ f j ∷ []) same ∙ sym (map-range_with_len_more f 0 n n (omega arith)))
-
--- cells and numbers as one
-mk_numbered : List LooseCell → List ℕ → Numbered
-mk_numbered cells numbers = record { cells = cells; numbers = numbers }
-
-pub step_put : (start bits : ℕ) (starts : List ℕ) (cells now : List LooseCell) (numbers more : List ℕ) (step : BitStep) (own : ℕ) (o : Option LooseCell) → o ≡ step_cell (slice_index numbers) step
-    → own ≡ step_number bits starts (behind start (length cells)) step → now ≡ with_cell cells o → more ≡ numbers ++ own ∷ []
-    → ◌≡◌ {A = Numbered} (record { cells = now; numbers = more }) (with_step start bits starts (record { cells = cells; numbers = numbers }) step)
-unfolding mk_numbered
-step_put start bits starts cells now numbers more step own o is at grown noted =
-    ap₂ mk_numbered (grown ∙ ap (with_cell cells) is) (noted ∙ ap (λ n. numbers ++ n ∷ []) at)
 
 mk_boxed : List LooseCell → Sources → List Pins → Boxed
 mk_boxed cells sources boxes = record { cells = cells; sources = sources; boxes = boxes }

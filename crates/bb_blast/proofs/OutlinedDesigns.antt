@@ -1,12 +1,12 @@
--- The scopes of a small design by numbers tell of modules of which outlines can be made.
+-- Outlines can be made of the modules of which scopes of a small design are copies.
 use Rattle.std.proofs.Common.{◌≡◌, ◌⊎◌, ℕ, ◌+◌, ◌<◌, ◌≤◌, Bool, true, false, not, ◌&&◌, if◌then◌else◌, List, [], ◌∷◌, map, length, Contains, Option, Some, None, refl, sym, ap, ◌∙◌, subst, inl, inr, arith, true≢false, length-append}
-use Rattle.std.specs.Prelude.{All, IsSomeAnd, is_none, slice_get, sum_by}
-use Rattle.std.specs.List.{AllZip, flat_map, list_all}
+use Rattle.std.specs.Prelude.{All, is_none, slice_get, sum_by}
+use Rattle.std.specs.List.{AllByRecursion, AllZip, flat_map, list_all, slice_index_or}
 use Rattle.std.proofs.lemmas.List.{length-map}
 use Rattle.std.proofs.lemmas.List.Folds.{length-flat_map-take}
 use Rattle.std.proofs.lemmas.List.Sums.{get_or-le-sum_by, sum_by-cons}
 use Rattle.std.proofs.lemmas.Option.{slice_get_within, get_or_from_slice_get, same_Some}
-use Rattle.std.proofs.lemmas.Slice.Zip.{AllZip-long}
+use Rattle.std.proofs.lemmas.List.Elements.{All-from_recursion}
 use Rattle.bb_ast.specs.Inside.Sizes.{call_size, item_size, module_size, source_size}
 use Rattle.bb_ast.specs.Syntax.{Expression, PlainConns, PlainBody, Ports, Nets, Regs, Supply, Assign, Gates, Calls, Always, PlainItem, PlainModule}
 use Rattle.bb_names.specs.Inside.Checked.{ModuleFacts, syntax, IsChecked}
@@ -17,21 +17,19 @@ use Rattle.bb_blast.specs.declared.placed.Placed.{Placed}
 use Rattle.bb_design.specs.Constructs.{Construct, Assignment, GateInstance, Register, SupplyNet, InputConnection, OutputConnection, BoxContents, initial_construct, body_constructs, constructs_at, parts}
 use Rattle.bb_design.specs.Hierarchy.{Design, Scope, Instance, instance_of, instances_in, instances_of, scopes, path_to, is_top, is_box}
 use Rattle.bb_design.specs.NetBits.{scope_bits}
-use Rattle.bb_blast.specs.Inside.Outlining.{module_in, scope_of, module_constructs, bit_count, IsTargetAt, IsSited}
+use Rattle.bb_blast.specs.Inside.Outlining.{module_in, scope_of, module_constructs, bit_count, AreUsed, IsCallAt, IsOutlinable, IsStarted}
 use Rattle.bb_blast.specs.Inside.Placements.{IsScopeAt, IsPlacedAt, IsChildAt, ArePlaced}
 use Rattle.bb_design.specs.Reading.{cells_at}
 use Rattle.bb_design.specs.Refusals.{IsSmall}
 use Rattle.bb_design.specs.Sizes.{cell_count_at, cells_in, bits_and_instances}
 use Rattle.bb_lists.proofs.Places.{there_at, got-map, some_at}
-use Rattle.bb_lists.proofs.Members.{from_flat, contains-map, into_flat, none_in_nil, contains_cases}
+use Rattle.bb_design.specs.Inside.Callees.{callees, callee_place, source_of}
+use Rattle.bb_design.specs.Laws.DesignLaws.{DesignLaws}
+use Rattle.bb_design.specs.Laws.HierarchyLaws.{HasItsInstances}
+use Rattle.bb_lists.proofs.Members.{from_flat, contains-map, into_flat, none_in_nil, contains_cases, contains_here, contains_there}
+use Rattle.bb_lists.proofs.Picked.{one_place}
 use Rattle.bb_blast.proofs.ModulePlaces.{module-is}
 use Rattle.bb_blast.proofs.NetNumbers.{bits-long}
-
-zip_weaker : {A B : Type 0} (R S : A → B → Type 0) → ((x : A) (y : B) → R x y → S x y) → (xs : List A) (ys : List B) → AllZip R xs ys → AllZip S xs ys
-zip_weaker R S to [] [] zip = tt
-zip_weaker R S to [] (y ∷ ys) zip = zip
-zip_weaker R S to (x ∷ xs) [] zip = zip
-zip_weaker R S to (x ∷ xs) (y ∷ ys) zip = (to x y zip.0, zip_weaker R S to xs ys zip.1)
 
 -- the module at a place of the text
 pub meant_at : (checked : List ModuleFacts) (k : ℕ) (m : PlainModule) → slice_get (map syntax checked) k ≡ Some m → (k < length checked) × (module_in checked k ≡ m)
@@ -146,30 +144,88 @@ module _ (checked : List ModuleFacts) (ok : IsChecked checked) where
     pub source_meant : (k : ℕ) (s : Scope) (p : Placed) → IsScopeAt d k s → slice_get all k ≡ Some p → (p.module < length checked) × (module_in checked p.module ≡ s.source)
     source_meant k s p at e = meant_at checked p.module s.source (ap (λ l. slice_get l p.module) (sym text) ∙ (are.each k s p at e).source)
 
-    child_target : (s : Scope) (k : ℕ) (i : Instance) → IsChildAt d s k i → IsTargetAt checked all k i
-    child_target s k i child =
-        let q = some_at all k (omega (arith, slice_get_within (scopes d) k _ child.2, are.count)) in
-        let meant = source_meant k (record { path = path_to s.path i.name; source = child.0 }) q.0 child.2 q.1 in
-        subst (λ o. IsSomeAnd o (λ (q : Placed). module_named (map syntax checked) i.target ≡ Some (module_in checked q.module))) (sym q.1)
-        (ap (λ l. module_named l i.target) (sym text) ∙ child.1 ∙ ap Some (sym meant.1))
+    -- what a module has whose scope it is
+    bits_in : IsSmall d → (k : ℕ) (s : Scope) (p : Placed) → IsScopeAt d k s → slice_get all k ≡ Some p → bit_count (nets_of (module_in checked p.module)) ≤ 1000000
+    bits_in small k s p at e = subst (λ m. bit_count (nets_of m) ≤ 1000000) (sym (source_meant k s p at e).1) (bits_few d k s at 1000000 small.0)
 
-    pub all_sited : IsSmall d → All (IsSited checked all) all
-    all_sited small k e lt =
+    pub used_bits : IsSmall d → (used : List Bool) → AreUsed all used → (m : ℕ) → slice_get used m ≡ Some true → bit_count (nets_of (module_in checked m)) ≤ 1000000
+    used_bits small used are_used m e =
+        let p = are_used.only m e in
+        let s = scope_there p.0 p.1 p.2 in
+        subst (λ n. bit_count (nets_of (module_in checked n)) ≤ 1000000) p.3 (bits_in small p.0 s.0 p.1 s.1 p.2)
+
+    pub modules_there : All (λ p. p.module < length checked) all
+    modules_there k e lt =
         let p = some_at all k lt in
-        subst (IsSited checked all) (sym (get_or_from_slice_get all k p.0 e p.1)) (sited p.0 p.1)
-      where
-        sited : (p : Placed) → slice_get all k ≡ Some p → IsSited checked all p
-        sited p here =
-            let s = scope_there k p here in
-            let meant = source_meant k s.0 p s.1 here in
-            let children : AllZip (IsTargetAt checked all) p.children.items (instances_of s.0.source) = zip_weaker (IsChildAt d s.0) (IsTargetAt checked all) (child_target s.0) p.children.items (instances_of s.0.source) s.2.children in
-            let in_text : Contains (map syntax checked) s.0.source = there_at (map syntax checked) p.module s.0.source (ap (λ l. slice_get l p.module) (sym text) ∙ s.2.source) in
-            record {
-              there = meant.0;
-              modest = record {
-                bits = subst (λ m. bit_count (nets_of m) ≤ 1000000) (sym meant.1) (bits_few d k s.0 s.1 1000000 small.0);
-                cells = λ c has. subst (λ m. length (cells_at (scope_of m, c)) ≤ 2000000) (sym meant.1) (cells_few d k s.0 s.1 2000000 small.1 c (subst (λ t. Contains (module_constructs t s.0.source) c) (sym text) (subst (λ m. Contains (module_constructs (map syntax checked) m) c) meant.1 has)));
-              };
-              few = omega (arith, AllZip-long (IsTargetAt checked all) p.children.items (instances_of s.0.source) children, instances_small s.0.source in_text);
-              children = subst (λ m. AllZip (IsTargetAt checked all) p.children.items (instances_of m)) (sym meant.1) children;
-            }
+        let s = scope_there k p.0 p.1 in
+        subst (λ q. q.module < length checked) (sym (get_or_from_slice_get all k p.0 e p.1)) (source_meant k s.0 p.0 s.1 p.1).0
+
+    -- a module of which a scope is a copy, with the modules of its instances
+    module _ (of_designs : DesignLaws) (small : IsSmall d) (used : List Bool) (are_used : AreUsed all used) (starts : List (List ℕ)) (started : (m : ℕ) → slice_get used m ≡ Some true → IsStarted checked starts m)
+        (k : ℕ) (p : Placed) (here : slice_get all k ≡ Some p) where
+      abbrev text_of : List PlainModule
+      text_of = map syntax checked
+
+      s : (s : Scope) × IsScopeAt d k s × IsPlacedAt d k s p
+      s = scope_there k p here
+
+      meant : (p.module < length checked) × (module_in checked p.module ≡ s.0.source)
+      meant = source_meant k s.0 p s.1 here
+
+      source_at : slice_get text_of p.module ≡ Some s.0.source
+      source_at = ap (λ l. slice_get l p.module) (sym text) ∙ s.2.source
+
+      in_text : Contains text_of s.0.source
+      in_text = there_at text_of p.module s.0.source source_at
+
+      law : HasItsInstances text_of s.0.source
+      law = of_designs.instances text_of ok.sound s.0.source in_text
+
+      -- the module of an instance is one of which a scope is a copy
+      target_used : (n : ℕ) (i : Instance) → Contains (instances_of s.0.source) i → IsChildAt d s.0 n i → slice_get used (callee_place text_of i) ≡ Some true
+      target_used n i has child =
+          let q = some_at all n (omega (arith, slice_get_within (scopes d) n _ child.2, are.count)) in
+          let at : slice_get text_of q.0.module ≡ Some child.0 = ap (λ l. slice_get l q.0.module) (sym text) ∙ (are.each n (record { path = path_to s.0.path i.name; source = child.0 }) q.0 child.2 q.1).source in
+          let own : source_of text_of s.0.source i ≡ child.0 = same_Some (source_of text_of s.0.source i) child.0 (sym (law.meant i has) ∙ ap (λ l. module_named l i.target) (sym text) ∙ child.1) in
+          let to : slice_get text_of (callee_place text_of i) ≡ Some child.0 = law.stands i has ∙ ap Some own in
+          let same : q.0.module ≡ callee_place text_of i =
+          one_place (map (λ m. m.name) text_of) q.0.module (callee_place text_of i) child.0.name (of_designs.modules_apart text_of ok.sound)
+          (got-map (λ (m : PlainModule). m.name) text_of q.0.module child.0 at) (got-map (λ (m : PlainModule). m.name) text_of (callee_place text_of i) child.0 to) in
+          ap (slice_get used) (sym same) ∙ are_used.each n q.0 q.1
+
+      targets_used : (ns : List ℕ) (is : List Instance) → ((i : Instance) → Contains is i → Contains (instances_of s.0.source) i) → AllZip (IsChildAt d s.0) ns is → AllByRecursion (IsStarted checked starts) (map (callee_place text_of) is)
+      targets_used [] [] of zip = tt
+      targets_used [] (i ∷ is) of zip = absurd zip
+      targets_used (n ∷ ns) [] of zip = absurd zip
+      targets_used (n ∷ ns) (i ∷ is) of zip =
+          (started (callee_place text_of i) (target_used n i (of i (contains_here i is)) zip.0), targets_used ns is (λ j has. of j (contains_there i is j has)) zip.1)
+
+      calls_at : (j : ℕ) (called : Instance) → slice_get (instances_of (module_in checked p.module)) j ≡ Some called
+          → IsCallAt checked p.module (0 + j) (slice_index_or (map (callee_place text_of) (instances_of s.0.source)) (0 + j) 0) called
+      calls_at j called e =
+          let zero : 0 + j ≡ j = omega arith in
+          let there : slice_get (instances_of s.0.source) j ≡ Some called = ap (λ m. slice_get (instances_of m) j) (sym meant.1) ∙ e in
+          let has = there_at (instances_of s.0.source) j called there in
+          let target : slice_index_or (map (callee_place text_of) (instances_of s.0.source)) (0 + j) 0 ≡ callee_place text_of called =
+          ap (λ i. slice_index_or (map (callee_place text_of) (instances_of s.0.source)) i 0) zero
+          ∙ get_or_from_slice_get (map (callee_place text_of) (instances_of s.0.source)) j (callee_place text_of called) 0 (got-map (callee_place text_of) (instances_of s.0.source) j called there) in
+          record {
+            there = ap (slice_get (instances_of (module_in checked p.module))) zero ∙ e;
+            meant = law.meant called has ∙ sym (ap Some (ap (module_in checked) target ∙ (meant_at checked (callee_place text_of called) (source_of text_of s.0.source called) (law.stands called has)).1));
+          }
+
+      pub outlinable : IsOutlinable checked starts p.module (slice_index_or (map (callees text_of) text_of) p.module [])
+      outlinable = subst (IsOutlinable checked starts p.module) (sym (law.called p.module source_at)) (record {
+        started = started p.module (are_used.each k p here);
+        targets = All-from_recursion (IsStarted checked starts) (map (callee_place text_of) (instances_of s.0.source)) (targets_used p.children.items (instances_of s.0.source) (λ i has. has) s.2.children);
+        few = omega (arith, length-map (instances_of s.0.source) (callee_place text_of), instances_small s.0.source in_text);
+        calls = record {
+          room = omega (arith, length-map (instances_of s.0.source) (callee_place text_of), ap (λ m. length (instances_of m)) meant.1);
+          each = calls_at;
+        };
+        modest = record {
+          bits = bits_in small k s.0 p s.1 here;
+          cells = λ c has. subst (λ m. length (cells_at (scope_of m, c)) ≤ 2000000) (sym meant.1) (cells_few d k s.0 s.1 2000000 small.1 c
+              (subst (λ t. Contains (module_constructs t s.0.source) c) (sym text) (subst (λ m. Contains (module_constructs text_of m) c) meant.1 has)));
+        };
+      })

@@ -20,12 +20,12 @@ use Rattle.bb_blast.specs.declared.placed.Placed.{Placed}
 use Rattle.bb_design.specs.Hierarchy.{Design, Scope, instances_of, root, scopes}
 use Rattle.bb_design.specs.Contexts.{width_of, context_width}
 use Rattle.bb_design.specs.Constructs.{Construct, Assignment, GateInstance, Register, SupplyNet, InputConnection, OutputConnection, BoxContents, body_constructs, constructs_at, parts}
-use Rattle.bb_blast.specs.Inside.Listing.{IsInputAmong, IsPartAmong, IsScopeAmong}
-use Rattle.bb_blast.specs.Inside.Steps.{IsNetBelow, HasNetsBelow}
+use Rattle.bb_blast.specs.Inside.Listing.{IsPartAmong, IsScopeAmong}
 use Rattle.bb_design.specs.Inside.Allowed.{IsBounded}
 use Rattle.bb_blast.specs.Inside.Logic.{IsLogicAmong}
-use Rattle.bb_blast.specs.Inside.Outlines.{IsKeptIn, IsMadeIn, IsPartOf, IsOutline}
+use Rattle.bb_blast.specs.Inside.Outlines.{IsKeptIn, IsMadeIn, IsPartOf, IsWholeIn, IsOutline}
 use Rattle.bb_blast.specs.Inside.Placements.{ArePlaced, AreOutlined, IsScopeAt, IsChildAt}
+use Rattle.bb_blast.proofs.LogicSteps.{IsNetBelow, logic_below}
 use Rattle.bb_lists.proofs.Places.{there_at}
 use Rattle.bb_lists.proofs.Members.{contains-map, into_flat, contains_here, contains_there}
 use Rattle.bb_design.specs.Laws.DesignLaws.{DesignLaws}
@@ -47,67 +47,49 @@ module _ (nets : List NetInfo) (m : ℕ) (there : (k : ℕ) → k < length nets 
       All-cons (IsNetBelow m) step all (net_below a step (All-head (λ (x : ℕ × BitStep). Reads nets x.0 x.1) (a, step) (enumerate_from (a + 1) all) reads))
       (nets_below (a + 1) all (All-tail (λ (x : ℕ × BitStep). Reads nets x.0 x.1) (a, step) (enumerate_from (a + 1) all) reads))
 
-module _ (of_designs : DesignLaws) (d : Design) (bounded : IsBounded d) (placed : List Placed) (are : ArePlaced d placed) (outlines : List Outline) (outlined : AreOutlined d placed outlines)
+module _ (d : Design) (placed : List Placed) (are : ArePlaced d placed) (outlines : List Outline) (outlined : AreOutlined d placed outlines)
     (k : ℕ) (s : Scope) (p : Placed) (at : IsScopeAt d k s) (has : slice_get placed k ≡ Some p) (o : Outline) (outline : IsOutline d.text s.source o) where
   starts_there : (n : ℕ) → n < length (nets_of s.source) → n < length o.starts.items
   starts_there n fits = slice_get_within o.starts.items n _ (outline.starts n fits)
 
-  made_below : (l : Lowered) (e : Expression) (width : Scope → ℕ) → IsMadeIn s.source l e width → HasNetsBelow (length o.starts.items) l
+  made_below : (l : Lowered) (e : Expression) (width : Scope → ℕ) → IsMadeIn s.source l e width → All (IsNetBelow (length o.starts.items)) l.steps.items
   made_below l e width made = nets_below (nets_of s.source) (length o.starts.items) starts_there 0 l.steps.items made.earlier
 
   kept_below : (g : Logic) (e : Expression) (width : Scope → ℕ) (count : ℕ) → IsKeptIn s.source g e width count → IsLogicAmong (length o.starts.items) g
-  kept_below g e width count kept = kept.2.nets (length o.starts.items) (made_below kept.0 e width kept.1)
+  kept_below g e width count kept = logic_below (length o.starts.items) count kept.0 g kept.2 (made_below kept.0 e width kept.1)
 
   instances_long : length p.children.items ≡ length (instances_of s.source)
   instances_long = sym (AllZip-long (IsChildAt d s) p.children.items (instances_of s.source) (are.each k s p at has).children)
 
-  -- gates have inputs of one bit
-  AreNarrow : Construct → Type 0
-  AreNarrow (GateInstance gate outs ins) = All (λ e. width_of s e ≡ 1) ins
-  AreNarrow c = Unit {0}
+  inputs_among : (gs : List Logic) (es : List Expression) → AllZip (IsWholeIn s.source) gs es → All (IsLogicAmong (length o.starts.items)) gs
+  inputs_among gs es all = all_zipped (IsWholeIn s.source) (IsLogicAmong (length o.starts.items)) gs es all (λ g e has is. kept_below g e (λ s. width_of s e) (width_of (record { path = []; source = s.source }) e) is)
 
-  inputs_among : (ls : List Lowered) (es : List Expression) → AllZip (λ l e. IsMadeIn s.source l e (λ s. width_of s e)) ls es → All (λ e. width_of s e ≡ 1) es → All (IsInputAmong (length o.starts.items)) ls
-  inputs_among [] es all narrow = All-nil _
-  inputs_among (l ∷ ls) [] all narrow = absurd all
-  inputs_among (l ∷ ls) (e ∷ es) all narrow =
-      let one : width_of s e ≡ 1 = All-head (λ e. width_of s e ≡ 1) e es narrow in
-      All-cons (IsInputAmong (length o.starts.items)) l ls (made_below l e (λ s. width_of s e) all.0, omega (arith, all.0.width, one)) (inputs_among ls es all.1 (All-tail (λ e. width_of s e ≡ 1) e es narrow))
+  part_among : (q : Part) (c : Construct) → IsPartOf d.text s.source q c → IsPartAmong (length o.starts.items) (length p.children.items) q
+  part_among (part.Assignment left right) (Assignment l r) is = kept_below right r (λ s. context_width s l r) (length left.items) is.1
+  part_among (part.Gate gate outs ins) (GateInstance g os es) is = inputs_among ins.items es is.2
+  part_among (part.Register left right clock falling) (Register r) is = kept_below right r.right (λ s. context_width s r.left r.right) (length left.items) is.1
+  part_among (part.Supply high bits) (SupplyNet h n) is = tt
+  part_among (part.Input instance pin value) (InputConnection i port e) is = (omega (arith, slice_get_within (instances_of s.source) instance is.0.called is.0.there, instances_long), kept_below value e (λ s. width_of s e) (width_of (record { path = []; source = s.source }) e) is.1)
+  part_among (part.Output instance pin left) (OutputConnection i port e) is = omega (arith, slice_get_within (instances_of s.source) instance is.0.called is.0.there, instances_long)
+  part_among q c is = absurd is
 
-  part_among : (q : Part) (c : Construct) → IsPartOf d.text s.source q c → AreNarrow c → IsPartAmong (length o.starts.items) (length p.children.items) q
-  unfolding AreNarrow
-  part_among (part.Assignment left right) (Assignment l r) is narrow = kept_below right r (λ s. context_width s l r) (length left.items) is.1
-  part_among (part.Gate gate outs ins) (GateInstance g os es) is narrow = inputs_among ins.items es is.2 narrow
-  part_among (part.Register left right clock falling) (Register r) is narrow = kept_below right r.right (λ s. context_width s r.left r.right) (length left.items) is.1
-  part_among (part.Supply high bits) (SupplyNet h n) is narrow = tt
-  part_among (part.Input instance pin value) (InputConnection i port e) is narrow = (omega (arith, slice_get_within (instances_of s.source) instance is.0.called is.0.there, instances_long), made_below value e (λ s. width_of s e) is.1)
-  part_among (part.Output instance pin left) (OutputConnection i port e) is narrow = omega (arith, slice_get_within (instances_of s.source) instance is.0.called is.0.there, instances_long)
-  part_among q c is narrow = absurd is
-
-  all_narrow : (c : Construct) → Contains (parts d) (s, c) → AreNarrow c
-  unfolding AreNarrow
-  all_narrow (GateInstance gate outs ins) there = ((of_designs.wired d bounded).gates s gate outs ins there).1
-  all_narrow c there = tt
-
-  parts_among : p.boxed ≡ false → All (IsPartAmong (length o.starts.items) (length p.children.items)) o.parts.items
-  parts_among plain =
-      all_zipped (IsPartOf d.text s.source) (IsPartAmong (length o.starts.items) (length p.children.items)) o.parts.items (flat_map (λ item. body_constructs d.text item.body) s.source.items) outline.parts (λ q c there is.
-      part_among q c is (all_narrow c (into_flat (λ s. map (λ c. (s, c)) (constructs_at d.text s)) (scopes d) s (s, c) (there_at (scopes d) k s at)
-      (contains-map {B = Scope × Construct} (λ c. (s, c)) (constructs_at d.text s) c
-      (subst (λ b. Contains (if b then BoxContents ∷ [] else flat_map (λ item. body_constructs d.text item.body) s.source.items) c) (sym (sym (are.each k s p at has).boxed ∙ plain)) there)))))
+  parts_among : All (IsPartAmong (length o.starts.items) (length p.children.items)) o.parts.items
+  parts_among =
+      all_zipped (IsPartOf d.text s.source) (IsPartAmong (length o.starts.items) (length p.children.items)) o.parts.items (flat_map (λ item. body_constructs d.text item.body) s.source.items) outline.parts
+      (λ q c there is. part_among q c is)
 
   scope_among : slice_get outlines p.module ≡ Some o → IsScopeAmong placed outlines p
   scope_among found = record {
     outline = slice_get_within outlines p.module o found;
     children = all_zipped (IsChildAt d s) (λ c. c < length placed) p.children.items (instances_of s.source) (are.each k s p at has).children (λ c i there is. omega (arith, slice_get_within (scopes d) c _ is.2, are.count));
-    parts = λ z plain e. let same : o ≡ z = grind (arith, found, e) in subst (λ (y : Outline). All (IsPartAmong (length y.starts.items) (length p.children.items)) y.parts.items) same (parts_among plain);
+    parts = λ z plain e. let same : o ≡ z = grind (arith, found, e) in subst (λ (y : Outline). All (IsPartAmong (length y.starts.items) (length p.children.items)) y.parts.items) same parts_among;
   }
 
-module _ (of_designs : DesignLaws) where
-  pub scopes_among : (d : Design) → IsBounded d → (placed : List Placed) → ArePlaced d placed → (outlines : List Outline) → AreOutlined d placed outlines → All (IsScopeAmong placed outlines) placed
-  scopes_among d bounded placed are outlines outlined k q fits =
-      let p = get_or placed k q in
-      let s = get_or (scopes d) k (root d) in
-      let has : slice_get placed k ≡ Some p = slice_get-get_or placed k q fits in
-      let at : slice_get (scopes d) k ≡ Some s = slice_get-get_or (scopes d) k (root d) (omega (arith, are.count, fits)) in
-      let o = outlined k s p at has in
-      scope_among of_designs d bounded placed are outlines outlined k s p at has o.0 o.2 o.1
+pub scopes_among : (d : Design) → (placed : List Placed) → ArePlaced d placed → (outlines : List Outline) → AreOutlined d placed outlines → All (IsScopeAmong placed outlines) placed
+scopes_among d placed are outlines outlined k q fits =
+    let p = get_or placed k q in
+    let s = get_or (scopes d) k (root d) in
+    let has : slice_get placed k ≡ Some p = slice_get-get_or placed k q fits in
+    let at : slice_get (scopes d) k ≡ Some s = slice_get-get_or (scopes d) k (root d) (omega (arith, are.count, fits)) in
+    let o = outlined k s p at has in
+    scope_among d placed are outlines outlined k s p at has o.0 o.2 o.1

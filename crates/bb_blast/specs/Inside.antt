@@ -1,6 +1,5 @@
 -- What the code says to itself: no clause of the top call rests on it.
 pub mod Counting
-pub mod Steps
 pub mod Logic
 pub mod Listing
 pub mod Outlines

@@ -12,38 +12,31 @@ ghost use Rattle.bb_blast.specs.Inside.Outlining.{AreStarts, IsMakeable, IsPartA
 use crate::expression_steps::{scope_at, steps_beside};
 use crate::left_bits::{left_bits, net_bits};
 use crate::logic::logic_of;
+use crate::module_context::ModuleContext;
 use crate::outline::Part;
 use bb_ast::{Always, Expr};
 use bb_bits::{Name, NoMemory};
 use bb_expr::laws::standing_is_fit;
 use bb_expr::own_width;
-use bb_names::Checked;
 use std::alloc::Global;
 
 // An assignment.
 fn assignment(
     alloc: Global,
-    checked: &Checked,
-    module: u32,
-    starts: &[u32],
+    context: ModuleContext<'_>,
     left: &Expr,
     right: &Expr,
 ) -> Result<Part, NoMemory>
-    requires starts { AreStarts (nets_of (module_in checked.now «module»)) starts.now }
-    requires stands { StandsAt checked.now «module» (expression left.now) }
-    requires makeable { IsMakeable checked.now «module» (Assignment (expression left.now) (expression right.now)) }
-    ensures part { IfOk result (λ part. IsPartAt checked.now «module» part (Assignment (expression left.now) (expression right.now))) }
+    requires starts { AreStarts (nets_of (module_in context.checked.now context.«module»)) context.starts.now }
+    requires stands { StandsAt context.checked.now context.«module» (expression left.now) }
+    requires makeable { IsMakeable context.checked.now context.«module» (Assignment (expression left.now) (expression right.now)) }
+    ensures part { IfOk result (λ part. IsPartAt context.entry.checked.now context.entry.«module» part (Assignment (expression left.now) (expression right.now))) }
 {
     standing_is_fit();
-    let scope = scope_at(checked, module);
-    let bits = left_bits(alloc, scope, starts, left)?;
-    let steps = steps_beside(
-        alloc,
-        checked,
-        module,
-        right,
-        own_width(checked, module, left),
-    )?;
+    let scope = scope_at(context.checked, context.module);
+    let bits = left_bits(alloc, scope, context.starts, left)?;
+    let least = own_width(context.checked, context.module, left);
+    let steps = steps_beside(alloc, context, right, least)?;
     let right = logic_of(alloc, &steps, bits.len())?;
     Ok(Part::Assignment { left: bits, right })
 }
@@ -51,20 +44,18 @@ fn assignment(
 // The assignment of a declared wire.
 fn declared_assignment(
     alloc: Global,
-    checked: &Checked,
-    module: u32,
-    starts: &[u32],
+    context: ModuleContext<'_>,
     name: &Name,
     right: &Expr,
 ) -> Result<Part, NoMemory>
-    requires starts { AreStarts (nets_of (module_in checked.now «module»)) starts.now }
-    requires makeable { IsMakeable checked.now «module» (Assignment (Net name.now) (expression right.now)) }
-    ensures part { IfOk result (λ part. IsPartAt checked.now «module» part (Assignment (Net name.now) (expression right.now))) }
+    requires starts { AreStarts (nets_of (module_in context.checked.now context.«module»)) context.starts.now }
+    requires makeable { IsMakeable context.checked.now context.«module» (Assignment (Net name.now) (expression right.now)) }
+    ensures part { IfOk result (λ part. IsPartAt context.entry.checked.now context.entry.«module» part (Assignment (Net name.now) (expression right.now))) }
 {
-    let scope = scope_at(checked, module);
-    let left = net_bits(alloc, scope, starts, name)?;
+    let scope = scope_at(context.checked, context.module);
+    let left = net_bits(alloc, scope, context.starts, name)?;
     let count = left.len();
-    let steps = steps_beside(alloc, checked, module, right, count as u32)?;
+    let steps = steps_beside(alloc, context, right, count as u32)?;
     let right = logic_of(alloc, &steps, count)?;
     Ok(Part::Assignment { left, right })
 }
@@ -72,20 +63,18 @@ fn declared_assignment(
 /// Adds assignments.
 pub(crate) fn add_assignments(
     alloc: Global,
-    checked: &Checked,
-    module: u32,
-    starts: &[u32],
+    context: ModuleContext<'_>,
     all: &[(Expr, Expr)],
     parts: &mut Vec<Part>,
 ) -> Result<(), NoMemory>
-    requires starts { AreStarts (nets_of (module_in checked.now «module»)) starts.now }
-    requires stands { All (λ x. StandsAt checked.now «module» x.0) (map arm_view all.now) }
-    requires makeable { All (λ x. IsMakeable checked.now «module» (Assignment x.0 x.1)) (map arm_view all.now) }
-    ensures parts { (before : List Construct) → AllZip (IsPartAt checked.now «module») parts.old.items before
-        → OnOk result (AllZip (IsPartAt checked.now «module») parts.new.items (before ++ map (λ x. Assignment x.0 x.1) (map arm_view all.now))) }
+    requires starts { AreStarts (nets_of (module_in context.checked.now context.«module»)) context.starts.now }
+    requires stands { All (λ x. StandsAt context.checked.now context.«module» x.0) (map arm_view all.now) }
+    requires makeable { All (λ x. IsMakeable context.checked.now context.«module» (Assignment x.0 x.1)) (map arm_view all.now) }
+    ensures parts { (before : List Construct) → AllZip (IsPartAt context.entry.checked.now context.entry.«module») parts.old.items before
+        → OnOk result (AllZip (IsPartAt context.entry.checked.now context.entry.«module») parts.new.items (before ++ map (λ x. Assignment x.0 x.1) (map arm_view all.now))) }
 {
     for (left, right) in all {
-        parts.push(assignment(alloc, checked, module, starts, left, right)?)?;
+        parts.push(assignment(alloc, context, left, right)?)?;
     }
     Ok(())
 }
@@ -93,19 +82,17 @@ pub(crate) fn add_assignments(
 // Adds the assignment of a declared wire, if it has one.
 fn add_declared(
     alloc: Global,
-    checked: &Checked,
-    module: u32,
-    starts: &[u32],
+    context: ModuleContext<'_>,
     net: &(Name, Option<Expr>),
     parts: &mut Vec<Part>,
 ) -> Result<(), NoMemory>
-    requires starts { AreStarts (nets_of (module_in checked.now «module»)) starts.now }
-    requires makeable { All (IsMakeable checked.now «module») (initial_construct (named_view net.now)) }
-    ensures parts { (before : List Construct) → AllZip (IsPartAt checked.now «module») parts.old.items before
-        → OnOk result (AllZip (IsPartAt checked.now «module») parts.new.items (before ++ initial_construct (named_view net.now))) }
+    requires starts { AreStarts (nets_of (module_in context.checked.now context.«module»)) context.starts.now }
+    requires makeable { All (IsMakeable context.checked.now context.«module») (initial_construct (named_view net.now)) }
+    ensures parts { (before : List Construct) → AllZip (IsPartAt context.entry.checked.now context.entry.«module») parts.old.items before
+        → OnOk result (AllZip (IsPartAt context.entry.checked.now context.entry.«module») parts.new.items (before ++ initial_construct (named_view net.now))) }
 {
     if let Some(right) = &net.1 {
-        parts.push(declared_assignment(alloc, checked, module, starts, &net.0, right)?)?;
+        parts.push(declared_assignment(alloc, context, &net.0, right)?)?;
     }
     Ok(())
 }
@@ -113,19 +100,17 @@ fn add_declared(
 /// Adds the assignments of declared wires.
 pub(crate) fn add_all_declared(
     alloc: Global,
-    checked: &Checked,
-    module: u32,
-    starts: &[u32],
+    context: ModuleContext<'_>,
     nets: &[(Name, Option<Expr>)],
     parts: &mut Vec<Part>,
 ) -> Result<(), NoMemory>
-    requires starts { AreStarts (nets_of (module_in checked.now «module»)) starts.now }
-    requires makeable { All (λ x. All (IsMakeable checked.now «module») (initial_construct x)) (map named_view nets.now) }
-    ensures parts { (before : List Construct) → AllZip (IsPartAt checked.now «module») parts.old.items before
-        → OnOk result (AllZip (IsPartAt checked.now «module») parts.new.items (before ++ flat_map initial_construct (map named_view nets.now))) }
+    requires starts { AreStarts (nets_of (module_in context.checked.now context.«module»)) context.starts.now }
+    requires makeable { All (λ x. All (IsMakeable context.checked.now context.«module») (initial_construct x)) (map named_view nets.now) }
+    ensures parts { (before : List Construct) → AllZip (IsPartAt context.entry.checked.now context.entry.«module») parts.old.items before
+        → OnOk result (AllZip (IsPartAt context.entry.checked.now context.entry.«module») parts.new.items (before ++ flat_map initial_construct (map named_view nets.now))) }
 {
     for net in nets {
-        add_declared(alloc, checked, module, starts, net, parts)?;
+        add_declared(alloc, context, net, parts)?;
     }
     Ok(())
 }
@@ -133,20 +118,19 @@ pub(crate) fn add_all_declared(
 /// Adds supply nets.
 pub(crate) fn add_supplies(
     alloc: Global,
-    checked: &Checked,
-    module: u32,
-    starts: &[u32],
+    context: ModuleContext<'_>,
     high: bool,
     names: &[Name],
     parts: &mut Vec<Part>,
 ) -> Result<(), NoMemory>
-    requires starts { AreStarts (nets_of (module_in checked.now «module»)) starts.now }
-    requires makeable { All (IsMakeable checked.now «module») (map (SupplyNet high) names.now) }
-    ensures parts { (before : List Construct) → AllZip (IsPartAt checked.now «module») parts.old.items before
-        → OnOk result (AllZip (IsPartAt checked.now «module») parts.new.items (before ++ map (SupplyNet high) names.now)) }
+    requires starts { AreStarts (nets_of (module_in context.checked.now context.«module»)) context.starts.now }
+    requires makeable { All (IsMakeable context.checked.now context.«module») (map (SupplyNet high) names.now) }
+    ensures parts { (before : List Construct) → AllZip (IsPartAt context.entry.checked.now context.entry.«module») parts.old.items before
+        → OnOk result (AllZip (IsPartAt context.entry.checked.now context.entry.«module») parts.new.items (before ++ map (SupplyNet high) names.now)) }
 {
     for name in names {
-        let bits = net_bits(alloc, scope_at(checked, module), starts, name)?;
+        let scope = scope_at(context.checked, context.module);
+        let bits = net_bits(alloc, scope, context.starts, name)?;
         parts.push(Part::Supply { high, bits })?;
     }
     Ok(())
@@ -155,22 +139,20 @@ pub(crate) fn add_supplies(
 /// Registers.
 pub(crate) fn register(
     alloc: Global,
-    checked: &Checked,
-    module: u32,
-    starts: &[u32],
+    context: ModuleContext<'_>,
     always: &Always,
 ) -> Result<Part, NoMemory>
-    requires starts { AreStarts (nets_of (module_in checked.now «module»)) starts.now }
-    requires makeable { IsMakeable checked.now «module» (Register (always_view always.now)) }
-    ensures part { IfOk result (λ part. IsPartAt checked.now «module» part (Register (always_view always.now))) }
+    requires starts { AreStarts (nets_of (module_in context.checked.now context.«module»)) context.starts.now }
+    requires makeable { IsMakeable context.checked.now context.«module» (Register (always_view always.now)) }
+    ensures part { IfOk result (λ part. IsPartAt context.entry.checked.now context.entry.«module» part (Register (always_view always.now))) }
 {
     standing_is_fit();
-    let scope = scope_at(checked, module);
-    let left = left_bits(alloc, scope, starts, &always.left)?;
-    let least = own_width(checked, module, &always.left);
-    let steps = steps_beside(alloc, checked, module, &always.right, least)?;
+    let scope = scope_at(context.checked, context.module);
+    let left = left_bits(alloc, scope, context.starts, &always.left)?;
+    let least = own_width(context.checked, context.module, &always.left);
+    let steps = steps_beside(alloc, context, &always.right, least)?;
     let right = logic_of(alloc, &steps, left.len())?;
-    let clock = left_bits(alloc, scope, starts, &always.clock)?[0];
+    let clock = left_bits(alloc, scope, context.starts, &always.clock)?[0];
     Ok(Part::Register {
         left,
         right,

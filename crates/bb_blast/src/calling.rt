@@ -8,14 +8,14 @@ ghost use Rattle.bb_names.specs.Inside.Checked.{syntax};
 ghost use Rattle.bb_names.specs.Spots.{module_named, pin_at};
 ghost use Rattle.bb_design.specs.Constructs.{Construct, connection, connections};
 ghost use Rattle.bb_design.specs.Hierarchy.{Instance, instance_of};
-ghost use Rattle.bb_blast.specs.Inside.Outlining.{IsStarted, IsCallAt, AreCallsAt, IsMakeable, IsPartAt, module_in};
+ghost use Rattle.bb_blast.specs.Inside.Outlining.{IsStarted, IsStartedModule, IsCallAt, AreCallsAt, IsMakeable, IsPartAt, module_in};
 
 use crate::connecting::connected;
 use crate::expression_steps::scope_at;
+use crate::module_context::{InstanceContext, ModuleContext, Targets};
 use crate::outline::Part;
 use bb_ast::{Call, Conns, Expr};
 use bb_bits::{Name, NoMemory};
-use bb_names::Checked;
 use std::alloc::Global;
 
 // Adds a part, if there is one.
@@ -31,24 +31,23 @@ fn add_part(parts: &mut Vec<Part>, part: Option<Part>) -> Result<(), NoMemory>
 // What stands at a place of a list of connections by order, where there is such a port and the place is not left open.
 fn ordered(
     alloc: Global,
-    checked: &Checked,
-    module: u32,
-    starts: &[Vec<u32>],
-    target: u32,
-    instance: u32,
+    context: ModuleContext<'_>,
+    inner: InstanceContext<'_>,
     number: usize,
     place: &Option<Expr>,
 ) -> Result<Option<Part>, NoMemory>
-    requires started { IsStarted checked.now (map (λ list. list.items) starts.now) «module» }
-    requires target { IsStarted checked.now (map (λ list. list.items) starts.now) target }
-    requires makeable { (i : List ℕ) × All (IsMakeable checked.now «module») (connection i (pin_at (module_in checked.now target) number) (optional_view place.now)) }
-    ensures part { (called : Instance) → IsCallAt checked.now «module» instance target called
-        → IfOk result (λ part. AllZip (IsPartAt checked.now «module») (option_to_list part) (connection called.name (pin_at (module_in checked.now target) number) (optional_view place.now))) }
+    requires own { IsStartedModule context.checked.now context.«module» context.starts.now }
+    requires target { IsStartedModule context.checked.now inner.target inner.starts.now }
+    requires makeable { (i : List ℕ) × All (IsMakeable context.checked.now context.«module») (connection i (pin_at (module_in context.checked.now inner.target) number) (optional_view place.now)) }
+    ensures part { (called : Instance) → IsCallAt context.entry.checked.now context.entry.«module» inner.entry.instance inner.entry.target called
+        → IfOk result (λ part. AllZip (IsPartAt context.entry.checked.now context.entry.«module») (option_to_list part) (connection called.name (pin_at (module_in context.entry.checked.now inner.entry.target) number) (optional_view place.now))) }
 {
-    match scope_at(checked, target).module.heads.get(number) {
-        Some(head) => connected(
-            alloc, checked, module, starts, target, instance, &head.name, place,
-        ),
+    match scope_at(context.checked, inner.target)
+        .module
+        .heads
+        .get(number)
+    {
+        Some(head) => connected(alloc, context, inner, &head.name, place),
         None => Ok(None),
     }
 }
@@ -56,24 +55,19 @@ fn ordered(
 // Adds connections by order.
 fn add_ordered(
     alloc: Global,
-    checked: &Checked,
-    module: u32,
-    starts: &[Vec<u32>],
-    target: u32,
-    instance: u32,
+    context: ModuleContext<'_>,
+    inner: InstanceContext<'_>,
     places: &[Option<Expr>],
     parts: &mut Vec<Part>,
 ) -> Result<(), NoMemory>
-    requires started { IsStarted checked.now (map (λ list. list.items) starts.now) «module» }
-    requires target { IsStarted checked.now (map (λ list. list.items) starts.now) target }
-    requires makeable { (i : List ℕ) × All (IsMakeable checked.now «module») (connections (Some (module_in checked.now target)) (i, Order (map optional_view places.now))) }
-    ensures parts { (called : Instance) → IsCallAt checked.now «module» instance target called → (before : List Construct) → AllZip (IsPartAt checked.now «module») parts.old.items before
-        → OnOk result (AllZip (IsPartAt checked.now «module») parts.new.items (before ++ connections (Some (module_in checked.now target)) (called.name, Order (map optional_view places.now)))) }
+    requires own { IsStartedModule context.checked.now context.«module» context.starts.now }
+    requires target { IsStartedModule context.checked.now inner.target inner.starts.now }
+    requires makeable { (i : List ℕ) × All (IsMakeable context.checked.now context.«module») (connections (Some (module_in context.checked.now inner.target)) (i, Order (map optional_view places.now))) }
+    ensures parts { (called : Instance) → IsCallAt context.entry.checked.now context.entry.«module» inner.entry.instance inner.entry.target called → (before : List Construct) → AllZip (IsPartAt context.entry.checked.now context.entry.«module») parts.old.items before
+        → OnOk result (AllZip (IsPartAt context.entry.checked.now context.entry.«module») parts.new.items (before ++ connections (Some (module_in context.entry.checked.now inner.entry.target)) (called.name, Order (map optional_view places.now)))) }
 {
     for k in 0..places.len() {
-        let part = ordered(
-            alloc, checked, module, starts, target, instance, k, &places[k],
-        )?;
+        let part = ordered(alloc, context, inner, k, &places[k])?;
         add_part(parts, part)?;
     }
     Ok(())
@@ -82,24 +76,19 @@ fn add_ordered(
 // Adds connections by the names of ports.
 fn add_named(
     alloc: Global,
-    checked: &Checked,
-    module: u32,
-    starts: &[Vec<u32>],
-    target: u32,
-    instance: u32,
+    context: ModuleContext<'_>,
+    inner: InstanceContext<'_>,
     all: &[(Name, Option<Expr>)],
     parts: &mut Vec<Part>,
 ) -> Result<(), NoMemory>
-    requires started { IsStarted checked.now (map (λ list. list.items) starts.now) «module» }
-    requires target { IsStarted checked.now (map (λ list. list.items) starts.now) target }
-    requires makeable { (i : List ℕ) × All (IsMakeable checked.now «module») (connections (Some (module_in checked.now target)) (i, Named (map named_view all.now))) }
-    ensures parts { (called : Instance) → IsCallAt checked.now «module» instance target called → (before : List Construct) → AllZip (IsPartAt checked.now «module») parts.old.items before
-        → OnOk result (AllZip (IsPartAt checked.now «module») parts.new.items (before ++ connections (Some (module_in checked.now target)) (called.name, Named (map named_view all.now)))) }
+    requires own { IsStartedModule context.checked.now context.«module» context.starts.now }
+    requires target { IsStartedModule context.checked.now inner.target inner.starts.now }
+    requires makeable { (i : List ℕ) × All (IsMakeable context.checked.now context.«module») (connections (Some (module_in context.checked.now inner.target)) (i, Named (map named_view all.now))) }
+    ensures parts { (called : Instance) → IsCallAt context.entry.checked.now context.entry.«module» inner.entry.instance inner.entry.target called → (before : List Construct) → AllZip (IsPartAt context.entry.checked.now context.entry.«module») parts.old.items before
+        → OnOk result (AllZip (IsPartAt context.entry.checked.now context.entry.«module») parts.new.items (before ++ connections (Some (module_in context.entry.checked.now inner.entry.target)) (called.name, Named (map named_view all.now)))) }
 {
     for (port, place) in all {
-        let part = connected(
-            alloc, checked, module, starts, target, instance, port, place,
-        )?;
+        let part = connected(alloc, context, inner, port, place)?;
         add_part(parts, part)?;
     }
     Ok(())
@@ -108,64 +97,51 @@ fn add_named(
 // Adds the connections of an instance.
 fn add_conns(
     alloc: Global,
-    checked: &Checked,
-    module: u32,
-    starts: &[Vec<u32>],
-    target: u32,
-    instance: u32,
+    context: ModuleContext<'_>,
+    inner: InstanceContext<'_>,
     conns: &Conns,
     parts: &mut Vec<Part>,
 ) -> Result<(), NoMemory>
-    requires started { IsStarted checked.now (map (λ list. list.items) starts.now) «module» }
-    requires target { IsStarted checked.now (map (λ list. list.items) starts.now) target }
-    requires makeable { (i : List ℕ) × All (IsMakeable checked.now «module») (connections (Some (module_in checked.now target)) (i, conns_view conns.now)) }
-    ensures parts { (called : Instance) → IsCallAt checked.now «module» instance target called → (before : List Construct) → AllZip (IsPartAt checked.now «module») parts.old.items before
-        → OnOk result (AllZip (IsPartAt checked.now «module») parts.new.items (before ++ connections (Some (module_in checked.now target)) (called.name, conns_view conns.now))) }
+    requires own { IsStartedModule context.checked.now context.«module» context.starts.now }
+    requires target { IsStartedModule context.checked.now inner.target inner.starts.now }
+    requires makeable { (i : List ℕ) × All (IsMakeable context.checked.now context.«module») (connections (Some (module_in context.checked.now inner.target)) (i, conns_view conns.now)) }
+    ensures parts { (called : Instance) → IsCallAt context.entry.checked.now context.entry.«module» inner.entry.instance inner.entry.target called → (before : List Construct) → AllZip (IsPartAt context.entry.checked.now context.entry.«module») parts.old.items before
+        → OnOk result (AllZip (IsPartAt context.entry.checked.now context.entry.«module») parts.new.items (before ++ connections (Some (module_in context.entry.checked.now inner.entry.target)) (called.name, conns_view conns.now))) }
 {
     match conns {
-        Conns::Order(places) => add_ordered(
-            alloc, checked, module, starts, target, instance, places, parts,
-        ),
-        Conns::Named(all) => add_named(
-            alloc, checked, module, starts, target, instance, all, parts,
-        ),
+        Conns::Order(places) => add_ordered(alloc, context, inner, places, parts),
+        Conns::Named(all) => add_named(alloc, context, inner, all, parts),
     }
 }
 
 /// Adds the connections of instances of one module, of which the first has a number in the module where they stand.
 pub(crate) fn add_calls(
     alloc: Global,
-    checked: &Checked,
-    module: u32,
-    starts: &[Vec<u32>],
-    targets: &[u32],
+    context: ModuleContext<'_>,
+    targets: Targets<'_>,
     first: usize,
     calls: &[Call],
     parts: &mut Vec<Part>,
 ) -> Result<(), NoMemory>
-    requires started { IsStarted checked.now (map (λ list. list.items) starts.now) «module» }
-    requires targets { All (IsStarted checked.now (map (λ list. list.items) starts.now)) targets.now }
-    requires few { length targets.now < 2 ^ 32 }
-    requires makeable { (n : List ℕ) × AreCallsAt checked.now «module» targets.now first (map (instance_of n) (map call_view calls.now))
-        × All (IsMakeable checked.now «module») (flat_map (connections (module_named (map syntax checked.now) n)) (map call_view calls.now)) }
-    ensures parts { (n : List ℕ) → AreCallsAt checked.now «module» targets.now first (map (instance_of n) (map call_view calls.now))
-        → (before : List Construct) → AllZip (IsPartAt checked.now «module») parts.old.items before
-        → OnOk result (AllZip (IsPartAt checked.now «module») parts.new.items (before ++ flat_map (connections (module_named (map syntax checked.now) n)) (map call_view calls.now))) }
+    requires own { IsStartedModule context.checked.now context.«module» context.starts.now }
+    requires targets { All (IsStarted context.checked.now (map (λ list. list.items) targets.starts.now)) targets.modules.now }
+    requires few { length targets.modules.now < 2 ^ 32 }
+    requires makeable { (n : List ℕ) × AreCallsAt context.checked.now context.«module» targets.modules.now first (map (instance_of n) (map call_view calls.now))
+        × All (IsMakeable context.checked.now context.«module») (flat_map (connections (module_named (map syntax context.checked.now) n)) (map call_view calls.now)) }
+    ensures parts { (n : List ℕ) → AreCallsAt context.entry.checked.now context.entry.«module» targets.entry.modules.now first (map (instance_of n) (map call_view calls.now))
+        → (before : List Construct) → AllZip (IsPartAt context.entry.checked.now context.entry.«module») parts.old.items before
+        → OnOk result (AllZip (IsPartAt context.entry.checked.now context.entry.«module») parts.new.items (before ++ flat_map (connections (module_named (map syntax context.entry.checked.now) n)) (map call_view calls.now))) }
 {
     for k in 0..calls.len() {
         let number = first + k;
         let call = &calls[k];
-        let target = targets[number];
-        add_conns(
-            alloc,
-            checked,
-            module,
-            starts,
-            target,
-            number as u32,
-            &call.conns,
-            parts,
-        )?;
+        let target = targets.modules[number];
+        let inner = InstanceContext {
+            instance: number as u32,
+            target: target as u32,
+            starts: &targets.starts[target],
+        };
+        add_conns(alloc, context, inner, &call.conns, parts)?;
     }
     Ok(())
 }

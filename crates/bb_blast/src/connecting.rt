@@ -9,15 +9,16 @@ ghost use Rattle.bb_names.specs.Spots.{pin_named};
 ghost use Rattle.bb_expr.specs.Inside.Fit.{HasNet};
 ghost use Rattle.bb_design.specs.Constructs.{connection, connections};
 ghost use Rattle.bb_design.specs.Hierarchy.{Instance};
-ghost use Rattle.bb_blast.specs.Inside.Outlining.{IsStarted, IsCallAt, IsMakeable, IsPartAt, module_in};
+ghost use Rattle.bb_blast.specs.Inside.Outlining.{IsStartedModule, IsCallAt, IsMakeable, IsPartAt, module_in};
 
-use crate::expression_steps::{scope_at, steps_alone};
+use crate::expression_steps::{logic_alone, scope_at};
 use crate::left_bits::{left_bits, net_bits};
+use crate::module_context::{InstanceContext, ModuleContext};
 use crate::outline::Part;
 use bb_ast::{Dir, Expr};
 use bb_bits::{Name, NoMemory};
 use bb_design::laws::laws_of_designs;
-use bb_names::{Checked, CheckedModule};
+use bb_names::CheckedModule;
 use std::alloc::Global;
 
 // The direction of the port of that name, where it is one with a direction.
@@ -36,42 +37,39 @@ fn port_direction(scope: &CheckedModule, name: &Name) -> Option<Dir>
 /// What is connected to the port of that name of an instance, where it is a port and not left open.
 pub(crate) fn connected(
     alloc: Global,
-    checked: &Checked,
-    module: u32,
-    starts: &[Vec<u32>],
-    target: u32,
-    instance: u32,
+    context: ModuleContext<'_>,
+    inner: InstanceContext<'_>,
     port: &Name,
     place: &Option<Expr>,
 ) -> Result<Option<Part>, NoMemory>
-    requires started { IsStarted checked.now (map (λ list. list.items) starts.now) «module» }
-    requires target { IsStarted checked.now (map (λ list. list.items) starts.now) target }
-    requires makeable { (i : List ℕ) × All (IsMakeable checked.now «module») (connection i (pin_named (module_in checked.now target) port.now) (optional_view place.now)) }
-    ensures part { (called : Instance) → IsCallAt checked.now «module» instance target called
-        → IfOk result (λ part. AllZip (IsPartAt checked.now «module») (option_to_list part) (connection called.name (pin_named (module_in checked.now target) port.now) (optional_view place.now))) }
+    requires own { IsStartedModule context.checked.now context.«module» context.starts.now }
+    requires target { IsStartedModule context.checked.now inner.target inner.starts.now }
+    requires makeable { (i : List ℕ) × All (IsMakeable context.checked.now context.«module») (connection i (pin_named (module_in context.checked.now inner.target) port.now) (optional_view place.now)) }
+    ensures part { (called : Instance) → IsCallAt context.entry.checked.now context.entry.«module» inner.entry.instance inner.entry.target called
+        → IfOk result (λ part. AllZip (IsPartAt context.entry.checked.now context.entry.«module») (option_to_list part) (connection called.name (pin_named (module_in context.entry.checked.now inner.entry.target) port.now) (optional_view place.now))) }
 {
     let Some(expr) = place else {
         return Ok(None);
     };
-    let scope = scope_at(checked, target);
+    let scope = scope_at(context.checked, inner.target);
     let Some(dir) = port_direction(scope, port) else {
         return Ok(None);
     };
-    let pin = net_bits(alloc, scope, &starts[target as usize], port)?;
+    let pin = net_bits(alloc, scope, inner.starts, port)?;
     match dir {
         Dir::Input => {
-            let value = steps_alone(alloc, checked, module, expr)?;
+            let value = logic_alone(alloc, context, expr)?;
             Ok(Some(Part::Input {
-                instance,
+                instance: inner.instance,
                 pin,
                 value,
             }))
         }
         Dir::Output => {
-            let scope = scope_at(checked, module);
-            let left = left_bits(alloc, scope, &starts[module as usize], expr)?;
+            let scope = scope_at(context.checked, context.module);
+            let left = left_bits(alloc, scope, context.starts, expr)?;
             Ok(Some(Part::Output {
-                instance,
+                instance: inner.instance,
                 pin,
                 left,
             }))

@@ -2,16 +2,17 @@
 //!
 //! An input is joined to those before it by an operator each, and a gate that inverts ends with a complement.
 
-ghost use Rattle.std.specs.Prelude.{◌≡◌, ◌<◌, All, length, slice_index, IfOk, OnOk};
+ghost use Rattle.std.specs.Prelude.{◌≡◌, All, length, IfOk, OnOk};
 ghost use Rattle.bb_design.specs.GateFunctions.{inverts};
 ghost use Rattle.bb_cells.specs.Places.{join_cell};
-ghost use Rattle.bb_blast.specs.Inside.Listing.{IsInputAmong, with_terminals, joined, inverted, with_gate};
+ghost use Rattle.bb_blast.specs.Inside.Listing.{with_terminals, joined, inverted, with_gate};
+ghost use Rattle.bb_blast.specs.Inside.Logic.{IsLogicAmong};
 
+use crate::logic::Logic;
+use crate::logic_cells::{Spot, add_one_bit};
 use crate::sources::next_place;
-use crate::step_cells::{Spot, add_steps, number_at};
 use bb_ast::Gate;
 use bb_bits::NoMemory;
-use bb_expr::Lowered;
 use bb_net::LooseCell;
 
 // The operator that joins the inputs of a gate; buf and not have none to join.
@@ -33,30 +34,20 @@ fn inverts(gate: &Gate) -> bool
     matches!(gate, Gate::Nand | Gate::Nor | Gate::Xnor | Gate::Not)
 }
 
-// The first bit of an input, by the number of its step.
-fn first_bit(lowered: &Lowered) -> u32
-    requires some { 0 < length lowered.now.bits.items }
-    ensures step { result ≡ slice_index lowered.now.bits.items 0 }
-{
-    lowered.bits[0]
-}
-
 // Puts the cells of the inputs of a gate behind others, and notes the places of the inputs.
 fn add_terminals(
     spot: Spot<'_>,
-    ins: &[Lowered],
-    numbers: &mut Vec<u32>,
+    ins: &[Logic],
     places: &mut Vec<u32>,
     cells: &mut Vec<LooseCell>,
 ) -> Result<(), NoMemory>
-    requires ins { All (IsInputAmong (length spot.starts.now)) ins.now }
+    requires ins { All (IsLogicAmong (length spot.starts.now)) ins.now }
     ensures places { OnOk result (places.new.items ≡ (with_terminals spot.entry.others spot.entry.bits spot.entry.starts.now cells.old.items ins.now).places) }
     ensures added { OnOk result (cells.new.items ≡ (with_terminals spot.entry.others spot.entry.bits spot.entry.starts.now cells.old.items ins.now).cells) }
 {
     places.clear();
-    for lowered in ins {
-        add_steps(spot, lowered, numbers, cells)?;
-        places.push(number_at(numbers, first_bit(lowered)))?;
+    for logic in ins {
+        places.push(add_one_bit(spot, logic, cells)?)?;
     }
     Ok(())
 }
@@ -101,21 +92,20 @@ fn add_inverter(
     Ok(next)
 }
 
-/// Puts the cells of a gate behind others, and gives its place. The numbers of steps and the places of its inputs are noted in
-/// lists that are there to be used again.
+/// Puts the cells of a gate after others, and gives its place. The places of its inputs go into a list that is there to be
+/// used again.
 pub(crate) fn add_gate(
     spot: Spot<'_>,
     gate: &Gate,
-    ins: &[Lowered],
-    numbers: &mut Vec<u32>,
+    ins: &[Logic],
     places: &mut Vec<u32>,
     cells: &mut Vec<LooseCell>,
 ) -> Result<u32, NoMemory>
-    requires ins { All (IsInputAmong (length spot.starts.now)) ins.now }
+    requires ins { All (IsLogicAmong (length spot.starts.now)) ins.now }
     ensures place { IfOk result (λ place. place ≡ (with_gate spot.entry.others spot.entry.bits spot.entry.starts.now gate.now cells.old.items ins.now).place) }
     ensures added { IfOk result (λ place. cells.new.items ≡ (with_gate spot.entry.others spot.entry.bits spot.entry.starts.now gate.now cells.old.items ins.now).cells) }
 {
-    add_terminals(spot, ins, numbers, places, cells)?;
+    add_terminals(spot, ins, places, cells)?;
     let place = add_joins(spot.others, gate, places, cells)?;
     add_inverter(spot.others, gate, place, cells)
 }

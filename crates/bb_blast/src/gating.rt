@@ -8,16 +8,16 @@ ghost use Rattle.bb_names.specs.Nets.{nets_of};
 ghost use Rattle.bb_expr.specs.Inside.Standing.{StandsAt};
 ghost use Rattle.bb_design.specs.Contexts.{width_of, made_in};
 ghost use Rattle.bb_design.specs.Constructs.{Construct, gate_construct};
-ghost use Rattle.bb_blast.specs.Inside.Outlines.{IsMadeIn};
+ghost use Rattle.bb_blast.specs.Inside.Outlines.{IsWholeIn};
 ghost use Rattle.bb_blast.specs.Inside.Outlining.{AreStarts, IsMakeable, IsPartAt, module_in, scope_of};
 
-use crate::expression_steps::{scope_at, steps_alone};
+use crate::expression_steps::{logic_alone, scope_at};
 use crate::left_bits::lefts_bits;
+use crate::logic::Logic;
+use crate::module_context::ModuleContext;
 use crate::outline::Part;
 use bb_ast::{Expr, Gate, GateCall};
 use bb_bits::NoMemory;
-use bb_expr::Lowered;
-use bb_names::Checked;
 use std::alloc::Global;
 
 // How many of the terminals of a gate, from the first on, are outputs.
@@ -31,20 +31,19 @@ fn output_count(gate: Gate, count: usize) -> usize
     }
 }
 
-// The steps of the inputs of a gate.
+// The inputs of a gate.
 fn gate_inputs(
     alloc: Global,
-    checked: &Checked,
-    module: u32,
+    context: ModuleContext<'_>,
     terms: &[Expr],
-) -> Result<Vec<Lowered>, NoMemory>
-    requires stands { All (StandsAt checked.now «module») (map expression terms.now) }
-    requires few { All (λ e. length (made_in (scope_of (module_in checked.now «module»)) e (width_of (scope_of (module_in checked.now «module»)) e)).cells ≤ 2000000) (map expression terms.now) }
-    ensures made { IfOk result (λ ins. AllZip (λ l e. IsMadeIn (module_in checked.now «module») l e (λ s. width_of s e)) ins.items (map expression terms.now)) }
+) -> Result<Vec<Logic>, NoMemory>
+    requires stands { All (StandsAt context.checked.now context.«module») (map expression terms.now) }
+    requires few { All (λ e. length (made_in (scope_of (module_in context.checked.now context.«module»)) e (width_of (scope_of (module_in context.checked.now context.«module»)) e)).cells ≤ 2000000) (map expression terms.now) }
+    ensures made { IfOk result (λ ins. AllZip (IsWholeIn (module_in context.entry.checked.now context.entry.«module»)) ins.items (map expression terms.now)) }
 {
     let mut ins = Vec::with_capacity(alloc, terms.len())?;
     for term in terms {
-        ins.push(steps_alone(alloc, checked, module, term)?)?;
+        ins.push(logic_alone(alloc, context, term)?)?;
     }
     Ok(ins)
 }
@@ -52,41 +51,38 @@ fn gate_inputs(
 // A gate.
 fn gate_part(
     alloc: Global,
-    checked: &Checked,
-    module: u32,
-    starts: &[u32],
+    context: ModuleContext<'_>,
     gate: Gate,
     terms: &[Expr],
 ) -> Result<Part, NoMemory>
-    requires starts { AreStarts (nets_of (module_in checked.now «module»)) starts.now }
-    requires there { «module» < length checked.now }
-    requires makeable { IsMakeable checked.now «module» (gate_construct gate (map expression terms.now)) }
-    ensures part { IfOk result (λ part. IsPartAt checked.now «module» part (gate_construct gate (map expression terms.now))) }
+    requires starts { AreStarts (nets_of (module_in context.checked.now context.«module»)) context.starts.now }
+    requires there { context.«module» < length context.checked.now }
+    requires makeable { IsMakeable context.checked.now context.«module» (gate_construct gate (map expression terms.now)) }
+    ensures part { IfOk result (λ part. IsPartAt context.entry.checked.now context.entry.«module» part (gate_construct gate (map expression terms.now))) }
 {
     let (outs, ins) = terms.split_at(output_count(gate, terms.len()));
-    let outs = lefts_bits(alloc, scope_at(checked, module), starts, outs)?;
-    let ins = gate_inputs(alloc, checked, module, ins)?;
+    let scope = scope_at(context.checked, context.module);
+    let outs = lefts_bits(alloc, scope, context.starts, outs)?;
+    let ins = gate_inputs(alloc, context, ins)?;
     Ok(Part::Gate { gate, outs, ins })
 }
 
 /// Adds gates of one function.
 pub(crate) fn add_gates(
     alloc: Global,
-    checked: &Checked,
-    module: u32,
-    starts: &[u32],
+    context: ModuleContext<'_>,
     gate: Gate,
     all: &[GateCall],
     parts: &mut Vec<Part>,
 ) -> Result<(), NoMemory>
-    requires starts { AreStarts (nets_of (module_in checked.now «module»)) starts.now }
-    requires there { «module» < length checked.now }
-    requires makeable { All (λ x. IsMakeable checked.now «module» (gate_construct gate x.1)) (map gate_view all.now) }
-    ensures parts { (before : List Construct) → AllZip (IsPartAt checked.now «module») parts.old.items before
-        → OnOk result (AllZip (IsPartAt checked.now «module») parts.new.items (before ++ map (λ x. gate_construct gate x.1) (map gate_view all.now))) }
+    requires starts { AreStarts (nets_of (module_in context.checked.now context.«module»)) context.starts.now }
+    requires there { context.«module» < length context.checked.now }
+    requires makeable { All (λ x. IsMakeable context.checked.now context.«module» (gate_construct gate x.1)) (map gate_view all.now) }
+    ensures parts { (before : List Construct) → AllZip (IsPartAt context.entry.checked.now context.entry.«module») parts.old.items before
+        → OnOk result (AllZip (IsPartAt context.entry.checked.now context.entry.«module») parts.new.items (before ++ map (λ x. gate_construct gate x.1) (map gate_view all.now))) }
 {
     for call in all {
-        parts.push(gate_part(alloc, checked, module, starts, gate, call.terms.as_slice())?)?;
+        parts.push(gate_part(alloc, context, gate, call.terms.as_slice())?)?;
     }
     Ok(())
 }

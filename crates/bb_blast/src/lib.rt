@@ -13,6 +13,7 @@ mod left_bits;
 mod listing;
 mod logic;
 mod logic_cells;
+mod module_context;
 mod module_parts;
 mod net_starts;
 mod outline;
@@ -21,7 +22,6 @@ mod part_cells;
 mod placed;
 mod sheet;
 mod sources;
-mod step_cells;
 mod stored;
 
 pub use box_cells::moved;

@@ -5,9 +5,8 @@
 //! are made, and the copies are made last.
 
 ghost use Rattle.std.specs.Prelude.{All, ◌≡◌, ◌<◌, None, length, replicate, IfOk};
-ghost use Rattle.std.specs.List.{fold};
 ghost use Rattle.bb_blast.specs.Inside.Counting.{capped};
-ghost use Rattle.bb_blast.specs.Inside.Listing.{IsScopeAmong, sheet_view, boxed_view, first_sources, input_numbers, bit_count, boxed_in, cells_before, outs_of, finished, with_scope, listed};
+ghost use Rattle.bb_blast.specs.Inside.Listing.{IsScopeAmong, sheet_view, boxed_view, first_sources, input_numbers, bit_count, boxed_in, cells_before, outs_of, finished, listed};
 ghost use Rattle.bb_design.specs.Hierarchy.{Design};
 ghost use Rattle.bb_design.specs.Inside.Allowed.{IsBounded};
 ghost use Rattle.bb_blast.specs.Inside.Placements.{ArePlaced, AreOutlined, AreStored};
@@ -119,48 +118,36 @@ fn boxed_in(
     Ok(boxed)
 }
 
-// These cells with those of all constructs behind them, the place that gives each bit, and the one that gives each register bit
-// its next state.
-fn sheet_on(
+// These cells, the place that gives each bit, and no next states of so many bits.
+fn begun(
     alloc: Global,
-    layout: Layout,
     bits: u32,
     cells: Vec<LooseCell>,
     sources: Vec<Option<u32>>,
-    placed: &[Placed],
-    outlines: &[Outline],
 ) -> Result<SheetLists, NoMemory>
-    requires scopes { All (IsScopeAmong placed.now outlines.now) placed.now }
-    ensures sheet { IfOk result (λ sheet. sheet_view sheet ≡ fold (with_scope layout.nets layout.others placed.now outlines.now)
-        (record { cells = cells.items; sources = sources.items; next = replicate bits None }) placed.now) }
+    ensures sheet { IfOk result (λ sheet. sheet_view sheet ≡ record { cells = cells.items; sources = sources.items; next = replicate bits None }) }
 {
     let next = vec![in alloc; None; bits as usize]?;
-    let mut sheet = SheetLists {
+    Ok(SheetLists {
         cells,
         sources,
         next,
-        numbers: Vec::new(alloc),
         places: Vec::new(alloc),
-    };
-    add_scopes(layout, placed, outlines, &mut sheet)?;
-    Ok(sheet)
+    })
 }
 
-// The whole list.
+// The whole list with these outputs.
 fn finished(
     alloc: Global,
     inputs: u32,
-    nets: u32,
-    top: &Outline,
-    stored: &[Stored],
     boxes: Vec<BoxPins>,
     sheet: &SheetLists,
+    outs: Vec<u32>,
 ) -> Result<Loose, NoMemory>
-    ensures list { IfOk result (λ l. l ≡ finished inputs nets top.now stored.now boxes.items (sheet_view sheet.now)) }
+    ensures list { IfOk result (λ l. l ≡ finished inputs boxes.items (sheet_view sheet.now) outs.items) }
 {
     let mut cells = cells_before(alloc, inputs, &sheet.sources)?;
     cells.extend_from_slice(&sheet.cells)?;
-    let outs = outs_of(alloc, nets, top, stored, &sheet.next)?;
     Ok(Loose::of(inputs, cells, boxes, outs))
 }
 
@@ -190,8 +177,10 @@ fn listed(
         sources,
         boxes,
     } = boxed_in(alloc, layout, sources, placed, outlines)?;
-    let sheet = sheet_on(alloc, layout, bits, cells, sources, placed, outlines)?;
-    finished(alloc, count, nets, top, stored, boxes, &sheet)
+    let mut sheet = begun(alloc, bits, cells, sources)?;
+    add_scopes(layout, placed, outlines, &mut sheet)?;
+    let outs = outs_of(alloc, nets, top, stored, &sheet.next)?;
+    finished(alloc, count, boxes, &sheet, outs)
 }
 
 /// The list of cells of a design.

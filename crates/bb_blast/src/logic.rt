@@ -3,10 +3,9 @@
 //! An expression may be far wider than what it is assigned to. Its steps are let go once this is made of them, so that a bit of a
 //! net takes room only where an operator reads it or it is assigned.
 
-ghost use Rattle.std.specs.Prelude.{◌≡◌, ◌++◌, ◌∷◌, [], length, map, IfOk, OnOk};
+ghost use Rattle.std.specs.Prelude.{◌≡◌, [], map, IfOk, OnOk};
 ghost use Rattle.bb_bits.specs.Bits.{low_bits};
-ghost use Rattle.bb_blast.specs.Inside.Counting.{capped};
-ghost use Rattle.bb_blast.specs.Inside.Logic.{IsLogicOf, Follows, operand_in, operator_of, result_of, with_operator};
+ghost use Rattle.bb_blast.specs.Inside.Logic.{IsLogicOf, Kept, kept_of, operand_in, operator_of, result_of, with_step};
 
 use crate::sources::count_of;
 use bb_bits::NoMemory;
@@ -41,8 +40,8 @@ pub struct Logic {
     pub bits: Vec<Operand>,
 }
 
-// What gives the bit of a step; a step that is not there counts as the constant 0.
-fn operand_at(results: &[Operand], step: u32) -> Operand
+/// What gives the bit of a step; a step that is not there counts as the constant 0.
+pub(crate) fn operand_at(results: &[Operand], step: u32) -> Operand
     ensures operand { result ≡ operand_in results.now step }
 {
     results
@@ -88,8 +87,8 @@ fn add_step(
     results: &mut Vec<Operand>,
     operators: &mut Vec<Operator>,
 ) -> Result<(), NoMemory>
-    ensures results { OnOk result (results.new.items ≡ results.old.items ++ result_of (capped (length operators.old.items)) step ∷ []) }
-    ensures operators { OnOk result (operators.new.items ≡ with_operator operators.old.items (operator_of (operand_in results.old.items) step)) }
+    ensures kept { OnOk result (◌≡◌ {A = Kept} (record { operators = operators.new.items; results = results.new.items })
+        (with_step (record { operators = operators.old.items; results = results.old.items }) step)) }
 {
     let operator = operator_of(results, step);
     results.push(result_of(step, count_of(operators)))?;
@@ -108,7 +107,8 @@ fn add_steps(
 ) -> Result<(), NoMemory>
     requires results { results.now.items ≡ [] }
     requires operators { operators.now.items ≡ [] }
-    ensures follow { OnOk result (Follows steps.now results.new.items operators.new.items) }
+    ensures results { OnOk result (results.new.items ≡ (kept_of steps.now).results) }
+    ensures operators { OnOk result (operators.new.items ≡ (kept_of steps.now).operators) }
 {
     for step in steps {
         add_step(*step, results, operators)?;

@@ -5,7 +5,6 @@
 
 use crate::logic::Logic;
 use bb_ast::Gate;
-use bb_expr::Lowered;
 
 /// A construct of a module. Bits are told by their numbers among the bits of a scope of the module, and those of a port of an
 /// instance by their numbers among the bits of the scope of that instance, the most significant first.
@@ -20,7 +19,7 @@ pub enum Part {
     Gate {
         gate: Gate,
         outs: Vec<u32>,
-        ins: Vec<Lowered>,
+        ins: Vec<Logic>,
     },
     /// Registers with what they become at an edge of their clock.
     Register {
@@ -38,7 +37,7 @@ pub enum Part {
     Input {
         instance: u32,
         pin: Vec<u32>,
-        value: Lowered,
+        value: Logic,
     },
     /// What is connected to an output port of the instance with this number in the module.
     Output {

@@ -6,11 +6,11 @@ ghost use Rattle.std.specs.Prelude.{◌≡◌, ◌<◌, All, length, Some, slice
 ghost use Rattle.std.specs.List.{fold};
 ghost use Rattle.bb_blast.specs.Inside.Listing.{IsPartAmong, IsScopeAmong, sheet_view, with_part, inner_first, with_parts, with_scope};
 
+use crate::logic_cells::{Spot, constant_place};
 use crate::outline::{Outline, Part};
 use crate::placed::Placed;
-use crate::sheet::{SheetLists, put_assignment, put_gate, put_input, put_output, put_register};
+use crate::sheet::{SheetLists, put_assignment, put_gate, put_output, put_register};
 use crate::sources::{Layout, behind, give_all};
-use crate::step_cells::{Spot, constant_place};
 use bb_bits::NoMemory;
 
 // The number of the first bit of an instance that stands in a scope.
@@ -63,7 +63,7 @@ fn add_part(
             value,
         } => {
             let inner = inner_first(placed, scope, *instance);
-            put_input(spot, inner, pin, value, sheet)
+            put_assignment(spot, inner, pin, value, sheet)
         }
         Part::Output {
             instance,

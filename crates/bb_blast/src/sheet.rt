@@ -2,19 +2,16 @@
 
 ghost use Rattle.std.specs.Prelude.{◌≡◌, All, length, map, OnOk};
 ghost use Rattle.bb_blast.specs.Inside.Counting.{behind};
-ghost use Rattle.bb_blast.specs.Inside.Listing.{IsInputAmong, sheet_view, beside, giving, giving_next, driven_by, with_expression, with_gate, with_operators};
+ghost use Rattle.bb_blast.specs.Inside.Listing.{sheet_view, beside, giving, giving_next, driven_by, with_gate, with_operators};
 ghost use Rattle.bb_blast.specs.Inside.Logic.{IsLogicAmong, logic_places};
-ghost use Rattle.bb_blast.specs.Inside.Steps.{HasNetsBelow, bit_places};
 
 use crate::box_cells::add_moved;
 use crate::gate_cells::add_gate;
 use crate::logic::Logic;
-use crate::logic_cells::add_logic;
+use crate::logic_cells::{Spot, add_logic};
 use crate::sources::{give_all, give_beside};
-use crate::step_cells::{Spot, add_expression};
 use bb_ast::Gate;
 use bb_bits::NoMemory;
-use bb_expr::Lowered;
 use bb_net::LooseCell;
 
 /// The cells so far behind the bits of nets, the place that gives each bit, and the one that gives each register bit its next
@@ -24,27 +21,8 @@ pub(crate) struct SheetLists {
     pub cells: Vec<LooseCell>,
     pub sources: Vec<Option<u32>>,
     pub next: Vec<Option<u32>>,
-    /// The numbers of the steps of an expression, kept so that their memory is used again.
-    pub numbers: Vec<u32>,
-    /// The places of bits or of the inputs of a gate, kept likewise.
+    /// The places of bits or of the inputs of a gate, kept so that their memory is used again.
     pub places: Vec<u32>,
-}
-
-// Puts the cells of an expression behind others, and notes the places of its bits.
-fn put_expression(spot: Spot<'_>, lowered: &Lowered, sheet: &mut SheetLists) -> Result<(), NoMemory>
-    requires nets { HasNetsBelow (length spot.starts.now) lowered.now }
-    ensures places { OnOk result (sheet.new.places.items
-        ≡ bit_places spot.entry.others spot.entry.bits spot.entry.starts.now sheet.old.cells.items lowered.now) }
-    ensures put { OnOk result (sheet_view sheet.new
-        ≡ with_expression spot.entry.others spot.entry.bits spot.entry.starts.now (sheet_view sheet.old) lowered.now) }
-{
-    add_expression(
-        spot,
-        lowered,
-        &mut sheet.numbers,
-        &mut sheet.places,
-        &mut sheet.cells,
-    )
 }
 
 // Puts the cells of operators behind others, and notes the places of the bits that are kept with them.
@@ -58,7 +36,7 @@ fn put_logic(spot: Spot<'_>, logic: &Logic, sheet: &mut SheetLists) -> Result<()
     add_logic(spot, logic, &mut sheet.places, &mut sheet.cells)
 }
 
-/// An assignment gives bits from a number on the last bits of an expression.
+/// An assignment or what is connected to an input port gives bits from a number on the last bits of an expression.
 pub(crate) fn put_assignment(
     spot: Spot<'_>,
     first: u32,
@@ -94,25 +72,6 @@ pub(crate) fn put_register(
     Ok(())
 }
 
-/// What is connected to an input port gives the bits of the port.
-pub(crate) fn put_input(
-    spot: Spot<'_>,
-    inner: u32,
-    pin: &[u32],
-    value: &Lowered,
-    sheet: &mut SheetLists,
-) -> Result<(), NoMemory>
-    requires nets { HasNetsBelow (length spot.starts.now) value.now }
-    ensures put { OnOk result (sheet_view sheet.new
-        ≡ giving (with_expression spot.entry.others spot.entry.bits spot.entry.starts.now (sheet_view sheet.old) value.now)
-        (beside inner pin.now
-        (bit_places spot.entry.others spot.entry.bits spot.entry.starts.now sheet.old.cells.items value.now))) }
-{
-    put_expression(spot, value, sheet)?;
-    give_beside(&mut sheet.sources, inner, pin, &sheet.places);
-    Ok(())
-}
-
 /// The bits of an output port, the first of the instance at a place, give what is connected to it.
 pub(crate) fn put_output(
     inner: u32,
@@ -136,22 +95,15 @@ pub(crate) fn put_gate(
     first: u32,
     gate: &Gate,
     outs: &[u32],
-    ins: &[Lowered],
+    ins: &[Logic],
     sheet: &mut SheetLists,
 ) -> Result<(), NoMemory>
-    requires ins { All (IsInputAmong (length spot.starts.now)) ins.now }
+    requires ins { All (IsLogicAmong (length spot.starts.now)) ins.now }
     ensures put { OnOk result (sheet_view sheet.new
         ≡ driven_by (sheet_view sheet.old) (with_gate spot.entry.others spot.entry.bits spot.entry.starts.now gate.now
         sheet.old.cells.items ins.now) first outs.now) }
 {
-    let place = add_gate(
-        spot,
-        gate,
-        ins,
-        &mut sheet.numbers,
-        &mut sheet.places,
-        &mut sheet.cells,
-    )?;
+    let place = add_gate(spot, gate, ins, &mut sheet.places, &mut sheet.cells)?;
     give_all(&mut sheet.sources, first, outs, place);
     Ok(())
 }

@@ -46,7 +46,7 @@ pub(crate) fn grow(
 {
     laws_of_designs();
     let placed = place_scopes(alloc, checked, called, top)?;
-    let outlines = outlines_of(alloc, checked, &placed)?;
+    let outlines = outlines_of(alloc, checked, called, &placed)?;
     let counts = driver_counts(alloc, &placed, &outlines)?;
     if let Some(number) = first_driven_twice(&counts) {
         return Err(ElabFault::DrivenTwice {

@@ -4,7 +4,6 @@ use Rattle.std.specs.Prelude.{ℕ, ◌<◌, ◌≡◌, All, ◌+◌, Bool, true,
 use Rattle.std.specs.List.{fold, zip, enumerate_from, range_with_len}
 use Rattle.std.specs.Option.{option_map_or, option_and_then}
 use Rattle.bb_ast.specs.declared.module.Gate.{Gate}
-use Rattle.bb_expr.specs.declared.step.Lowered.{Lowered}
 use Rattle.bb_net.specs.declared.loose.LooseCell.{LooseCell}
 use Rattle.bb_net.specs.declared.loose.LooseCell.TheVariants as cell
 use Rattle.bb_net.specs.Loose.{LooseList}
@@ -18,8 +17,7 @@ use Rattle.bb_blast.specs.declared.placed.Placed.{Placed}
 use Rattle.bb_blast.specs.declared.sheet.SheetLists.{SheetLists}
 use Rattle.bb_blast.specs.declared.stored.Stored.{Stored}
 use Rattle.bb_blast.specs.Inside.Counting.{capped, behind}
-use Rattle.bb_blast.specs.Inside.Logic.{IsLogicAmong, with_logic, logic_places}
-use Rattle.bb_blast.specs.Inside.Steps.{HasNetsBelow, constant_place, with_steps, bit_places}
+use Rattle.bb_blast.specs.Inside.Logic.{IsLogicAmong, constant_place, operand_in, operand_place, with_logic, logic_places}
 use Rattle.bb_design.specs.GateFunctions.{inverts}
 use Rattle.bb_cells.specs.Places.{join_cell}
 
@@ -63,22 +61,18 @@ pub record Site : Type 0 where
   pub starts : List ℕ
   pub inner : ℕ → ℕ
 
--- and it has a bit
-abbrev pub IsInputAmong : ℕ → Lowered → Type 0
-IsInputAmong n l = HasNetsBelow n l × (0 < length l.bits.items)
-
 -- cells, and the place of each input of a gate
 pub record Terminals : Type 0 where
   pub cells : List LooseCell
   pub places : List ℕ
 
-abbrev pub with_terminal : ℕ → ℕ → List ℕ → Terminals → Lowered → Terminals
-with_terminal start bits starts t l = record {
-  cells = (with_steps start bits starts t.cells l).cells;
-  places = t.places ++ slice_index (with_steps start bits starts t.cells l).numbers (slice_index l.bits.items 0) ∷ [];
+abbrev pub with_terminal : ℕ → ℕ → List ℕ → Terminals → Logic → Terminals
+with_terminal start bits starts t g = record {
+  cells = with_logic start bits starts t.cells g;
+  places = t.places ++ operand_place bits starts (behind start (length t.cells)) (operand_in g.bits.items 0) ∷ [];
 }
 
-abbrev pub with_terminals : ℕ → ℕ → List ℕ → List LooseCell → List Lowered → Terminals
+abbrev pub with_terminals : ℕ → ℕ → List ℕ → List LooseCell → List Logic → Terminals
 with_terminals start bits starts cells ins = fold (with_terminal start bits starts) (record { cells = cells; places = [] }) ins
 
 -- cells, and the place of what was made last
@@ -97,8 +91,11 @@ abbrev pub inverted : ℕ → Gate → Joining → Joining
 inverted start gate j = if inverts gate then record { cells = j.cells ++ cell.Not j.place ∷ []; place = behind start (length j.cells) } else j
 
 -- the cells of a gate, and its place
-abbrev pub with_gate : ℕ → ℕ → List ℕ → Gate → List LooseCell → List Lowered → Joining
-with_gate start bits starts gate cells ins = inverted start gate (joined start gate (with_terminals start bits starts cells ins).cells (with_terminals start bits starts cells ins).places)
+abbrev pub gate_on : ℕ → Gate → Terminals → Joining
+gate_on start gate t = inverted start gate (joined start gate t.cells t.places)
+
+abbrev pub with_gate : ℕ → ℕ → List ℕ → Gate → List LooseCell → List Logic → Joining
+with_gate start bits starts gate cells ins = gate_on start gate (with_terminals start bits starts cells ins)
 
 -- the cells so far behind the bits of nets, the place that gives each bit, and the one that gives each register bit its next state
 pub record Sheet : Type 0 where
@@ -112,10 +109,10 @@ sheet_view s = record { cells = s.cells.items; sources = s.sources.items; next =
 -- a part of a module with so many nets and instances
 abbrev pub IsPartAmong : ℕ → ℕ → Part → Type 0
 IsPartAmong n m (part.Assignment left right) = IsLogicAmong n right
-IsPartAmong n m (part.Gate gate outs ins) = All (IsInputAmong n) ins.items
+IsPartAmong n m (part.Gate gate outs ins) = All (IsLogicAmong n) ins.items
 IsPartAmong n m (part.Register left right clock falling) = IsLogicAmong n right
 IsPartAmong n m (part.Supply high bits) = Unit {0}
-IsPartAmong n m (part.Input instance pin value) = (instance < m) × HasNetsBelow n value
+IsPartAmong n m (part.Input instance pin value) = (instance < m) × IsLogicAmong n value
 IsPartAmong n m (part.Output instance pin left) = instance < m
 
 -- bits that are given, and register bits that get their next state
@@ -124,13 +121,6 @@ giving sheet xs = record { cells = sheet.cells; sources = given_all sheet.source
 
 abbrev pub giving_next : Sheet → List (ℕ × ℕ) → Sheet
 giving_next sheet xs = record { cells = sheet.cells; sources = sheet.sources; next = given_all sheet.next xs }
-
-abbrev pub with_expression : ℕ → ℕ → List ℕ → Sheet → Lowered → Sheet
-with_expression start bits starts sheet l = record {
-  cells = (with_steps start bits starts sheet.cells l).cells;
-  sources = sheet.sources;
-  next = sheet.next;
-}
 
 abbrev pub with_operators : ℕ → ℕ → List ℕ → Sheet → Logic → Sheet
 with_operators start bits starts sheet g = record {
@@ -159,8 +149,7 @@ with_part nets start s sheet (part.Register left right clock falling) =
 with_part nets start s sheet (part.Supply high bits) = giving sheet (all_given_by s.first bits.items (constant_place high))
 with_part nets start s sheet (part.Input instance pin value) =
     let bits = behind nets s.first in
-    giving (with_expression start bits s.starts sheet value)
-    (beside (s.inner instance) pin.items (bit_places start bits s.starts sheet.cells value))
+    giving (with_operators start bits s.starts sheet value) (beside (s.inner instance) pin.items (logic_places start bits s.starts sheet.cells value))
 with_part nets start s sheet (part.Output instance pin left) =
     giving sheet (beside s.first left.items (map (behind (behind nets (s.inner instance))) pin.items))
 
@@ -229,12 +218,12 @@ cells_before inputs sources = cell.Const false ∷ cell.Const true ∷ map cell.
 abbrev pub outs_of : ℕ → Outline → List Stored → Sources → List ℕ
 outs_of nets top stored next = map (behind nets) top.outputs.items ++ map (λ x. place_or_zero (slice_get next x.bit)) stored
 
-abbrev pub finished : ℕ → ℕ → Outline → List Stored → List Pins → Sheet → LooseList
-finished inputs nets top stored boxes sheet = record {
+abbrev pub finished : ℕ → List Pins → Sheet → List ℕ → LooseList
+finished inputs boxes sheet outs = record {
   inputs = inputs;
   cells = cells_before inputs sheet.sources ++ sheet.cells;
   boxes = boxes;
-  outs = outs_of nets top stored sheet.next;
+  outs = outs;
 }
 
 abbrev pub first_sources : ℕ → List ℕ → Sources
@@ -244,7 +233,8 @@ first_sources bits inputs = given_all (replicate bits None) (in_row 0 inputs 2)
 abbrev pub listed_on : List ℕ → ℕ → ℕ → ℕ → ℕ → List Placed → List Outline → List Stored → Outline → LooseList
 listed_on inputs count bits nets start placed outlines stored top =
     let b = boxed_in nets start placed outlines (first_sources bits inputs) in
-    finished count nets top stored b.boxes (sheet_on nets start placed outlines b (replicate bits None))
+    let sheet = sheet_on nets start placed outlines b (replicate bits None) in
+    finished count b.boxes sheet (outs_of nets top stored sheet.next)
 
 abbrev pub listed : List Placed → List Outline → List Stored → Outline → LooseList
 listed placed outlines stored top =

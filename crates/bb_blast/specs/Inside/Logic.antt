@@ -1,5 +1,5 @@
 -- What is kept of an expression until its cells are put behind others: its operators, and what gives its low bits.
-use Rattle.std.specs.Prelude.{◌≡◌, ℕ, ◌<◌, false, List, [], ◌∷◌, ◌++◌, map, length, All, Option, Some, None}
+use Rattle.std.specs.Prelude.{◌≡◌, ℕ, ◌<◌, Bool, false, if◌then◌else◌, List, [], ◌∷◌, ◌++◌, map, length, All, Option, Some, None, slice_index}
 use Rattle.std.specs.List.{fold, slice_index_or}
 use Rattle.bb_bits.specs.Bits.{low_bits}
 use Rattle.bb_expr.specs.declared.step.BitStep.{BitStep}
@@ -12,8 +12,14 @@ use Rattle.bb_blast.specs.declared.logic.Operand.TheVariants as operand
 use Rattle.bb_blast.specs.declared.logic.Operator.{Operator}
 use Rattle.bb_blast.specs.declared.logic.Operator.TheVariants as operator
 use Rattle.bb_blast.specs.declared.logic.Logic.{Logic}
-use Rattle.bb_blast.specs.Inside.Counting.{behind}
-use Rattle.bb_blast.specs.Inside.Steps.{IsNetBelow, HasNetsBelow, constant_place, net_bit_place, with_step, with_steps, bit_places}
+use Rattle.bb_blast.specs.Inside.Counting.{capped, behind}
+
+abbrev pub constant_place : Bool → ℕ
+constant_place b = if b then 1 else 0
+
+-- the place of a bit of a net, where those of the scope stand from a place on and those of each net from a number on
+abbrev pub net_bit_place : ℕ → List ℕ → ℕ → ℕ → ℕ
+net_bit_place bits starts n i = behind (behind bits (slice_index starts n)) i
 
 -- what a step gives, where the next operator has a number
 abbrev pub result_of : ℕ → BitStep → Operand
@@ -38,6 +44,20 @@ operator_of at (steps.Mux c t e) = Some (operator.Mux (at c) (at t) (at e))
 abbrev pub with_operator : List Operator → Option Operator → List Operator
 with_operator operators None = operators
 with_operator operators (Some o) = operators ++ o ∷ []
+
+-- the operators among steps, and what each step gives
+pub record Kept : Type 0 where
+  pub operators : List Operator
+  pub results : List Operand
+
+abbrev pub with_step : Kept → BitStep → Kept
+with_step k step = record {
+  operators = with_operator k.operators (operator_of (operand_in k.results) step);
+  results = k.results ++ result_of (capped (length k.operators)) step ∷ [];
+}
+
+abbrev pub kept_of : List BitStep → Kept
+kept_of all = fold with_step (record { operators = []; results = [] }) all
 
 -- where an operand stands: a bit of a net behind the first of its scope, an operator behind the first of them
 abbrev pub operand_place : ℕ → List ℕ → ℕ → Operand → ℕ
@@ -77,17 +97,7 @@ pub record IsLogicAmong (n : ℕ) (g : Logic) : Type 0 where
   pub operators : All (IsOperatorBelow n) g.operators.items
   pub bits : All (IsOperandBelow n) g.bits.items
 
--- what steps give and the operators among them: wherever they are put, the cells and the numbers are those of the steps
-pub record Follows (all : List BitStep) (results : List Operand) (operators : List Operator) : Type 0 where
-  pub cells : (start bits : ℕ) (starts : List ℕ) (before : List LooseCell)
-      → (fold (with_step start bits starts) (record { cells = before; numbers = [] }) all).cells ≡ before ++ map (operator_cell (operand_place bits starts (behind start (length before)))) operators
-  pub numbers : (start bits : ℕ) (starts : List ℕ) (before : List LooseCell)
-      → (fold (with_step start bits starts) (record { cells = before; numbers = [] }) all).numbers ≡ map (operand_place bits starts (behind start (length before))) results
-  pub results_below : (n : ℕ) → All (IsNetBelow n) all → All (IsOperandBelow n) results
-  pub operators_below : (n : ℕ) → All (IsNetBelow n) all → All (IsOperatorBelow n) operators
-
--- what is kept of an expression and so many of its low bits: wherever it is put, its cells and the places of these bits are the same
+-- what is kept of an expression: its operators, and what gives so many of its low bits
 pub record IsLogicOf (count : ℕ) (l : Lowered) (g : Logic) : Type 0 where
-  pub cells : (start bits : ℕ) (starts : List ℕ) (before : List LooseCell) → with_logic start bits starts before g ≡ (with_steps start bits starts before l).cells
-  pub places : (start bits : ℕ) (starts : List ℕ) (before : List LooseCell) → logic_places start bits starts before g ≡ low_bits count (bit_places start bits starts before l)
-  pub nets : (n : ℕ) → HasNetsBelow n l → IsLogicAmong n g
+  pub operators : g.operators.items ≡ (kept_of l.steps.items).operators
+  pub bits : g.bits.items ≡ map (operand_in (kept_of l.steps.items).results) (low_bits count l.bits.items)

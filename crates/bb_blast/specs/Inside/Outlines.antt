@@ -33,6 +33,10 @@ IsMadeIn m l e width = IsLowered (nets_of m) (range_of m) e (width (record { pat
 abbrev pub IsKeptIn : PlainModule → Logic → Expression → (Scope → ℕ) → ℕ → Type 0
 IsKeptIn m g e width count = (l : Lowered) × IsMadeIn m l e width × IsLogicOf count l g
 
+-- what is kept of its operators at its own width, and of all its bits
+abbrev pub IsWholeIn : PlainModule → Logic → Expression → Type 0
+IsWholeIn m g e = IsKeptIn m g e (λ s. width_of s e) (width_of (record { path = []; source = m }) e)
+
 -- the numbers of the bits of a port of the instance with this number in a module
 pub record IsPinIn (text : List PlainModule) (m : PlainModule) (instance : ℕ) (numbers : List ℕ) (name : List ℕ) (pin : Pin) : Type 0 where
   pub called : Instance
@@ -46,11 +50,11 @@ pub record IsPinIn (text : List PlainModule) (m : PlainModule) (instance : ℕ) 
 abbrev pub IsPartOf : List PlainModule → PlainModule → Part → Construct → Type 0
 IsPartOf text m (part.Assignment left right) (Assignment l r) = AreBitsIn m left.items (λ s. written_bits s l) × IsKeptIn m right r (λ s. context_width s l r) (length left.items)
 IsPartOf text m (part.Gate gate outs ins) (GateInstance g os is) = (gate ≡ g) × AreBitsIn m outs.items (λ s. flat_map (written_bits s) os)
-    × AllZip (λ l e. IsMadeIn m l e (λ s. width_of s e)) ins.items is
+    × AllZip (IsWholeIn m) ins.items is
 IsPartOf text m (part.Register left right clock falling) (Register r) = AreBitsIn m left.items (λ s. written_bits s r.left)
     × IsKeptIn m right r.right (λ s. context_width s r.left r.right) (length left.items) × AreBitsIn m (clock ∷ []) (λ s. written_bits s r.clock) × (falling ≡ r.falling)
 IsPartOf text m (part.Supply high bits) (SupplyNet h n) = (high ≡ h) × AreBitsIn m bits.items (λ s. bits_named s n)
-IsPartOf text m (part.Input instance pin value) (InputConnection i port e) = IsPinIn text m instance pin.items i port × IsMadeIn m value e (λ s. width_of s e)
+IsPartOf text m (part.Input instance pin value) (InputConnection i port e) = IsPinIn text m instance pin.items i port × IsWholeIn m value e
 IsPartOf text m (part.Output instance pin left) (OutputConnection i port e) = IsPinIn text m instance pin.items i port × AreBitsIn m left.items (λ s. written_bits s e)
 IsPartOf text m p c = ⊥
 

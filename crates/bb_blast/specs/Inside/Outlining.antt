@@ -79,9 +79,15 @@ pub record IsModest (text : List PlainModule) (m : PlainModule) : Type 0 where
   pub bits : bit_count (nets_of m) ≤ 1000000
   pub cells : (c : Construct) → Contains (module_constructs text m) c → length (cells_at (scope_of m, c)) ≤ 2000000
 
+-- the module at a place is there, and these are the numbers of the first bits of its nets
+pub record IsStartedModule (checked : List ModuleFacts) (k : ℕ) (starts : List ℕ) : Type 0 where
+  pub there : k < length checked
+  pub each : AreStarts (nets_of (module_in checked k)) starts
+
 -- the module at a place is there, and the numbers of the first bits of its nets are kept at that place
 pub record IsStarted (checked : List ModuleFacts) (starts : List (List ℕ)) (k : ℕ) : Type 0 where
   pub there : k < length checked
+  pub small : k < 2 ^ 32
   pub kept : k < length starts
   pub each : AreStarts (nets_of (module_in checked k)) (slice_index_or starts k [])
 
@@ -95,22 +101,15 @@ pub record AreCallsAt (checked : List ModuleFacts) (k : ℕ) (targets : List ℕ
   pub room : first + length all ≤ length targets
   pub each : (j : ℕ) (called : Instance) → slice_get all j ≡ Some called → IsCallAt checked k (first + j) (slice_index_or targets (first + j) 0) called
 
--- an instance whose scope has a number is one of the module of that scope
-abbrev pub IsTargetAt : List ModuleFacts → List Placed → ℕ → Instance → Type 0
-IsTargetAt checked all k i = IsSomeAnd (slice_get all k) (λ q. module_named (map syntax checked) i.target ≡ Some (module_in checked q.module))
+-- an outline can be made of the module at a place, where these are the places of the modules of its instances
+pub record IsOutlinable (checked : List ModuleFacts) (starts : List (List ℕ)) (k : ℕ) (called : List ℕ) : Type 0 where
+  pub started : IsStarted checked starts k
+  pub targets : All (IsStarted checked starts) called
+  pub few : length called < 2 ^ 32
+  pub calls : AreCallsAt checked k called 0 (instances_of (module_in checked k))
+  pub modest : IsModest (map syntax checked) (module_in checked k)
 
--- an outline can be made of the module of a scope
-pub record IsSited (checked : List ModuleFacts) (all : List Placed) (p : Placed) : Type 0 where
-  pub there : p.module < length checked
-  pub modest : IsModest (map syntax checked) (module_in checked p.module)
-  pub few : length p.children.items < 2 ^ 32
-  pub children : AllZip (IsTargetAt checked all) p.children.items (instances_of (module_in checked p.module))
-
--- the place of the module of the scope with a number
-abbrev pub module_number : List Placed → ℕ → ℕ
-module_number all k = option_map_or (λ p. p.module) (slice_get all k) 0
-
--- for each module the number of a scope that is a copy of it, where there is one
-pub record AreCopies (all : List Placed) (found : List (Option ℕ)) : Type 0 where
-  pub copies : (m k : ℕ) → slice_get found m ≡ Some (Some k) → IsSomeAnd (slice_get all k) (λ p. p.module ≡ m)
-  pub each : (j : ℕ) (p : Placed) → slice_get all j ≡ Some p → (k : ℕ) × (slice_get found p.module ≡ Some (Some k))
+-- the modules of which scopes are copies are marked
+pub record AreUsed (all : List Placed) (used : List Bool) : Type 0 where
+  pub only : (m : ℕ) → slice_get used m ≡ Some true → (k : ℕ) × (p : Placed) × (slice_get all k ≡ Some p) × (p.module ≡ m)
+  pub each : (k : ℕ) (p : Placed) → slice_get all k ≡ Some p → slice_get used p.module ≡ Some true

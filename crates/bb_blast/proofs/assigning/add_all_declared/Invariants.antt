@@ -6,5 +6,5 @@ use Rattle.bb_blast.specs.Inside.Outlining.{IsPartAt}
 use Rattle.bb_blast.proofs.assigning.add_all_declared.Given as goal
 
 abbrev pub invariant-loop-net : goal.invariant-loop-net
-invariant-loop-net l = (before : List Construct) → AllZip (IsPartAt l.checked l.module) l.initial.parts.items before
-    → AllZip (IsPartAt l.checked l.module) l.parts.items (before ++ flat_map initial_construct (map named_view (take l.net-index l.nets)))
+invariant-loop-net l = (before : List Construct) → AllZip (IsPartAt l.context.checked.now l.context.module) l.initial.parts.items before
+    → AllZip (IsPartAt l.context.checked.now l.context.module) l.parts.items (before ++ flat_map initial_construct (map named_view (take l.net-index l.nets)))

@@ -6,5 +6,5 @@ use Rattle.bb_blast.specs.Inside.Outlining.{IsPartAt}
 use Rattle.bb_blast.proofs.assigning.add_assignments.Given as goal
 
 abbrev pub invariant-loop-left : goal.invariant-loop-left
-invariant-loop-left l = (before : List Construct) → AllZip (IsPartAt l.checked l.module) l.initial.parts.items before
-    → AllZip (IsPartAt l.checked l.module) l.parts.items (before ++ map (λ x. Assignment x.0 x.1) (map arm_view (take l.left-index l.all)))
+invariant-loop-left l = (before : List Construct) → AllZip (IsPartAt l.context.checked.now l.context.module) l.initial.parts.items before
+    → AllZip (IsPartAt l.context.checked.now l.context.module) l.parts.items (before ++ map (λ x. Assignment x.0 x.1) (map arm_view (take l.left-index l.all)))

@@ -34,27 +34,27 @@ module _ (checked : List ModuleFacts) (k : ℕ) (f : ModuleFacts) (there : slice
 
 pub overflow_cast-count : goal.overflow_cast-count
 overflow_cast-count c =
-    let small = few c.args.checked.now c.args.module (module_facts c.scope_at-scope.result.now) c.scope_at-scope.ensures.there c.args.name.now (expression c.args.right.now) c.requires.makeable c.in_ok-left.left c.in_ok-left.ensures.bits c.len-count.result c.len-count.ensures in
+    let small = few c.args.context.checked.now c.args.context.module (module_facts c.scope_at-scope.result.now) c.scope_at-scope.ensures.there c.args.name.now (expression c.args.right.now) c.requires.makeable c.in_ok-left.left c.in_ok-left.ensures.bits c.len-count.result c.len-count.ensures in
     omega (arith, small)
 
 pub steps_beside-requires-clause-least : goal.steps_beside-requires-clause-least
-steps_beside-requires-clause-least c = few c.args.checked.now c.args.module (module_facts c.scope_at-scope.result.now) c.scope_at-scope.ensures.there c.args.name.now (expression c.args.right.now) c.requires.makeable c.in_ok-left.left c.in_ok-left.ensures.bits c.len-count.result c.len-count.ensures
+steps_beside-requires-clause-least c = few c.args.context.checked.now c.args.context.module (module_facts c.scope_at-scope.result.now) c.scope_at-scope.ensures.there c.args.name.now (expression c.args.right.now) c.requires.makeable c.in_ok-left.left c.in_ok-left.ensures.bits c.len-count.result c.len-count.ensures
 
 pub steps_beside-requires-clause-few : goal.steps_beside-requires-clause-few
-steps_beside-requires-clause-few c = few_cells c.args.checked.now c.args.module (module_facts c.scope_at-scope.result.now) c.scope_at-scope.ensures.there c.args.name.now (expression c.args.right.now) c.requires.makeable c.in_ok-left.left c.in_ok-left.ensures.bits c.len-count.result c.len-count.ensures
+steps_beside-requires-clause-few c = few_cells c.args.context.checked.now c.args.context.module (module_facts c.scope_at-scope.result.now) c.scope_at-scope.ensures.there c.args.name.now (expression c.args.right.now) c.requires.makeable c.in_ok-left.left c.in_ok-left.ensures.bits c.len-count.result c.len-count.ensures
 
 pub returns : goal.returns
 returns c =
-    let checked = c.args.checked.now in
+    let checked = c.args.context.checked.now in
     let f = module_facts c.scope_at-scope.result.now in
     let there = c.scope_at-scope.ensures.there in
     record {
       part = (
-        bits_meant checked c.args.module f there c.in_ok-left.left.items (λ s. bits_named s c.args.name.now) c.in_ok-left.ensures.bits,
+        bits_meant checked c.args.context.module f there c.in_ok-left.left.items (λ s. bits_named s c.args.name.now) c.in_ok-left.ensures.bits,
         (
           c.in_ok-steps.steps,
-          beside_context checked c.args.module f there c.in_ok-steps.steps (Net c.args.name.now) (expression c.args.right.now) c.len-count.result
-              (many checked c.args.module f there c.args.name.now (expression c.args.right.now) c.requires.makeable c.in_ok-left.left c.in_ok-left.ensures.bits c.len-count.result c.len-count.ensures) c.in_ok-steps.ensures.made,
+          beside_context checked c.args.context.module f there c.in_ok-steps.steps (Net c.args.name.now) (expression c.args.right.now) c.len-count.result
+              (many checked c.args.context.module f there c.args.name.now (expression c.args.right.now) c.requires.makeable c.in_ok-left.left c.in_ok-left.ensures.bits c.len-count.result c.len-count.ensures) c.in_ok-steps.ensures.made,
           subst (λ n. IsLogicOf n c.in_ok-steps.steps c.in_ok-right.right) (omega (arith, c.len-count.ensures, c.in_ok-left.left.ok)) c.in_ok-right.ensures.logic,
         ),
       );

@@ -16,14 +16,14 @@ index-clock-requires c =
     let f = module_facts c.scope_at-scope.result.now in
     let clock = expression c.args.always.now.clock in
     let bits = c.in_ok-left_bits.field-0.items in
-    let are = bits_meant c.args.checked.now c.args.module f c.scope_at-scope.ensures.there bits (λ s. written_bits s clock) c.in_ok-left_bits.ensures.bits in
-    let one : length bits ≡ 1 = bits_long (module_in c.args.checked.now c.args.module) bits (λ s. written_bits s clock) are ∙ c.requires.makeable.fits.2.one in
+    let are = bits_meant c.args.context.checked.now c.args.context.module f c.scope_at-scope.ensures.there bits (λ s. written_bits s clock) c.in_ok-left_bits.ensures.bits in
+    let one : length bits ≡ 1 = bits_long (module_in c.args.context.checked.now c.args.context.module) bits (λ s. written_bits s clock) are ∙ c.requires.makeable.fits.2.one in
     omega (arith, one)
 
 pub returns : goal.returns
 returns c =
-    let checked = c.args.checked.now in
-    let k = c.args.module in
+    let checked = c.args.context.checked.now in
+    let k = c.args.context.module in
     let f = module_facts c.scope_at-scope.result.now in
     let there = c.scope_at-scope.ensures.there in
     let left = expression c.args.always.now.left in

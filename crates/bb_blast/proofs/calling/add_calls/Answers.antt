@@ -15,22 +15,22 @@ use Rattle.bb_blast.proofs.calling.add_calls.Goals as goal
 
 pub add_conns-requires-clause-makeable : goal.add_conns-requires-clause-makeable
 add_conns-requires-clause-makeable c =
-    let checked = c.args.checked.now in
+    let checked = c.args.context.checked.now in
     let call = c.index-calls-k.result in
     let n = c.requires.makeable.0 in
     let k = c.loop-k.k in
     let there = got-map (instance_of n) (map call_view c.args.calls.now) k (call_view call) (got-map call_view c.args.calls.now k call (slice_get_read c.args.calls.now (length c.args.calls.now) k call refl c.loop-k-test.true c.index-calls-k.is)) in
     let is = c.requires.makeable.1.each k (instance_of n (call_view call)) there in
-    let here = all_flat (IsMakeable checked c.args.module) (connections (module_named (map syntax checked) n)) (map call_view c.args.calls.now) (call_view call) (seen_there call_view c.args.calls.now k call c.loop-k-test.true c.index-calls-k.is) c.requires.makeable.2 in
-    (call.name, subst (λ (o : Option PlainModule). All (IsMakeable checked c.args.module) (connections o (call_view call))) is.meant here)
+    let here = all_flat (IsMakeable checked c.args.context.module) (connections (module_named (map syntax checked) n)) (map call_view c.args.calls.now) (call_view call) (seen_there call_view c.args.calls.now k call c.loop-k-test.true c.index-calls-k.is) c.requires.makeable.2 in
+    (call.name, subst (λ (o : Option PlainModule). All (IsMakeable checked c.args.context.module) (connections o (call_view call))) is.meant here)
 
 pub loop-k-init : goal.loop-k-init
-loop-k-init c = λ n are before all. zip_begin (IsPartAt c.args.checked.now c.args.module) before c.args.parts.now.items all
+loop-k-init c = λ n are before all. zip_begin (IsPartAt c.args.context.checked.now c.args.context.module) before c.args.parts.now.items all
 
 pub loop-k-preserved : goal.loop-k-preserved
 loop-k-preserved c = λ n are before all.
-    let checked = c.args.checked.now in
-    let r = IsPartAt checked c.args.module in
+    let checked = c.args.context.checked.now in
+    let r = IsPartAt checked c.args.context.module in
     let call = c.index-calls-k.result in
     let k = c.loop-k.k in
     let called = instance_of n (call_view call) in
@@ -41,6 +41,6 @@ loop-k-preserved c = λ n are before all.
 
 pub returns : goal.returns
 returns c = record {
-  parts = λ n are before all. zip_end (IsPartAt c.args.checked.now c.args.module) (λ l. flat_map (connections (module_named (map syntax c.args.checked.now) n)) (map call_view l)) c.args.calls.now c.loop-k.k before c.loop-k.parts.items
+  parts = λ n are before all. zip_end (IsPartAt c.args.context.checked.now c.args.context.module) (λ l. flat_map (connections (module_named (map syntax c.args.context.checked.now) n)) (map call_view l)) c.args.calls.now c.loop-k.k before c.loop-k.parts.items
       c.loop-k-test.false (c.loop-k.invariant n are before all);
 }

@@ -9,6 +9,6 @@ use Rattle.bb_blast.specs.Inside.Outlining.{AreCallsAt, IsPartAt}
 use Rattle.bb_blast.proofs.calling.add_calls.Given as goal
 
 abbrev pub invariant-loop-k : goal.invariant-loop-k
-invariant-loop-k l = (n : List ℕ) → AreCallsAt l.checked l.module l.targets l.first (map (instance_of n) (map call_view l.calls))
-    → (before : List Construct) → AllZip (IsPartAt l.checked l.module) l.initial.parts.items before
-    → AllZip (IsPartAt l.checked l.module) l.parts.items (before ++ flat_map (connections (module_named (map syntax l.checked) n)) (map call_view (take l.k l.calls)))
+invariant-loop-k l = (n : List ℕ) → AreCallsAt l.context.checked.now l.context.module l.targets.modules.now l.first (map (instance_of n) (map call_view l.calls))
+    → (before : List Construct) → AllZip (IsPartAt l.context.checked.now l.context.module) l.initial.parts.items before
+    → AllZip (IsPartAt l.context.checked.now l.context.module) l.parts.items (before ++ flat_map (connections (module_named (map syntax l.context.checked.now) n)) (map call_view (take l.k l.calls)))

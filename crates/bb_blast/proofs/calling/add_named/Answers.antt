@@ -10,21 +10,21 @@ use Rattle.bb_blast.proofs.calling.add_named.Goals as goal
 
 pub connected-requires-clause-makeable : goal.connected-requires-clause-makeable
 connected-requires-clause-makeable c =
-    let m = module_in c.args.checked.now c.args.target in
+    let m = module_in c.args.context.checked.now c.args.inner.target in
     let i = c.requires.makeable.0 in
     let x = c.loop-port-item.result in (
       i,
-      all_flat (IsMakeable c.args.checked.now c.args.module) (λ x. connection i (pin_named m x.0) x.1) (map named_view c.args.all.now) (named_view x)
+      all_flat (IsMakeable c.args.context.checked.now c.args.context.module) (λ x. connection i (pin_named m x.0) x.1) (map named_view c.args.all.now) (named_view x)
           (seen_there named_view c.args.all.now c.loop-port.port-index x c.loop-port-test.true c.loop-port-item.is) c.requires.makeable.1,
     )
 
 pub loop-port-init : goal.loop-port-init
-loop-port-init c = λ called is before all. zip_begin (IsPartAt c.args.checked.now c.args.module) before c.args.parts.now.items all
+loop-port-init c = λ called is before all. zip_begin (IsPartAt c.args.context.checked.now c.args.context.module) before c.args.parts.now.items all
 
 pub loop-port-preserved : goal.loop-port-preserved
 loop-port-preserved c = λ called is before all.
-    let m = module_in c.args.checked.now c.args.target in
-    let r = IsPartAt c.args.checked.now c.args.module in
+    let m = module_in c.args.context.checked.now c.args.inner.target in
+    let r = IsPartAt c.args.context.checked.now c.args.context.module in
     let x = c.loop-port-item.result in
     zip_flat r named_view c.args.all.now c.loop-port.port-index x c.loop-port-test.true c.loop-port-item.is (λ x. connection called.name (pin_named m x.0) x.1) before c.loop-port.parts.items c.add_part.new.parts.items
     (c.loop-port.invariant called is before all)
@@ -32,6 +32,6 @@ loop-port-preserved c = λ called is before all.
 
 pub returns : goal.returns
 returns c = record {
-  parts = λ called is before all. zip_end (IsPartAt c.args.checked.now c.args.module) (λ l. connections (Some (module_in c.args.checked.now c.args.target)) (called.name, Named (map named_view l))) c.args.all.now c.loop-port.port-index before
+  parts = λ called is before all. zip_end (IsPartAt c.args.context.checked.now c.args.context.module) (λ l. connections (Some (module_in c.args.context.checked.now c.args.inner.target)) (called.name, Named (map named_view l))) c.args.all.now c.loop-port.port-index before
       c.loop-port.parts.items c.loop-port-test.false (c.loop-port.invariant called is before all);
 }

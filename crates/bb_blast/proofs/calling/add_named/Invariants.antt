@@ -8,5 +8,5 @@ use Rattle.bb_blast.specs.Inside.Outlining.{IsCallAt, IsPartAt, module_in}
 use Rattle.bb_blast.proofs.calling.add_named.Given as goal
 
 abbrev pub invariant-loop-port : goal.invariant-loop-port
-invariant-loop-port l = (called : Instance) → IsCallAt l.checked l.module l.instance l.target called → (before : List Construct) → AllZip (IsPartAt l.checked l.module) l.initial.parts.items before
-    → AllZip (IsPartAt l.checked l.module) l.parts.items (before ++ connections (Some (module_in l.checked l.target)) (called.name, Named (map named_view (take l.port-index l.all))))
+invariant-loop-port l = (called : Instance) → IsCallAt l.context.checked.now l.context.module l.inner.instance l.inner.target called → (before : List Construct) → AllZip (IsPartAt l.context.checked.now l.context.module) l.initial.parts.items before
+    → AllZip (IsPartAt l.context.checked.now l.context.module) l.parts.items (before ++ connections (Some (module_in l.context.checked.now l.inner.target)) (called.name, Named (map named_view (take l.port-index l.all))))

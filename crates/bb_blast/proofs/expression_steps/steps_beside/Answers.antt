@@ -9,24 +9,24 @@ use Rattle.bb_blast.proofs.expression_steps.steps_beside.Goals as goal
 
 pub lower-requires-clause-width : goal.lower-requires-clause-width
 lower-requires-clause-width c =
-    let f = some_and (λ m. StandsIn (syntax m) (expression c.args.expr.now)) (slice_get c.args.checked.now c.args.module) c.requires.stands in
+    let f = some_and (λ m. StandsIn (syntax m) (expression c.args.expr.now)) (slice_get c.args.context.checked.now c.args.context.module) c.requires.stands in
     omega (
       arith,
       c.max-width.ensures,
       c.own_width.ensures,
       c.requires.least,
-      standing_bounded c.args.checked.now c.args.module f.0 f.1 c.standing_is_fit.ensures c.modules-modules.ensures.checked (expression c.args.expr.now) c.requires.stands,
+      standing_bounded c.args.context.checked.now c.args.context.module f.0 f.1 c.standing_is_fit.ensures c.modules-modules.ensures.checked (expression c.args.expr.now) c.requires.stands,
     )
 
 pub lower-requires-clause-cells : goal.lower-requires-clause-cells
 lower-requires-clause-cells c =
-    let f = some_and (λ m. StandsIn (syntax m) (expression c.args.expr.now)) (slice_get c.args.checked.now c.args.module) c.requires.stands in
-    cells_few c.args.checked.now c.args.module f.0 f.1 c.cells_are_counted.ensures (expression c.args.expr.now) c.args.least c.max-width.result 2000000 (c.max-width.ensures ∙ ap (max c.args.least) c.own_width.ensures) c.requires.few
+    let f = some_and (λ m. StandsIn (syntax m) (expression c.args.expr.now)) (slice_get c.args.context.checked.now c.args.context.module) c.requires.stands in
+    cells_few c.args.context.checked.now c.args.context.module f.0 f.1 c.cells_are_counted.ensures (expression c.args.expr.now) c.args.least c.max-width.result 2000000 (c.max-width.ensures ∙ ap (max c.args.least) c.own_width.ensures) c.requires.few
 
 pub returns : goal.returns
 returns c =
-    let f = some_and (λ m. StandsIn (syntax m) (expression c.args.expr.now)) (slice_get c.args.checked.now c.args.module) c.requires.stands in
+    let f = some_and (λ m. StandsIn (syntax m) (expression c.args.expr.now)) (slice_get c.args.context.checked.now c.args.context.module) c.requires.stands in
     record {
-      made = IfOk-weaker _ _ _ (λ l lowered. steps_are c.args.checked.now c.args.module f.0 f.1 c.modules-modules.ensures.checked (expression c.args.expr.now) c.args.least c.max-width.result l
+      made = IfOk-weaker _ _ _ (λ l lowered. steps_are c.args.context.checked.now c.args.context.module f.0 f.1 c.modules-modules.ensures.checked (expression c.args.expr.now) c.args.least c.max-width.result l
           (c.max-width.ensures ∙ ap (max c.args.least) c.own_width.ensures) lowered) c.lower.ensures.lowered;
     }

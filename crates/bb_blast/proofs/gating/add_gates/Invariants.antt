@@ -6,5 +6,5 @@ use Rattle.bb_blast.specs.Inside.Outlining.{IsPartAt}
 use Rattle.bb_blast.proofs.gating.add_gates.Given as goal
 
 abbrev pub invariant-loop-call : goal.invariant-loop-call
-invariant-loop-call l = (before : List Construct) → AllZip (IsPartAt l.checked l.module) l.initial.parts.items before
-    → AllZip (IsPartAt l.checked l.module) l.parts.items (before ++ map (λ x. gate_construct l.gate x.1) (map gate_view (take l.call-index l.all)))
+invariant-loop-call l = (before : List Construct) → AllZip (IsPartAt l.context.checked.now l.context.module) l.initial.parts.items before
+    → AllZip (IsPartAt l.context.checked.now l.context.module) l.parts.items (before ++ map (λ x. gate_construct l.gate x.1) (map gate_view (take l.call-index l.all)))

@@ -9,7 +9,6 @@ use Rattle.bb_ast.specs.Gates.{output_count}
 use Rattle.bb_ast.specs.Syntax.{Expression}
 use Rattle.bb_ast.specs.Inside.Views.{expression}
 use Rattle.bb_names.specs.Inside.Checked.{module_facts}
-use Rattle.bb_expr.specs.declared.step.Lowered.{Lowered}
 use Rattle.bb_expr.specs.Inside.Fit.{AreFit}
 use Rattle.bb_expr.specs.Inside.Standing.{StandsAt}
 use Rattle.bb_design.specs.Contexts.{width_of, made_in}
@@ -17,7 +16,7 @@ use Rattle.bb_design.specs.Drivers.{terminal_terms}
 use Rattle.bb_design.specs.GateFunctions.{gate_cells}
 use Rattle.bb_design.specs.Hierarchy.{Scope}
 use Rattle.bb_design.specs.NetBits.{written_bits}
-use Rattle.bb_blast.specs.Inside.Outlines.{AreBitsIn, IsMadeIn}
+use Rattle.bb_blast.specs.Inside.Outlines.{AreBitsIn, IsWholeIn}
 use Rattle.bb_blast.specs.Inside.Outlining.{module_in, scope_of}
 use Rattle.bb_blast.proofs.ModulePlaces.{at_some, bits_meant}
 use Rattle.bb_blast.proofs.gating.gate_part.Goals as goal
@@ -42,29 +41,29 @@ inputs_few s gate ins most few i d lt =
 
 pub lefts_bits-requires-clause-fit : goal.lefts_bits-requires-clause-fit
 lefts_bits-requires-clause-fit c =
-    let f = module_facts c.scope_at.result.now in
+    let f = module_facts c.scope_at-scope.result.now in
     let fits = c.requires.makeable.fits.0 in
     subst (All (AreFit f)) (sym (fronts c.args.gate c.args.terms.now c.split_at.result.0.now c.output_count.result c.output_count.ensures.outputs c.split_at.ensures.front))
-    (λ i d lt. at_some (λ m. AreFit m (get_or (take (output_count c.args.gate (length (map expression c.args.terms.now))) (map expression c.args.terms.now)) i d)) (slice_get c.args.checked.now c.args.module) f c.scope_at.ensures.there (fits i d lt))
+    (λ i d lt. at_some (λ m. AreFit m (get_or (take (output_count c.args.gate (length (map expression c.args.terms.now))) (map expression c.args.terms.now)) i d)) (slice_get c.args.context.checked.now c.args.context.module) f c.scope_at-scope.ensures.there (fits i d lt))
 
 pub gate_inputs-requires-clause-stands : goal.gate_inputs-requires-clause-stands
 gate_inputs-requires-clause-stands c =
-    subst (All (StandsAt c.args.checked.now c.args.module)) (sym (backs c.args.gate c.args.terms.now c.split_at.result.1.now c.output_count.result c.output_count.ensures.outputs c.split_at.ensures.back)) c.requires.makeable.fits.1
+    subst (All (StandsAt c.args.context.checked.now c.args.context.module)) (sym (backs c.args.gate c.args.terms.now c.split_at.result.1.now c.output_count.result c.output_count.ensures.outputs c.split_at.ensures.back)) c.requires.makeable.fits.1
 
 pub gate_inputs-requires-clause-few : goal.gate_inputs-requires-clause-few
 gate_inputs-requires-clause-few c =
-    let s = scope_of (module_in c.args.checked.now c.args.module) in
+    let s = scope_of (module_in c.args.context.checked.now c.args.context.module) in
     subst (All (λ e. length (made_in s e (width_of s e)).cells ≤ 2000000)) (sym (backs c.args.gate c.args.terms.now c.split_at.result.1.now c.output_count.result c.output_count.ensures.outputs c.split_at.ensures.back))
     (inputs_few s c.args.gate (drop (output_count c.args.gate (length (map expression c.args.terms.now))) (map expression c.args.terms.now)) 2000000 c.requires.makeable.few)
 
 pub returns : goal.returns
 returns c =
-    let m = module_in c.args.checked.now c.args.module in
+    let m = module_in c.args.context.checked.now c.args.context.module in
     record {
       part = (
         refl,
         subst (λ l. AreBitsIn m c.in_ok-outs.outs.items (λ s. flat_map (written_bits s) l)) (fronts c.args.gate c.args.terms.now c.split_at.result.0.now c.output_count.result c.output_count.ensures.outputs c.split_at.ensures.front)
-            (bits_meant c.args.checked.now c.args.module (module_facts c.scope_at.result.now) c.scope_at.ensures.there c.in_ok-outs.outs.items (λ s. flat_map (written_bits s) (map expression c.split_at.result.0.now)) c.in_ok-outs.ensures.bits),
-        subst (AllZip (λ (l : Lowered) (e : Expression). IsMadeIn m l e (λ s. width_of s e)) c.in_ok-ins.ins.items) (backs c.args.gate c.args.terms.now c.split_at.result.1.now c.output_count.result c.output_count.ensures.outputs c.split_at.ensures.back) c.in_ok-ins.ensures.made,
+            (bits_meant c.args.context.checked.now c.args.context.module (module_facts c.scope_at-scope.result.now) c.scope_at-scope.ensures.there c.in_ok-outs.outs.items (λ s. flat_map (written_bits s) (map expression c.split_at.result.0.now)) c.in_ok-outs.ensures.bits),
+        subst (AllZip (IsWholeIn m) c.in_ok-ins.ins.items) (backs c.args.gate c.args.terms.now c.split_at.result.1.now c.output_count.result c.output_count.ensures.outputs c.split_at.ensures.back) c.in_ok-ins.ensures.made,
       );
     }

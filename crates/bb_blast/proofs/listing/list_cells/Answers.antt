@@ -14,10 +14,10 @@ outline_of-top-requires c =
     record { there = slice_get_within c.args.outlines.now c.index-placed-0.result.module o.0 o.1 }
 
 pub listed-requires-clause-scopes : goal.listed-requires-clause-scopes
-listed-requires-clause-scopes c = let given = c.requires.design in scopes_among c.laws_of_designs.ensures given.0 given.4 c.args.placed.now given.1 c.args.outlines.now given.2
+listed-requires-clause-scopes c = let given = c.requires.design in scopes_among given.0 c.args.placed.now given.1 c.args.outlines.now given.2
 
 pub listed-requires-clause-there : goal.listed-requires-clause-there
-listed-requires-clause-there c = let given = c.requires.design in λ k p fits. (scopes_among c.laws_of_designs.ensures given.0 given.4 c.args.placed.now given.1 c.args.outlines.now given.2 k p fits).outline
+listed-requires-clause-there c = let given = c.requires.design in λ k p fits. (scopes_among given.0 c.args.placed.now given.1 c.args.outlines.now given.2 k p fits).outline
 
 pub returns : goal.returns
 returns c = record {

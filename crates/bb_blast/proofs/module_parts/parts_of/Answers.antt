@@ -19,31 +19,31 @@ items-are : (m n : PlainModule) (items seen : List Item) → m ≡ n → n.items
 items-are m n items seen meant are is = ap (λ (x : PlainModule). x.items) meant ∙ are ∙ ap (map item_view) (sym is)
 
 pub loop-item-init : goal.loop-item-init
-loop-item-init c = record { count = refl; stands = subst (λ l. AllZip (IsPartAt c.args.checked.now c.args.module) l []) (sym c.new-parts.ensures.items) tt }
+loop-item-init c = record { count = refl; stands = subst (λ l. AllZip (IsPartAt c.args.context.checked.now c.args.context.module) l []) (sym c.new-parts.ensures.items) tt }
 
 pub add_body-requires-clause-calls : goal.add_body-requires-clause-calls
 add_body-requires-clause-calls c =
     let seen = c.deref-item-items.result.now in
     let item = c.item-item.result in
     let i = c.loop-item.item-index in
-    let are = items-are (module_in c.args.checked.now c.args.module) (syntax (module_facts c.scope_at.result.now)) c.scope_at.result.now.module.items.items seen c.scope_at.ensures.meant refl c.deref-item-items.ensures.value in
-    calls_in_item c.args.checked.now c.args.module c.args.targets.now (map item_view seen) i (item_view item) c.loop-item.first (got-map item_view seen i item (slice_get_read seen (length seen) i item refl c.loop-item-test.true c.item-item.is))
-    (subst (λ items. AreCallsAt c.args.checked.now c.args.module c.args.targets.now 0 (flat_map (λ (x : PlainItem). instances_in x.body) items)) are c.requires.calls)
+    let are = items-are (module_in c.args.context.checked.now c.args.context.module) (syntax (module_facts c.scope_at.result.now)) c.scope_at.result.now.module.items.items seen c.scope_at.ensures.meant refl c.deref-item-items.ensures.value in
+    calls_in_item c.args.context.checked.now c.args.context.module c.args.targets.modules.now (map item_view seen) i (item_view item) c.loop-item.first (got-map item_view seen i item (slice_get_read seen (length seen) i item refl c.loop-item-test.true c.item-item.is))
+    (subst (λ items. AreCallsAt c.args.context.checked.now c.args.context.module c.args.targets.modules.now 0 (flat_map (λ (x : PlainItem). instances_in x.body) items)) are c.requires.calls)
     (c.loop-item.invariant.count ∙ ap (λ l. length (flat_map (λ (x : PlainItem). instances_in x.body) l)) (sym (take-map item_view i seen)))
 
 pub add_body-requires-clause-stands : goal.add_body-requires-clause-stands
 add_body-requires-clause-stands c =
     let seen = c.deref-item-items.result.now in
     let item = c.item-item.result in
-    let are = items-are (module_in c.args.checked.now c.args.module) (syntax (module_facts c.scope_at.result.now)) c.scope_at.result.now.module.items.items seen c.scope_at.ensures.meant refl c.deref-item-items.ensures.value in
-    item_stands c.args.checked.now c.args.module (module_facts c.scope_at.result.now) c.scope_at.ensures.there (item_view item) (subst (λ l. Contains l (item_view item)) (sym are) (seen_there item_view seen c.loop-item.item-index item c.loop-item-test.true c.item-item.is))
+    let are = items-are (module_in c.args.context.checked.now c.args.context.module) (syntax (module_facts c.scope_at.result.now)) c.scope_at.result.now.module.items.items seen c.scope_at.ensures.meant refl c.deref-item-items.ensures.value in
+    item_stands c.args.context.checked.now c.args.context.module (module_facts c.scope_at.result.now) c.scope_at.ensures.there (item_view item) (subst (λ l. Contains l (item_view item)) (sym are) (seen_there item_view seen c.loop-item.item-index item c.loop-item-test.true c.item-item.is))
 
 pub add_body-requires-clause-makeable : goal.add_body-requires-clause-makeable
 add_body-requires-clause-makeable c =
     let seen = c.deref-item-items.result.now in
     let item = c.item-item.result in
-    let are = items-are (module_in c.args.checked.now c.args.module) (syntax (module_facts c.scope_at.result.now)) c.scope_at.result.now.module.items.items seen c.scope_at.ensures.meant refl c.deref-item-items.ensures.value in
-    all_flat (IsMakeable c.args.checked.now c.args.module) (λ (x : PlainItem). body_constructs (map syntax c.args.checked.now) x.body) (module_in c.args.checked.now c.args.module).items (item_view item)
+    let are = items-are (module_in c.args.context.checked.now c.args.context.module) (syntax (module_facts c.scope_at.result.now)) c.scope_at.result.now.module.items.items seen c.scope_at.ensures.meant refl c.deref-item-items.ensures.value in
+    all_flat (IsMakeable c.args.context.checked.now c.args.context.module) (λ (x : PlainItem). body_constructs (map syntax c.args.context.checked.now) x.body) (module_in c.args.context.checked.now c.args.context.module).items (item_view item)
     (subst (λ l. Contains l (item_view item)) (sym are) (seen_there item_view seen c.loop-item.item-index item c.loop-item-test.true c.item-item.is)) c.requires.makeable
 
 counted : (first n : ℕ) (seen : List Item) (i : ℕ) (item : Item) → i < length seen → item ≡ get_or seen i item → first ≡ length (flat_map (λ (x : PlainItem). instances_in x.body) (map item_view (take i seen))) → n ≡ length (instances_in (body_view item.body))
@@ -57,9 +57,9 @@ overflow_add-first c =
     let seen = c.deref-item-items.result.now in
     let item = c.item-item.result in
     let i = c.loop-item.item-index in
-    let are = items-are (module_in c.args.checked.now c.args.module) (syntax (module_facts c.scope_at.result.now)) c.scope_at.result.now.module.items.items seen c.scope_at.ensures.meant refl c.deref-item-items.ensures.value in
-    let here = calls_in_item c.args.checked.now c.args.module c.args.targets.now (map item_view seen) i (item_view item) c.loop-item.first (got-map item_view seen i item (slice_get_read seen (length seen) i item refl c.loop-item-test.true c.item-item.is))
-    (subst (λ items. AreCallsAt c.args.checked.now c.args.module c.args.targets.now 0 (flat_map (λ (x : PlainItem). instances_in x.body) items)) are c.requires.calls)
+    let are = items-are (module_in c.args.context.checked.now c.args.context.module) (syntax (module_facts c.scope_at.result.now)) c.scope_at.result.now.module.items.items seen c.scope_at.ensures.meant refl c.deref-item-items.ensures.value in
+    let here = calls_in_item c.args.context.checked.now c.args.context.module c.args.targets.modules.now (map item_view seen) i (item_view item) c.loop-item.first (got-map item_view seen i item (slice_get_read seen (length seen) i item refl c.loop-item-test.true c.item-item.is))
+    (subst (λ items. AreCallsAt c.args.context.checked.now c.args.context.module c.args.targets.modules.now 0 (flat_map (λ (x : PlainItem). instances_in x.body) items)) are c.requires.calls)
     (c.loop-item.invariant.count ∙ ap (λ l. length (flat_map (λ (x : PlainItem). instances_in x.body) l)) (sym (take-map item_view i seen))) in
     omega (arith, here.room, c.requires.few, c.instance_count-first.ensures.count)
 
@@ -68,8 +68,8 @@ loop-item-preserved c =
     let seen = c.deref-item-items.result.now in
     let item = c.item-item.result in
     let i = c.loop-item.item-index in
-    let r = IsPartAt c.args.checked.now c.args.module in
-    let constructs = λ (x : PlainItem). body_constructs (map syntax c.args.checked.now) x.body in
+    let r = IsPartAt c.args.context.checked.now c.args.context.module in
+    let constructs = λ (x : PlainItem). body_constructs (map syntax c.args.context.checked.now) x.body in
     record {
       count = counted c.loop-item.first c.instance_count-first.result seen i item c.loop-item-test.true c.item-item.is c.loop-item.invariant.count c.instance_count-first.ensures.count;
       stands = zip_flat r item_view seen i item c.loop-item-test.true c.item-item.is constructs [] c.loop-item.parts.items c.add_body.new.parts.items c.loop-item.invariant.stands c.in_ok-add_body.ensures.parts;
@@ -78,9 +78,9 @@ loop-item-preserved c =
 pub returns : goal.returns
 returns c =
     let seen = c.deref-item-items.result.now in
-    let r = IsPartAt c.args.checked.now c.args.module in
-    let are = items-are (module_in c.args.checked.now c.args.module) (syntax (module_facts c.scope_at.result.now)) c.scope_at.result.now.module.items.items seen c.scope_at.ensures.meant refl c.deref-item-items.ensures.value in
-    let constructs = λ (x : PlainItem). body_constructs (map syntax c.args.checked.now) x.body in
+    let r = IsPartAt c.args.context.checked.now c.args.context.module in
+    let are = items-are (module_in c.args.context.checked.now c.args.context.module) (syntax (module_facts c.scope_at.result.now)) c.scope_at.result.now.module.items.items seen c.scope_at.ensures.meant refl c.deref-item-items.ensures.value in
+    let constructs = λ (x : PlainItem). body_constructs (map syntax c.args.context.checked.now) x.body in
     record {
       parts = subst (λ l. AllZip r c.loop-item.parts.items (flat_map constructs l)) (sym are) (zip_end r (λ l. flat_map constructs (map item_view l)) seen c.loop-item.item-index [] c.loop-item.parts.items c.loop-item-test.false c.loop-item.invariant.stands);
     }

@@ -24,18 +24,18 @@ ports_are : (nets own : List NetInfo) → nets ≡ own → (side : Bool) (number
 ports_are nets own is side numbers are path = subst (λ l. AreAt (flat_map (bits_of_net path) l) numbers (flat_map (bits_of_net path) (filter (is_port_of side) l))) is (are path)
 
 pub parts_of-requires-clause-makeable : goal.parts_of-requires-clause-makeable
-parts_of-requires-clause-makeable c = all_makeable c.laws_of_designs.ensures c.args.checked.now c.scope_at.ensures.checked c.standing_is_fit.ensures c.args.place (module_facts c.scope_at.result.now) c.scope_at.ensures.there c.requires.modest
+parts_of-requires-clause-makeable c = all_makeable c.laws_of_designs.ensures c.args.checked.now c.scope_at.ensures.checked c.standing_is_fit.ensures c.args.place (module_facts c.scope_at.result.now) c.scope_at.ensures.there c.requires.outlinable.modest
 
 pub returns : goal.returns
 returns c =
     let m = module_in c.args.checked.now c.args.place in
     let own : c.scope_at.result.now.nets.items ≡ nets_of m = c.scope_at.ensures.nets.nets ∙ ap nets_of (sym c.scope_at.ensures.meant) in
     let starts : c.in_ok-from_slice.field-0.items ≡ slice_index_or (map (λ (list : Vec ℕ Global). list.items) c.args.starts.now) c.args.place [] =
-    c.in_ok-from_slice.ensures.items ∙ c.deref-5.ensures.value ∙ sym (kept_list c.args.starts.now c.args.place c.index-starts-place.result (omega (arith, c.requires.started.kept, length-map c.args.starts.now (λ (list : Vec ℕ Global). list.items))) c.index-starts-place.is) in
+    c.in_ok-from_slice.ensures.items ∙ c.deref-6.ensures.value ∙ sym (kept_list c.args.starts.now c.args.place c.index-starts-place.result (omega (arith, c.requires.outlinable.started.kept, length-map c.args.starts.now (λ (list : Vec ℕ Global). list.items))) c.index-starts-place.is) in
     record {
       outline = record {
-        starts = λ k lt. ap (λ l. slice_get l k) starts ∙ c.requires.started.each.each k lt;
-        bits = c.count_bits.ensures.count ∙ ap bit_count (c.deref-6.ensures.value ∙ own);
+        starts = λ k lt. ap (λ l. slice_get l k) starts ∙ c.requires.outlinable.started.each.each k lt;
+        bits = c.count_bits.ensures.count ∙ ap bit_count (c.deref-7.ensures.value ∙ own);
         inputs = λ path. ports_are c.deref.result.now (nets_of m) (c.deref.ensures.value ∙ own) true c.in_ok-inputs.inputs.items c.in_ok-inputs.ensures.bits path;
         outputs = λ path. ports_are c.deref-3.result.now (nets_of m) (c.deref-3.ensures.value ∙ own) false c.in_ok-outputs.outputs.items c.in_ok-outputs.ensures.bits path;
         parts = c.in_ok-parts.ensures.parts;

@@ -12,11 +12,11 @@ use Rattle.bb_design.specs.Refusals.{IsSmall, IsDrivenTwice, AreDrivenOnce}
 use Rattle.bb_elab.proofs.Growth.{for_outlines, for_counts, for_bits, for_registers, few, for_name, twice, grown}
 use Rattle.bb_elab.proofs.growing.grow.Goals as goal
 
-pub outlines_of-requires : goal.outlines_of-requires
-outlines_of-requires c =
+pub outlines_of-requires-clause-design : goal.outlines_of-requires-clause-design
+outlines_of-requires-clause-design c =
     let text = map syntax c.args.checked.now in
     let lt : c.args.top < length text = omega (arith, c.requires.top, length-map c.args.checked.now syntax) in
-    record { design = for_outlines c.laws_of_designs.ensures text c.args.top lt c.requires.finite c.in_ok-placed.placed.items c.in_ok-placed.ensures.placed c.deref.result.now c.deref.ensures.value }
+    for_outlines c.laws_of_designs.ensures text c.args.top lt c.requires.finite c.in_ok-placed.placed.items c.in_ok-placed.ensures.placed c.deref.result.now c.deref.ensures.value
 
 pub driver_counts-requires : goal.driver_counts-requires
 driver_counts-requires c =
