@@ -4,4 +4,3 @@ use Rattle.std.proofs.Common.{◌≡◌, Bool, true, false, ◌||◌, refl}
 pub or-true : (a : Bool) → (a || true) ≡ true
 or-true true = refl
 or-true false = refl
-

@@ -30,4 +30,3 @@ single-at a x (suc k) lt same = absurd (omega (arith, lt))
 
 pub single : {X : Type 0} (a x : X) → Contains (a ∷ []) x → a ≡ x
 single a x h = single-at a x h.0 h.1 h.2
-

@@ -26,7 +26,7 @@ use Rattle.bb_texts.specs.declared.refusal.Refusal.TheVariants.{Spec, Imp, Pair,
 use Rattle.bb_ladder.specs.declared.asked.Asked.{Asked}
 use Rattle.bb_ladder.specs.FilledTexts.{Clashes, Finished, Follows, FollowsVerdict, IsFinishedText, IsLarge, IsTwice, MayFollow, NoTablesFollow, NotAsked, NotFinished, answer_text}
 use Rattle.bb_ladder.specs.TextAnswers.{FillingOnlyAdds, Judged, Judges, Refused, RepairsFill}
-use Rattle.bb_ladder.specs.TextPairs.{DesignsAreAllowed, FilledTextsFinish, IsRefusal, Passes, Runs}
+use Rattle.bb_ladder.specs.TextPairs.{DesignsAreAllowed, FilledTextsFinish, IsRefusal, Passes, RunsAsText}
 use Rattle.bb_ladder.proofs.AnswerLaws.{finished, is_repairable, order}
 use Rattle.bb_ladder.proofs.FilledNames.{clash_is_twice}
 use Rattle.bb_ladder.proofs.FollowLaws.{something_follows}
@@ -75,7 +75,7 @@ module _ (allowed : DesignsAreAllowed) (none_behind : NoTablesFollow) (spell : T
               only named twice on follows,
         )),
         (λ on. (done, rest_follows asked.fill i (Passes asked spec) p for.imp_net lines rest repairable tables only (λ filled may. (finishes filled may).1) twice on follows)),
-        (λ on. (done, rest_follows asked.fill i (Runs asked.care s) p for.imp_net lines rest repairable tables only (λ filled may. (finishes filled may).2) twice on follows)),
+        (λ on. (done, rest_follows asked.fill i (RunsAsText asked.care s) p for.imp_net lines rest repairable tables only (λ filled may. (finishes filled may).2) twice on follows)),
       )
 
 -- a refusal is one whether the filled implementation is asked for or not

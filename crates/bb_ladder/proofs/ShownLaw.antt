@@ -1,9 +1,10 @@
 -- What checks find at a vector is a mistake of the two designs, and its text is that of the vector.
-use Rattle.std.proofs.Common.{◌≡◌, ◌∷◌, ◌++◌, ℕ, Bool, false, if◌then◌else◌, List, [], map, Option, None, Some, refl, sym, ap, ap₂, subst, ◌∙◌, arith, true≢false}
-use Rattle.std.specs.Prelude.{All, codes, slice_get, slice_index_or, vec_items}
-use Rattle.std.specs.List.{flat_map}
+use Rattle.std.proofs.Common.{◌≡◌, ◌∷◌, ◌++◌, ℕ, Bool, true, false, if◌then◌else◌, List, [], map, Option, None, Some, refl, sym, ap, ap₂, subst, ◌∙◌, arith, true≢false}
+use Rattle.std.specs.Prelude.{All, Contains, codes, slice_get, slice_index_or, vec_items}
+use Rattle.std.specs.List.{flat_map, list_any}
 use Rattle.std.proofs.lemmas.List.{append-nil, get_or-map}
 use Rattle.std.proofs.lemmas.List.Elements.{All-cons, All-head, All-nil, All-tail, Contains-append_left, Contains-append_right, Contains-get_or}
+use Rattle.bb_lists.proofs.Members.{any_there, contains-map}
 use Rattle.std.proofs.lemmas.Option.{get_or_from_slice_get, slice_get_within}
 use Rattle.bb_agree.specs.DesignAgreement.{IsPairFor}
 use Rattle.bb_agree.specs.Mistakes.{FailingVectorsAreMistakes, inputs_of, outputs_of, IsMistakeAt, PairsAreNamed, WrongOutputsAreMistakes, WrongVectorsAreMistakes}
@@ -32,8 +33,8 @@ use Rattle.bb_rungs.specs.declared.verdict.Verdict.TheVariants as verdicts
 use Rattle.bb_rungs.specs.declared.line.Said.{Said}
 use Rattle.bb_rungs.specs.declared.line.Said.TheVariants.{Error, Nothing, Repair, Nodes, Clauses, Wide}
 use Rattle.bb_rungs.specs.Laws.{ErrorsExcludeTables, GivenTablesAgree}
-use Rattle.bb_rungs.specs.Reports.{GivesTables, input_line, line_text, output_line, proof_text, report_text, status_of, told_output, verdict_line, verdict_of}
-use Rattle.bb_rungs.specs.Rungs.{Answered, ChoicesTooMany, ClausesTooMany, Climbs, Decided, End, Finding, Hit, MayFind, MaySay, NoHit, Step, TooMany, TooWide, Top, Without, is_repair}
+use Rattle.bb_rungs.specs.Reports.{GivesTables, evidence_text, input_line, line_text, output_line, proof_text, report_text, status_of, told_output, verdict_line, verdict_of}
+use Rattle.bb_rungs.specs.Rungs.{Answered, ChoicesTooMany, ClausesTooMany, Climbs, Decided, End, Finding, Hit, MayFind, MaySay, NoHit, Step, TooMany, TooWide, Top, Without, is_error, is_repair}
 use Rattle.bb_rungs.specs.Laws.ShownVectors.{FoundVectorsAreMistakes, IsWrongAt, SaidIsMistake}
 use Rattle.bb_sym.specs.declared.found.Found.{Found}
 use Rattle.bb_ladder.specs.declared.asked.Asked.{Asked}
@@ -166,6 +167,23 @@ none_given (line ∷ lines) none = All-cons (λ line. is_repair line ≡ false) 
     by r Clauses same = ap (λ z. is_repair (record { rung = line.rung; said = z })) same
     by r Wide same = ap (λ z. is_repair (record { rung = line.rung; said = z })) same
 
+-- the line of an error says so
+error_line : (p : NetPair) (o : Options) (r : Rung) (said : Said) → is_error (record { rung = r; said = said }) ≡ true
+    → (rest : List ℕ) × (line_text p o (record { rung = r; said = said }) ≡ check_line r (codes "error") ++ rest)
+error_line p o r (Error evidence) is = (evidence_text p o evidence, refl)
+error_line p o r Nothing is = absurd (true≢false (sym is))
+error_line p o r (Repair tables) is = absurd (true≢false (sym is))
+error_line p o r Nodes is = absurd (true≢false (sym is))
+error_line p o r Clauses is = absurd (true≢false (sym is))
+error_line p o r Wide is = absurd (true≢false (sym is))
+
+found_error : (p : NetPair) (o : Options) (lines : List Line) → list_any is_error lines ≡ true
+    → (rung : Rung) × (rest : List ℕ) × Contains (map (line_text p o) lines) (check_line rung (codes "error") ++ rest)
+found_error p o lines some =
+    let (line, has, is) = any_there is_error lines some in
+    let (rest, same) = error_line p o line.rung line.said is in
+    (line.rung, rest, subst (Contains (map (line_text p o) lines)) same (contains-map (line_text p o) lines line has))
+
 -- the texts of lines one after another are those of the lines
 joined : {X : Type 0} (f : X → List ℕ) (xs : List X) → flat_map (λ (t : List ℕ). t) (map f xs) ≡ flat_map f xs
 joined f [] = refl
@@ -191,6 +209,7 @@ errors_are_shown allowed found exclude given at_outputs at_vectors named failing
       checks = map (line_text p asked.options) lines;
       whole = t ∙ ap (λ z. report_text p asked.options lines ++ z) bare ∙ append-nil (report_text p asked.options lines)
           ∙ ap₂ (λ texts verdict. texts ++ verdict_line verdict) (sym (joined (line_text p asked.options) lines)) (is_error_verdict (verdict_of lines) (sym same ∙ one));
+      found = found_error p asked.options lines (status_error lines (sym same ∙ one));
       shown = lines_shown at_outputs at_vectors named failing fail asked s i p s_allowed i_allowed for lines (found p asked.options lines climb)
           (each_of_check p asked.options (asked_rungs asked.options) lines climb) (none_given lines no_tables);
     }

@@ -46,13 +46,14 @@ pub data ShowsError (asked : Asked) (s i : Design) (text : List ℕ) : Type 0 wh
   ByRefutation : (proof : Proof) → AreMistakesAmong asked.care asked.options.shared s i (map vec_items proof.vectors.items)
       → text ≡ check_line Expand (codes "error") ++ (if asked.options.proof then proof_text proof else []) → ShowsError asked s i text
 
--- the text is a report of the two texts with the verdict that there is an error, and each of its checks shows its own
+-- the text is a report of the two texts with the verdict that there is an error: some check has found one, and each shows its own
 pub record AreShown (asked : Asked) (spec imp text : List ℕ) : Type 0 where
   pub s : Design
   pub i : Design
   pub reads : AreReadAs asked spec imp s i
   pub checks : List (List ℕ)
   pub whole : text ≡ flat_map (λ check. check) checks ++ codes "verdict error\n"
+  pub found : (rung : Rung) × (rest : List ℕ) × Contains checks (check_line rung (codes "error") ++ rest)
   pub shown : All (ShowsError asked s i) checks
 
 -- The law of it: with status 1 the report shows the mistakes that it names.

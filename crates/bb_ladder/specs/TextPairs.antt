@@ -119,12 +119,12 @@ RunsAsSpecified asked spec imp text = (finished : AreFinished asked spec imp tex
     × ((contents : Contents) → Fills finished contents → RunAlike asked.care finished.s finished.i contents)
 
 -- the text reads as a design that runs as the specification does
-abbrev pub Runs : Option (List ℕ) → Design → List ℕ → Type 0
-Runs care s filled = (d : Design) × IsReadAs None filled d × ((contents : Contents) → RunAlike care s d contents)
+abbrev pub RunsAsText : Option (List ℕ) → Design → List ℕ → Type 0
+RunsAsText care s filled = (d : Design) × IsReadAs None filled d × ((contents : Contents) → RunAlike care s d contents)
 
 abbrev pub IsFilledToRun : Asked → List ℕ → List ℕ → List ℕ → Type 0
 IsFilledToRun asked spec imp text = asked.fill ≡ true → (finished : AreFinished asked spec imp text)
-    × FollowsVerdict finished.i (Runs asked.care finished.s) finished.rest
+    × FollowsVerdict finished.i (RunsAsText asked.care finished.s) finished.rest
 
 -- a pair stands for the two for which a check that is asked for decides
 abbrev pub AreDecided : Asked → List ℕ → List ℕ → Type 0
@@ -172,7 +172,7 @@ FilledTextsFinish = (asked : Asked) (spec imp : List ℕ) (s i : Design) → Are
     → (p : NetPair) (pair : IsPairFor asked.care asked.options.shared s i p) (tables : List TableBits)
     → AreSharedCompletion p.spec p.imp p.kinds tables → (text : List ℕ) → MayPrint pair.imp_net (spread p.kinds tables) (Text text)
     → IsFinishedText asked.care s i (λ contents. FitDesign i contents × AreSpelled p.boxes p.kinds tables contents) text
-    × Passes asked spec text × Runs asked.care s text
+    × Passes asked spec text × RunsAsText asked.care s text
 
 -- pairs that stand for two texts are alike
 abbrev pub TextPairsAreAlike : Type 0

@@ -20,4 +20,3 @@ first_at P Q clash xs i x lt at before holds = record {
 
 pub all_more : {A : Type 0} (P : A → Type 0) (xs : List A) (i : ℕ) (x : A) → i < length xs → x ≡ get_or xs i x → All P (take i xs) → P x → All P (take (i + 1) xs)
 all_more P xs i x within at all p = rw (take_more xs i x within ∙ ap (λ y. take i xs ++ y ∷ []) (sym at)) (All-push P (take i xs) x all p)
-
