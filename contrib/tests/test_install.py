@@ -31,7 +31,8 @@ class Install(Tries):
         install = os.path.join(TOP, "install")
         done = run([install, prefix])
         there = [os.path.join(prefix, name) for name in (
-            "bin/bbeq", "bin/bbeq-proved", "share/man/man1/bbeq.1", "share/man/man1/bbeq-tools.1", "bin/bbeq-gates",
+            "bin/bbeq", "bin/bbeq-proved", "share/man/man1/bbeq.1", "share/man/man1/bbeq-tools.1",
+            "bin/bbeq-gates",
             "bin/bbeq-fill", "lib/bbeq/bbeq_tools/cli.py", "lib/bbeq/bbeq_tools/runs/REPORT.md")]
         self.note("install PREFIX", done.status == 0 and all(map(os.path.exists, there)),
                   done.why())
@@ -85,14 +86,16 @@ def build_part(tally, folder):
     top, prefix, env = make_sources(folder), os.path.join(folder, "built"), environment(folder)
     program, install = os.path.join(prefix, "bin", "bbeq"), os.path.join(top, "install")
     done = run([install, prefix], env={**env, "PATH": os.path.join(folder, "without")})
+    is_there = os.path.exists(program)
     tally.note("install without rt",
-               done.status == 125 and not os.path.exists(program) and "PATH" in done.err, done.why())
+               done.status == 125 and not is_there and "PATH" in done.err, done.why())
     done = run([install, "--unproved", prefix], env=env)
     tally.note("install --unproved PREFIX", done.status == 0 and done.out == program + "-unproved\n"
                and not os.path.exists(program), done.why())
     done = run([install, prefix], env={**env, "NOT_PROVED": "bb_net"})
+    is_there = os.path.exists(program)
     tally.note("install where a crate is not proved",
-               done.status == 125 and not os.path.exists(program) and "it does not hold\n" in done.err
+               done.status == 125 and not is_there and "it does not hold\n" in done.err
                and "bb_net is not proved" in done.err, done.why())
     done = run([install, prefix], env=env)
     tally.note("install proves what is not proved",

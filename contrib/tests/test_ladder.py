@@ -23,6 +23,14 @@ OTHER = """module m(input clk, a, b_i, output q, z);
 endmodule
 """
 WIDER = SPEC.replace("[1:0] state", "[2:0] state").replace("{a, a & b}", "{a, b, a & b}")
+# A module that is empty, or has a register.
+IN_A_BOX = """module m(clk, a, b, q, z);
+  input clk, a, b; output q, z;
+  bx state(clk, a, b, q, z);
+endmodule
+module bx(i, j, k, o, p); input i, j, k; output o, p; {} endmodule
+"""
+STORING = "reg r; always @(posedge i) r <= j; buf(o, r); buf(p, k);"
 
 
 class Ladder(Tries):
@@ -88,9 +96,10 @@ class Names(Tries):
         renames = os.path.join(self.folder, "renames")
         done = run([script("names"), spec, other, "-o", renames])
         lines = done.out.splitlines()
+        first = [re.sub(r"\), .*", ")", line) for line in lines]
         self.note("names tells all that differ, on both sides", len(lines) == 6
-                  and "spec input b (1 bit): perhaps b_i (1 bit)" in lines and "impl register fsm_state "
-                  "(2 bits): perhaps state (2 bits)" in [re.sub(r"\), .*", ")", line) for line in lines],
+                  and "spec input b (1 bit): perhaps b_i (1 bit)" in lines
+                  and "impl register fsm_state (2 bits): perhaps state (2 bits)" in first,
                   done.why())
         self.note("names writes the likeliest pairs", sorted(read(renames).splitlines())
                   == ["b_i b", "fsm_state state", "q_reg q"], read(renames))
@@ -100,13 +109,8 @@ class Names(Tries):
         done = run([script("names"), spec, wider])
         self.note("names tells of a state machine that was recoded", "2 bits in the specification "
                   "and 3 in the implementation; a state machine" in done.out, done.why())
-        boxed = write(self.folder, "boxed.v", "module m(clk, a, b, q, z); input clk, a, b; output q,"
-                      " z; bx state(clk, a, b, q, z); endmodule\nmodule bx(i, j, k, o, p); input i, "
-                      "j, k; output o, p; endmodule\n")
-        own = write(self.folder, "own.v", "module m(clk, a, b, q, z); input clk, a, b; output q, z; "
-                    "bx state(clk, a, b, q, z); endmodule\nmodule bx(i, j, k, o, p); input i, j, k;"
-                    " output o, p; reg r; always @(posedge i) r <= j; buf(o, r); buf(p, k); "
-                    "endmodule\n")
+        boxed, own = (write(self.folder, name, IN_A_BOX.format(body))
+                      for name, body in (("boxed.v", ""), ("own.v", STORING)))
         done = run([script("names"), own, boxed])
         self.note("names tells of a register that would be in a box", done.out == "spec register "
                   "state.r (1 bit): state is a box there, and registers stay outside boxes\n",

@@ -130,7 +130,8 @@ class Solve(Tries):
         said."""
         spec, implementation = example("holes", "spec.v"), example("holes", "impl.v")
         done = run([script("solve"), spec, implementation, "--clauses", "1000", "--nodes", "1000"])
-        is_said = "nothing decided" in done.err and "solve:   try (rung expand clauses): " in done.err
+        is_said = ("nothing decided" in done.err
+                   and "solve:   try (rung expand clauses): " in done.err)
         self.note("solve of a pair that stays open", done.status == 3 and is_said
                   and done.out == "rung expand clauses\nverdict open\n", done.why())
 

@@ -112,11 +112,11 @@ class Contents(unittest.TestCase):
     def test_sums(self):
         for names, bits, text in (("ab", "0001", "a & b"), ("ab", "1110", "~a | ~b"),
                                   ("ab", "0110", "a ^ b"), ("ab", "1001", "a ^ ~b"),
-                                  ("abc", "01101001", "a ^ b ^ c"), ("abc", "00110101",
-                                                                    "a ? c : b"),
+                                  ("abc", "01101001", "a ^ b ^ c"),
+                                  ("abc", "00110101", "a ? c : b"),
                                   ("abc", "0---1---", "a"), ("ab", "1111", "1'b1"),
-                                  ("ab", "0-0-", "1'b0"), ("abc", "00010111",
-                                                           "a ? (b | c) : (b & c)"),
+                                  ("ab", "0-0-", "1'b0"),
+                                  ("abc", "00010111", "a ? (b | c) : (b & c)"),
                                   ("abcd", "0001000100011111", "(a & b) | (c & d)")):
             self.assertEqual(expression(list(names), bits), text)
 

@@ -185,7 +185,8 @@ class Portfolios(Place):
 
     def test_memory(self):
         """A run that needs more than there may be is left out, and one that takes more is ended."""
-        takes = "exec " + shlex.join([sys.executable, "-c", "x = b'1' * 10**8\nwhile True: pass"]) + " 2>/dev/null"
+        text = "x = b'1' * 10**8\nwhile True: pass"
+        takes = f"exec {shlex.join([sys.executable, '-c', text])} 2>/dev/null"
         name, portfolio = self.solved(2, 6 * 10**7, wide=self.way("echo verdict error", 10**8),
                                       large=self.way(takes), other=self.way("sleep 0.2"))
         self.assertIsNone(name)

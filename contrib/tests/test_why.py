@@ -73,8 +73,10 @@ class Why(Tries):
         shows = os.path.join(self.folder, "vectors")
         done = run([script("why"), report, left, right, "-o", shows, "--", *words])
         lines = done.out.splitlines()
-        kept = {tuple(line.split(" ", 1)) for line in lines if line.startswith(("output ", "next "))}
-        found = [bits for _, _, bits in vectors(read(shows).splitlines())] if not done.status else []
+        kept = {tuple(line.split(" ", 1)) for line in lines
+                if line.startswith(("output ", "next "))}
+        report = read(shows).splitlines() if done.status == 0 else []
+        found = [bits for _, _, bits in vectors(report)]
         masks = set(agreeing(left, right, kept, found)) if found else set()
         every = (1 << len(found)) - 1
         is_least = all(any(mask | 1 << at == every for mask in masks) for at in range(len(found)))

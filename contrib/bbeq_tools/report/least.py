@@ -5,7 +5,7 @@ Item = TypeVar("Item")
 
 
 def least(kept: List[Item], holds: Callable[[List[Item]], bool]) -> List[Item]:
-    """Leaves out parts, ever smaller ones, as long as it holds of the rest, which is never empty."""
+    """Leaves out parts, ever smaller ones, as long as it holds of the rest, which is not empty."""
     size = len(kept)
     while size > 1:
         size, place = (size + 1) // 2, 0

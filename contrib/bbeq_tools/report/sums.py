@@ -92,7 +92,7 @@ def sum_of_products(names: List[str], bits: str) -> str:
     rows = sum(1 << row for row, bit in enumerate(bits) if bit == "1")
     if not rows:
         return "1'b0"
-    chosen = sorted(fewest(list(primes(bits)), rows), key=lambda product: product.digits)
+    chosen = sorted(fewest(list(primes(bits)), rows), key=lambda product: list(product.digits))
     terms = [" & ".join(name if digit else f"~{name}"
                         for name, digit in zip(names, product.digits) if digit < 2)
              for product in chosen]

@@ -15,6 +15,7 @@ from bbeq_tools.rtl.marks import (mark_modules, mark_undefined, mark_words, name
                                   register_ports)
 from bbeq_tools.rtl.netlist import Netlist
 from bbeq_tools.rtl.sources import UNKNOWN, Sources, load, natural, place, run_yosys
+from bbeq_tools.rtl.undefined import add_care
 from bbeq_tools.rtl.writer import Writer
 
 LATCHES = ("$dlatch", "$adlatch", "$dlatchsr", "$sr", "$_DLATCH", "$_SR_")
@@ -77,8 +78,10 @@ def parse_words():
     parser.add_argument("--cells", action="append", default=[], metavar="FILE",
                         help="models of the cells of a netlist: a register in one goes by the name "
                         "of the net that the cell drives (needs --top)")
-    parser.add_argument("--undef", choices=("0", "1"), help="the bit that stands for an undefined "
-                        "value (x) or an undriven net; without it these are refused")
+    parser.add_argument("--undef", choices=("0", "1", "care"), help="the bit that stands for an "
+                        "undefined value (x) or an undriven net; or `care`: of a specification an "
+                        "output more that is 0 where an undefined value reaches an output, for "
+                        "bbeq's --care; without it these are refused")
     parser.add_argument("--parameter", action="append", default=[], metavar="NAME=VALUE",
                         help="set a parameter of the top")
     parser.add_argument("--define", action="append", default=[], metavar="NAME[=VALUE]",
@@ -106,6 +109,8 @@ def parse_words():
     for option, given in (("--parameter", words.parameter), ("--cells", words.cells)):
         if given and not words.top:
             parser.error(f"{option} needs --top")
+    if words.undef == "care" and words.words:
+        parser.error("--undef care is of gates, so it does not go with --words")
     if not all(re.fullmatch(r"\w+(=.*)?", macro) for macro in words.define):
         parser.error("--define needs NAME or NAME=VALUE")
     if not all(re.fullmatch(r"[^=\s]+=\S+", setting) for setting in words.parameter):
@@ -269,6 +274,8 @@ def translate(words, folder):
     run_yosys(script.replace("{words}", ""), folder)
     mapped = load(folder, "mapped.json")
     rename(mapped[top], words.rename)
+    if words.undef == "care":
+        add_care(top, mapped, words)
     writer = Writer(Netlist(top, mapped, words), words.keep_order)
     lines = list(writer.text(words.files))
     for warning in writer.too_many(MOST_INPUTS):

@@ -178,8 +178,8 @@ def command():
     boxes = [instance.module for module in modules.values() for instance in module.instances
              if instance.module in modules and modules[instance.module].is_box()]
     if boxes:
-        raise Fault(f"{words.specification}: {boxes[0]} is an empty module, and a specification has "
-                    "none; the order of an implementation counts for nothing")
+        raise Fault(f"{words.specification}: {boxes[0]} is an empty module, and a specification "
+                    "has none; the order of an implementation counts for nothing")
     if not top.pins("input"):
         raise Fault(f"{words.specification}: {top.name} has no inputs, so there is "
                     "nothing to order")

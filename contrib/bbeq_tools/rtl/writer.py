@@ -78,10 +78,12 @@ class Writer:
         return reader if isinstance(reader, str) else self.net.describe(reader)
 
     def undefined(self, bit, reader, source):
-        if self.net.undef is not None:
+        if self.net.undef in ("0", "1"):
             return f"1'b{self.net.undef}"
         reader = self.told(reader)
         if bit == "x" or self.net.describe(bit).endswith(MARK[1:]):
+            if self.net.undef == "care":  # The care output is 0 where this bit counts.
+                return "1'b0"
             if source == UNKNOWN:
                 raise Fault("a value is undefined (x) somewhere, as where an index can go beyond "
                             "its range; --undef 0 or --undef 1 chooses a bit for it")

@@ -3,9 +3,9 @@ another, is sent the answer of each, and returns the answer that decides, or Non
 import os
 from typing import NamedTuple, Tuple
 
-from bbeq_tools.runs.climbs import (MOST_CLAUSES, MOST_NODES, budgets, order_command, wants_clauses,
-                                    with_value)
 from bbeq_tools.cli import python_call
+from bbeq_tools.runs.climbs import (MOST_CLAUSES, MOST_NODES, budgets, order_command,
+                                    wants_clauses)
 from bbeq_tools.runs.folders import read_parts
 from bbeq_tools.runs.joined import joined
 from bbeq_tools.runs.kept import Answer, contents

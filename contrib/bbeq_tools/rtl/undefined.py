@@ -1,0 +1,132 @@
+"""An output that is 0 where an undefined value (x) reaches another output: bbeq's care output. For
+each bit that may be undefined there is a bit more that says where it is, made gate by gate: an and
+with a 0 is known, whatever the other operand is, and a choice by an undefined bit is known where
+both sides are the same (IEEE 1364-2005, 5.1)."""
+import sys
+
+from bbeq_tools.cli import Fault
+from bbeq_tools.rtl.marks import MARK
+from bbeq_tools.rtl.netlist import Netlist
+
+ALWAYS, NEVER = "1", "0"
+# For each gate the values of A and B that decide it alone, or none.
+DECIDING = {"$_AND_": (0, 0), "$_NAND_": (0, 0), "$_OR_": (1, 1), "$_NOR_": (1, 1),
+            "$_ANDNOT_": (0, 1), "$_ORNOT_": (1, 0), "$_XOR_": None, "$_XNOR_": None}
+CHOICES, COPIES = ("$_MUX_", "$_NMUX_"), ("$_NOT_", "$_BUF_")
+
+
+class Undefined:
+    """The bits that say where others are undefined, as cells that are added to a module."""
+
+    def __init__(self, name, modules, words):
+        self.net = Netlist(name, modules, words)
+        self.module = modules[name]
+        self.last = max([bit for net in self.module["netnames"].values() for bit in net["bits"]
+                         if isinstance(bit, int)], default=1)
+        self.where = {"x": ALWAYS}
+        if self.net.boxes:
+            raise Fault("--undef care is for a specification, and this text has boxes")
+        for net_name, net in self.module["netnames"].items():
+            if net_name.endswith(MARK[1:]):
+                self.where.update({bit: ALWAYS for bit in net["bits"]
+                                   if bit not in self.net.driver})
+        for key in self.net.order:
+            cell = self.module["cells"][key]
+            pins = {pin: bits[0] for pin, bits in cell["connections"].items()}
+            self.where[pins["Y"]] = self.gate(cell["type"], pins)
+
+    def of(self, bit):
+        return self.where.get(bit, NEVER)
+
+    def cell(self, kind, **pins):
+        """A new gate; the bit that it drives."""
+        self.last += 1
+        name = f"$bbeq${self.last}"
+        self.module["cells"][name] = {"type": kind, "attributes": {}, "hide_name": 1,
+                                      "connections": {pin: [bit] for pin, bit in pins.items()}
+                                      | {"Y": [self.last]}}
+        self.module["netnames"][name] = {"hide_name": 1, "bits": [self.last], "attributes": {}}
+        return self.last
+
+    def inverse(self, bit):
+        if bit in (ALWAYS, NEVER):
+            return NEVER if bit == ALWAYS else ALWAYS
+        return self.cell("$_NOT_", A=bit)
+
+    def both(self, left, right):
+        if NEVER in (left, right):
+            return NEVER
+        if ALWAYS in (left, right):
+            return right if left == ALWAYS else left
+        return self.cell("$_AND_", A=left, B=right)
+
+    def either(self, left, right):
+        if ALWAYS in (left, right):
+            return ALWAYS
+        if NEVER in (left, right):
+            return right if left == NEVER else left
+        return self.cell("$_OR_", A=left, B=right)
+
+    def is_known(self, bit, value):
+        """Where a bit is known and has a value."""
+        own = bit if value else self.inverse(bit)
+        return self.both(self.inverse(self.of(bit)), own)
+
+    def gate(self, kind, pins):
+        wheres = [self.of(pins[pin]) for pin in ("A", "B", "S") if pin in pins]
+        if all(where == NEVER for where in wheres):
+            return NEVER
+        if kind in COPIES:
+            return wheres[0]
+        if kind in CHOICES:
+            return self.choice(pins, *wheres)
+        found = self.either(*wheres)
+        for pin, value in zip("AB", DECIDING[kind] or ()):
+            found = self.both(found, self.inverse(self.is_known(pins[pin], value)))
+        return found
+
+    def choice(self, pins, left, right, chooser):
+        """That of B where S is 1, that of A where it is 0; where S is undefined, where the two are
+        undefined or differ."""
+        known = self.either(self.both(pins["S"], right), self.both(self.inverse(pins["S"]), left))
+        differs = self.either(self.either(left, right),
+                              self.cell("$_XOR_", A=pins["A"], B=pins["B"]))
+        return self.either(self.both(chooser, differs), self.both(self.inverse(chooser), known))
+
+
+def add_care(name, modules, words):
+    """Adds the care output to a module, and says what is free where it is 0."""
+    undefined = Undefined(name, modules, words)
+    module, net = modules[name], undefined.net
+    for key in net.live_flops:
+        cell = module["cells"][key]
+        if undefined.of(cell["connections"]["D"][0]) != NEVER:
+            raise Fault(f"register {net.describe(net.driven(cell))} may take an undefined value "
+                        "(x), and what it holds is compared in all states; --undef 0 or --undef 1 "
+                        "chooses a bit for it")
+    reached, others, where = [], [], NEVER
+    for port, shape in module["ports"].items():
+        if shape["direction"] == "output":
+            own = NEVER
+            for bit in shape["bits"]:
+                own = undefined.either(own, undefined.of(bit))
+            (others if own == NEVER else reached).append(port)
+            where = undefined.either(where, own)
+    if not reached:
+        say("no undefined value reaches an output, so there is no care output")
+        return
+    care = "care"
+    while care in module["netnames"]:
+        care += "_"
+    bit = undefined.inverse(where)
+    bit = undefined.cell("$_BUF_", A=bit) if bit in (ALWAYS, NEVER) else bit
+    module["ports"][care] = {"direction": "output", "bits": [bit]}
+    module["netnames"][care] = {"hide_name": 0, "bits": [bit], "attributes": {}}
+    say(f"{care} is 0 where {', '.join(reached)} would be undefined: compare with --care {care}")
+    free = others + ["all next states"] * bool(net.live_flops)
+    if free:
+        say(f"where it is 0, these are free too: {', '.join(free)}")
+
+
+def say(text):
+    print(f"gates: {text}", file=sys.stderr)
