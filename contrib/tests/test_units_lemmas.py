@@ -1,7 +1,7 @@
 """Unit tests of what finds lemmas that are proved twice."""
 import unittest
 
-from bbeq_tools.developing.believed import CRATES
+from bbeq_tools.developing.definitions import CRATES
 from bbeq_tools.developing.lemmas import lemmas_in, proved_twice, same_words
 
 FIRST = """-- bits

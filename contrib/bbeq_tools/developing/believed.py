@@ -132,8 +132,8 @@ def show(title, walk, lines, files, whole):
         if whole:
             print("\n\n".join("\n".join(block) for block in sorted(own[module])), end="\n\n")
     types = {key: block for key, block in walk.types.items() if block}
-    print(f"  and {size_of(types.values())} of {len(types)} types of the code, {Size(lines)} of the "
-          "contract" + "".join(f", {size_of(blocks)} of the kit's {library}"
+    print(f"  and {size_of(types.values())} of {len(types)} types of the code, {Size(lines)} of "
+          "the contract" + "".join(f", {size_of(blocks)} of the kit's {library}"
                                for library, blocks in sorted(kit.items()) if blocks))
     if files:
         print("  and these names of the kit: " + " ".join(

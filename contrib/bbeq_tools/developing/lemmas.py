@@ -9,7 +9,7 @@ from collections import defaultdict
 from pathlib import Path
 
 from bbeq_tools.cli import Words, run_script
-from bbeq_tools.developing.believed import CRATES, uses
+from bbeq_tools.developing.definitions import CRATES, uses
 
 HEAD = re.compile(r"^(?:pub )?([^\s:(){}]+) : ?(.*)$")
 WORD = re.compile(r"[^\s(){}\[\],.:;]+|[(){}\[\],.:;]")

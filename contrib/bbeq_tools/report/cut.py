@@ -1,11 +1,16 @@
 """A netlist with some of its outputs and registers left out. What is left out of the outputs is a
 net like others; a register bit whose next state is left out is an input. Bits keep the texts by
 which bbeq pairs them."""
+from typing import Any, Callable, Dict, List, Set, Tuple
+
 from bbeq_tools.cli import Fault
-from bbeq_tools.verilog.language import bit_text, written
+from bbeq_tools.verilog.language import (Expression, Index, Module, Net, Register, bit_text,
+                                         written)
+
+Bit = Tuple[str, Index]
 
 
-def compared(path, top):
+def compared(path: str, top: Module) -> Tuple[List[Bit], List[Bit]]:
     """What is compared of a netlist, by kind: the bits of its outputs, and those of its registers,
     as (net, index)."""
     if top is None or any(instance.module == top.name for instance in top.instances):
@@ -20,7 +25,7 @@ def compared(path, top):
 class Cut:
     """The text of a netlist in which these outputs and next states alone are compared."""
 
-    def __init__(self, path, text, modules, top):
+    def __init__(self, path: str, text: str, modules: Dict[str, Module], top: Module) -> None:
         self.path, self.text, self.top = path, text, top
         self.outputs, self.registers = compared(path, top)
         below = {instance.module for instance in top.instances if instance.module in modules}
@@ -28,7 +33,7 @@ class Cut:
             raise Fault(f"{path}: an instance has registers of its own; give texts that `gates` "
                         "made, which are flat")
 
-    def with_outputs(self, kept, extra=None):
+    def with_outputs(self, kept: Set[Tuple[str, str]], extra: Any = None) -> str:
         """`kept` has pairs of a kind, `output` or `next`, and a text of a bit; `extra` may be an
         output more and the lines that make it."""
         nexts = {bit for bit in self.registers if ("next", bit_text(*bit)) in kept}
@@ -49,11 +54,11 @@ class Cut:
                   + "".join(f"  {line}\n" for line in lines))
         return self.text[:self.top.start] + header + "".join(body) + self.text[place:]
 
-    def ports(self, nexts, wanted):
+    def ports(self, nexts: Set[Bit], wanted: List[Bit]) -> Tuple[List[str], List[str]]:
         """The ports of the header, and the declarations that stand behind it."""
         ports, lines = [], []
 
-        def port(direction, name, shape=""):
+        def port(direction: str, name: str, shape: str = '') -> None:
             ports.append(name)
             lines.append(f"{direction} {shape}{name};")
 
@@ -69,7 +74,7 @@ class Cut:
             for index in net.indices():
                 bit = (name, index)
                 own = f"{bit_text(name, index)}"
-                bits.append(written(own) if net.range else None)
+                bits.append(written(own))
                 if net.range and bit in self.registers and bit not in nexts:
                     port("input", written(own))
                 elif net.range:
@@ -89,7 +94,8 @@ class Cut:
             self.output(name, index, stored, port, lines)
         return ports, lines
 
-    def output(self, name, index, stored, port, lines):
+    def output(self, name: str, index: Index, stored: Set[str], port: Callable[..., None],
+               lines: List[str]) -> None:
         """An output of one bit. That of a register, or of a net without a range, is the net of that
         name itself."""
         own = written(bit_text(name, index))
@@ -100,7 +106,7 @@ class Cut:
             port("output", own)
             lines.append(f"assign {own} = {written(name)}[{index}];")
 
-    def clocked(self, number, register, nexts):
+    def clocked(self, number: int, register: Register, nexts: Set[Bit]) -> str:
         """The clocked assignment bit by bit, of those that are kept."""
         bits = self.top.left_bits(register.left)
         if not set(bits) & nexts:
@@ -119,11 +125,11 @@ class Cut:
         return "\n  ".join(lines)
 
 
-def bounds(net):
+def bounds(net: Net) -> str:
     return f"[{net.range[0]}:{net.range[1]}] " if net.range else ""
 
 
-def spelt(clock):
+def spelt(clock: Expression) -> str:
     """A clock as it is written: a net, or one bit of it."""
     _, name, select = clock
     return written(name) if select is None else f"{written(name)}[{select[0]}]"

@@ -4,13 +4,18 @@ With `--proof` bbeq prints the clauses that the check `expand` refuted and the r
 Checkers of other hands read other formats: this script writes OUT.cnf, OUT.lrat (for `lrat` beside
 it, or lrat-check) and OUT.drat (for drat-trim). A clause that bbeq counts from 0 has one more as
 its number there."""
+import argparse
+from typing import Any, Dict, FrozenSet, List, Tuple
 
 from bbeq_tools.cli import Fault, Output, Words, run_script
 from bbeq_tools.report.reports import read_report
 
+Clause = FrozenSet[int]
+Step = Tuple[int, List[Tuple[int, int]]]  # The first clause, and pairs of clause and variable.
 
-def parse_words():
-    parser = Words(prog="drat", description=__doc__.split("\n\n")[0])
+
+def parse_words() -> argparse.Namespace:
+    parser = Words(prog="drat", description=(__doc__ or "").split("\n\n")[0])
     parser.add_argument("report", metavar="REPORT",
                         help="a file with what bbeq printed with --proof; - is standard input")
     parser.add_argument("-o", "--output", default="proof", metavar="OUT",
@@ -18,10 +23,11 @@ def parse_words():
     return parser.parse_args()
 
 
-def proof_lines(path):
+def proof_lines(path: str) -> Tuple[List[Clause], List[Step]]:
     """The clauses, as sets, and the steps, each a first clause and its pairs of clause and
     variable."""
-    clauses, steps = [], []
+    clauses: List[Clause] = []
+    steps: List[Any] = []
     for line in read_report(path):
         words = line.split()
         try:
@@ -45,7 +51,7 @@ def proof_lines(path):
     return clauses, steps
 
 
-def resolve(clause, other, variable, number):
+def resolve(clause: Clause, other: Clause, variable: int, number: int) -> Clause:
     """The resolvent: the variable's literal taken out of each of the two clauses, with opposite
     signs."""
     for literal in (variable, -variable):
@@ -54,7 +60,7 @@ def resolve(clause, other, variable, number):
     raise Fault(f"step {number} does not resolve by variable {variable}")
 
 
-def derived(clauses, steps):
+def derived(clauses: List[Clause], steps: List[Step]) -> List[Clause]:
     """All clauses, those of the steps behind the given ones."""
     found = list(clauses)
     for first, pairs in steps:
@@ -70,11 +76,11 @@ def derived(clauses, steps):
     return found
 
 
-def is_tautology(clause):
+def is_tautology(clause: Clause) -> bool:
     return any(-literal in clause for literal in clause)
 
 
-def hints(clause, candidates, clauses, number):
+def hints(clause: Clause, candidates: List[int], clauses: List[Clause], number: int) -> List[int]:
     """The candidates in an order in which each gives one more literal and the last is false, once
     the clause is denied."""
     false, chosen, left = set(clause), [], candidates
@@ -98,12 +104,13 @@ def hints(clause, candidates, clauses, number):
     raise Fault(f"step {number} does not follow by propagation")
 
 
-def spelt(clause):
+def spelt(clause: Clause) -> str:
     return "".join(f"{literal} "
                    for literal in sorted(clause, key=lambda literal: (abs(literal), literal)))
 
 
-def write_all(output, outputs, clauses, steps):
+def write_all(output: str, outputs: Dict[str, Output], clauses: List[Clause],
+              steps: List[Step]) -> None:
     found = derived(clauses, steps)
     variables = max((abs(literal) for clause in found for literal in clause), default=0)
     lrat, drat = [], []
@@ -124,12 +131,12 @@ def write_all(output, outputs, clauses, steps):
           f"{output}.drat: {len(steps)} steps")
 
 
-def command():
+def command() -> None:
     words = parse_words()
     outputs = {kind: Output(f"{words.output}.{kind}", [words.report], "ascii")
                for kind in ("cnf", "lrat", "drat")}
     write_all(words.output, outputs, *proof_lines(words.report))
 
 
-def main():
+def main() -> None:
     run_script("drat", command)

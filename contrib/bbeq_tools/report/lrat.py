@@ -6,6 +6,9 @@ the last none, once the clause is denied. Clauses whose proof needs more than pr
 refused; bbeq's proofs have none."""
 import argparse
 import sys
+from typing import Dict, List, NoReturn, Tuple
+
+Clauses = Dict[int, List[int]]  # By their numbers.
 
 
 class Wrong(Exception):
@@ -15,26 +18,31 @@ class Wrong(Exception):
 NOT_VERIFIED, WRONG_WORDS, UNREAD = 1, 64, 125  # Statuses.
 
 
-def fail(message, status):
+def fail(message: str, status: int) -> NoReturn:
     print(f"lrat: {message}", file=sys.stderr)
     sys.exit(status)
 
 
-def parse_words():
-    parser = argparse.ArgumentParser(prog="lrat", description=__doc__.split("\n\n")[0])
-    parser.error = lambda message: fail(f"{message} (lrat --help lists the words)", WRONG_WORDS)
+class Words(argparse.ArgumentParser):
+    def error(self, message: str) -> NoReturn:
+        fail(f"{message} (lrat --help lists the words)", WRONG_WORDS)
+
+
+def parse_words() -> argparse.Namespace:
+    parser = Words(prog="lrat", description=(__doc__ or "").split("\n\n")[0])
     parser.add_argument("cnf", metavar="CNF", help="the formula, in DIMACS")
     parser.add_argument("proof", metavar="LRAT", help="the proof")
     return parser.parse_args()
 
 
-def read_cnf(path):
+def read_cnf(path: str) -> Clauses:
     """The clauses by their numbers, from 1."""
     with open(path, encoding="ascii") as file:
         words = [word for line in file if not line.startswith("c") for word in line.split()]
     if words[:2] != ["p", "cnf"] or len(words) < 4:
         raise Wrong(f"{path}: there is no line p cnf")
-    clauses, clause = {}, []
+    clauses: Clauses = {}
+    clause: List[int] = []
     for word in words[4:]:
         if word == "0":
             clauses[len(clauses) + 1] = clause
@@ -46,7 +54,7 @@ def read_cnf(path):
     return clauses
 
 
-def follows(clause, hints, clauses):
+def follows(clause: List[int], hints: List[int], clauses: Clauses) -> bool:
     """The clause follows by propagation along the hints."""
     false = set(clause)
     for hint in hints:
@@ -61,13 +69,13 @@ def follows(clause, hints, clauses):
     return False
 
 
-def split_at_zero(words):
+def split_at_zero(words: List[int]) -> Tuple[List[int], List[int]]:
     if 0 not in words:
         raise ValueError
     return words[:words.index(0)], words[words.index(0) + 1:]
 
 
-def check_line(line, clauses):
+def check_line(line: str, clauses: Clauses) -> bool:
     """Takes one line of the proof; true where it gives the empty clause."""
     words = line.split()
     number = int(words[0])
@@ -85,7 +93,7 @@ def check_line(line, clauses):
     return not clause
 
 
-def check(words):
+def check(words: argparse.Namespace) -> None:
     clauses = read_cnf(words.cnf)
     given = len(clauses)
     with open(words.proof, encoding="ascii") as file:
@@ -101,7 +109,7 @@ def check(words):
     raise Wrong(f"{words.proof}: the proof ends without the empty clause")
 
 
-def main():
+def main() -> None:
     try:
         check(parse_words())
     except UnicodeDecodeError:
@@ -109,4 +117,4 @@ def main():
     except OSError as error:
         fail(f"{error.filename}: {error.strerror}", UNREAD)
     except (Wrong, ValueError) as wrong:
-        fail(wrong, NOT_VERIFIED)
+        fail(str(wrong), NOT_VERIFIED)

@@ -5,28 +5,33 @@ import os
 import random
 import subprocess
 import tempfile
+from typing import Any, Dict, List, Set, Tuple
 
 from bbeq_tools.cli import Fault
 from bbeq_tools.program import find_program
 from bbeq_tools.report.contents import tree
 from bbeq_tools.report.filler import Filler
-from bbeq_tools.report.reports import vectors
-from bbeq_tools.verilog.language import Reader, bit_text, tokens, written
-from bbeq_tools.verilog.values import Bit, Design, World
+from bbeq_tools.report.reports import Tables, vectors
+from bbeq_tools.verilog.language import (Expression, Module, Reader, Token, bit_text, tokens,
+                                         written)
+from bbeq_tools.verilog.values import Bit, Design, Name, World
+
+Rows = Dict[str, Set[int]]  # Of tables, by the paths of boxes.
 
 DRAWN, MOST_DRAWS = 65_536, 20  # Vectors that are drawn at once, and how often.
 MOST_RUNS = 50
 REACHED, NEVER = "bbeq.reached", "1'b0"
 
 
-def with_unused(words, text, modules, top, tables):
+def with_unused(words: Any, text: str, modules: Dict[str, Module], top: Module,
+                tables: Tables) -> Tables:
     """The tables with `-` in such rows, where the program finds the pair repairable with 0 there
     and with 1."""
     program = find_program()
     if not program:
         raise Fault("bbeq is not there, which --spec needs; run ./bbeq once, or set BBEQ")
 
-    def filled(found):
+    def filled(found: Tables) -> str:
         return Filler(text, modules, found, "assign").fill(top, False)
 
     boxes = {instance.name: modules[instance.module] for instance in top.instances
@@ -48,30 +53,30 @@ def with_unused(words, text, modules, top, tables):
     return marked(tables, rows, "-")
 
 
-def shared(rows, tables, boxes):
+def shared(rows: Rows, tables: Tables, boxes: Dict[str, Module]) -> Rows:
     """Boxes that are filled by one module have the rows in common that none of them needs."""
-    def content(path):
+    def content(path: str) -> Tuple[str, List[Tuple[str, str]]]:
         return boxes[path].name, tables[path]
     return {path: set.intersection(*[rows[other] for other in rows
                                      if content(other) == content(path)]) for path in rows}
 
 
-def marked(tables, rows, mark):
+def marked(tables: Tables, rows: Rows, mark: str) -> Tables:
     """The tables with this mark in some rows of some boxes."""
-    def with_mark(path, bits):
+    def with_mark(path: str, bits: str) -> str:
         return "".join(mark if row in rows.get(path, ()) else bit for row, bit in enumerate(bits))
     return {path: [(pin, with_mark(path, bits)) for pin, bits in lines]
             for path, lines in tables.items()}
 
 
-def write(folder, name, text):
+def write(folder: str, name: str, text: str) -> str:
     path = os.path.join(folder, name)
     with open(path, "w", encoding="latin-1") as file:
         file.write(text)
     return path
 
 
-def run(program, *words):
+def run(program: str, *words: str) -> List[str]:
     """The lines of a run of the program."""
     done = subprocess.run([program, *words], capture_output=True, text=True, errors="replace",
                           check=False)
@@ -81,13 +86,13 @@ def run(program, *words):
 class Probe:
     """A netlist whose boxes are filled, and the boxes that stood in its top, by their names."""
 
-    def __init__(self, text, top, boxes):
+    def __init__(self, text: str, top: str, boxes: Dict[str, Module]) -> None:
         self.text, self.boxes = text, boxes
         self.modules = {module.name: module for module in Reader(text).modules()}
         self.top = self.modules[top]
         self.design = Design(self.modules, self.top)
 
-    def seen(self, ones, every):
+    def seen(self, ones: Dict[Name, int], every: int) -> Rows:
         """For each box the rows that some of these vectors bring to its pins; `ones` has for each
         input where it is 1."""
         world = World(self.design, {name: Bit(ones[name], every & ~ones[name])
@@ -96,12 +101,12 @@ class Probe:
                                for net, index in box.pins("input")], every)
                 for path, box in self.boxes.items()}
 
-    def unused(self, program, folder):
+    def unused(self, program: str, folder: str) -> Rows:
         """For each box its rows that no vector brings to its pins."""
         draw, every = random.Random(1), (1 << DRAWN) - 1
         rows = {path: set(range(2 ** len(box.pins("input")))) for path, box in self.boxes.items()}
 
-        def without(ones):
+        def without(ones: Dict[Name, int]) -> Rows:
             return {path: rows[path] - came for path, came in self.seen(ones, every).items()}
 
         for _ in range(MOST_DRAWS):
@@ -125,7 +130,7 @@ class Probe:
             rows = without({name: bits ^ sparse(draw) for name, bits in at.items()})
         return {path: set() for path in rows}
 
-    def reaching(self, rows):
+    def reaching(self, rows: Rows) -> str:
         """The netlist with one more output, which is 1 where a box reads one of these rows."""
         own, parts = written(REACHED), [(f"{REACHED}.{path}", path, wanted)
                                         for path, wanted in rows.items() if wanted]
@@ -138,19 +143,19 @@ class Probe:
                         self.text[close:end], *(f"  {line}\n" for line in lines), self.text[end:],
                         *(self.decoder(*part) for part in parts)])
 
-    def header(self):
+    def header(self) -> List[Token]:
         return tokens(self.text[self.top.start:self.top.header_end])
 
-    def header_close(self):
+    def header_close(self) -> int:
         """The place of the parenthesis that ends the top's header."""
         return self.top.start + [token for token in self.header() if token.text == ")"
                                  and token.kind == "mark"][-1].start
 
-    def is_declared_in_header(self):
+    def is_declared_in_header(self) -> bool:
         return any(token.kind == "word" and token.text in ("input", "output")
                    for token in self.header())
 
-    def decoder(self, name, path, wanted):
+    def decoder(self, name: str, path: str, wanted: Set[int]) -> str:
         """A module with the inputs of a box, which tells whether these spell one of the rows."""
         box, own = self.boxes[path], written(REACHED)
         nets = list(dict.fromkeys(net for net, _ in box.pins("input")))
@@ -164,7 +169,7 @@ class Probe:
              f"module {written(name)}({', '.join([*(written(net.name) for net in nets), own])});",
              *declared, f"output {own};", f"assign {own} = {tree(names, bits)};", "endmodule", ""])
 
-    def reader(self, name, path):
+    def reader(self, name: str, path: str) -> str:
         """An instance of the decoder beside that of the box."""
         instance = next(instance for instance in self.top.instances if instance.name == path)
         below = self.modules[instance.module]
@@ -176,12 +181,12 @@ class Probe:
         return f"{written(name)} {written(f'{REACHED}_{path}')}({', '.join(pins)});"
 
 
-def sparse(draw):
+def sparse(draw: random.Random) -> int:
     """An eighth of the vectors, but never the first."""
     return draw.getrandbits(DRAWN) & draw.getrandbits(DRAWN) & draw.getrandbits(DRAWN) & ~1
 
 
-def rows_at(pins, every):
+def rows_at(pins: List[Bit], every: int) -> Set[int]:
     """The rows that are spelt by these pins, the first most significant, at any of the vectors."""
     rows = {0: every}
     for pin in pins:
@@ -191,7 +196,7 @@ def rows_at(pins, every):
     return set(rows)
 
 
-def spelt(expression):
+def spelt(expression: Expression) -> str:
     """The text of an expression."""
     kind, first = expression[:2]
     if kind == "net":

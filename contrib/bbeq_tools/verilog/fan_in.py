@@ -1,8 +1,9 @@
 """What each bit of a text is made from, instance by instance."""
 from functools import reduce
-from typing import Any
+from typing import Any, Dict, List, Sequence
 
 from bbeq_tools.cli import Fault
+from bbeq_tools.verilog.modules import Expression, Instance, Module, Register
 from bbeq_tools.verilog.words import circuit, contexts, reduced, result_width
 
 OUTPUTS_LAST = ("buf", "not")
@@ -13,11 +14,13 @@ class FanIn:
     the same for what each clocked assignment stores. What is kept of a value is said by the methods
     from `read` to `once` alone, and by `store`; another class may keep more."""
 
-    def __init__(self, modules, top):
-        self.modules, self.sources, self.registers, self.made = modules, {}, [], 0
+    def __init__(self, modules: Dict[str, Module], top: Module) -> None:
+        self.modules, self.made = modules, 0
+        self.sources: Dict[Any, Any] = {}
+        self.registers: List[Any] = []
         self.walk(top, "")
 
-    def walk(self, module, scope):
+    def walk(self, module: Module, scope: str) -> None:
         for left, value in module.assigns:
             self.assign(module, scope, left, value)
         for word, terminals in module.gates:
@@ -33,20 +36,20 @@ class FanIn:
         for instance in module.instances:
             self.connect(module, scope, instance)
 
-    def assign(self, module, scope, left, value):
+    def assign(self, module: Module, scope: str, left: Expression, value: Expression) -> None:
         width = max(len(module.left_bits(left)), self.width(module, value))
         self.give(module, scope, left, self.value(module, scope, value, width))
 
-    def give(self, module, scope, left, values):
+    def give(self, module: Module, scope: str, left: Expression, values: List[Any]) -> None:
         """The bits on the left take the lowest of the values."""
         bits = module.left_bits(left)
         for (name, index), read in zip(bits, values[len(values) - len(bits):]):
             self.sources[scope, name, index] = read
 
-    def store(self, module, scope, register):
+    def store(self, module: Module, scope: str, register: Register) -> None:
         self.registers.append(self.whole(module, scope, register.value))
 
-    def connect(self, module, scope, instance):
+    def connect(self, module: Module, scope: str, instance: Instance) -> None:
         if instance.module not in self.modules:
             raise Fault(f"line {instance.token.line}: there is no module {instance.module}")
         below, inner = self.modules[instance.module], f"{scope}{instance.name}."
@@ -68,7 +71,7 @@ class FanIn:
         else:
             self.walk(below, inner)
 
-    def width(self, module, expression):
+    def width(self, module: Module, expression: Expression) -> int:
         kind = expression[0]
         if kind == "net":
             return len(module.selected(expression[1], expression[2]))
@@ -91,7 +94,7 @@ class FanIn:
             return expression[1] * self.width(module, expression[2])
         return sum(self.width(module, part) for part in expression[1])
 
-    def word(self, module, scope, expression, width):
+    def word(self, module: Module, scope: str, expression: Expression, width: int) -> List[Any]:
         """The bits of a level of operators on words, each as what it is made of."""
         _, parts, operators = expression
         first, steps = contexts(operators, [self.width(module, part) for part in parts], width)
@@ -101,7 +104,7 @@ class FanIn:
             made = self.number(("bits", context - len(made), 0)) + made
         return made
 
-    def whole(self, module, scope, expression):
+    def whole(self, module: Module, scope: str, expression: Expression) -> List[Any]:
         """The bits of an expression at its own width, the leftmost first, each as what it is made
         of."""
         if expression[0] == "net":
@@ -109,11 +112,11 @@ class FanIn:
                     for index in module.selected(expression[1], expression[2])]
         return self.value(module, scope, expression, self.width(module, expression))
 
-    def flat(self, module, scope, expression):
+    def flat(self, module: Module, scope: str, expression: Expression) -> List[Any]:
         """The bits that an expression at its own width is made from, as one list."""
         return [bit for bits in self.whole(module, scope, expression) for bit in bits]
 
-    def value(self, module, scope, expression, width):
+    def value(self, module: Module, scope: str, expression: Expression, width: int) -> List[Any]:
         """For each bit of an expression, the leftmost first, what it is made of."""
         kind = expression[0]
         if kind == "net":
@@ -143,35 +146,35 @@ class FanIn:
 
     # What is kept of a value: the bits that it is made from.
 
-    def read(self, bit):
+    def read(self, bit: Any) -> Any:
         return [bit]
 
-    def number(self, number):
+    def number(self, number: Expression) -> List[Any]:
         return [[] for _ in range(number[1])]
 
     zero: Any = ()
     one: Any = ()
 
-    def inverted(self, bit, _signs=1):
+    def inverted(self, bit: Any, _signs: int = 1) -> Any:
         return bit
 
-    def joined(self, bits, _operators):
+    def joined(self, bits: List[Any], _operators: Sequence[str]) -> Any:
         return [bit for read in bits for bit in read]
 
-    def condition(self, bits):
+    def condition(self, bits: List[Any]) -> Any:
         return self.joined(bits, ())
 
-    def choice(self, condition, then, otherwise):
+    def choice(self, condition: Any, then: Any, otherwise: Any) -> Any:
         return [*condition, *then, *otherwise]
 
-    def gate(self, _word, bits):
+    def gate(self, _word: str, bits: List[Any]) -> Any:
         return self.joined(bits, ())
 
-    def box(self, module, scope, read):
+    def box(self, module: Module, scope: str, read: Any) -> None:
         for net, index in module.pins("output"):
             self.sources[scope, net.name, index] = read
 
-    def once(self, read):
+    def once(self, read: Any) -> Any:
         """What is read at several places gets a bit without a name."""
         if len(read) < 2:
             return read

@@ -1,8 +1,11 @@
 """A design without its instances, bit by bit: what drives each bit, the registers and the boxes, by
 the texts by which bbeq pairs them (docs/LANGUAGE.md, and docs/REPORT.md on what is counted)."""
+from typing import Any, Dict, Iterable, Iterator, List, Optional, Sequence, Tuple
+
 from bbeq_tools.cli import Fault
 from bbeq_tools.verilog.fan_in import FanIn
-from bbeq_tools.verilog.language import bit_text, read_modules, top_of
+from bbeq_tools.verilog.language import (Expression, Module, Register, bit_text, read_modules,
+                                         top_of)
 
 # Of an operator of two operands; the last two are an Xor and a Not.
 CLAUSES = {"&": 3, "|": 3, "^": 4, "~^": 6, "^~": 6}
@@ -17,10 +20,10 @@ class Cell:
 
     __slots__ = ("word", "parts", "operators")
 
-    def __init__(self, word, parts, operators=()):
+    def __init__(self, word: str, parts: List[Any], operators: Sequence[str] = ()) -> None:
         self.word, self.parts, self.operators = word, parts, operators
 
-    def bits(self):
+    def bits(self) -> Iterator[Any]:
         """The bits that it is made from."""
         for part in self.parts:
             if isinstance(part, Cell):
@@ -28,7 +31,7 @@ class Cell:
             elif part not in CONSTANTS:
                 yield part
 
-    def counts(self):
+    def counts(self) -> Tuple[int, int]:
         """How many cells bbeq makes of it, and how many clauses at a vector."""
         if self.word == "?":
             cells, clauses = 1, 4
@@ -50,7 +53,7 @@ class Box:
 
     __slots__ = ("path", "module", "parts", "outs")
 
-    def __init__(self, path, module, parts, outs):
+    def __init__(self, path: str, module: Module, parts: List[Any], outs: List[Any]) -> None:
         self.path, self.module, self.parts, self.outs = path, module, parts, outs
 
     bits = Cell.bits
@@ -60,10 +63,13 @@ class Flat(FanIn):
     """A text as bits. `sources` has for each bit that is driven a constant, another bit, a cell or
     a box; `inputs`, `outputs` and `states` have the bits of ports and registers by their texts."""
 
-    def __init__(self, path, name):
+    def __init__(self, path: str, name: Optional[str]) -> None:
         self.text, modules = read_modules(path)
         self.top = top_of(path, modules, name)
-        self.boxes, self.stored, self.ends, self.below = [], {}, {}, {}
+        self.boxes: List[Box] = []
+        self.stored: Dict[Any, Any] = {}
+        self.ends: Dict[Any, Any] = {}
+        self.below: Dict[Any, Tuple[Any, ...]] = {}
         super().__init__(modules, self.top)
         self.inputs, self.outputs = ({bit_text(net.name, index): ("", net.name, index) for net,
                                       index in self.top.pins(direction)}
@@ -73,10 +79,10 @@ class Flat(FanIn):
         self.states = {text_of(bit): bit for bit in self.stored}
         self.check_names(path)
 
-    def check_names(self, path):
+    def check_names(self, path: str) -> None:
         """A flat text has one name for each input, output, register and box; an output that is a
         register has the register's."""
-        found = {}
+        found: Dict[str, Tuple[str, Any]] = {}
         bits = [("register", bit) for bit in self.stored] + [("input", bit)
                                                              for bit in self.inputs.values()]
         bits += [("output", bit) for bit in self.outputs.values()]
@@ -89,7 +95,7 @@ class Flat(FanIn):
 
     # What is kept of the text.
 
-    def walk(self, module, scope):
+    def walk(self, module: Module, scope: str) -> None:
         for net in module.nets.values():
             if net.kind in ("supply0", "supply1"):
                 self.sources |= {(scope, net.name, index): CONSTANTS[net.kind == "supply1"]
@@ -101,7 +107,7 @@ class Flat(FanIn):
         self.stored |= {(scope, *bit): None for bit in bits if bit in own}
         super().walk(module, scope)
 
-    def store(self, module, scope, register):
+    def store(self, module: Module, scope: str, register: Register) -> None:
         bits, (_, name, select) = module.left_bits(register.left), register.clock
         clock = (scope, name, module.selected(name, select)[0])
         width = max(len(bits), self.width(module, register.value))
@@ -109,16 +115,16 @@ class Flat(FanIn):
         self.stored |= {(scope, *bit): (register.edge, clock, value)
                         for bit, value in zip(bits, values)}
 
-    def box(self, module, scope, _read):
+    def box(self, module: Module, scope: str, _read: Any) -> None:
         outs = [(scope, net.name, index) for net, index in module.pins("output")]
         ins = [(scope, net.name, index) for net, index in module.pins("input")]
         self.boxes.append(Box(scope[:-1], module, ins, outs))
         self.sources |= dict.fromkeys(outs, self.boxes[-1])
 
-    def read(self, bit):
+    def read(self, bit: Any) -> Any:
         return bit
 
-    def number(self, number):
+    def number(self, number: Expression) -> List[Any]:
         _, width, value = number
         if value is None:
             raise Fault("a number has digits that are neither 0 nor 1")
@@ -126,25 +132,25 @@ class Flat(FanIn):
 
     zero, one = CONSTANTS
 
-    def inverted(self, bit, signs=1):
+    def inverted(self, bit: Any, signs: int = 1) -> Any:
         return Cell("~", [bit]) if signs % 2 else bit
 
-    def joined(self, bits, operators):
+    def joined(self, bits: List[Any], operators: Sequence[str]) -> Any:
         return Cell("chain", bits, operators)
 
-    def condition(self, bits):
+    def condition(self, bits: List[Any]) -> Any:
         return bits[0] if len(bits) == 1 else self.once(Cell("chain", bits,
                                                              ["|"] * (len(bits) - 1)))
 
-    def choice(self, condition, then, otherwise):
+    def choice(self, condition: Any, then: Any, otherwise: Any) -> Any:
         return Cell("?", [condition, then, otherwise])
 
-    def gate(self, word, bits):
+    def gate(self, word: str, bits: List[Any]) -> Any:
         if len(bits) > 1:
             return Cell(word, bits)
         return Cell("~", bits) if word in INVERTING else bits[0]
 
-    def once(self, bit):
+    def once(self, bit: Any) -> Any:
         """A cell that is read at several places drives a bit without a name."""
         if not isinstance(bit, Cell):
             return bit
@@ -154,7 +160,7 @@ class Flat(FanIn):
 
     # What a bit is made from.
 
-    def end(self, bit):
+    def end(self, bit: Any) -> Any:
         """Where the value of a bit comes from: an input, a register, a bit that a cell or a box
         drives, or a constant."""
         found = self.ends.get(bit)
@@ -171,29 +177,30 @@ class Flat(FanIn):
         self.ends |= dict.fromkeys(met, end)
         return end
 
-    def value_of(self, kind, text):
+    def value_of(self, kind: str, text: str) -> Any:
         """What is compared of an output or of a next state: a bit, a constant or a cell."""
         value = self.outputs[text] if kind == "output" else self.stored[self.states[text]][2]
         return value if isinstance(value, Cell) else self.end(value)
 
-    def clock_of(self, bit):
+    def clock_of(self, bit: Any) -> Any:
         return self.end(self.stored[bit][1])
 
-    def reads(self, made):
+    def reads(self, made: Any) -> Dict[Any, None]:
         """The ends of the bits from which a cell or a box is made, each once."""
         return dict.fromkeys(end for bit in made.bits() if (end := self.end(bit)) not in CONSTANTS)
 
-    def reads_of(self, bit):
+    def reads_of(self, bit: Any) -> Tuple[Any, ...]:
         """The ends of the bits from which a bit is made that a cell or a box drives."""
         found = self.below.get(bit)
         if found is None:
             found = self.below[bit] = tuple(self.reads(self.sources[bit]))
         return found
 
-    def cone(self, values):
+    def cone(self, values: Iterable[Any]) -> Dict[Any, None]:
         """The bits that these values are made from, themselves included, each behind those that it
         is made from."""
-        found, stack = {}, []
+        found: Dict[Any, None] = {}
+        stack: List[Iterator[Any]] = []
         for value in values:
             stack.append(iter(self.reads(value) if isinstance(value, Cell) else ()
                               if value in CONSTANTS else (value,)))
@@ -213,6 +220,6 @@ class Flat(FanIn):
         return found
 
 
-def text_of(bit):
+def text_of(bit: Any) -> str:
     """The text of a bit, behind the instances that lead to it."""
     return bit[0] + bit_text(*bit[1:])

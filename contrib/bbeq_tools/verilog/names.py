@@ -6,18 +6,22 @@ lacks. This script lists all of them, on both sides, and beside each the names o
 that are likeliest to be meant: those with the same bits that feed them or that they feed, and those
 whose name is the same but for an index, a prefix or a separator. With -o it writes the likeliest
 pairs as lines `IMPL SPEC`, which a person looks through and `gates --rename` follows."""
+from __future__ import annotations
+
+import argparse
 import difflib
 import re
+from typing import Any, Dict, Iterable, List, Optional, Set, Tuple
 
 from bbeq_tools.cli import Output, Words, run_script
 from bbeq_tools.verilog.fan_in import FanIn
-from bbeq_tools.verilog.language import read_modules, top_of
+from bbeq_tools.verilog.language import Module, Net, read_modules, top_of
 
 KINDS = ("input", "output", "register")
 
 
-def parse_words():
-    parser = Words(prog="names", description=__doc__.split("\n\n")[0])
+def parse_words() -> argparse.Namespace:
+    parser = Words(prog="names", description=(__doc__ or "").split("\n\n")[0])
     parser.add_argument("specification", metavar="SPEC", help="the specification")
     parser.add_argument("implementation", metavar="IMPL", help="the implementation")
     parser.add_argument("--top-spec", help="the top module, as for bbeq")
@@ -27,7 +31,7 @@ def parse_words():
     return parser.parse_args()
 
 
-def whole(net):
+def whole(net: Net) -> str:
     """The name of a net, or of the one of which it is a bit: `gates` takes ports and registers
     apart into nets of one bit."""
     part = re.fullmatch(r"(.+)\[\d+\]", net.name) if net.range is None else None
@@ -38,19 +42,22 @@ class Names:
     """The ports and registers of a netlist with their bits, by kind; and what feeds each and what
     it feeds, by the names of ports and registers."""
 
-    def __init__(self, path, top):
+    def __init__(self, path: str, top: Optional[str]) -> None:
         _, modules = read_modules(path)
         self.modules, self.top = modules, top_of(path, modules, top)
         self.fan_in = FanIn(modules, self.top)
         self.sources = self.fan_in.sources
-        self.bits, self.owner = {kind: {} for kind in KINDS}, {}
+        self.bits: Dict[str, Dict[str, Dict[Any, None]]] = {kind: {} for kind in KINDS}
+        self.owner: Dict[Any, str] = {}
         for net in [self.top.nets[port] for port in self.top.ports]:
             self.add(net.direction, "", net)
-        self.data, self.boxes = {}, {}
+        self.data: Dict[str, List[Any]] = {}
+        self.boxes: Dict[str, str] = {}
         self.find_registers(self.top, "")
         self.widths = {kind: {name: len(bits) for name, bits in names.items()}
                        for kind, names in self.bits.items()}
-        self.feeds = {name: set() for name in [*self.widths["input"], *self.widths["register"]]}
+        self.feeds: Dict[str, Set[str]] = {
+            name: set() for name in [*self.widths["input"], *self.widths["register"]]}
         self.fed_by = {("output", name): self.cone(bits)
                        for name, bits in self.bits["output"].items()}
         self.fed_by |= {("register", name): self.cone(bits) for name, bits in self.data.items()}
@@ -58,7 +65,7 @@ class Names:
             for source in sources:
                 self.feeds[source].add(f"{kind} {name}")
 
-    def add(self, kind, scope, net):
+    def add(self, kind: Optional[str], scope: str, net: Net) -> str:
         """Adds a net to the bits of its name, which is given."""
         if kind is not None:
             bits = dict.fromkeys((scope, net.name, index) for index in net.indices())
@@ -66,7 +73,7 @@ class Names:
             self.owner[kind, scope, net.name] = scope + whole(net)
         return scope + whole(net)
 
-    def find_registers(self, module, scope):
+    def find_registers(self, module: Module, scope: str) -> None:
         for register in module.registers:
             read = self.fan_in.flat(module, scope, register.value)
             for name in dict.fromkeys(name for name, _ in module.left_bits(register.left)):
@@ -79,11 +86,11 @@ class Names:
             elif below:
                 self.find_registers(below, f"{scope}{instance.name}.")
 
-    def box_of(self, name):
+    def box_of(self, name: str) -> str:
         """The path of the box in which a register of this name would be, or nothing."""
         return next((path[:-1] for path in self.boxes if name.startswith(path)), "")
 
-    def cone(self, bits):
+    def cone(self, bits: Iterable[Any]) -> Set[str]:
         """The inputs and registers from which these bits are made, within one step of the clock."""
         found, seen, stack = set(), set(), list(bits)
         while stack:
@@ -100,16 +107,16 @@ class Names:
         return found
 
 
-def plain(name):
+def plain(name: str) -> str:
     """A name without what tools add: separators, indices, and endings that say that it is a
     register."""
     return re.sub(r"(_reg|_q|_ff|_r)$", "", re.sub(r"[^a-z0-9]+", "_", name.lower()).strip("_"))
 
 
-def likeness(kind, left, right, spec, impl, same):
+def likeness(kind: str, left: str, right: str, spec: Names, impl: Names, same: Set[str]) -> float:
     """How likely two names mean one thing: by their widths, by what feeds them and what they feed,
     and by their letters."""
-    def around(side, name):
+    def around(side: Names, name: str) -> Set[str]:
         fed = side.fed_by.get((kind, name), set())
         return {f"by {other}" for other in fed
                 if other in same} | {f"to {other}" for other in side.feeds.get(name, ())
@@ -121,14 +128,15 @@ def likeness(kind, left, right, spec, impl, same):
     return near + letters + (0.5 if widths else -0.5)
 
 
-def partners(kind, missing, others, spec, impl, same):
+def partners(kind: str, missing: List[str], others: List[str], spec: Names, impl: Names,
+             same: Set[str]) -> Dict[str, List[str]]:
     """For each name that is missing on the other side, the likeliest of those that are left there,
     best first."""
     return {left: sorted(others, key=lambda right: -likeness(kind, left, right, spec, impl,
                                                              same))[:3] for left in missing}
 
 
-def listed(spec, impl):
+def listed(spec: Names, impl: Names) -> Tuple[List[str], List[Tuple[str, str]]]:
     """The lines of the list, and the pairs that are likeliest both ways."""
     same = {name for kind in KINDS for name in spec.widths[kind] if name in impl.widths[kind]}
     lines, pairs = [], []
@@ -153,7 +161,7 @@ def listed(spec, impl):
     return lines, pairs
 
 
-def told(side, kind, name, own, other, likely):
+def told(side: str, kind: str, name: str, own: Names, other: Names, likely: List[str]) -> str:
     ranked = ", ".join(f"{right} ({bits(other.widths[kind][right])})" for right in likely)
     box = other.box_of(name) if kind == "register" else ""
     where = (f"{box} is a box there, and registers stay outside boxes" if box
@@ -161,11 +169,11 @@ def told(side, kind, name, own, other, likely):
     return f"{side} {kind} {name} ({bits(own.widths[kind][name])}): {where}"
 
 
-def bits(count):
+def bits(count: int) -> str:
     return f"{count} bit" + "s" * (count != 1)
 
 
-def command():
+def command() -> None:
     words = parse_words()
     output = Output(words.output,
                     [words.specification, words.implementation]) if words.output else None
@@ -179,5 +187,5 @@ def command():
         output.write("".join(f"{right} {left}\n" for right, left in pairs))
 
 
-def main():
+def main() -> None:
     run_script("names", command)

@@ -1,10 +1,13 @@
 """The text of a part of a design: some outputs and next states, and what these need alone
 (docs/LANGUAGE.md)."""
-from bbeq_tools.verilog.flat import CONSTANTS, GATES, Cell, text_of
+from typing import Any, Dict, List, Tuple
+
+from bbeq_tools.verilog.flat import CONSTANTS, GATES, Box, Cell, Flat, text_of
 from bbeq_tools.verilog.language import written
 
 # Of brackets within each other; bbeq reads 200, a condition and its bracket counting as two.
 DEEPEST = 50
+Item = Tuple[str, str]  # `output` or `next`, and a text.
 
 
 class PartText:
@@ -12,7 +15,8 @@ class PartText:
     and the boxes below it. The input ports are `inputs`, among them registers that are only read;
     `cone` has the bits that it is made from."""
 
-    def __init__(self, flat, kept, inputs, cone):
+    def __init__(self, flat: Flat, kept: List[Item], inputs: List[str],
+                 cone: Dict[Any, None]) -> None:
         self.flat, self.kept, self.inputs, self.cone = flat, kept, inputs, cone
         self.values = [flat.value_of(*item) for item in kept]
         found = dict.fromkeys(flat.sources[bit] for bit in self.cone if bit in flat.sources)
@@ -21,10 +25,12 @@ class PartText:
         self.states = [text for kind, text in kept if kind == "next"]
         self.used = {*inputs, *self.states, *self.outputs.values(),
                      *(box.path for box in self.boxes)}
-        self.names, self.lines, self.made = {}, [], []
+        self.names: Dict[Any, str] = {}
+        self.lines: List[str] = []
+        self.made: List[str] = []
         self.write()
 
-    def write(self):
+    def write(self) -> None:
         for bit in self.cone:
             driver = self.flat.sources.get(bit)
             if isinstance(driver, Cell):
@@ -34,7 +40,7 @@ class PartText:
         for (kind, text), value in zip(self.kept, self.values):
             self.compared(kind, text, value)
 
-    def name(self, bit):
+    def name(self, bit: Any) -> str:
         """How a bit is written: as the report has it where it is compared or given, else by a name
         that nothing else has."""
         if bit not in self.names:
@@ -47,13 +53,13 @@ class PartText:
             self.names[bit] = written(text)
         return self.names[bit]
 
-    def fresh(self, text):
+    def fresh(self, text: str) -> str:
         while text in self.used:
             text += "_"
         self.used.add(text)
         return text
 
-    def operand(self, part):
+    def operand(self, part: Any) -> Tuple[str, int]:
         """An operand, and how deep it nests."""
         if isinstance(part, Cell):
             text, depth = self.expression(part)
@@ -65,7 +71,7 @@ class PartText:
         end = self.flat.end(part)
         return (end if end in CONSTANTS else self.name(end)), 0
 
-    def expression(self, cell):
+    def expression(self, cell: Cell) -> Tuple[str, int]:
         operands = [self.operand(part) for part in cell.parts]
         texts, depth = [text for text, _ in operands], max(depth for _, depth in operands)
         if cell.word == "~":
@@ -75,7 +81,7 @@ class PartText:
         return texts[0] + "".join(f" {operator} {text}"
                                   for operator, text in zip(cell.operators, texts[1:])), depth
 
-    def cell(self, bit, cell):
+    def cell(self, bit: Any, cell: Cell) -> None:
         if cell.word in GATES:
             inputs = ", ".join(self.operand(part)[0] for part in cell.parts)
             self.lines.append(f"{cell.word}({self.name(bit)}, {inputs});")
@@ -83,7 +89,7 @@ class PartText:
             self.lines.append(f"{'assign' if bit in self.outputs else 'wire'} {self.name(bit)} = "
                               f"{self.expression(cell)[0]};")
 
-    def box(self, box):
+    def box(self, box: Box) -> None:
         pins, outs, ins = [], dict(zip(box.module.pins("output"),
                                        box.outs)), dict(zip(box.module.pins("input"), box.parts))
         for port in box.module.ports:
@@ -99,7 +105,7 @@ class PartText:
                         else f".{written(port)}({values[0]})")
         self.lines.append(f"{written(box.module.name)} {written(box.path)}({', '.join(pins)});")
 
-    def compared(self, kind, text, value):
+    def compared(self, kind: str, text: str, value: Any) -> None:
         if kind == "output" and self.flat.outputs[text] != value:
             self.lines.append(f"assign {written(text)} = {self.operand(value)[0]};")
         elif kind == "next":
@@ -107,7 +113,7 @@ class PartText:
             self.lines.append(f"always @({edge} {self.name(self.flat.end(clock))}) {written(text)} "
                               f"<= {self.operand(value)[0]};")
 
-    def text(self):
+    def text(self) -> str:
         top, outputs = self.flat.top, list(self.outputs.values())
         ports = ", ".join(map(written, [*self.inputs, *outputs]))
         lines = [f"module {written(top.name)}({ports});"]
@@ -120,7 +126,7 @@ class PartText:
         return "\n".join(lines + [self.flat.text[module.start:module.end]
                                   for module in modules]) + "\n"
 
-    def counts(self, inputs):
+    def counts(self, inputs: int) -> Tuple[int, int]:
         """How many cells bbeq makes of the part, and how many clauses at a vector where that has so
         many bits."""
         drivers = [self.flat.sources[bit]

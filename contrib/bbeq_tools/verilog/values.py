@@ -3,15 +3,19 @@
 asked for. An operator on words means a number, at each vector; only where a bit of its operands is
 not known, it is what its gates make of it. Nothing else here is the program's, neither the reading
 of a text nor a list of cells."""
+from __future__ import annotations
+
 import sys
 from functools import reduce
-from typing import NamedTuple
+from typing import Any, Callable, Dict, FrozenSet, List, NamedTuple, Sequence, Tuple
 
 from bbeq_tools.cli import Fault
-from bbeq_tools.verilog.language import bit_text
+from bbeq_tools.verilog.language import Expression, Instance, Module, Net, bit_text
 from bbeq_tools.verilog.words import (SHIFTS, SUMS, circuit, contexts, meaning, reduced, reduction,
                                       result_width)
 
+Key = Tuple[str, str, Any]  # The path of an instance with a dot, a net and an index.
+Name = Tuple[str, str]  # A kind and a text.
 MOST_LEVELS = 64  # Of instances, the top counted.
 sys.setrecursionlimit(100_000)  # A bit is made by a call within that of each bit that reads it.
 
@@ -26,27 +30,27 @@ class Bit(NamedTuple):
     boxes: frozenset = frozenset()
 
 
-def inverted(a):
+def inverted(a: Bit) -> Bit:
     return Bit(a.zero, a.one, a.boxes)
 
 
-def both(a, b):
+def both(a: Bit, b: Bit) -> Bit:
     return Bit(a.one & b.one, a.zero | b.zero, a.boxes | b.boxes)
 
 
-def either(a, b):
+def either(a: Bit, b: Bit) -> Bit:
     return Bit(a.one | b.one, a.zero & b.zero, a.boxes | b.boxes)
 
 
-def differ(a, b):
+def differ(a: Bit, b: Bit) -> Bit:
     return Bit(a.one & b.zero | a.zero & b.one, a.one & b.one | a.zero & b.zero, a.boxes | b.boxes)
 
 
-def same(a, b):
+def same(a: Bit, b: Bit) -> Bit:
     return inverted(differ(a, b))
 
 
-def chosen(condition, then, otherwise):
+def chosen(condition: Bit, then: Bit, otherwise: Bit) -> Bit:
     """Where the condition is not known, a bit that is the same on both sides still is (5.1.13)."""
     one = condition.one & then.one | condition.zero & otherwise.one | then.one & otherwise.one
     zero = condition.one & then.zero | condition.zero & otherwise.zero | then.zero & otherwise.zero
@@ -56,28 +60,28 @@ def chosen(condition, then, otherwise):
 class Gates:
     """The gates of which operators on words are made."""
 
-    def __init__(self, world):
+    def __init__(self, world: World) -> None:
         self.zero, self.one = world.constant(False), world.constant(True)
 
     @staticmethod
-    def inverted(bit):
+    def inverted(bit: Bit) -> Bit:
         return inverted(bit)
 
     @staticmethod
-    def joined(bits, operators):
+    def joined(bits: List[Bit], operators: Sequence[str]) -> Bit:
         return reduce(lambda bit, step: OPERATORS[step[0]](bit, step[1]), zip(operators, bits[1:]),
                       bits[0])
 
     @staticmethod
-    def choice(condition, then, otherwise):
+    def choice(condition: Bit, then: Bit, otherwise: Bit) -> Bit:
         return chosen(condition, then, otherwise)
 
     @staticmethod
-    def once(bit):
+    def once(bit: Bit) -> Bit:
         return bit
 
 
-def told(world, made, operands, means):
+def told(world: World, made: Bit, operands: List[List[Bit]], means: Callable[..., Any]) -> Bit:
     """A bit that gates make of operands, the rightmost bit of each first; where all bits of these
     are known, it is what the numbers say, and the gates have to say the same."""
     known = reduce(lambda mask, bit: mask & (bit.one | bit.zero),
@@ -91,21 +95,21 @@ def told(world, made, operands, means):
     return Bit(made.one & ~known | one, made.zero & ~known | known & ~one, made.boxes)
 
 
-def numbers(bits, count):
+def numbers(bits: List[Bit], count: int) -> List[int]:
     """The numbers that bits spell, the rightmost first, at so many vectors, the last vector
     first."""
     columns = [format(bit.one, f"0{count}b") for bit in reversed(bits)]
     return [int("".join(digits), 2) for digits in zip(*columns)]
 
 
-def by_numbers(world, operator, first, second, place):
+def by_numbers(world: World, operator: str, first: List[Bit], second: List[Bit], place: int) -> Bit:
     """The bit at a place of an operator on two words, the rightmost bit of each first."""
     made = circuit(Gates(world), operator, first[::-1], second[::-1])[::-1][place]
     return told(world, made, [first, second], lambda left, right: meaning(operator, left, right,
                                                                           len(first)) >> place & 1)
 
 
-def needed(operator, place, width, beside):
+def needed(operator: str, place: int, width: int, beside: int) -> Tuple[int, int]:
     """The bits of the first operand, from one up to another, that a bit of the result is made of;
     the second has `beside` bits."""
     if operator in SUMS:
@@ -135,17 +139,17 @@ class Box(NamedTuple):
 class Scope:
     """An instance: its module, its path with a dot behind it, and on which level it stands."""
 
-    def __init__(self, module, path, level):
+    def __init__(self, module: Module, path: str, level: int) -> None:
         self.module, self.path, self.level = module, path, level
         if level > MOST_LEVELS:
             raise Fault(f"{path[:-1]} stands deeper than {MOST_LEVELS} levels")
 
-    def keys(self, left):
+    def keys(self, left: Expression) -> List[Key]:
         """The bits of what stands on the left of an assignment, leftmost first: path, net and
         index."""
         return [(self.path, name, index) for name, index in self.module.left_bits(left)]
 
-    def width(self, expression):
+    def width(self, expression: Expression) -> int:
         """The width of an expression by itself (5.4.1)."""
         kind, first = expression[:2]
         if kind == "net":
@@ -165,7 +169,7 @@ class Scope:
             return sum(map(self.width, first))
         return max(map(self.width, first if kind == "chain" else expression[2:]))
 
-    def bit(self, world, expression, place, width):
+    def bit(self, world: World, expression: Expression, place: int, width: int) -> Bit:
         """A bit of an expression in a context of this width, its place counted from the right; what
         is wider than an operand is filled with zeros before the operators are applied (5.5.2)."""
         kind, first = expression[:2]
@@ -193,7 +197,8 @@ class Scope:
         return self.bit_beside(world, first if kind == "concatenation" else [expression[2]] * first,
                                place)
 
-    def word(self, world, parts, width, steps, place):
+    def word(self, world: World, parts: List[Expression], width: int,
+             steps: List[Tuple[str, int, int]], place: int) -> Bit:
         """A bit of a level of operators on words: `width` is that of the first operand, and each
         step has an operator, the width of its second operand and that of its result."""
         if not steps:
@@ -210,25 +215,25 @@ class Scope:
             world.words[key] = by_numbers(world, operator, first, second, place - low)
         return world.words[key]
 
-    def fold(self, world, operand, operator):
+    def fold(self, world: World, operand: Expression, operator: str) -> Bit:
         bits = [self.bit(world, operand, place, self.width(operand))
                 for place in range(self.width(operand))]
         made = reduced(Gates(world), operator, bits[::-1])
         return told(world, made, [bits], lambda number: reduction(operator, number, len(bits)))
 
     @staticmethod
-    def digit(number, place):
+    def digit(number: Expression, place: int) -> bool:
         _, width, value = number
         if value is None:
             raise Fault("a number has digits that are neither 0 nor 1")
         return place < width and bool(value >> place & 1)
 
-    def condition(self, world, expression):
+    def condition(self, world: World, expression: Expression) -> Bit:
         """Whether a condition has a 1."""
         width = self.width(expression)
         return reduce(either, [self.bit(world, expression, place, width) for place in range(width)])
 
-    def bit_beside(self, world, parts, place):
+    def bit_beside(self, world: World, parts: List[Expression], place: int) -> Bit:
         """A bit of parts side by side, each as wide as it is by itself."""
         for part in reversed(parts):
             width = self.width(part)
@@ -243,8 +248,9 @@ class Design:
     `inputs` and `outputs` are called by their kind and text, an output with what makes it, in the
     order of a report."""
 
-    def __init__(self, modules, top):
-        self.modules, self.drivers, self.boxes = modules, {}, []
+    def __init__(self, modules: Dict[str, Module], top: Module) -> None:
+        self.modules, self.boxes = modules, []  # type: Dict[str, Module], List[Box]
+        self.drivers: Dict[Key, Callable[[World], Bit]] = {}
         scope = Scope(top, "", 1)
         self.inputs = [("input", bit_text(net.name, index)) for net, index in top.pins("input")]
         self.outputs = [(("output", bit_text(net.name, index)), self.driven(("", net.name, index)))
@@ -254,42 +260,51 @@ class Design:
         self.enter(scope)
 
     @staticmethod
-    def driven(key):
+    def driven(key: Key) -> Callable[[World], Bit]:
         return lambda world: world.bit(key)
 
     @staticmethod
-    def given(name):
+    def given(name: Name) -> Callable[[World], Bit]:
         return lambda world: world.vector[name]
 
-    def drive(self, keys, make):
+    def drive(self, keys: List[Key], make: Callable[[World, int], Bit]) -> None:
         """Bits, leftmost first, are driven by what makes the bit at each place, counted from the
         right."""
         for place, key in enumerate(reversed(keys)):
             if key in self.drivers:
                 raise Fault(f"{key[0]}{bit_text(*key[1:])} has two drivers")
-            self.drivers[key] = lambda world, place=place: make(world, place)
+            self.drivers[key] = self.at(make, place)
 
-    def enter(self, scope):
+    @staticmethod
+    def at(make: Callable[[World, int], Bit], place: int) -> Callable[[World], Bit]:
+        return lambda world: make(world, place)
+
+    def enter(self, scope: Scope) -> None:
         """Takes in what stands in an instance, and then the instances that stand there."""
         for net in scope.module.nets.values():
             if net.kind in ("supply0", "supply1"):
-                self.drive(scope.keys(("net", net.name,
-                                       None)), lambda world, _, net=net: world.constant(
-                    net.kind == "supply1"))
+                self.supply(scope, net)
         for left, value in scope.module.assigns:
-            keys = scope.keys(left)
-            self.drive(keys, lambda world, place, value=value, width=max(
-                len(keys), scope.width(value)): scope.bit(world, value, place, width))
+            self.assign(scope, left, value)
         for word, terminals in scope.module.gates:
             self.gate(scope, word, terminals)
         self.registers(scope)
         for instance in scope.module.instances:
             self.connect(scope, instance)
 
-    def gate(self, scope, word, terminals):
+    def supply(self, scope: Scope, net: Net) -> None:
+        self.drive(scope.keys(("net", net.name, None)),
+                   lambda world, _: world.constant(net.kind == "supply1"))
+
+    def assign(self, scope: Scope, left: Expression, value: Expression) -> None:
+        keys = scope.keys(left)
+        width = max(len(keys), scope.width(value))
+        self.drive(keys, lambda world, place: scope.bit(world, value, place, width))
+
+    def gate(self, scope: Scope, word: str, terminals: List[Expression]) -> None:
         outputs = len(terminals) - 1 if word in ("buf", "not") else 1
 
-        def make(world, _):
+        def make(world: World, _: int) -> Bit:
             bit = reduce(GATES[word],
                          [scope.bit(world, terminal, 0, 1) for terminal in terminals[outputs:]])
             return inverted(bit) if word in INVERTING else bit
@@ -297,7 +312,7 @@ class Design:
         for terminal in terminals[:outputs]:
             self.drive(scope.keys(terminal), make)
 
-    def registers(self, scope):
+    def registers(self, scope: Scope) -> None:
         """The state of a register is given, and its next state is an output; they come net by net,
         ports first."""
         nexts = {key: (register.value, place,
@@ -309,12 +324,19 @@ class Design:
                     for index in scope.module.net(name).indices()]:
             if key in nexts:
                 text = scope.path + bit_text(*key[1:])
-                self.drive([key], lambda world, _, text=text: world.vector["register", text])
+                self.drive([key], self.state(("register", text)))
                 self.inputs.append(("register", text))
-                self.outputs.append((("next", text), lambda world, of=nexts[key]: scope.bit(world,
-                                                                                            *of)))
+                self.outputs.append((("next", text), self.stored(scope, *nexts[key])))
 
-    def connect(self, scope, instance):
+    @staticmethod
+    def state(name: Name) -> Callable[[World, int], Bit]:
+        return lambda world, _: world.vector[name]
+
+    @staticmethod
+    def stored(scope: Scope, value: Expression, place: int, width: int) -> Callable[[World], Bit]:
+        return lambda world: scope.bit(world, value, place, width)
+
+    def connect(self, scope: Scope, instance: Instance) -> None:
         if instance.module not in self.modules:
             raise Fault(f"line {instance.token.line}: there is no module {instance.module}")
         inner = Scope(self.modules[instance.module], f"{scope.path}{instance.name}.",
@@ -328,15 +350,15 @@ class Design:
         else:
             self.enter(inner)
 
-    def connect_port(self, scope, inner, port, value):
+    def connect_port(self, scope: Scope, inner: Scope, port: str, value: Any) -> None:
         keys = inner.keys(("net", port, None))
         if inner.module.net(port).direction == "input":
             self.drive(keys, lambda world, place: scope.bit(world, value, place, len(keys)))
         else:
             self.drive(scope.keys(value), lambda world, place: world.bit(keys[-1 - place]))
 
-    def add_box(self, scope):
-        def keys(direction):
+    def add_box(self, scope: Scope) -> None:
+        def keys(direction: str) -> List[Key]:
             return [(scope.path, net.name, index) for net, index in scope.module.pins(direction)]
 
         box = Box(scope.path[:-1], scope.module.name, keys("input"), keys("output"),
@@ -349,15 +371,16 @@ class World:
     """The bits of a design where inputs and registers have those of a vector, and the outputs of
     each box are as `contents` says."""
 
-    def __init__(self, design, vector, contents):
-        self.design, self.vector, self.contents, self.made, self.words = (design, vector, contents,
-                                                                          {}, {})
+    def __init__(self, design: Design, vector: Dict[Any, Bit], contents: Any) -> None:
+        self.design, self.vector, self.contents = design, vector, contents
+        self.made: Dict[Any, Any] = {}
+        self.words: Dict[Any, Bit] = {}
         self.every = next((bit.one | bit.zero for bit in vector.values()), 1)
 
-    def constant(self, bit, boxes=frozenset()):
+    def constant(self, bit: bool, boxes: FrozenSet[str] = frozenset()) -> Bit:
         return Bit(self.every, 0, boxes) if bit else Bit(0, self.every, boxes)
 
-    def bit(self, key):
+    def bit(self, key: Key) -> Bit:
         if key not in self.made:
             if key not in self.design.drivers:
                 raise Fault(f"{key[0]}{bit_text(*key[1:])} is read and has no driver")
@@ -367,7 +390,7 @@ class World:
             raise Fault(f"{key[0]}{bit_text(*key[1:])} depends on itself")
         return self.made[key]
 
-    def outputs(self, box):
+    def outputs(self, box: Box) -> List[Bit]:
         if box.path not in self.made:
             self.made[box.path] = self.contents(self, box)
         return self.made[box.path]
