@@ -132,9 +132,10 @@ def show(title, walk, lines, files, whole):
         if whole:
             print("\n\n".join("\n".join(block) for block in sorted(own[module])), end="\n\n")
     types = {key: block for key, block in walk.types.items() if block}
+    others = "".join(f", {size_of(blocks)} of the kit's {library}"
+                     for library, blocks in sorted(kit.items()) if blocks)
     print(f"  and {size_of(types.values())} of {len(types)} types of the code, {Size(lines)} of "
-          "the contract" + "".join(f", {size_of(blocks)} of the kit's {library}"
-                               for library, blocks in sorted(kit.items()) if blocks))
+          f"the contract{others}")
     if files:
         print("  and these names of the kit: " + " ".join(
             sorted({name for _, name in walk.names_kept})))
