@@ -18,8 +18,6 @@ get_or_past [] k d past = refl
 get_or_past (x ∷ xs) zero d past = absurd (omega (arith, past))
 get_or_past (x ∷ xs) (suc k) d past = get_or_past xs k d (omega (arith, past))
 
-] refl
-
 -- a literal that is false has a variable in range
 pub false_in_range : (values : List (Option Bool)) (m : Lit) → is_false values m ≡ true → m.var < length values
 false_in_range values m is = elim (less_or_not m.var (length values)) as (λ _. m.var < length values) [
