@@ -66,7 +66,7 @@ class Turn:
 
     def go_on(self, budget, guard):
         if self.run is None:
-            self.run = Started(self.attempt.command, budget)
+            self.run = Started(self.attempt.command, budget, self.attempt.is_quiet)
             guard.add(self.run.group)
         elif not self.is_running:
             self.run.send(signal.SIGCONT)
@@ -92,6 +92,7 @@ class Portfolio:
         self.turns = [Turn(name, way, HANDICAP * (name in slow)) for name, way in ways.items()]
         self.jobs, self.budget, self.guard = jobs, budget, guard
         self.began = self.told = self.chosen = self.looked = time.monotonic()
+        self.known = ""
 
     def solve(self, limit):
         """The turn that has the answer that decides, or None. `limit` is the time at which there
@@ -126,7 +127,8 @@ class Portfolio:
 
     def take(self, turn):
         answer = turn.close(self.guard)
-        turn.note(answer)
+        if not turn.attempt.is_quiet:
+            turn.note(answer)
         turn.take(answer)
 
     def choose(self, left):
@@ -172,10 +174,10 @@ class Portfolio:
                 f"{told_bytes(resident(turn.run.group))}{'' if turn.is_running else ', waits'})"
                 for turn in self.turns if turn.run is not None]
         print(f"solve: {now - self.began:.0f} s: {'; '.join(runs)}", file=sys.stderr, flush=True)
-        known = [found for turn in self.turns for found in turn.found[-1:]]
-        if known:
-            print(f"solve:   so far {'; '.join(map(told_found, known))}", file=sys.stderr,
-                  flush=True)
+        known = "; ".join(told_found(found) for turn in self.turns for found in turn.found[-1:])
+        if known and known != self.known:
+            print(f"solve:   so far {known}", file=sys.stderr, flush=True)
+            self.known = known
 
     def close(self):
         for turn in self.turns:

@@ -17,7 +17,7 @@ from bbeq_tools.runs.climbs import MOST_CLAUSES, MOST_NODES
 from bbeq_tools.runs.guard import Guard
 from bbeq_tools.runs.joined import advice_on, last_rung
 from bbeq_tools.runs.kept import Answer
-from bbeq_tools.runs.portfolio import (Portfolio, available_memory, told_bytes, told_found)
+from bbeq_tools.runs.portfolio import Portfolio, available_memory, told_bytes, told_found
 from bbeq_tools.runs.program_words import add_program_words, program_words
 from bbeq_tools.runs.timed import Started
 from bbeq_tools.runs.ways import BY_ORDER, BY_PARTS, Request, first_run, ways_of
@@ -111,9 +111,10 @@ def tell_open(portfolio, why):
     for found in portfolio.found():
         say(f"  {told_found(found)}")
     left = [answer for _, answer, _ in portfolio.found() if answer.status == 3]
-    rungs = dict.fromkeys(last_rung(answer) for answer in reversed(left))
-    for rung in list(rungs)[:2]:
-        for advice in advice_on(rung) if rung else ():
+    rungs = dict.fromkeys(last_rung(answer) for answer in left)
+    for rung in rungs:
+        # A check that had no more to look for says nothing of what to try.
+        for advice in advice_on(rung) if rung and not rung.endswith(" none") else ():
             say(f"  try ({rung}): {advice}")
 
 

@@ -21,7 +21,7 @@ class Started:
     """A command that runs in a session of its own. Its output goes to a file, so that nobody has
     to read it meanwhile. Where this process is killed, the kernel kills the command."""
 
-    def __init__(self, command, most_memory=None):
+    def __init__(self, command, most_memory=None, is_quiet=False):
         self.output = tempfile.TemporaryFile()
         self.began, self.seconds = time.monotonic(), 0.0
         self.status, self.memory, parent = None, 0, os.getpid()
@@ -34,6 +34,7 @@ class Started:
                 resource.setrlimit(resource.RLIMIT_AS, (most_memory, most_memory))
 
         self.child = subprocess.Popen(command, stdout=self.output, start_new_session=True,
+                                      stderr=subprocess.DEVNULL if is_quiet else None,
                                       preexec_fn=bound)
 
     @property

@@ -16,11 +16,13 @@ BY_PARTS, BY_ORDER = "parts", "ordered"
 
 
 class Attempt(NamedTuple):
-    """A run: what it is called, its command, and how much memory it may take."""
+    """A run: what it is called, its command, how much memory it may take, and whether it is no run
+    of the program, so that what it says on standard error is of no use."""
 
     label: str
     command: Tuple[str, ...]
     memory: int = LEAST_BYTES
+    is_quiet: bool = False
 
 
 class Request(NamedTuple):
@@ -77,7 +79,7 @@ def by_order(request):
     """The checks by diagrams, with the specification's ports in another order."""
     path = os.path.join(request.folder, "ordered.v")
     command = order_command(request.specification, request.top("spec"), path)
-    answer = yield Attempt("order", tuple(command))
+    answer = yield Attempt("order", tuple(command), is_quiet=True)
     if answer.status != 0 or contents(path) == contents(request.specification):
         return None
     ordered = request._replace(specification=path)
@@ -91,7 +93,8 @@ def by_parts(request):
     own = [word for word in request.words if word.partition("=")[0] in ("--shared", "--care",
                                                                         "--top-spec", "--top-impl")]
     answer = yield Attempt("parts", (*python_call("runs.parts"), "-o", folder, *own, "--",
-                                     request.specification, request.implementation))
+                                     request.specification, request.implementation),
+                           is_quiet=True)
     pair = read_parts(folder) if answer.status == 0 else {"parts": 1}
     if pair["parts"] < 2:
         return None
@@ -101,8 +104,8 @@ def by_parts(request):
     if answers is None:
         return None
     lines, status = joined(pair, [answers.get(number) for number in numbers])
-    report = "".join(f"{line}\n" for line in lines)
-    return Answer(status, 0.0, 0, report)
+    answer = Answer(status, 0.0, 0, "".join(f"{line}\n" for line in lines))
+    return answer if answer.is_decided else None
 
 
 def part_request(request, number):
