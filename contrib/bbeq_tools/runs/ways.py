@@ -130,6 +130,8 @@ def in_turn(request, number):
                     return end.value
             else:
                 answers[way] = yield attempt._replace(label=f"part {number} {attempt.label}")
+                if answers[way].is_decided:
+                    return answers[way]
     return None
 
 
