@@ -6,7 +6,7 @@ import zlib
 
 from bbeq_tools.cli import Fault
 from bbeq_tools.page.account import checks_of
-from bbeq_tools.page.document import marked, on_open, on_refusal
+from bbeq_tools.page.document import marked, on_open, on_refusal, without_references
 from bbeq_tools.page.layout import dot_text, read
 from bbeq_tools.page.logic import Logic, forcing, gates_of, shape_of
 from bbeq_tools.page.markup import element, escaped, folded, shortened, visible
@@ -54,6 +54,7 @@ class Account(unittest.TestCase):
     def test_document(self):
         self.assertEqual(marked("try `--nodes <1>` **now**"),
                          "try <code>--nodes &lt;1&gt;</code> <strong>now</strong>")
+        self.assertEqual(without_references("4. Fewer outputs, see below."), "Fewer outputs.")
         self.assertIn("on line 4 no token", on_refusal("refused impl token line 4")[0])
         for line, word in (("refused usage", "words"), ("unread spec", "read"),
                            ("refused pair port b", "port"), ("refused pair pins", "2,048"),

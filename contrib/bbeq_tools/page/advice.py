@@ -2,7 +2,7 @@
 from typing import List, NamedTuple, Optional
 
 from bbeq_tools.page.account import Account
-from bbeq_tools.page.document import marked, on_open, on_refusal
+from bbeq_tools.page.document import marked, on_open, on_refusal, without_references
 from bbeq_tools.page.markup import Markup, code, counted, joined
 from bbeq_tools.page.sides import Side
 
@@ -126,7 +126,8 @@ def on_undecided(account: Account, sides: List[Side]) -> Advice:
     meaning.append(sentence("What to do is from docs/REPORT.md, ",
                             "“Where the verdict is open”, which describes each."))
     steps = [marked(text) for rung in rungs for text in on_open(rung)]
-    steps += [marked(line[4:]) for line in account.head if line.startswith("try ")]
+    steps += [marked(without_references(line[4:])) for line in account.head
+              if line.startswith("try ")]
     return Advice("Open", meaning, steps)
 
 

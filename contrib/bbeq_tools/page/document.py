@@ -56,5 +56,9 @@ def with_numbers(text: str, line: str) -> str:
 
 def on_open(rung: str) -> List[str]:
     """What to try where the last check says this, the most promising first."""
-    return [re.sub(r"^\d\. |,? see (?:below|the next row)", "", advice)
-            for advice in advice_on(rung)]
+    return [without_references(advice) for advice in advice_on(rung)]
+
+
+def without_references(advice: str) -> str:
+    """An advice without its number, and without what leads on within the document."""
+    return re.sub(r"^\d\. |,? see (?:below|the next row)", "", advice)
