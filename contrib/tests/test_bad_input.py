@@ -236,7 +236,7 @@ def turned_tries(tally, folder):
     env = {**os.environ, "PATH": f"{tools}:{os.environ['PATH']}"}
     source = write(folder, "m.sv", TOLD["two ranges"][0])
     for name, body, status, wanted in (("turns", f"cat <<'T'\n{TURNED}T\n", 0, "endmodule"),
-                                       ("refuses", 'echo "m.sv:2: no" >&2; exit 1\n', 1,
+                                       ("refuses", 'echo "m.sv:2: no" >&2; exit 1\n', 125,
                                         "gates: sv2v: m.sv:2: no")):
         os.chmod(write(tools, "sv2v", "#!/bin/sh\n" + body), 0o755)
         done = run([script("gates"), "--sv2v", source], env=env)
@@ -313,7 +313,7 @@ def files_part(tally, folder):
     done = run([script("gates"), "--include", "nowhere", plain], folder)
     tally.note("gates: an --include that is not there", is_told(done, "gates"), done.why())
     done = run([script("gates"), "--define", "", plain], folder)
-    tally.note("gates: an empty --define", done.status == 125 and len(done.err.splitlines()) == 1,
+    tally.note("gates: an empty --define", done.status == 64 and len(done.err.splitlines()) == 1,
                done.why())
 
 
@@ -400,7 +400,7 @@ def cut_part(tally, folder):
                 report = write(folder, "report", text)
                 done = run([script(name), *([spec, implementation, report] if words is None
                                             else [report, *words])], folder)
-                if "Traceback" in done.err or done.status not in (0, 1):
+                if "Traceback" in done.err or done.status not in (0, 125):
                     wrong.append((place, done.why()))
         tally.note(f"{name} with a report that is cut anywhere", not wrong, str(wrong[:1]))
     deep = "(" * 199 + "a" + ")" * 199
@@ -479,7 +479,7 @@ def streams_tries(tally, folder):
                             ("why", [right, wrong])):
             done = run([script(name), texts, *words], folder)
             tally.note(f"{name} with a line `{line}`",
-                       "Traceback" not in done.err and done.status in (0, 1), done.why())
+                       "Traceback" not in done.err and done.status in (0, 125), done.why())
     nested = PLAIN.replace("~a", "(" * 198 + "a" + ")" * 198)
     left, other = write(folder, "nested.v", nested), write(folder, "other.v",
                                                            nested.replace("(a)", "(~a)"))
