@@ -30,7 +30,8 @@ is installed; `refuse` needs cc and nm, and `made` takes rt of the Rattle kit fo
 itself makes. `parts` compares what is joined of parts with the program on 40 drawn pairs, or on
 $CHECK_PARTS, and `run` asks the hosts that the file $CHECK_HOSTS names, where there is one.
 `words` compares 300 drawn expressions, or $CHECK_WORDS, with what iverilog makes of them, and
-`simulated` what `parts` writes of 10 drawn pairs, or of $CHECK_SIMULATED, as yosys reads it. With
+`simulated` what `parts` writes of 10 drawn pairs, or of $CHECK_SIMULATED, as yosys reads it, and
+`events` runs of 60 drawn pairs, or $CHECK_EVENTS, with what bbeq says of them. With
 $YOSYS_TESTS, a folder with tests of yosys' sources, such as tests/simple, these are tried as well.
 `page_shown` opens pages in headless chromium where that is installed. `units` are the tests of
 single modules, and `style` asks ruff, or pycodestyle and pyflakes, and mypy."""
@@ -39,7 +40,8 @@ SLOW = ("cells", "limits", "made", "refuse")  # Parts of minutes, which --quick 
 # The longest of the others, which begin where several go at once.
 LONG = ("page_shown", "ordered", "gates", "hostile", "filled", "documents", "page", "bad", "ended")
 QUICK = {"CHECK_PAIRS": "60", "CHECK_ORDERED": "10", "CHECK_MUTATED": "100",
-         "CHECK_FORMULAS": "200", "CHECK_PARTS": "6", "CHECK_WORDS": "50", "CHECK_SIMULATED": "3"}
+         "CHECK_FORMULAS": "200", "CHECK_PARTS": "6", "CHECK_WORDS": "50", "CHECK_SIMULATED": "3",
+         "CHECK_EVENTS": "20"}
 
 
 def classes_in(suite):
