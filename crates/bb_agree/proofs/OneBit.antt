@@ -1,6 +1,7 @@
 -- Where a vector shows a mistake, no contents agree: in a world each output has one bit.
 use Rattle.std.proofs.Common.{◌≡◌, ◌⊎◌, ℕ, Bool, true, false, not, List, map, Contains, Option, Some, None, sym, ap, ◌∙◌, inl, inr}
 use Rattle.std.proofs.lemmas.List.Elements.{Contains-append_cases}
+use Rattle.bb_bits.specs.Contents.{Contents}
 use Rattle.bb_lists.proofs.Apart.{one_by}
 use Rattle.bb_lists.proofs.Members.{from_map}
 use Rattle.bb_net.specs.CutPoints.{CutOutput, TopOutput, NextState}
@@ -9,8 +10,10 @@ use Rattle.bb_design.specs.NetBits.{Bit, top_outputs}
 use Rattle.bb_design.specs.Refusals.{IsSoundDesign, RegisterTexts, PortTexts}
 use Rattle.bb_design.specs.Registers.{RegisterBit, registers}
 use Rattle.bb_design.specs.Texts.{bit_text}
-use Rattle.bb_design.specs.Worlds.{World, bit_in, next_bit, outputs_in}
-use Rattle.bb_agree.specs.Mistakes.{DifferAt, DifferAtTold, MistakesRefute}
+use Rattle.bb_design.specs.Inside.Allowed.{IsAllowed}
+use Rattle.bb_design.specs.Worlds.{World, Vector, bit_in, next_bit, outputs_in}
+use Rattle.bb_agree.specs.DesignAgreement.{ContentsAgree}
+use Rattle.bb_agree.specs.Mistakes.{DifferAt, DifferAtTold, DifferWith, MistakesAmongRefute, MistakesRefute}
 
 called : {a b : CutOutput × Bool} → a ≡ b → a.0 ≡ b.0
 called same = ap (λ (u : CutOutput × Bool). u.0) same
@@ -64,12 +67,20 @@ told_somewhere : (care : Option (List ℕ)) (spec imp : Design) (w v : World) (t
 told_somewhere care spec imp w v (Some o) differ = (o, differ)
 told_somewhere care spec imp w v None differ = differ
 
-pub mistakes_refute : MistakesRefute
-mistakes_refute care shared spec imp x told allowed mistake contents fill agree =
-    let with = mistake.each contents fill.fit in
+-- contents with which a vector shows a mistake do not agree
+shown_differ : (care : Option (List ℕ)) (spec imp : Design) (contents : Contents) (x : Vector) (told : Option CutOutput) → IsAllowed imp → DifferWith care spec imp contents x told → ContentsAgree care spec imp contents → ⊥
+shown_differ care spec imp contents x told allowed with agree =
     let (spec_world, imp_world) = with.worlds in
     let (w, is_w, has_w) = spec_world in
     let (v, is_v, has_v) = imp_world in
     let (o, differ) = told_somewhere care spec imp w v told (with.differ w v is_w has_w is_v has_v) in
     let also = (agree x w v is_w has_w is_v has_v (with.asked w is_w has_w) o differ.bit differ.counts).0 differ.spec_has in
     turned differ.bit (one_bit imp allowed.sound v o differ.bit (not differ.bit) (place imp allowed.sound v o differ.bit also) (place imp allowed.sound v o (not differ.bit) differ.imp_has))
+
+pub mistakes_refute : MistakesRefute
+mistakes_refute care shared spec imp x told allowed mistake contents fill = shown_differ care spec imp contents x told allowed (mistake.each contents fill.fit)
+
+pub mistakes_among_refute : MistakesAmongRefute
+mistakes_among_refute care shared spec imp vectors allowed among contents fill =
+    let (x, there, with) = among contents fill in
+    shown_differ care spec imp contents x None allowed with

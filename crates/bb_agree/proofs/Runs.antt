@@ -1,7 +1,7 @@
 -- Designs that agree run alike: as an event comes both have the same vector, and a register stores in both or in none, since its clocks
 -- are inputs of one text. And there are runs.
-use Rattle.std.proofs.Common.{◌≡◌, ◌⊎◌, ◌∷◌, ◌∙◌, ℕ, Bool, true, false, List, [], map, length, All, Contains, Option, Some, None, refl, sym, ap, subst, inl, inr, arith, true≢false}
-use Rattle.std.specs.List.{AllZip, find}
+use Rattle.std.proofs.Common.{◌≡◌, ◌⊎◌, ◌∷◌, ◌∙◌, ℕ, Bool, true, false, List, [], map, length, Contains, Option, Some, None, refl, sym, ap, subst, inl, inr, arith, true≢false}
+use Rattle.std.specs.List.{find}
 use Rattle.std.proofs.lemmas.List.Elements.{All-contains, All-head, All-tail, Contains-append_right}
 use Rattle.bb_bits.specs.Contents.{Contents}
 use Rattle.bb_bits.specs.Names.{same_name}
@@ -18,7 +18,7 @@ use Rattle.bb_design.specs.Worlds.{World, Vector, HasVector, IsWorld, FitDesign,
 use Rattle.bb_net.specs.CutPoints.{CutOutput, NextState, State, TopInput, TopOutput}
 use Rattle.bb_agree.specs.Comparable.{AreComparable, AreSettled, GoesBy}
 use Rattle.bb_agree.specs.DesignAgreement.{ContentsAgree, HaveSameBits, IsAsked, IsCompared}
-use Rattle.bb_agree.specs.Runs.{AgreeingDesignsRunAlike, AreSameSteps, ComparableDesignsHaveRuns, Event, HaveRuns, HaveSameStates, IsEvent, NoEvent, OneMore, RunAlike, Runs, States, Step, Stores, seen_at}
+use Rattle.bb_agree.specs.Runs.{AgreeingDesignsRunAlike, ComparableDesignsHaveRuns, Event, HaveSameStates, IsEvent, NoEvent, OneMore, Runs, Seen, ShowTheSame, States, Stores, seen_at}
 use Rattle.bb_agree.proofs.OneBit.{one_bit, place}
 
 some_one : (a b : Bool) → Some a ≡ Some b → a ≡ b
@@ -132,21 +132,18 @@ module _ (care : Option (List ℕ)) (spec imp : Design) (contents : Contents) (c
         let (q, in_q, is_q) = from_map (λ (r : RegisterBit). bit_text imp r.bit) (registers imp) n (All-contains (Contains (register_texts imp)) (register_texts spec) n can.same_registers.0 in_n) in
         ap more (sym is_q) ∙ same_after r q in_r in_q (is_q ∙ sym is_r) ∙ ap after is_r
 
-  pub run_alike : IsAllowed imp → ContentsAgree care spec imp contents → RunAlike care spec imp contents
+  pub run_alike : IsAllowed imp → ContentsAgree care spec imp contents → ShowTheSame care spec imp contents
   run_alike allowed agree states others [] [] [] same NoEvent NoEvent asked = record {}
   run_alike allowed agree states others [] [] (also ∷ rest) same runs more asked = elim more [ ]
   run_alike allowed agree states others [] (step ∷ steps) more same runs also asked = elim runs [ ]
   run_alike allowed agree states others (event ∷ events) [] more same runs also asked = elim runs [ ]
   run_alike allowed agree states others (event ∷ events) (step ∷ steps) [] same runs more asked = elim more [ ]
   run_alike allowed agree states others (event ∷ events) (step ∷ steps) (also ∷ rest) same (OneMore w a runs) (OneMore v b more) asked =
-      let now = All-head (λ (step : Step). IsAsked care step.outputs) step steps asked in
+      let now = All-head (λ (one : Seen). IsAsked care one.outputs) step steps asked in
       let after = same_states allowed agree states others same event w v step.after also.after a b now in (
         record { outputs = same_outputs allowed agree states others same event w v step.after also.after a b now; states = after },
-        run_alike allowed agree step.after also.after events steps rest after runs more (All-tail (λ (step : Step). IsAsked care step.outputs) step steps asked),
+        run_alike allowed agree step.after also.after events steps rest after runs more (All-tail (λ (one : Seen). IsAsked care one.outputs) step steps asked),
       )
-
-pub agreeing_designs_run_alike : AgreeingDesignsRunAlike
-agreeing_designs_run_alike care spec imp contents allowed can fit agree = run_alike care spec imp contents can fit allowed agree
 
 -- where each register has a clock and there are worlds, there are runs
 module _ (d : Design) (contents : Contents) (allowed : IsAllowed d) (fit : FitDesign d contents) (settled : AreSettled d contents)
@@ -205,12 +202,12 @@ module _ (d : Design) (contents : Contents) (allowed : IsAllowed d) (fit : FitDe
       keeps = λ r in_r kept. let (s, same) = found r in_r (register_of (bit_text d r.bit)) refl in same ∙ off r s kept;
     }
 
-  pub some_run : (states : States) (events : List Event) → (steps : List Step) × Runs d contents states events steps
+  pub some_run : (states : States) (events : List Event) → (seen : List Seen) × Runs d contents states events seen
   some_run states [] = ([], NoEvent)
   some_run states (event ∷ events) =
       let (w, is, has) = settled.some (seen_at states event) in
-      let (steps, runs) = some_run (after_event states event w) events in
-      (record { outputs = outputs_in d w; after = after_event states event w } ∷ steps, OneMore w (event_comes states event w is has) runs)
+      let (seen, runs) = some_run (after_event states event w) events in
+      (record { outputs = outputs_in d w; after = after_event states event w } ∷ seen, OneMore w (event_comes states event w is has) runs)
 
 pub comparable_designs_have_runs : ComparableDesignsHaveRuns
 comparable_designs_have_runs care spec imp contents spec_allowed imp_allowed can fit = (
@@ -234,3 +231,8 @@ comparable_designs_have_runs care spec imp contents spec_allowed imp_allowed can
         (contains-map (λ (q : RegisterBit). bit_text imp q.bit) (registers imp) q in_q)) in
         let (falls, clocks) = can.clocks r q in_r in_q (sym named) in
         (clocks.1, clocks.3, clocks.6)
+
+pub agreeing_designs_run_alike : AgreeingDesignsRunAlike
+agreeing_designs_run_alike care spec imp contents spec_allowed allowed can fit agree =
+    let (spec_runs, imp_runs) = comparable_designs_have_runs care spec imp contents spec_allowed allowed can fit in
+    record { spec_runs = spec_runs; imp_runs = imp_runs; alike = run_alike care spec imp contents can fit allowed agree }

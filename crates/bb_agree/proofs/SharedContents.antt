@@ -8,7 +8,6 @@ use Rattle.std.proofs.lemmas.Slice.Zip.{AllZip-long}
 use Rattle.bb_bits.specs.Contents.{Contents}
 use Rattle.bb_bits.specs.Laws.RowLaws.{RowsFixTable}
 use Rattle.bb_bits.specs.Tables.{TableBits, rows_of}
-use Rattle.bb_net.specs.Agreement.{TablesAgree}
 use Rattle.bb_net.specs.Flats.{FlatNet}
 use Rattle.bb_net.specs.Kinds.{FitKinds, NoSharedTablesAgree, shown, spread}
 use Rattle.bb_net.specs.Netlists.{Pins}

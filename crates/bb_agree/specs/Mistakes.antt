@@ -88,6 +88,11 @@ PairsAreNamed = (care : Option (List ℕ)) (shared : Bool) (spec imp : Design) (
 abbrev pub MistakesRefute : Type 0
 MistakesRefute = (care : Option (List ℕ)) (shared : Bool) (spec imp : Design) (x : Vector) (told : Option CutOutput) → IsAllowed imp → IsMistakeAt care spec imp x told → NoContentsAgree care shared spec imp
 
+-- and so where some of them shows one with each contents
+abbrev pub MistakesAmongRefute : Type 0
+MistakesAmongRefute = (care : Option (List ℕ)) (shared : Bool) (spec imp : Design) (vectors : List (List Bool)) → IsAllowed imp
+    → AreMistakesAmong care shared spec imp vectors → NoContentsAgree care shared spec imp
+
 -- where with all tables, one for each kind of boxes, some output is wrong at one of some vectors, these show mistakes of the designs
 abbrev pub FailingVectorsAreMistakes : Type 0
 FailingVectorsAreMistakes = (care : Option (List ℕ)) (shared : Bool) (spec imp : Design) (p : NetPair) → IsAllowed spec → IsAllowed imp

@@ -1,4 +1,4 @@
--- Runs over several clock cycles. An event gives a bit to each bit of an input port of the top, and says which of these had an edge. As
+-- Runs over several clock cycles, of designs whose clocks are inputs. An event gives a bit to each bit of an input port of the top, and says which of these had an edge. As
 -- it comes, the design is in a world with these bits and the present states of its registers, and gives the outputs of that world. Then
 -- each register bit whose clock had its edge takes its next state, all at once, and the others keep theirs (IEEE 1364-2005, 9.2.2 and
 -- 9.7, for the one clocked form that is read). Nothing ties the bit of a clock to its edge: a design reads it as it is at the edge.
@@ -15,7 +15,7 @@ use Rattle.bb_design.specs.Refusals.{register_texts}
 use Rattle.bb_design.specs.Registers.{RegisterBit, registers}
 use Rattle.bb_design.specs.Texts.{bit_text}
 use Rattle.bb_design.specs.Worlds.{World, Vector, IsWorld, HasVector, FitDesign, next_bit, outputs_in}
-use Rattle.bb_net.specs.CutPoints.{CutInput, TopInput, State, CutOutput}
+use Rattle.bb_net.specs.CutPoints.{TopInput, State, CutOutput}
 use Rattle.bb_agree.specs.Comparable.{AreComparable, GoesBy}
 use Rattle.bb_agree.specs.DesignAgreement.{ContentsAgree, HaveSameBits, IsAsked}
 
@@ -47,44 +47,52 @@ pub record IsEvent (d : Design) (contents : Contents) (states : States) (event :
       → after (bit_text d r.bit) ≡ states (bit_text d r.bit)
 
 -- what is seen of an event: the outputs and next states as it comes, and the states after it
-pub record Step : Type 0 where
+pub record Seen : Type 0 where
   pub outputs : List (CutOutput × Bool)
   pub after : States
 
 -- events, one after another, and what is seen of each
-pub data Runs (d : Design) (contents : Contents) : States → List Event → List Step → Type 0 where
+pub data Runs (d : Design) (contents : Contents) : States → List Event → List Seen → Type 0 where
   NoEvent : {states : States} → Runs d contents states [] []
-  OneMore : {states after : States} {event : Event} {events : List Event} {steps : List Step} → (w : World)
-      → IsEvent d contents states event w after → Runs d contents after events steps
-      → Runs d contents states (event ∷ events) (record { outputs = outputs_in d w; after = after } ∷ steps)
+  OneMore : {states after : States} {event : Event} {events : List Event} {seen : List Seen} → (w : World)
+      → IsEvent d contents states event w after → Runs d contents after events seen
+      → Runs d contents states (event ∷ events) (record { outputs = outputs_in d w; after = after } ∷ seen)
 
 -- the registers of a design have the same states
 abbrev pub HaveSameStates : Design → States → States → Type 0
 HaveSameStates d states others = (n : List ℕ) → Contains (register_texts d) n → others n ≡ states n
 
 -- the same is seen, but for the care output
-pub record AreSameSteps (care : Option (List ℕ)) (spec : Design) (step other : Step) : Type 0 where
-  pub outputs : HaveSameBits care step.outputs other.outputs
-  pub states : HaveSameStates spec step.after other.after
+pub record AreSeenAlike (care : Option (List ℕ)) (spec : Design) (one other : Seen) : Type 0 where
+  pub outputs : HaveSameBits care one.outputs other.outputs
+  pub states : HaveSameStates spec one.after other.after
 
--- from the same states the two designs do the same at each event of any list, where agreement is asked at each event of the run of the
--- specification: with a care output, for as long as this is 1
-abbrev pub RunAlike : Option (List ℕ) → Design → Design → Contents → Type 0
-RunAlike care spec imp contents = (states others : States) (events : List Event) (steps more : List Step)
-    → HaveSameStates spec states others → Runs spec contents states events steps → Runs imp contents others events more
-    → All (λ (step : Step). IsAsked care step.outputs) steps → AllZip (AreSameSteps care spec) steps more
+-- whatever events come, the design has a run
+pub record HaveRuns (d : Design) (contents : Contents) : Type 0 where
+  pub some : (states : States) (events : List Event) → (seen : List Seen) × Runs d contents states events seen
+
+-- from the same states the same is seen of the two designs at each event of any list, where agreement is asked at each event of the run
+-- of the specification: with a care output, for as long as this is 1
+abbrev pub ShowTheSame : Option (List ℕ) → Design → Design → Contents → Type 0
+ShowTheSame care spec imp contents = (states others : States) (events : List Event) (seen more : List Seen)
+    → HaveSameStates spec states others → Runs spec contents states events seen → Runs imp contents others events more
+    → All (λ (one : Seen). IsAsked care one.outputs) seen → AllZip (AreSeenAlike care spec) seen more
+
+-- and both have runs
+pub record RunAlike (care : Option (List ℕ)) (spec imp : Design) (contents : Contents) : Type 0 where
+  pub spec_runs : HaveRuns spec contents
+  pub imp_runs : HaveRuns imp contents
+  pub alike : ShowTheSame care spec imp contents
 
 -- laws that a reader expects
 
 -- contents that make two designs agree at each vector make them run alike
 abbrev pub AgreeingDesignsRunAlike : Type 0
-AgreeingDesignsRunAlike = (care : Option (List ℕ)) (spec imp : Design) (contents : Contents) → IsAllowed imp → AreComparable care spec imp
-    → FitDesign imp contents → ContentsAgree care spec imp contents → RunAlike care spec imp contents
+AgreeingDesignsRunAlike = (care : Option (List ℕ)) (spec imp : Design) (contents : Contents) → IsAllowed spec → IsAllowed imp
+    → AreComparable care spec imp → FitDesign imp contents → ContentsAgree care spec imp contents
+    → RunAlike care spec imp contents
 
--- whatever events come, each of two designs that can be compared has a run
-pub record HaveRuns (d : Design) (contents : Contents) : Type 0 where
-  pub some : (states : States) (events : List Event) → (steps : List Step) × Runs d contents states events steps
-
+-- designs that can be compared have runs, whatever contents fit
 abbrev pub ComparableDesignsHaveRuns : Type 0
 ComparableDesignsHaveRuns = (care : Option (List ℕ)) (spec imp : Design) (contents : Contents) → IsAllowed spec → IsAllowed imp
     → AreComparable care spec imp → FitDesign imp contents → HaveRuns spec contents × HaveRuns imp contents

@@ -5,7 +5,7 @@ ghost use Rattle.bb_agree.specs.Laws.AlikePairs.{PairsForDesignsAreAlike};
 ghost use Rattle.bb_agree.specs.Comparable.{FittingDesignsAreComparable};
 ghost use Rattle.bb_agree.specs.DesignAgreement.{CareOutputsAskForLess, DesignsAgreeWithThemselves, FittingTablesAreOfBoxes, NoTablesNoContents, PairsHaveBoxOrders, SharingNarrows, SpelledContentsAgree, SpelledContentsHaveTables, TablesAgreeAsContents, TablesSpellContents};
 ghost use Rattle.bb_agree.specs.Laws.DesignRefusals.{DesignRefusalsAreOne, FitOrRefused, FittingDesignsHavePairs, NetsAreTakenAsDesigns, NotFitAndRefused, PairsStandExactlyForFitting};
-ghost use Rattle.bb_agree.specs.Mistakes.{FailingVectorsAreMistakes, MistakesRefute, PairsAreNamed, WrongOutputsAreMistakes, WrongVectorsAreMistakes};
+ghost use Rattle.bb_agree.specs.Mistakes.{FailingVectorsAreMistakes, MistakesAmongRefute, MistakesRefute, PairsAreNamed, WrongOutputsAreMistakes, WrongVectorsAreMistakes};
 ghost use Rattle.bb_agree.specs.Runs.{AgreeingDesignsRunAlike, ComparableDesignsHaveRuns};
 
 use bb_alike::laws::rearranged_stay_alike;
@@ -235,6 +235,11 @@ pub fn pairs_are_named()
 /// Where a vector shows a mistake, no contents agree.
 pub fn mistakes_refute()
     ensures { MistakesRefute }
+{}
+
+/// Where for each contents one of some vectors shows a mistake, no contents agree.
+pub fn mistakes_among_refute()
+    ensures { MistakesAmongRefute }
 {}
 
 /// Contents that make two designs agree at each vector make them run alike, whatever events come; with a care output, as long as it is 1.

@@ -110,7 +110,7 @@ module _ (allowed : DesignsAreAllowed) (none_behind : NoTablesFollow) (spell : T
   repairs_run repairs run asked spec imp status text (Judged p lines s i are for climb same rest follows t) zero =
       let (tables, given, complete, ends) = repairs p asked.options lines for.kept climb (is_repairable (verdict_of lines) (sym same ∙ zero)) in
       let done = finished asked spec imp text p lines s i are for rest follows t tables complete ends in
-      (done, λ contents fills. run asked.care s i contents (i_allowed asked spec imp text p lines s i are for rest follows t tables complete ends) done.comparable fills.0 (done.agree contents fills.0 fills.1))
+      (done, λ contents fills. run asked.care s i contents (s_allowed asked spec imp text p lines s i are for rest follows t tables complete ends) (i_allowed asked spec imp text p lines s i are for rest follows t tables complete ends) done.comparable fills.0 (done.agree contents fills.0 fills.1))
 
 pub answered_fit : DesignsAreAllowed → PairsStandExactlyForFitting → AnsweredFit
 answered_fit allowed fitting asked spec imp status text (Refused r is s t) answered = absurd (answered s)

@@ -28,7 +28,7 @@ use Rattle.bb_ladder.specs.TextPairs.{DesignsAreAllowed, FilledTextsFinish}
 use Rattle.bb_ladder.proofs.FilledAgree.{filled_agrees, filled_same, fits_none}
 use Rattle.bb_ladder.proofs.FilledFit.{filled_fits}
 use Rattle.bb_ladder.proofs.KeptNets.{TablesAreSpread, kept_nets}
-use Rattle.bb_ladder.proofs.TextPairLaws.{reads_as}
+use Rattle.bb_ladder.proofs.TextPairLaws.{own_texts, reads_as}
 
 pub record FillingLaws : Type 0 where
   pub allowed : DesignsAreAllowed
@@ -93,6 +93,7 @@ filled_texts_finish laws asked spec imp s i are p pair tables completion text ma
         unnamed = reads_as unnamed;
         named = reads_as named;
         sound = unnamed.faultless;
+        own = own_texts d unnamed.sound;
         complete = sound.complete;
         comparable = comparable;
         agree = agree;
@@ -102,5 +103,5 @@ filled_texts_finish laws asked spec imp s i are p pair tables completion text ma
             (laws.spelled asked.care asked.options.shared s i p s_allowed i_allowed pair tables completion.fit contents fills.1);
       },
       ((s, d, record { spec_design = are.spec_design; imp_design = unnamed }, fits), (s, d, record { spec_design = are.spec_design; imp_design = named }, fits)),
-      (d, reads_as unnamed, λ contents. laws.run asked.care s d contents d_allowed comparable (fits_none d sound.complete contents) (agree contents)),
+      (d, reads_as unnamed, own_texts d unnamed.sound, λ contents. laws.run asked.care s d contents s_allowed d_allowed comparable (fits_none d sound.complete contents) (agree contents)),
     )

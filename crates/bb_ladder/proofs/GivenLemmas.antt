@@ -1,30 +1,20 @@
 -- Where the reads are told, those of a call gave what its answer speaks of.
-use Rattle.std.proofs.Common.{◌≡◌, ◌<◌, ℕ, List, [], ◌∷◌, length, Option, Some, arith, refl, sym, ◌∙◌, subst, inl, inr}
+use Rattle.std.proofs.Common.{◌≡◌, ◌<◌, ℕ, List, [], ◌∷◌, length, Option, Some, arith, refl, sym, ◌∙◌, subst}
 use Rattle.bb_outside.specs.Counts.{FileRead, Reads}
 use Rattle.bb_texts.specs.declared.limit.TheConstants.{READ_LIMIT}
 use Rattle.bb_make.specs.Adders.{made_imp, made_spec}
 use Rattle.bb_words.specs.Asked.{Refutation, rup_asked}
 use Rattle.bb_words.specs.Laws.{WordsAskOnce}
 use Rattle.bb_ladder.specs.Calls.{Call}
-use Rattle.bb_ladder.specs.Answers.{Question, ImpUnread, ImpLong, BothRead, OfFiles, SpecUnread, SpecLong, SpecRead, MayAnswer, Usage, Asked, Making, Refuting, FileTexts, MadeTexts, question_of}
+use Rattle.bb_ladder.specs.Answers.{Question, ImpUnread, ImpLong, BothRead, OfFiles, SpecUnread, SpecLong, SpecRead, MayAnswer, Usage, Asked, Making, Refuting, FileTexts, MadeTexts, IsVerdict, question_of}
 use Rattle.bb_ladder.specs.CallRefusals.{AreToldOf}
-use Rattle.bb_ladder.specs.GivenTexts.{AnsweredHaveGiven, Checked, Compared, HaveTexts, IsVerdict}
+use Rattle.bb_ladder.specs.GivenTexts.{AnsweredHaveGiven, Checked, Compared, HaveTexts}
 use Rattle.bb_ladder.specs.MadePairs.{asked_of}
 use Rattle.bb_ladder.specs.Refutations.{Checks}
 use Rattle.bb_ladder.specs.Sources.{AreBytes, Given, read_of}
 use Rattle.bb_ladder.specs.TextAnswers.{Judges}
-use Rattle.bb_ladder.proofs.HeadlineLemmas.{asks_no_comparison, asks_no_refutation, never_both, never_files_and_made, same_question, same_refutation}
+use Rattle.bb_ladder.proofs.HeadlineLemmas.{asks_no_comparison, asks_no_refutation, never_both, never_files_and_made, no_failure, no_refusal, same_question, same_refutation}
 use Rattle.bb_ladder.proofs.SourceLemmas.{told_after_one, told_after_two}
-
-no_refusal : (status : ℕ) → IsVerdict status → status ≡ 2 → ⊥
-no_refusal status (inl (inl zero)) two = omega (arith, zero, two)
-no_refusal status (inl (inr one)) two = omega (arith, one, two)
-no_refusal status (inr three) two = omega (arith, three, two)
-
-no_failure : (status : ℕ) → IsVerdict status → status ≡ 4 → ⊥
-no_failure status (inl (inl zero)) four = omega (arith, zero, four)
-no_failure status (inl (inr one)) four = omega (arith, one, four)
-no_failure status (inr three) four = omega (arith, three, four)
 
 no_unread : (status : ℕ) → status ≡ 2 → status ≡ 4 → ⊥
 no_unread status two four = omega (arith, two, four)

@@ -1,13 +1,13 @@
 -- What statuses 0, 1, 3 and 4 say of the two files: the tables of the report make the designs agree, no contents of the boxes do and
 -- its vectors show mistakes, each check leaves the question open, or a read failed.
-use Rattle.std.proofs.Common.{◌⊎◌, inl, inr, ◌≡◌, ◌<◌, ℕ, ◌==◌, Bool, true, false, if◌then◌else◌, List, ◌++◌, length, Option, Some, None, arith, codes, option_map, refl, sym, ◌∙◌, ap, subst}
+use Rattle.std.proofs.Common.{inl, inr, ◌≡◌, ◌<◌, ℕ, ◌==◌, Bool, true, false, if◌then◌else◌, List, ◌++◌, length, Option, Some, None, arith, codes, option_map, refl, sym, ◌∙◌, ap, subst}
 use Rattle.bb_outside.specs.Counts.{IsRead, Reads, next_count}
 use Rattle.bb_texts.specs.declared.limit.TheConstants.{READ_LIMIT}
 use Rattle.bb_ladder.specs.declared.asked.Asked.{Asked as TextsAsked}
 use Rattle.bb_make.specs.Adders.{made_imp, made_spec}
 use Rattle.bb_words.specs.Asked.{MadePair, Refutation, Request, asked, made_asked, rup_asked}
 use Rattle.bb_words.specs.Laws.{WordsAskOnce}
-use Rattle.bb_ladder.specs.Answers.{AnswersSpeakOfTexts, Question, AfterSpec, ImpUnread, ImpLong, BothRead, OfFiles, SpecUnread, SpecLong, SpecRead, MayAnswer, Usage, Asked, Making, Refuting, AreRefutationTexts, AreTexts, FileTexts, MadeTexts, Gives, IsReport, question, question_of}
+use Rattle.bb_ladder.specs.Answers.{AnswersSpeakOfTexts, Question, AfterSpec, ImpUnread, ImpLong, BothRead, OfFiles, SpecUnread, SpecLong, SpecRead, MayAnswer, Usage, Asked, Making, Refuting, AreRefutationTexts, AreTexts, FileTexts, MadeTexts, Gives, IsReport, IsVerdict, question, question_of}
 use Rattle.bb_ladder.specs.Calls.{Call}
 use Rattle.bb_ladder.specs.MadePairs.{JudgesMade, asked_of, head_by, head_of, made_head, made_text}
 use Rattle.bb_ladder.specs.Refutations.{CheckLaws, Checks, FailsAt, IsRefutation, no_line}
@@ -150,22 +150,24 @@ module _ (once : WordsAskOnce) (so : List ℕ → List ℕ → List ℕ → Type
       files_so Checks so n not_refused not_unread checked from call.holds f.cnf f.adds call.before call.after first second text status texts.bytes
       (subst (λ (z : Refutation). OfFiles Checks call.holds z.cnf z.adds call.before call.after status text) (same_refutation known f (sym e ∙ texts.asks)) files) is
 
+-- no verdict is the status of a refusal or of a failed read
+
+pub no_refusal : (status : ℕ) → IsVerdict status → status ≡ 2 → ⊥
+no_refusal status (inl (inl zero)) two = omega (arith, zero, two)
+no_refusal status (inl (inr one)) two = omega (arith, one, two)
+no_refusal status (inr three) two = omega (arith, three, two)
+
+pub no_failure : (status : ℕ) → IsVerdict status → status ≡ 4 → ⊥
+no_failure status (inl (inl zero)) four = omega (arith, zero, four)
+no_failure status (inl (inr one)) four = omega (arith, one, four)
+no_failure status (inr three) four = omega (arith, three, four)
+
 -- what each status says of the texts of a call
 module _ (once : WordsAskOnce) (fit : AnsweredFit) (finish : RepairsFinish) (run : RepairsRun) (fills : RepairsFill) (refute : ErrorsRefute) (show : ErrorsAreShown) (leave : OpenAnswersLeaveOpen) where
-  fit_at : (n : ℕ) → (n ≡ 2 → ⊥) → (n ≡ 4 → ⊥) → (call : Call) (from : Source) (status : ℕ) (text : List ℕ) (asked : TextsAsked) (spec imp : List ℕ) → MayAnswer call status text → status ≡ n
-      → AreTexts call from asked spec imp → DoFit asked spec imp
-  fit_at n not_refused not_unread call from status text asked spec imp may is texts =
-      (answer_so once (λ asked spec imp text. DoFit asked spec imp) n not_refused not_unread (λ asked spec imp status text judged same. fit asked spec imp status text judged (λ two. not_refused (sym same ∙ two)))
-      call from status text asked spec imp may is texts).2
-
-  fit_sound : (call : Call) (from : Source) (status : ℕ) (text : List ℕ) (asked : TextsAsked) (spec imp : List ℕ) → MayAnswer call status text → ((status ≡ 0) ⊎ (status ≡ 1)) ⊎ (status ≡ 3)
-      → AreTexts call from asked spec imp → DoFit asked spec imp
-  fit_sound call from status text asked spec imp may (inl (inl zero)) texts = fit_at 0 (λ e. omega (arith, e)) (λ e. omega (arith, e)) call from status text asked spec imp may zero texts
-  fit_sound call from status text asked spec imp may (inl (inr one)) texts = fit_at 1 (λ e. omega (arith, e)) (λ e. omega (arith, e)) call from status text asked spec imp may one texts
-  fit_sound call from status text asked spec imp may (inr three) texts = fit_at 3 (λ e. omega (arith, e)) (λ e. omega (arith, e)) call from status text asked spec imp may three texts
-
   pub answers_speak : AnswersSpeakOfTexts
   answers_speak call from status text asked spec imp may texts = record {
+    judged = λ verdict. answer_so once (λ asked spec imp text. Judges asked spec imp status text) status (no_refusal status verdict) (no_failure status verdict)
+        (λ asked spec imp other text judged same. subst (λ n. Judges asked spec imp n text) same judged) call from status text asked spec imp may refl texts;
     finished = λ zero. answer_so once AreFinished 0 (λ e. omega (arith, e)) (λ e. omega (arith, e)) finish call from status text asked spec imp may zero texts;
     filled = λ zero. answer_so once IsFilled 0 (λ e. omega (arith, e)) (λ e. omega (arith, e)) (λ asked spec imp status text j z. (fills asked spec imp status text j z).0)
         call from status text asked spec imp may zero texts;
@@ -176,7 +178,8 @@ module _ (once : WordsAskOnce) (fit : AnsweredFit) (finish : RepairsFinish) (run
         call from status text asked spec imp may zero texts;
     refuted = λ one. (answer_so once (λ asked spec imp text. AreRefuted asked spec imp) 1 (λ e. omega (arith, e)) (λ e. omega (arith, e)) refute
         call from status text asked spec imp may one texts).2;
-    fit = λ answered. fit_sound call from status text asked spec imp may answered texts;
+    fit = λ verdict. (answer_so once (λ asked spec imp text. DoFit asked spec imp) status (no_refusal status verdict) (no_failure status verdict)
+        (λ asked spec imp other text judged same. fit asked spec imp other text judged (λ two. no_refusal status verdict (sym same ∙ two))) call from status text asked spec imp may refl texts).2;
     shown = λ one. answer_so once AreShown 1 (λ e. omega (arith, e)) (λ e. omega (arith, e)) show call from status text asked spec imp may one texts;
     left_open = λ three. (answer_so once (λ asked spec imp text. AreLeftOpen asked spec imp) 3 (λ e. omega (arith, e)) (λ e. omega (arith, e)) leave
         call from status text asked spec imp may three texts).2;

@@ -1,14 +1,18 @@
 -- Files that never fail and tell what they hold.
-use Rattle.std.proofs.Common.{◌⊎◌, ℕ, List, refl, arith, inl, inr}
+use Rattle.std.proofs.Common.{◌≡◌, ◌⊎◌, ℕ, List, refl, arith, inl, inr}
 use Rattle.bb_outside.specs.Counts.{Reads, Rose}
 use Rattle.bb_outside.specs.Inside.QuietFiles.{ReadFiles, holds_of}
 use Rattle.bb_outside.specs.Inside.MemFiles.{text_under}
 use Rattle.bb_ladder.specs.CallRefusals.{AreTold}
-use Rattle.bb_ladder.specs.Sources.{Held}
+use Rattle.bb_ladder.specs.Sources.{Given, Held, MayHaveFailed, Source}
 
 -- a count that stays 0 did not rise
 pub never_rose : Rose 0 0 → ⊥
 never_rose rose = omega (arith, rose)
+
+pub never_failed : (from : Source) (before after : Reads) → before.faults ≡ 0 → after.faults ≡ 0 → MayHaveFailed from before after → ⊥
+never_failed Held before after zero still rose = omega (arith, zero, still, rose)
+never_failed Given before after zero still failed = failed
 
 -- it is told what is held of any file
 pub all_held : (words : List (List ℕ)) (files : ReadFiles) (before after : Reads)

@@ -1,6 +1,5 @@
 -- What the code hands on is what the words ask for.
-use Rattle.std.proofs.Common.{◌≡◌, ℕ, List, Option, Some, None, ap, option_map}
-use Rattle.bb_outside.specs.Counts.{Reads}
+use Rattle.std.proofs.Common.{◌≡◌, ℕ, List, Some, None, ap, option_map}
 use Rattle.bb_options.specs.Rungs.{AreBounds}
 use Rattle.bb_words.specs.Asked.{AskNothing, MadePair, asked, made_asked, request_of}
 use Rattle.bb_words.specs.Laws.{WordsAskOnce}

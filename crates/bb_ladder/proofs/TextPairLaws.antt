@@ -5,6 +5,7 @@ use Rattle.std.proofs.lemmas.Result.{IfErr-weaker}
 use Rattle.bb_net.specs.Flats.{FlatNet}
 use Rattle.bb_design.specs.Hierarchy.{Design}
 use Rattle.bb_design.specs.Inside.Allowed.{SoundTextsAreAllowed}
+use Rattle.bb_design.specs.Refusals.{BoxTexts, IsSoundDesign, PortTexts, RegisterTexts}
 use Rattle.bb_cells.specs.Stands.{StandsFor}
 use Rattle.bb_match.specs.declared.fault.MatchFault.{MatchFault}
 use Rattle.bb_match.specs.declared.fault.MatchFault.TheVariants as pair
@@ -26,6 +27,7 @@ use Rattle.bb_texts.specs.RefusalLines.{refusal_line}
 use Rattle.bb_ladder.specs.declared.pair_texts.Made.{Made}
 use Rattle.bb_ladder.specs.FilledTexts.{MayFollow, NotAsked}
 use Rattle.bb_ladder.specs.Inside.Made.{IsChecked, IsMade, KeptFollows}
+use Rattle.bb_ladder.specs.OwnTexts.{HasOwnTexts}
 use Rattle.bb_ladder.specs.TextAnswers.{Judges, Refused, Judged}
 use Rattle.bb_texts.specs.TextDesigns.{IsDesignOf, IsReadAs, IsSideFault, TextDesignsAreOne, SideFaultsAreOne, NotDesignAndFault}
 use Rattle.bb_ladder.specs.TextPairs.{AreDesignsOf, AreReadAs, IsRefusal, StandsForTexts, DesignsAreAllowed, RefusalsAreOne, NotPairAndRefusal, TextPairsAreAlike}
@@ -38,12 +40,18 @@ designs_are_allowed formed allowed name text d is = allowed d.text name d.top (f
 pub reads_as : {name : Option (List ℕ)} {text : List ℕ} {d : Design} → IsDesignOf name text d → IsReadAs name text d
 reads_as is = record { reads = is.reads; top = is.top }
 
+-- in a sound design no text stands twice
+pub own_texts : (d : Design) → IsSoundDesign d → HasOwnTexts d
+own_texts d sound = record { boxes = sound BoxTexts; registers = sound RegisterTexts; inputs = (sound PortTexts).0; outputs = (sound PortTexts).1 }
+
 pub are_read_as : (asked : Asked) (spec imp : List ℕ) (s i : Design) → AreDesignsOf asked spec imp s i → AreReadAs asked spec imp s i
 are_read_as asked spec imp s i are = record {
   spec_reads = reads_as are.spec_design;
   imp_reads = reads_as are.imp_design;
   spec_sound = are.spec_design.faultless;
   imp_sound = are.imp_design.faultless;
+  spec_own = own_texts s are.spec_design.sound;
+  imp_own = own_texts i are.imp_design.sound;
 }
 
 -- a fault of one side, or of the pair, is a refusal of the two texts

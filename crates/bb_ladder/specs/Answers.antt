@@ -63,15 +63,20 @@ pub record AreRefutationTexts (call : Call) (from : Source) (f : Refutation) (fi
 abbrev pub IsReport : (TextsAsked → List ℕ → List ℕ → List ℕ → Type 0) → List (List ℕ) → TextsAsked → List ℕ → List ℕ → List ℕ → Type 0
 IsReport Says words asked spec imp text = (report : List ℕ) × (text ≡ head_of words ++ report) × Says asked spec imp report
 
--- what an answer with this status says of the texts
+-- it is a status that is a verdict on two texts: what is finished or follows, what is wrong, what is left open
+abbrev pub IsVerdict : ℕ → Type 0
+IsVerdict status = ((status ≡ 0) ⊎ (status ≡ 1)) ⊎ (status ≡ 3)
+
+-- what an answer with this status says of the texts: of them it is what two texts are answered, and so all else
 pub record Means (call : Call) (status : ℕ) (text : List ℕ) (asked : TextsAsked) (spec imp : List ℕ) : Type 0 where
+  pub judged : IsVerdict status → IsReport (λ asked spec imp report. Judges asked spec imp status report) call.words asked spec imp text
   pub finished : status ≡ 0 → IsReport AreFinished call.words asked spec imp text
   pub filled : status ≡ 0 → IsReport IsFilled call.words asked spec imp text
   pub passes : status ≡ 0 → IsReport IsFilledToPass call.words asked spec imp text
   pub runs : status ≡ 0 → IsReport RunsAsSpecified call.words asked spec imp text
   pub filled_runs : status ≡ 0 → IsReport IsFilledToRun call.words asked spec imp text
   pub refuted : status ≡ 1 → AreRefuted asked spec imp
-  pub fit : ((status ≡ 0) ⊎ (status ≡ 1)) ⊎ (status ≡ 3) → DoFit asked spec imp
+  pub fit : IsVerdict status → DoFit asked spec imp
   pub shown : status ≡ 1 → IsReport AreShown call.words asked spec imp text
   pub left_open : status ≡ 3 → AreLeftOpen asked spec imp
 

@@ -17,6 +17,7 @@ use Rattle.bb_rungs.specs.declared.line.Line.{Line}
 use Rattle.bb_rungs.specs.declared.verdict.Verdict.TheVariants as verdicts
 use Rattle.bb_rungs.specs.Reports.{GivesTables, verdict_of}
 use Rattle.bb_texts.specs.TextDesigns.{IsReadAs}
+use Rattle.bb_ladder.specs.OwnTexts.{HasOwnTexts}
 
 -- what is written when a netlist is to be filled
 abbrev pub answer_text : Answer → List ℕ
@@ -41,7 +42,7 @@ abbrev pub NoTablesFollow : Type 0
 NoTablesFollow = (fill : Bool) (f : FlatNet) (kinds : List ℕ) (lines : List Line) (rest : List ℕ) → IsFlat f → MayFollow fill f kinds lines rest → HasNoLine (codes "table") rest
 
 -- a text finishes the design of an implementation, in whose boxes there may be certain contents. Under its one module as top, named or
--- not, it reads as a design that breaks no rule on names, has no box and can be compared with the specification. Where agreement is
+-- not, it reads as a design that breaks no rule on names, whose texts are apart, that has no box and can be compared with the specification. Where agreement is
 -- asked it agrees with the specification, whatever contents boxes would have; and everywhere its outputs and next states are those of
 -- the implementation with such contents
 pub record IsFinishedText (care : Option (List ℕ)) (s i : Design) (Fills : Contents → Type 0) (filled : List ℕ) : Type 0 where
@@ -49,6 +50,7 @@ pub record IsFinishedText (care : Option (List ℕ)) (s i : Design) (Fills : Con
   pub unnamed : IsReadAs None filled d
   pub named : IsReadAs (Some (codes "filled")) filled d
   pub sound : IsSound d.text
+  pub own : HasOwnTexts d
   pub complete : boxes d ≡ []
   pub comparable : AreComparable care s d
   pub agree : (contents : Contents) → ContentsAgree care s d contents

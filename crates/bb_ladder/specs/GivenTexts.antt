@@ -1,9 +1,9 @@
 -- Where the reads are told, those of a call gave what its answer speaks of. So what is said of given bytes is not empty talk: the two
 -- texts of a verdict are there, and so is as much as a refusal rests on.
-use Rattle.std.specs.Prelude.{◌≡◌, ◌⊎◌, ℕ, List, Option, Some}
-use Rattle.bb_outside.specs.Counts.{FileRead, Reads}
+use Rattle.std.specs.Prelude.{◌≡◌, ℕ, List, Some}
+use Rattle.bb_outside.specs.Counts.{FileRead}
 use Rattle.bb_ladder.specs.declared.asked.Asked.{Asked as TextsAsked}
-use Rattle.bb_ladder.specs.Answers.{AreRefutationTexts, AreTexts, MayAnswer}
+use Rattle.bb_ladder.specs.Answers.{AreRefutationTexts, AreTexts, IsVerdict, MayAnswer}
 use Rattle.bb_ladder.specs.Calls.{Call}
 use Rattle.bb_ladder.specs.CallRefusals.{AreTold}
 use Rattle.bb_ladder.specs.Sources.{Given}
@@ -13,10 +13,6 @@ use Rattle.bb_words.specs.Asked.{Refutation}
 pub data HaveTexts (call : Call) : Type 0 where
   Compared : (asked : TextsAsked) (spec imp : List ℕ) → AreTexts call Given asked spec imp → HaveTexts call
   Checked : (f : Refutation) (first second : List ℕ) → AreRefutationTexts call Given f first second → HaveTexts call
-
--- it is a status that is a verdict on two texts: what is finished or follows, what is wrong, what is left open
-abbrev pub IsVerdict : ℕ → Type 0
-IsVerdict status = ((status ≡ 0) ⊎ (status ≡ 1)) ⊎ (status ≡ 3)
 
 -- the reads of a call with this status gave two texts where it is a verdict on them, and as much as was read where it is a refusal
 pub record HaveGiven (call : Call) (status : ℕ) : Type 0 where

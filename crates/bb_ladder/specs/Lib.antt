@@ -1,3 +1,4 @@
+pub mod OwnTexts
 pub mod TextPairs
 pub mod FilledTexts
 pub mod TextAnswers

@@ -2,9 +2,9 @@
 -- line of the verdict. A check that finds an error at a vector shows it: the output that is wrong there, where one is named, and the bits
 -- of the vector, each with the name of its input, in the order of the specification; at that vector agreement is asked and the two
 -- designs differ, whatever the boxes contain. The check by choices of the boxes shows nothing, and the expansion, where a proof is asked
--- for, some vectors, its clauses over these and their refutation; whatever contents may fill the boxes, with them the two differ at one of
--- these vectors.
-use Rattle.std.specs.Prelude.{◌≡◌, ℕ, Bool, if◌then◌else◌, List, [], ◌∷◌, ◌++◌, map, vec_items, All, Contains, Option, None, Some, codes}
+-- for, some vectors: whatever contents may fill the boxes, with them the two differ at one of these. The clauses and steps that follow
+-- them are said of the pair that stands for the texts, and not here.
+use Rattle.std.specs.Prelude.{◌≡◌, ℕ, if◌then◌else◌, List, [], ◌∷◌, ◌++◌, map, vec_items, All, Contains, Option, None, Some, codes}
 use Rattle.std.specs.List.{flat_map}
 use Rattle.bb_agree.specs.Mistakes.{AreMistakesAmong, inputs_of, IsMistakeAt}
 use Rattle.bb_design.specs.Hierarchy.{Design}

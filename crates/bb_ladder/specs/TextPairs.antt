@@ -21,6 +21,7 @@ use Rattle.bb_net.specs.Pairs.{NetPair, box_key}
 use Rattle.bb_rungs.specs.LeftOpen.{AllLeaveOpen, AllStayOpen, SomeDecides}
 use Rattle.bb_rungs.specs.Reports.{EndsWithTables}
 use Rattle.bb_ladder.specs.FilledTexts.{FollowsVerdict, HasNoLine, IsFinishedText}
+use Rattle.bb_ladder.specs.OwnTexts.{HasOwnTexts}
 use Rattle.bb_ladder.specs.declared.asked.Asked.{Asked}
 use Rattle.bb_texts.specs.declared.refusal.Refusal.{Refusal}
 use Rattle.bb_texts.specs.declared.refusal.Refusal.TheVariants.{Spec, Imp, Pair, NoMemory}
@@ -46,12 +47,15 @@ StandsForTexts asked spec imp p = (s i : Design) × AreDesignsOf asked spec imp 
 abbrev pub DoFit : Asked → List ℕ → List ℕ → Type 0
 DoFit asked spec imp = (s i : Design) × AreDesignsOf asked spec imp s i × DesignsFit asked.care s i
 
--- they read as these designs under their tops, and break no rule on names, ranges, widths and roles
+-- they read as these designs under their tops, break no rule on names, ranges, widths and roles, and nothing that is told of them has two
+-- meanings
 pub record AreReadAs (asked : Asked) (spec imp : List ℕ) (s i : Design) : Type 0 where
   pub spec_reads : IsReadAs asked.spec_top spec s
   pub imp_reads : IsReadAs asked.imp_top imp i
   pub spec_sound : IsSound s.text
   pub imp_sound : IsSound i.text
+  pub spec_own : HasOwnTexts s
+  pub imp_own : HasOwnTexts i
 
 -- they read as designs that can be compared, some contents may fill the boxes, and none that may make the two agree where agreement is
 -- asked: everywhere or, with a care output, where this is 1
@@ -118,9 +122,9 @@ abbrev pub RunsAsSpecified : Asked → List ℕ → List ℕ → List ℕ → Ty
 RunsAsSpecified asked spec imp text = (finished : AreFinished asked spec imp text)
     × ((contents : Contents) → Fills finished contents → RunAlike asked.care finished.s finished.i contents)
 
--- the text reads as a design that runs as the specification does
+-- the text reads as a design that runs as the specification does, by texts that each have one meaning
 abbrev pub RunsAsText : Option (List ℕ) → Design → List ℕ → Type 0
-RunsAsText care s filled = (d : Design) × IsReadAs None filled d × ((contents : Contents) → RunAlike care s d contents)
+RunsAsText care s filled = (d : Design) × IsReadAs None filled d × HasOwnTexts d × ((contents : Contents) → RunAlike care s d contents)
 
 abbrev pub IsFilledToRun : Asked → List ℕ → List ℕ → List ℕ → Type 0
 IsFilledToRun asked spec imp text = asked.fill ≡ true → (finished : AreFinished asked spec imp text)

@@ -68,8 +68,8 @@ fn answer(alloc: Global, spec: &[u8], imp: &[u8], asked: &Asked) -> Result<Answe
 /// What is answered to the text of the specification and that of the implementation, whoever read them.
 ///
 /// Status 0 says that the tables at the end of the report make the two agree where that is asked, and so does the text behind the line
-/// `fill`, where the filled implementation is asked for and one is printed, which passes as an implementation; status 1 that no contents of the boxes do and that the vectors
-/// of the report show mistakes, status 3 that each check that is asked for leaves the question open, and status 2 that the line is their
+/// `fill`, where the filled implementation is asked for and one is printed, which passes as an implementation, and that each of them runs
+/// as the specification does; status 1 that no contents of the boxes do and that the vectors of the report show mistakes, status 3 that each check that is asked for leaves the question open, and status 2 that the line is their
 /// first refusal; with every other status nothing is at fault in the two texts, and they fit. Where a check that is asked for decides, the
 /// status is 0 or 1, where the question stays open with each, it is 3, and where the two have a refusal, it is 2.
 ///

@@ -4,14 +4,13 @@ ghost use Rattle.bb_cnf.specs.Clauses.{Formula};
 ghost use Rattle.bb_cnf.specs.declared.clauses.Lit.{Lit};
 ghost use Rattle.bb_outside.specs.Inside.QuietFiles.{holds_of, reads_of};
 ghost use Rattle.bb_words.specs.Asked.{MadePair, made_asked, rup_asked};
-ghost use Rattle.bb_ladder.specs.Answers.{MayAnswer};
+ghost use Rattle.bb_ladder.specs.Answers.{IsVerdict, MayAnswer};
 ghost use Rattle.bb_ladder.specs.CallRefusals.{IsCallRefusal};
 ghost use Rattle.bb_ladder.specs.Calls.{called};
 ghost use Rattle.bb_ladder.specs.Clauses.{OfRefutations, OfTexts, OfWholeRefutations, OfWholeTexts};
-ghost use Rattle.bb_ladder.specs.GivenTexts.{IsVerdict};
 ghost use Rattle.bb_ladder.specs.Refutations.{AreRead, FailsAt, IsRefutation, SaysWhether};
 ghost use Rattle.bb_ladder.specs.ShownMistakes.{AreShown};
-ghost use Rattle.bb_ladder.specs.Sources.{Held};
+ghost use Rattle.bb_ladder.specs.Sources.{Held, MayHaveFailed, Source};
 ghost use Rattle.bb_ladder.specs.TextPairs.{AreDecided, AreFinished, AreLeftOpen, AreRefuted, AreStayingOpen, DoFit, IsFilled, IsFilledToPass, IsFilledToRun, RunsAsSpecified};
 
 use crate::running::run;
@@ -19,7 +18,7 @@ use bb_outside::{QuietFiles, QuietSink};
 use std::alloc::Global;
 
 /// [`run`] for a caller who wants the verdict alone and has the texts in memory. Nothing outside can fail, so statuses 4 and 6 do not come,
-/// and no clause asks that no failure was counted. What each status says of the texts is what it says there; the report is made
+/// and none was counted (`calm`). What each status says of the texts is what it says there; the report is made
 /// and not kept.
 pub fn run_quietly(
     alloc: Global,
@@ -29,7 +28,8 @@ pub fn run_quietly(
 ) -> u8
     ensures status { result ≤ 5 }
 
-    // No file is blamed, and no sink.
+    // No file is blamed, and no sink; and no read may have failed, as some clauses ask.
+    ensures calm { (from : Source) → MayHaveFailed from (reads_of files.old) (reads_of files.new) → ⊥ }
     ensures given { result ≢ 4 }
     ensures taken { result ≢ 6 }
 

@@ -6,11 +6,11 @@ ghost use Rattle.bb_cnf.specs.Clauses.{Formula};
 ghost use Rattle.bb_cnf.specs.declared.clauses.Lit.{Lit};
 ghost use Rattle.bb_words.specs.Asked.{MadePair, made_asked, rup_asked};
 ghost use Rattle.bb_texts.specs.declared.limit.TheConstants.{READ_LIMIT};
-ghost use Rattle.bb_ladder.specs.Answers.{AfterSpec, MayAnswer, OfFiles};
+ghost use Rattle.bb_ladder.specs.Answers.{AfterSpec, IsVerdict, MayAnswer, OfFiles};
 ghost use Rattle.bb_ladder.specs.CallRefusals.{AreTold, IsCallRefusal};
 ghost use Rattle.bb_ladder.specs.Calls.{called};
 ghost use Rattle.bb_ladder.specs.Clauses.{OfRefutations, OfTexts, OfWholeRefutations, OfWholeTexts, Reports, Writes};
-ghost use Rattle.bb_ladder.specs.GivenTexts.{HaveGiven, IsVerdict};
+ghost use Rattle.bb_ladder.specs.GivenTexts.{HaveGiven};
 ghost use Rattle.bb_ladder.specs.Refutations.{AreRead, FailsAt, IsRefutation, SaysWhether, no_line};
 ghost use Rattle.bb_ladder.specs.ShownMistakes.{AreShown};
 ghost use Rattle.bb_ladder.specs.Sources.{MayHaveFailed, Source};
@@ -137,14 +137,16 @@ pub fn run<F: Files, K: Sink>(alloc: Global, words: &[String], files: &mut F, ou
 
     // And where the filled implementation is asked for, after the verdict comes a line that says why there is none, or `fill` and a text
     // that finishes the design: whoever reads it finds a design without boxes that agrees with the specification on every such vector,
-    // and with the implementation, its boxes filled as the tables say, on every vector. As an implementation it is refused for nothing.
+    // and with the implementation, its boxes filled as the tables say, on every vector. As an implementation nothing is at fault
+    // in it and it fits, whether its top is named or not.
     ensures filled { result ≡ 0
         → Reports K.written out.old out.new (called words.now F.holds F.reads files.old files.new) IsFilled }
     ensures passes { result ≡ 0
         → Reports K.written out.old out.new (called words.now F.holds F.reads files.old files.new) IsFilledToPass }
 
     // So they behave alike for ever: from the same states, whatever events come, the implementation with these contents gives the outputs of
-    // the specification at each event and has its states after it, and so does the filled text; with a care output as long as it is 1.
+    // the specification at each event, but for the care output, and has its states after it, and so does the filled text; with a care
+    // output as long as it is 1.
     ensures runs { result ≡ 0
         → Reports K.written out.old out.new (called words.now F.holds F.reads files.old files.new) RunsAsSpecified }
     ensures filled_runs { result ≡ 0
@@ -155,7 +157,8 @@ pub fn run<F: Files, K: Sink>(alloc: Global, words: &[String], files: &mut F, ou
     ensures error { result ≡ 1 → OfTexts (called words.now F.holds F.reads files.old files.new) AreRefuted }
 
     // And the report shows how: after the line of a check that finds it at a vector come the output that is wrong there, where one is
-    // named, and the vector, at which the two designs differ whatever the boxes contain.
+    // named, and the vector, at which the two designs differ whatever the boxes contain; and after the line of the expansion, where a proof
+    // is asked for, vectors at one of which they differ with each contents.
     ensures shown { result ≡ 1
         → Reports K.written out.old out.new (called words.now F.holds F.reads files.old files.new) AreShown }
 

@@ -1,9 +1,13 @@
+use Rattle.std.proofs.Common.{refl}
 use Rattle.bb_ladder.specs.Sources.{Held}
-use Rattle.bb_ladder.proofs.QuietLemmas.{all_held, left_first, never_rose}
+use Rattle.bb_ladder.proofs.QuietLemmas.{all_held, left_first, never_failed, never_rose}
 use Rattle.bb_ladder.proofs.quiet.run_quietly.Goals as goal
 
 pub returns-clause-whole : goal.returns-clause-whole
 returns-clause-whole c = λ small. let found = c.run.ensures.whole small in (found.0, found.2)
+
+pub returns-clause-calm : goal.returns-clause-calm
+returns-clause-calm c = λ from. never_failed from _ _ refl refl
 
 pub returns-clause-repairable : goal.returns-clause-repairable
 returns-clause-repairable c = λ answered from asked spec imp texts.
