@@ -44,7 +44,7 @@ is_repairable verdicts.Error e = absurd (omega (arith, e))
 is_repairable verdicts.Repairable e = refl
 is_repairable verdicts.Open e = absurd (omega (arith, e))
 
-is_open : (v : Verdict) → status_of v ≡ 3 → v ≡ verdicts.Open
+pub is_open : (v : Verdict) → status_of v ≡ 3 → v ≡ verdicts.Open
 is_open verdicts.Error e = absurd (omega (arith, e))
 is_open verdicts.Repairable e = absurd (omega (arith, e))
 is_open verdicts.Open e = refl

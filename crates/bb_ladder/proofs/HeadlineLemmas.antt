@@ -11,6 +11,7 @@ use Rattle.bb_ladder.specs.Answers.{AnswersSpeakOfTexts, Question, AfterSpec, Im
 use Rattle.bb_ladder.specs.Calls.{Call}
 use Rattle.bb_ladder.specs.MadePairs.{JudgesMade, asked_of, head_by, head_of, made_head, made_text}
 use Rattle.bb_ladder.specs.Refutations.{CheckLaws, Checks, FailsAt, IsRefutation, no_line}
+use Rattle.bb_ladder.specs.OpenReports.{IsOpenReport, OpenAnswersAreReports}
 use Rattle.bb_ladder.specs.ShownMistakes.{AreShown, ErrorsAreShown}
 use Rattle.bb_ladder.specs.Sources.{AreBytes, Source}
 use Rattle.bb_ladder.specs.TextAnswers.{Judges, Refused, Judged, AnsweredFit, ErrorsRefute, RepairsFill, RepairsFinish, RepairsRun, OpenAnswersLeaveOpen}
@@ -163,7 +164,8 @@ no_failure status (inl (inr one)) four = omega (arith, one, four)
 no_failure status (inr three) four = omega (arith, three, four)
 
 -- what each status says of the texts of a call
-module _ (once : WordsAskOnce) (fit : AnsweredFit) (finish : RepairsFinish) (run : RepairsRun) (fills : RepairsFill) (refute : ErrorsRefute) (show : ErrorsAreShown) (leave : OpenAnswersLeaveOpen) where
+module _ (once : WordsAskOnce) (fit : AnsweredFit) (finish : RepairsFinish) (run : RepairsRun) (fills : RepairsFill) (refute : ErrorsRefute) (show : ErrorsAreShown) (leave : OpenAnswersLeaveOpen)
+    (reports : OpenAnswersAreReports) where
   pub answers_speak : AnswersSpeakOfTexts
   answers_speak call from status text asked spec imp may texts = record {
     judged = λ verdict. answer_so once (λ asked spec imp text. Judges asked spec imp status text) status (no_refusal status verdict) (no_failure status verdict)
@@ -183,6 +185,7 @@ module _ (once : WordsAskOnce) (fit : AnsweredFit) (finish : RepairsFinish) (run
     shown = λ one. answer_so once AreShown 1 (λ e. omega (arith, e)) (λ e. omega (arith, e)) show call from status text asked spec imp may one texts;
     left_open = λ three. (answer_so once (λ asked spec imp text. AreLeftOpen asked spec imp) 3 (λ e. omega (arith, e)) (λ e. omega (arith, e)) leave
         call from status text asked spec imp may three texts).2;
+    open_report = λ three. answer_so once IsOpenReport 3 (λ e. omega (arith, e)) (λ e. omega (arith, e)) reports call from status text asked spec imp may three texts;
   }
 
 -- with --rup what is written is the answer to the two texts

@@ -19,6 +19,7 @@ pub mod FilledAnswers
 pub mod RefutationLaws
 pub mod StatusLaw
 pub mod ShownLaw
+pub mod OpenLaw
 pub mod TaskLemmas
 pub mod MadeLemmas
 pub mod SomeAnswers

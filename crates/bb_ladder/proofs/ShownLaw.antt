@@ -185,7 +185,7 @@ found_error p o lines some =
     (line.rung, rest, subst (Contains (map (line_text p o) lines)) same (contains-map (line_text p o) lines line has))
 
 -- the texts of lines one after another are those of the lines
-joined : {X : Type 0} (f : X → List ℕ) (xs : List X) → flat_map (λ (t : List ℕ). t) (map f xs) ≡ flat_map f xs
+pub joined : {X : Type 0} (f : X → List ℕ) (xs : List X) → flat_map (λ (t : List ℕ). t) (map f xs) ≡ flat_map f xs
 joined f [] = refl
 joined f (x ∷ xs) = ap (λ z. f x ++ z) (joined f xs)
 

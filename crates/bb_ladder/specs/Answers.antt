@@ -5,6 +5,7 @@ use Rattle.bb_texts.specs.declared.limit.TheConstants.{READ_LIMIT}
 use Rattle.bb_ladder.specs.declared.asked.Asked.{Asked as TextsAsked}
 use Rattle.bb_ladder.specs.Calls.{Call}
 use Rattle.bb_ladder.specs.Refutations.{Checks}
+use Rattle.bb_ladder.specs.OpenReports.{IsOpenReport}
 use Rattle.bb_ladder.specs.ShownMistakes.{AreShown}
 use Rattle.bb_ladder.specs.Sources.{AreBytes, Source}
 use Rattle.bb_ladder.specs.TextAnswers.{Judges}
@@ -79,6 +80,7 @@ pub record Means (call : Call) (status : ℕ) (text : List ℕ) (asked : TextsAs
   pub fit : IsVerdict status → DoFit asked spec imp
   pub shown : status ≡ 1 → IsReport AreShown call.words asked spec imp text
   pub left_open : status ≡ 3 → AreLeftOpen asked spec imp
+  pub open_report : status ≡ 3 → IsReport IsOpenReport call.words asked spec imp text
 
 -- The law of it: an answer speaks of the texts as its status says, also where a prefix of it alone is written.
 abbrev pub AnswersSpeakOfTexts : Type 0

@@ -3,6 +3,7 @@ pub mod TextPairs
 pub mod FilledTexts
 pub mod TextAnswers
 pub mod ShownMistakes
+pub mod OpenReports
 pub mod Refutations
 pub mod Sources
 pub mod MadePairs

@@ -6,6 +6,7 @@ ghost use Rattle.bb_texts.specs.declared.limit.TheConstants.{READ_LIMIT};
 ghost use Rattle.bb_texts.specs.declared.refusal.Refusal.{Refusal};
 ghost use Rattle.bb_texts.specs.RefusalLines.{refusal_line};
 ghost use Rattle.bb_ladder.specs.Inside.Made.{CanBeFilled, IsChecked};
+ghost use Rattle.bb_ladder.specs.OpenReports.{IsOpenReport};
 ghost use Rattle.bb_ladder.specs.ShownMistakes.{AreShown};
 ghost use Rattle.bb_ladder.specs.TextAnswers.{Judges};
 ghost use Rattle.bb_ladder.specs.TextPairs.{AreDecided, AreFinished, AreLeftOpen, AreRefuted, AreStayingOpen, DoFit, IsFilled, IsFilledToPass, IsFilledToRun, IsRefusal, RunsAsSpecified};
@@ -90,6 +91,7 @@ pub fn judge_pair(alloc: Global, spec: &[u8], imp: &[u8], asked: &Asked) -> Resu
     ensures error { IfOk result (λ answer. answer.status ≡ 1 → AreRefuted asked.now spec.now imp.now) }
     ensures shown { IfOk result (λ answer. answer.status ≡ 1 → AreShown asked.now spec.now imp.now answer.report.items) }
     ensures left_open { IfOk result (λ answer. answer.status ≡ 3 → AreLeftOpen asked.now spec.now imp.now) }
+    ensures open_report { IfOk result (λ answer. answer.status ≡ 3 → IsOpenReport asked.now spec.now imp.now answer.report.items) }
     ensures refused { IfOk result (λ answer. answer.status ≡ 2 → (refusal : Refusal) × IsRefusal asked.now spec.now imp.now refusal × (answer.report.items ≡ refusal_line refusal)) }
     ensures stays_refused { IfOk result (λ answer. (refusal : Refusal) → IsRefusal asked.now spec.now imp.now refusal → (answer.status ≡ 2) × (answer.report.items ≡ refusal_line refusal)) }
     ensures decided { IfOk result (λ answer. AreDecided asked.now spec.now imp.now → (answer.status ≡ 0) ⊎ (answer.status ≡ 1)) }

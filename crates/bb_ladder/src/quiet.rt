@@ -9,6 +9,7 @@ ghost use Rattle.bb_ladder.specs.CallRefusals.{IsCallRefusal};
 ghost use Rattle.bb_ladder.specs.Calls.{called};
 ghost use Rattle.bb_ladder.specs.Clauses.{OfRefutations, OfTexts, OfWholeRefutations, OfWholeTexts};
 ghost use Rattle.bb_ladder.specs.Refutations.{AreRead, FailsAt, IsRefutation, SaysWhether};
+ghost use Rattle.bb_ladder.specs.OpenReports.{IsOpenReport};
 ghost use Rattle.bb_ladder.specs.ShownMistakes.{AreShown};
 ghost use Rattle.bb_ladder.specs.Sources.{Held, MayHaveFailed, Source};
 ghost use Rattle.bb_ladder.specs.TextPairs.{AreDecided, AreFinished, AreLeftOpen, AreRefuted, AreStayingOpen, DoFit, IsFilled, IsFilledToPass, IsFilledToRun, RunsAsSpecified};
@@ -62,6 +63,8 @@ pub fn run_quietly(
     // The question is left open only where each check that is asked for leaves it open; where it stays open with each, it is, and where
     // one decides, it is not.
     ensures left_open { result ≡ 3 → OfTexts (called words.now holds_of reads_of files.old files.new) AreLeftOpen }
+    ensures open_report { result ≡ 3 → OfTexts (called words.now holds_of reads_of files.old files.new) (λ asked spec imp.
+        (text : List ℕ) × IsOpenReport asked spec imp text) }
     ensures stays_open { OfWholeTexts (called words.now holds_of reads_of files.old files.new) (λ asked spec imp.
         AreStayingOpen asked spec imp → (result ≡ 3) ⊎ (result ≡ 5)) }
     ensures decided { OfWholeTexts (called words.now holds_of reads_of files.old files.new) (λ asked spec imp.

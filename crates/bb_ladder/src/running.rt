@@ -12,6 +12,7 @@ ghost use Rattle.bb_ladder.specs.Calls.{called};
 ghost use Rattle.bb_ladder.specs.Clauses.{OfRefutations, OfTexts, OfWholeRefutations, OfWholeTexts, Reports, Writes};
 ghost use Rattle.bb_ladder.specs.GivenTexts.{HaveGiven};
 ghost use Rattle.bb_ladder.specs.Refutations.{AreRead, FailsAt, IsRefutation, SaysWhether, no_line};
+ghost use Rattle.bb_ladder.specs.OpenReports.{IsOpenReport};
 ghost use Rattle.bb_ladder.specs.ShownMistakes.{AreShown};
 ghost use Rattle.bb_ladder.specs.Sources.{MayHaveFailed, Source};
 ghost use Rattle.bb_ladder.specs.Inside.Tasks.{IsBounded, judged_by};
@@ -163,8 +164,11 @@ pub fn run<F: Files, K: Sink>(alloc: Global, words: &[String], files: &mut F, ou
         → Reports K.written out.old out.new (called words.now F.holds F.reads files.old files.new) AreShown }
 
     // The question is left open only where, for each pair that stands for the texts, each check that is asked for finds neither a mistake
-    // nor tables, would need more nodes or may need more clauses than it may have, or would need wider tables.
+    // nor tables, would need more nodes or may need more clauses than it may have, or would need wider tables. And the report has a line
+    // for each of them.
     ensures left_open { result ≡ 3 → OfTexts (called words.now F.holds F.reads files.old files.new) AreLeftOpen }
+    ensures open_report { result ≡ 3
+        → Reports K.written out.old out.new (called words.now F.holds F.reads files.old files.new) IsOpenReport }
 
     // Where the texts are within the limit, no read of them may have failed, and a check that is asked for decides a pair that stands for
     // the texts, the answer is an error or tables, unless memory runs out.

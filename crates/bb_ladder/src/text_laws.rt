@@ -7,6 +7,7 @@ ghost use Rattle.bb_ladder.specs.FilledTexts.{NoTablesFollow};
 ghost use Rattle.bb_ladder.specs.GivenTexts.{AnsweredHaveGiven};
 ghost use Rattle.bb_ladder.specs.Inside.Made.{MadeCanBeFilled};
 ghost use Rattle.bb_ladder.specs.Laws.FilledNets.{FilledNetsStand};
+ghost use Rattle.bb_ladder.specs.OpenReports.{OpenAnswersAreReports};
 ghost use Rattle.bb_ladder.specs.ShownMistakes.{ErrorsAreShown};
 ghost use Rattle.bb_ladder.specs.TextAnswers.{AnsweredFit, ErrorsRefute, FillingOnlyAdds, RepairsFill, RepairsFinish, RepairsRun, OpenAnswersLeaveOpen, DecidedAreAnswered, StayingOpenAreAnswered, JudgedRefusalsAreFirst, RefusedAreAnsweredOnce, ReportsAreOne, ReportsBeginAsOne, StatusesAreOne, StatusesNeverClash};
 ghost use Rattle.bb_ladder.specs.TextPairs.{DesignsAreAllowed, FilledTextsFinish, FittingAreRefutedByDesigns, NotFinishedAndRefuted, NotPairAndRefusal, RefusalsAreOne, TextPairsAreAlike};
@@ -167,6 +168,7 @@ pub fn answers_are_meant()
     // The question is left open only where each check that is asked for leaves it open; where it stays open with each, it is, and where
     // one decides, it is not.
     ensures opens { OpenAnswersLeaveOpen }
+    ensures open_reports { OpenAnswersAreReports }
     ensures stays_open { StayingOpenAreAnswered }
     ensures decided { DecidedAreAnswered }
     // Status 2 tells the first refusal, and where there is one, its line is the only answer.

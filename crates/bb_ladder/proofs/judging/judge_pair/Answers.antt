@@ -3,6 +3,7 @@ use Rattle.std.proofs.lemmas.Result.{IfOk-weaker}
 use Rattle.bb_ladder.specs.declared.answer.Answer.{Answer}
 use Rattle.bb_texts.specs.declared.refusal.Refusal.{Refusal}
 use Rattle.bb_texts.specs.RefusalLines.{refusal_line}
+use Rattle.bb_ladder.specs.OpenReports.{IsOpenReport}
 use Rattle.bb_ladder.specs.ShownMistakes.{AreShown}
 use Rattle.bb_ladder.specs.TextAnswers.{Judges}
 use Rattle.bb_ladder.specs.TextPairs.{AreDecided, AreFinished, AreLeftOpen, AreRefuted, AreStayingOpen, DoFit, IsFilled, IsFilledToPass, IsFilledToRun, IsRefusal, RunsAsSpecified}
@@ -54,6 +55,12 @@ pub returns-clause-shown : goal.returns-clause-shown
 returns-clause-shown c =
     let so : (a : Answer) → Judges c.args.asked.now c.args.spec.now c.args.imp.now a.status a.report.items → a.status ≡ 1 → AreShown c.args.asked.now c.args.spec.now c.args.imp.now a.report.items =
     λ a judged one. c.answers_are_meant.ensures.shown c.args.asked.now c.args.spec.now c.args.imp.now a.status a.report.items judged one in
+    IfOk-weaker _ _ _ so c.answer.ensures.answer
+
+pub returns-clause-open_report : goal.returns-clause-open_report
+returns-clause-open_report c =
+    let so : (a : Answer) → Judges c.args.asked.now c.args.spec.now c.args.imp.now a.status a.report.items → a.status ≡ 3 → IsOpenReport c.args.asked.now c.args.spec.now c.args.imp.now a.report.items =
+    λ a judged three. c.answers_are_meant.ensures.open_reports c.args.asked.now c.args.spec.now c.args.imp.now a.status a.report.items judged three in
     IfOk-weaker _ _ _ so c.answer.ensures.answer
 
 pub returns-clause-left_open : goal.returns-clause-left_open

@@ -33,6 +33,10 @@ pub returns-clause-shown : goal.returns-clause-shown
 returns-clause-shown c = λ answered from asked spec imp texts.
     let (text, written, (report, same, holds)) = c.run.ensures.shown answered from asked spec imp texts in (report, holds)
 
+pub returns-clause-open_report : goal.returns-clause-open_report
+returns-clause-open_report c = λ answered from asked spec imp texts.
+    let (text, written, (report, same, holds)) = c.run.ensures.open_report answered from asked spec imp texts in (report, holds)
+
 pub returns-clause-stays_open : goal.returns-clause-stays_open
 returns-clause-stays_open c = λ from asked spec imp texts short low calm left. c.run.ensures.stays_open from asked spec imp texts short low calm left never_rose
 

@@ -36,6 +36,10 @@ pub returns-in-Ok-put_all-clause-shown : goal.returns-in-Ok-put_all-clause-shown
 returns-in-Ok-put_all-clause-shown g c = λ answered from asked spec imp texts.
     (c.in-Ok.answer.report.items, rw c.deref.ensures.value at c.in-Ok-put_all.ensures.ok, (c.answers_speak_of_texts.ensures _ from c.in-Ok.answer.status c.in-Ok.answer.report.items asked spec imp c.in-Ok.ensures.answer texts).shown answered)
 
+pub returns-in-Ok-put_all-clause-open_report : goal.returns-in-Ok-put_all-clause-open_report
+returns-in-Ok-put_all-clause-open_report g c = λ answered from asked spec imp texts.
+    (c.in-Ok.answer.report.items, rw c.deref.ensures.value at c.in-Ok-put_all.ensures.ok, (c.answers_speak_of_texts.ensures _ from c.in-Ok.answer.status c.in-Ok.answer.report.items asked spec imp c.in-Ok.ensures.answer texts).open_report answered)
+
 pub returns-in-Ok-put_all-clause-fit : goal.returns-in-Ok-put_all-clause-fit
 returns-in-Ok-put_all-clause-fit g c = λ answered from asked spec imp texts. (c.answers_speak_of_texts.ensures _ from c.in-Ok.answer.status c.in-Ok.answer.report.items asked spec imp c.in-Ok.ensures.answer texts).fit answered
 
