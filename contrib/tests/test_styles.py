@@ -4,7 +4,8 @@ import os
 import random
 
 from bbeq_tools.report.filler import STYLES
-from bbeq_tools.report.sums import MOST_PINS, expression
+from bbeq_tools.report.products import MOST_PINS
+from bbeq_tools.report.sums import expression
 from tests.tries import Tries, read, run, script, write
 
 SHAPES = ((1, 1), (2, 1), (3, 2), (4, 3), (7, 2))

@@ -11,11 +11,11 @@ from bbeq_tools.page.layout import dot_text, read
 from bbeq_tools.page.logic import Logic, forcing, gates_of, shape_of
 from bbeq_tools.page.markup import element, escaped, folded, shortened, visible
 from bbeq_tools.page.picture import SIGNATURE, chunk, pixels, with_palette
-from bbeq_tools.page.products import covers, least_sum, primes, sum_text
 from bbeq_tools.page.reach import unreached
 from bbeq_tools.page.sides import Side, Signals, check_fit, choice, difference
 from bbeq_tools.page.sources import addition, excerpt, named_line
 from bbeq_tools.page.traces import buses, traces_of, value_text
+from bbeq_tools.report.products import covers, least_sum, primes, sum_text
 from tests.test_units_report import Files
 
 TEXT = """module m(a, b, c, y, z); input a, b, c; output y, z; wire w;

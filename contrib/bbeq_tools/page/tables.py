@@ -6,7 +6,7 @@ from bbeq_tools.cli import Fault
 from bbeq_tools.page.account import Account
 from bbeq_tools.page.markup import (Markup, code, counted, element, folded, joined, paragraph,
                                     shortened)
-from bbeq_tools.page.products import MOST_PINS, least_sum, sum_text
+from bbeq_tools.report.products import MOST_PINS, least_sum, sum_text
 from bbeq_tools.report.reports import OTHER
 from bbeq_tools.verilog.language import Module, bit_text, written
 from bbeq_tools.verilog.flat import Flat

@@ -4,7 +4,8 @@ their values from time 0 on: `always @*` waits for a pin to change. Where no vec
 the pins, `-` stands for the bits of its outputs."""
 from typing import Callable, Dict, Iterable, Iterator, List, Optional, Sequence, Tuple
 
-from bbeq_tools.report.sums import MOST_PINS, expression
+from bbeq_tools.report.products import MOST_PINS
+from bbeq_tools.report.sums import expression
 from bbeq_tools.verilog.language import Module, Net, bit_text, written
 
 Contents = Sequence[str]  # The bits of each output pin, row by row.

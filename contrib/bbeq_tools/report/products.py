@@ -5,8 +5,9 @@ from functools import reduce
 from typing import Dict, List, NamedTuple, Sequence, Set, Tuple
 
 Cube = Tuple[int, int]  # The digits that count, and what they are.
-MOST_PINS = 10
-MOST_STEPS = 500  # Of the search for the fewest products.
+MOST_PINS = 10  # A sum of products of more takes long to find, and to read.
+MOST_STEPS = 1_000  # Of the search for the fewest products.
+FEW_CUBES, MOST_PAIRS = 400, 10_000_000  # Of cubes that are compared with each other.
 
 
 class Sum(NamedTuple):
@@ -48,6 +49,7 @@ class Search:
 
     def __init__(self, masks: List[int], costs: List[int]) -> None:
         self.masks, self.costs, self.steps = masks, costs, 0
+        self.pairs = MOST_PAIRS
         self.best: List[int] = []
         self.price = (len(masks) + 1, 0)
 
@@ -61,8 +63,7 @@ class Search:
         while left:
             if len(taken) + 1 > self.price[0] or self.steps > MOST_STEPS and self.best:
                 return
-            usable = undominated([cube for cube in usable if self.masks[cube] & left], self.masks,
-                                 self.costs, left)
+            usable = self.undominated([cube for cube in usable if self.masks[cube] & left], left)
             single = single_rows([self.masks[cube] & left for cube in usable])
             needed = [cube for cube in usable if self.masks[cube] & single]
             if not needed:
@@ -72,6 +73,14 @@ class Search:
             left &= ~reduce(lambda mask, cube: mask | self.masks[cube], needed, 0)
         if self.price_of(taken) < self.price:
             self.best, self.price = taken, self.price_of(taken)
+
+    def undominated(self, usable: List[int], left: int) -> List[int]:
+        """Compares many cubes only a few times, since each is compared with each."""
+        if len(usable) > FEW_CUBES:
+            if self.pairs < len(usable) ** 2:
+                return usable
+            self.pairs -= len(usable) ** 2
+        return undominated(usable, self.masks, self.costs, left)
 
     def branch(self, left: int, taken: List[int], usable: List[int]) -> None:
         row = scarcest([self.masks[cube] & left for cube in usable], left)
@@ -90,27 +99,22 @@ def single_rows(masks: List[int]) -> int:
 
 
 def scarcest(masks: List[int], left: int) -> int:
-    """The digit of a row that the fewest of the cubes cover."""
-    counts = dict.fromkeys(digits(left), 0)
+    """The digit of a row that the fewest of the cubes cover. All rows are counted at once: a number
+    of `planes` has a digit of each row's count."""
+    planes: List[int] = []
     for mask in masks:
-        for row in digits(mask):
-            counts[row] += 1
-    return min(counts, key=lambda row: counts[row])
-
-
-def digits(mask: int) -> List[int]:
-    found = []
-    while mask:
-        found.append(mask & -mask)
-        mask &= mask - 1
-    return found
+        at = 0
+        while mask:
+            if at == len(planes):
+                planes.append(0)
+            planes[at], mask, at = planes[at] ^ mask, planes[at] & mask, at + 1
+    for plane in reversed(planes):
+        left = left & ~plane or left
+    return left & -left
 
 
 def undominated(usable: List[int], masks: List[int], costs: List[int], left: int) -> List[int]:
-    """The cubes without those that another covers at no greater cost; few are compared, since each
-    is with each."""
-    if len(usable) > 400:
-        return usable
+    """The cubes without those that another covers at no greater cost."""
     order = sorted(usable, key=lambda cube: (-bin(masks[cube] & left).count("1"), costs[cube]))
     kept: List[int] = []
     for cube in order:
