@@ -3,7 +3,8 @@ must-fail/, which `rt ci` tries too, and the .md files, which it does not.
 
 It works on a copy of the crates, by `rt ci CRATE`, so that what an earlier `rt ci` proved on this
 machine is not proved again. A line for each edit has its processor seconds and the first thing that
-refused it. The status is 1 where an edit is let through, cannot be read or was not tried.
+refused it. The status is 1 where an edit is let through, cannot be read or was not tried, and 125
+where the edits cannot be tried at all.
 `contrib/minutes --edits` says when each was last tried."""
 import argparse
 import datetime
@@ -11,9 +12,10 @@ import os
 import re
 import shutil
 import subprocess
+import sys
 import tempfile
 
-from bbeq_tools.cli import Words
+from bbeq_tools.cli import Fault, Words, run_script
 from gate_tools.kinds import EDITS, SEED, by_work
 from gate_tools.processes import watched
 from gate_tools.tried import Tried, crates_with_edits, edits_of, read_tried, sum_of, write_tried
@@ -38,7 +40,7 @@ def parse_words():
     if words.all == bool(words.crates):
         parser.error("name crates, or --all")
     if shutil.which("rt") is None:
-        parser.error("rt of the Rattle kit is not on the PATH")
+        raise Fault("rt of the Rattle kit is not on the PATH")
     return known if words.all else words.crates
 
 
@@ -98,7 +100,7 @@ def tried(to, crate, before):
     return records, seed, lines
 
 
-def main():
+def command():
     crates, missed = parse_words(), 0
     with tempfile.TemporaryDirectory(prefix="edits-") as to:
         copy_crates(to)
@@ -115,4 +117,8 @@ def main():
                 print("\n".join(["what rt said at the end:", *lines[-12:]]))
             missed += lost
     print("all were refused" if not missed else f"{missed} were not refused")
-    return 1 if missed else 0
+    sys.exit(1 if missed else 0)
+
+
+def main():
+    run_script("edits", command)

@@ -4,14 +4,14 @@ two.
 The table has the processor minutes of each crate: its proof, its tests, the seed of its edits (the
 check that they begin with), the edits, and runs of its program or tests; then the greatest memory
 of one process. Below it are the sums, the longest chain of proofs that wait for each other, and the
-last line of the gate."""
+last line of the gate. With --run the status is that of `rt ci`."""
 import argparse
 import os
 import resource
 import sys
 import time
 
-from bbeq_tools.cli import FAILED, Words
+from bbeq_tools.cli import Fault, Words, run_script
 from gate_tools.gate_log import lines_of, longest_chain, read_gate
 from gate_tools.kinds import EDITS, KINDS, PROOF, RUN, SEED, TESTS, by_work
 from gate_tools.processes import watched
@@ -69,9 +69,7 @@ def read(path):
     with open(path, encoding="utf-8", errors="replace") as file:
         gate = read_gate(file)
     if gate is None:
-        print(f"minutes: {path}: no times are in this log: `minutes --run LOG` writes them",
-              file=sys.stderr)
-        sys.exit(FAILED)
+        raise Fault(f"{path}: no times are in this log: `minutes --run LOG` writes them")
     return gate
 
 
@@ -110,12 +108,12 @@ def print_summary(gate):
           f"the clock on {gate.processors} processors; {gate.last or 'it did not end'}")
 
 
-def main():
+def command():
     words = parse_words()
     if words.edits:
         for line in last_tried(TOP):
             print(line)
-        return 0
+        return
     status = run_gate(words.log, words.anew) if words.run else 0
     gate = read(words.log)
     if words.after:
@@ -123,7 +121,11 @@ def main():
         print_comparison(gate, other)
         print_summary(gate)
         print_summary(other)
-        return 0
+        return
     print_table(gate)
     print_summary(gate)
-    return status
+    sys.exit(status)
+
+
+def main():
+    run_script("minutes", command)

@@ -30,8 +30,10 @@ class Bad(Tries):
         """Tries a command whose words it cannot work with."""
         done = run([script(name), *words], self.folder)
         shown = " ".join(os.path.basename(word) for word in words)
+        # Of the others, 0 to 6 are the program's own.
+        statuses = (1, 64, 125) if name == "lrat" else (64, 125)
         self.note(f"{name} {shown}: {done.err.strip().replace(self.folder + '/', '')}",
-                  is_told(done, name), done.why())
+                  is_told(done, name) and done.status in statuses, done.why())
 
     def test_words(self):
         for name in SCRIPTS:
@@ -108,7 +110,8 @@ class Bad(Tries):
                 ("evaluate", [spec, broken]),
                 ("evaluate", [example("buffer", "spec.v"), implementation]),
                 ("evaluate", [implementation, spec]), ("evaluate", [spec, implementation, opened]),
-                ("lrat", ["nowhere", "nowhere"]), ("lrat", [empty, empty])):
+                ("lrat", ["nowhere", "nowhere"]), ("lrat", [empty, empty]),
+                ("minutes", ["nowhere"]), ("minutes", [empty])):
             self.told(name, *words)
 
 

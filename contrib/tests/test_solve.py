@@ -32,6 +32,13 @@ def processes(mark):
     return found
 
 
+def heed():
+    """Takes the signals that a caller may ignore, as nohup does, and a shell for what it does not
+    wait for."""
+    for number in (signal.SIGINT, signal.SIGHUP):
+        signal.signal(number, signal.SIG_DFL)
+
+
 def is_gone(mark, place):
     """Whether nothing is left within ten seconds, neither a process nor a file."""
     until = time.monotonic() + 10
@@ -144,8 +151,7 @@ class Solve(Tries):
             env, place = self.slow("nothing" if number % 2 else "expand")
             running = subprocess.Popen(words, env=env, stdin=subprocess.DEVNULL,
                                        stdout=subprocess.PIPE, stderr=subprocess.PIPE,
-                                       preexec_fn=lambda: signal.signal(signal.SIGINT,
-                                                                        signal.SIG_DFL))
+                                       preexec_fn=heed)
             time.sleep(draw.random() * 2)
             running.send_signal(signals[number % 4])
             out, _ = running.communicate(timeout=LIMIT)

@@ -4,7 +4,7 @@ refused.
 Each draw is run undisturbed: the status has to be one of 0 to 4, with a report of its form on
 standard output, and nothing on standard error. Then an allocation is refused, or it and all later
 ones, of a number that is drawn too: the status has to be 5 with nothing written, or the run's own
-status and bytes. It ends with 1 at the first other answer, and leaves the texts of it behind."""
+status and bytes. It ends with 125 at the first other answer, and keeps the texts of it."""
 import os
 import random
 import re

@@ -115,6 +115,8 @@ def main() -> None:
     except UnicodeDecodeError:
         fail("a file is no text of ASCII", NOT_VERIFIED)
     except OSError as error:
-        fail(f"{error.filename}: {error.strerror}", UNREAD)
+        fail(f"{error.filename or 'standard output'}: {error.strerror}", UNREAD)
+    except MemoryError:
+        fail("there is no memory left", UNREAD)
     except (Wrong, ValueError) as wrong:
         fail(str(wrong), NOT_VERIFIED)
