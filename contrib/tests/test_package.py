@@ -27,6 +27,17 @@ def commands():
     return found
 
 
+def usage_of(name):
+    """The words that --help shows first, on one line."""
+    return " ".join(run([script(name), "--help"]).out.partition("\n\n")[0].split())
+
+
+def files_in(usage):
+    """The names of what stands after the options, each once."""
+    words = re.sub(r"\[-[^]]*\]|-\w [A-Z]+", "", usage)
+    return list(dict.fromkeys(re.findall(r"\b[A-Z]+\b", words)))
+
+
 class Package(unittest.TestCase):
     def test_commands(self):
         """Each command of this folder is installed under its name, but for those of a checkout."""
@@ -38,6 +49,29 @@ class Package(unittest.TestCase):
     def test_page(self):
         listed = re.findall(r"^\.It Nm bbeq-(\w+)$", read(PAGE), re.MULTILINE)
         self.assertEqual(sorted(listed), sorted(entry_points()))
+
+    def test_synopsis(self):
+        """The page has the words of --help: what a synopsis names, and what must be given."""
+        section = re.search(r"^\.Sh SYNOPSIS\n(.*?)^\.Sh", read(PAGE), re.MULTILINE | re.DOTALL)[1]
+        for part in section.split(".Nm bbeq-")[1:]:
+            name, *lines = part.splitlines()
+            usage = usage_of(name)
+            for line in lines:
+                option = re.match(r"\.(Op )?Fl (\S+)", line)
+                if option:
+                    wanted = f"-{option[2]} ", f"[-{option[2]} "
+                    self.assertIn(wanted[1] if option[1] else f" {wanted[0]}", usage, name)
+            files = re.findall(r"\w+", " ".join(line[4:] for line in lines
+                                                if line.startswith(".Ar ")))
+            self.assertEqual([file.upper() for file in files], files_in(usage), name)
+
+    def test_options(self):
+        """An option that the page names of a command is one of its --help."""
+        for part in read(PAGE).split("\n.It Nm bbeq-")[1:]:
+            name, *lines = part.partition("\n.El")[0].splitlines()
+            for line in lines:
+                if line.startswith(".Fl "):
+                    self.assertIn(f"-{line.split()[1]}", usage_of(name), name)
 
     def test_sent(self):
         """What `run` sends to a host imports nothing of the package."""
