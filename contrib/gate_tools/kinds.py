@@ -34,6 +34,8 @@ def check_of(process):
     """rt proves a crate in its folder, and tries edits in a copy under rt-edit-; the folder over
     which an edit is tried ends in the edit's number, that of the seed in `seed`."""
     words = process.words
+    if "--crate-name" not in words[:-1]:  # What asks rattle of itself.
+        return None
     crate = words[words.index("--crate-name") + 1]
     if "/rt-edit-" not in process.folder:
         return Work(crate, TESTS if "--test" in words else PROOF)

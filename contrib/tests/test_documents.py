@@ -3,9 +3,10 @@ what it prints stands below it. In other blocks a command of ./bbeq is run, and 
 one of the document's blocks; one between back quotes is run and not refused."""
 import os
 import re
+import shlex
 import shutil
 
-from tests.tries import BBEQ, TOP, Tries, read, run
+from tests.tries import BBEQ, TOP, Tries, read, run, write
 
 MADE_BY = "0.23"  # The yosys that made the examples.
 
@@ -20,11 +21,15 @@ def documents():
 
 
 def workshop(folder):
-    """A folder with what the commands of the documents name: the program, the scripts and the
-    examples, to be written to."""
+    """A folder with what the commands of the documents name: the program, whose help ./bbeq has, the
+    scripts and the examples, to be written to."""
     shop = os.path.join(folder, "shop")
     os.makedirs(shop)
-    os.symlink(BBEQ, os.path.join(shop, "bbeq"))
+    top, program = shlex.quote(os.path.join(TOP, "bbeq")), shlex.quote(BBEQ)
+    os.chmod(write(shop, "bbeq", f"""#!/bin/sh
+case ${{1-}} in --help | --version) exec {top} "$@" ;; esac
+exec {program} "$@"
+"""), 0o755)
     for name in ("contrib", "examples"):
         shutil.copytree(os.path.join(TOP, name), os.path.join(shop, name))
     return shop
