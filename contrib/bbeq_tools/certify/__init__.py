@@ -1,0 +1,1 @@
+"""What is made of a report: filled netlists, waves, proofs in other formats."""
