@@ -117,7 +117,9 @@ class Formula:
         return found
 
     def value(self, known: Dict[Bit, int], bit: Bit) -> int:
-        """Of a net that nothing drives any bit."""
+        """Of a net that nothing drives, and of an undefined constant, any bit."""
+        if isinstance(bit, str) and bit not in known:
+            return self.fresh()
         if bit not in known:
             known[bit] = self.fresh()
         return known[bit]

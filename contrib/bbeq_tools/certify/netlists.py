@@ -82,8 +82,10 @@ class Design:
 
     def __init__(self, text: str, whole: Dict[str, Any], flat: Dict[str, Any]) -> None:
         self.text, self.whole, self.modules = text, whole["modules"], flat["modules"]
-        self.top = next(name for name, module in self.modules.items()
-                        if "top" in module["attributes"])
+        self.top = next((name for name, module in self.modules.items()
+                         if "top" in module["attributes"]), "")
+        if not self.top:
+            raise Fault("yosys finds no top module; name it as for bbeq")
         self.nets = self.modules[self.top]["netnames"]
         self.inputs, self.outputs = self.port_bits("input"), self.port_bits("output")
         self.boxes: List[Box] = []
