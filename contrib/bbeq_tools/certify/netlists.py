@@ -77,8 +77,8 @@ def text_place(thing: Dict[str, Any]) -> Tuple[int, ...]:
 
 
 class Design:
-    """A flat netlist: its inputs, outputs and registers by their texts, and its cells in an order in
-    which each has its operands before it."""
+    """A flat netlist: its inputs, outputs and registers by their texts, and its cells in an order
+    in which each has its operands before it."""
 
     def __init__(self, text: str, whole: Dict[str, Any], flat: Dict[str, Any]) -> None:
         self.text, self.whole, self.modules = text, whole["modules"], flat["modules"]
@@ -133,7 +133,8 @@ class Design:
             given = pins.get(port, [f"{name} {port} {at}" for at in range(len(shape["bits"]))])
             for inner, outer in reversed(list(zip(shape["bits"], given))):
                 if inner in own or isinstance(inner, str):
-                    self.driver[outer], is_box = Cell("wire", [own.get(inner, inner)], [outer]), False
+                    is_box = False
+                    self.driver[outer] = Cell("wire", [own.get(inner, inner)], [outer])
                 else:
                     outs.append(outer)
         if outs and is_box:
