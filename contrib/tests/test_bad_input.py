@@ -6,7 +6,7 @@ import subprocess
 import time
 
 from tests.tries import (BBEQ, LIMIT, REFUSED, SMALL_PROOF, Tries, bbeq, example, is_told, read,
-                         run, script, write)
+                         run, script, take_signals, write)
 
 
 # bad
@@ -530,10 +530,9 @@ def end_one(tally, folder, name, words, number, env):
     started = os.path.join(folder, "started")
     if os.path.exists(started):
         os.remove(started)
-    # In the background of a shell SIGINT is ignored, which a child would inherit.
     child = subprocess.Popen([script(name), *words], env=env, stdout=subprocess.DEVNULL,
                              stderr=subprocess.PIPE, text=True, cwd=folder,
-                             preexec_fn=lambda: signal.signal(signal.SIGINT, signal.SIG_DFL))
+                             preexec_fn=take_signals)
     until = time.monotonic() + LIMIT
     while not (os.path.exists(started) and read(started).strip()) and time.monotonic() < until:
         time.sleep(0.05)

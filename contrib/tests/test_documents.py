@@ -21,8 +21,8 @@ def documents():
 
 
 def workshop(folder):
-    """A folder with what the commands of the documents name: the program, whose help ./bbeq has, the
-    scripts and the examples, to be written to."""
+    """A folder with what the commands of the documents name: the program, whose help ./bbeq has,
+    the scripts and the examples, to be written to."""
     shop = os.path.join(folder, "shop")
     os.makedirs(shop)
     top, program = shlex.quote(os.path.join(TOP, "bbeq")), shlex.quote(BBEQ)

@@ -9,7 +9,7 @@ import subprocess
 import time
 
 from tests.stand_in import environment, executable, kit_line, make_sources
-from tests.tries import BBEQ, LIMIT, Done, Tries, example, read, run, write
+from tests.tries import BBEQ, LIMIT, Done, Tries, example, take_signals, read, run, write
 
 PAIR = (example("nor", "spec.v"), example("nor", "impl.v"))
 UNPROVED, COMPILING = "bbeq: NOT PROVED", "bbeq: compiling"
@@ -37,10 +37,9 @@ class Shop:
 
     def starts(self, script, **env):
         words = [self.path(script), *(PAIR if script == "bbeq" else ())]
-        # In the background of a shell SIGINT is ignored, which a child would inherit.
         return subprocess.Popen(words, env={**self.env, **env}, text=True, stdin=subprocess.DEVNULL,
                                 stdout=subprocess.PIPE, stderr=subprocess.PIPE,
-                                preexec_fn=lambda: signal.signal(signal.SIGINT, signal.SIG_DFL))
+                                preexec_fn=take_signals)
 
     def compiles(self):
         return read(self.env["CALLS"]).count("called") if os.path.exists(self.env["CALLS"]) else 0

@@ -8,7 +8,8 @@ import signal
 import subprocess
 import time
 
-from tests.tries import BBEQ, LIMIT, Tries, bbeq, example, is_told, read, run, script, write
+from tests.tries import (BBEQ, LIMIT, Tries, bbeq, example, is_told, read, run, script,
+                         take_signals, write)
 
 PAIRS = ("adder", "alu", "buffer", "carry", "counter", "lanes", "nor", "stages", "twins")
 # A program that reads a pair and then takes long, but for the checks that $QUICK names.
@@ -30,13 +31,6 @@ def processes(mark):
         except OSError:
             pass
     return found
-
-
-def heed():
-    """Takes the signals that a caller may ignore, as nohup does, and a shell for what it does not
-    wait for."""
-    for number in (signal.SIGINT, signal.SIGHUP):
-        signal.signal(number, signal.SIG_DFL)
 
 
 def is_gone(mark, place):
@@ -151,7 +145,7 @@ class Solve(Tries):
             env, place = self.slow("nothing" if number % 2 else "expand")
             running = subprocess.Popen(words, env=env, stdin=subprocess.DEVNULL,
                                        stdout=subprocess.PIPE, stderr=subprocess.PIPE,
-                                       preexec_fn=heed)
+                                       preexec_fn=take_signals)
             time.sleep(draw.random() * 2)
             running.send_signal(signals[number % 4])
             out, _ = running.communicate(timeout=LIMIT)

@@ -1,6 +1,7 @@
 """What the tests share: how a command is run, what it printed, and the files that it is given."""
 import os
 import shutil
+import signal
 import subprocess
 import tempfile
 import unittest
@@ -75,6 +76,13 @@ def run(words, folder=None, text=None, env=None):
     except subprocess.TimeoutExpired:
         return Done("none in time", "", "")
     return Done(done.returncode, done.stdout, done.stderr)
+
+
+def take_signals():
+    """Takes the signals that a caller may ignore, as nohup does, and a shell for what it does not
+    wait for."""
+    for number in (signal.SIGINT, signal.SIGHUP):
+        signal.signal(number, signal.SIG_DFL)
 
 
 def script(name):
