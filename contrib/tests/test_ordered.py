@@ -118,7 +118,7 @@ def reader_tries(tally, folder):
     drawn, _ = in_any_order(folder, os.path.join(folder, "0.sv"))
     report = write(folder, "report", bbeq(drawn, wrong).out)
     for name, words, wanted in (("wave", ["--vcd", os.path.join(folder, "w.vcd")],
-                                 "(named by the report)"), ("why", [], "no box is seen")):
+                                 "(named by the report: s[3])"), ("why", [], "no box is seen")):
         done = run([script(name), report, drawn, wrong, *words])
         tally.note(f"{name} reads a text that is taken apart",
                    done.status == 0 and wanted in done.out, done.why())
