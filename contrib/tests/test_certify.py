@@ -201,7 +201,8 @@ class Certify(Tries):
         self.note("an expansion without its proof", done.status == 3 and "--proof" in done.out
                   and "\nnot certified: " in done.out, done.why())
         lines = bbeq(*sides, "--proof").out.splitlines()
-        short = [line for at, line in enumerate(lines) if at < 2 or not line.startswith("vector ")]
+        first = next(line for line in lines if line.startswith("vector "))
+        short = [line for line in lines if line == first or not line.startswith("vector ")]
         done = run([script("certify"), write(self.folder, "short", "\n".join(short)), *sides])
         self.note("vectors left out", done.status == 1 and is_told(done, "certify"), done.why())
         other = example("alu", "spec.v"), example("alu", "impl.v")

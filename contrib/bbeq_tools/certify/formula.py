@@ -43,7 +43,7 @@ class Formula:
         if abs(one) == abs(other):
             return FALSE if one == other else TRUE
         sign = -1 if (one < 0) != (other < 0) else 1
-        key = ("xor", *sorted((abs(one), abs(other))))
+        key = ("xor", min(abs(one), abs(other)), max(abs(one), abs(other)))
         if key not in self.gates:
             out, left, right = self.fresh(), key[1], key[2]
             self.gates[key] = out

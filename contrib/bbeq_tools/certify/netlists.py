@@ -34,11 +34,11 @@ class Place(NamedTuple):
 
     path: Tuple[str, ...]
     net: str
-    index: Optional[int]
+    at: Optional[int]
 
     def text(self) -> str:
         name = ".".join((*self.path, self.net))
-        return name if self.index is None else f"{name}[{self.index}]"
+        return name if self.at is None else f"{name}[{self.at}]"
 
 
 class Cell(NamedTuple):
@@ -119,7 +119,8 @@ class Design:
 
     def add_leaf(self, name: str, kind: str, pins: Dict[str, List[Bit]]) -> None:
         """A module without cells: a box, or wires from its inputs and constants to its outputs."""
-        ports, own = self.modules[kind]["ports"], {}
+        ports = self.modules[kind]["ports"]
+        own: Dict[Bit, Bit] = {}
         for port, shape in ports.items():
             if shape["direction"] == "input":
                 own.update(zip(shape["bits"], pins.get(port, [])))
@@ -164,7 +165,7 @@ class Design:
         net = self.nets.get(".".join((*place.path, place.net)))
         if net is None:
             raise Fault(f"yosys has no net {place.text()} in what it flattened")
-        bit: Bit = net["bits"][indices(net).index(place.index)]
+        bit: Bit = net["bits"][indices(net).index(place.at)]
         return bit
 
     def ordered(self) -> List[Cell]:
@@ -238,8 +239,9 @@ def load(folder: str, name: str) -> Dict[str, Any]:
 
 def check_fit(spec: Design, impl: Design, care: Optional[str]) -> None:
     """The two have the same ports and registers, but for the care output."""
-    sides = [(spec.inputs, impl.inputs, "input"), (spec.registers, impl.registers, "register"),
-             ({name: 0 for name in spec.outputs if name != care}, impl.outputs, "output")]
+    sides: List[Tuple[Dict[str, Any], Dict[str, Any], str]] = [
+        (spec.inputs, impl.inputs, "input"), (spec.registers, impl.registers, "register"),
+        ({name: 0 for name in spec.outputs if name != care}, impl.outputs, "output")]
     for left, right, kind in sides:
         for name in sorted(set(left) ^ set(right)):
             raise Fault(f"one of the texts has no {kind} {name}; {OTHER}")

@@ -69,11 +69,13 @@ def write_lrat(clauses: List[List[int]], drat: str, lrat: str) -> None:
     reasons = Reasons(clauses)
     with open(drat, encoding="ascii") as file:
         lines = [line.split() for line in file]
-    added = [list(map(int, words[:-1])) for words in lines if words and words[0] != "d"]
+    added: List[List[int]] = [[int(word) for word in words[:-1]] for words in lines
+                              if words and words[0] != "d"]
+    empty: List[int] = []
     with open(lrat, "w", encoding="ascii") as file:
-        for clause in [*added, []]:
-            hints = reasons.hints([] if reasons.clash else clause)
-            clause = [] if reasons.clash else clause
+        for clause in [*added, empty]:
+            clause = empty if reasons.clash else clause
+            hints = reasons.hints(clause)
             number = len(reasons.clauses) + 1
             file.write(" ".join(map(str, [number, *clause, 0, *hints, 0])) + "\n")
             if not clause:
@@ -111,7 +113,8 @@ class Reasons:
     def propagate(self, work: List[int]) -> int:
         """Takes what follows of literals that are true; gives a clause that is false, or 0."""
         for literal in work:
-            watching, kept = self.watched.get(-literal, []), []
+            watching = self.watched.get(-literal, [])
+            kept: List[int] = []
             for at, number in enumerate(watching):
                 clash = self.visit(number, -literal, kept, work)
                 if clash:

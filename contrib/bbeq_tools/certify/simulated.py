@@ -42,7 +42,7 @@ def written(name: str) -> str:
 def reached(place: Place) -> str:
     """How the testbench reaches a net or one bit of it."""
     path = ".".join(map(written, ("dut", *place.path, place.net)))
-    return path if place.index is None else f"{path}[{place.index}]"
+    return path if place.at is None else f"{path}[{place.at}]"
 
 
 def bench_text(design: Design) -> str:
