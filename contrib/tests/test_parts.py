@@ -7,8 +7,10 @@ from bbeq_tools.developing.drawn import drawn_apart
 from bbeq_tools.developing.lanes import lanes_pair
 from bbeq_tools.reference.truths import MOST_CONTENTS, pair_of, vectors
 from bbeq_tools.report.reports import vectors as vectors_in
+from bbeq_tools.verilog.bits import Bit
 from bbeq_tools.verilog.language import Reader, top_of
-from bbeq_tools.verilog.values import Bit, Design, World
+from bbeq_tools.verilog.values import Design
+from bbeq_tools.verilog.world import World
 from tests.tries import Tries, bbeq, example, is_told, read, run, script, write
 
 DRAWN = int(os.environ.get("CHECK_PARTS", "40"))

@@ -11,7 +11,8 @@ from bbeq_tools.reference.truths import (CHECKS, MOST_CONTENTS, by_rows, climb, 
                                          vectors)
 from bbeq_tools.report.reports import tables
 from bbeq_tools.verilog.language import Reader, top_of
-from bbeq_tools.verilog.values import Design, World
+from bbeq_tools.verilog.values import Design
+from bbeq_tools.verilog.world import World
 from tests.test_rows import all_rows
 from tests.tries import TOP, Tries, bbeq, example, is_told, read, run, script, write
 

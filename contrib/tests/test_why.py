@@ -7,8 +7,10 @@ from bbeq_tools.developing.drawn import drawn_pair
 from bbeq_tools.reference.truths import by_rows
 from bbeq_tools.report.buses import hexadecimal, shown
 from bbeq_tools.report.reports import vectors
+from bbeq_tools.verilog.bits import Bit, same
 from bbeq_tools.verilog.language import read_modules, top_of
-from bbeq_tools.verilog.values import Bit, Design, World, same
+from bbeq_tools.verilog.values import Design
+from bbeq_tools.verilog.world import World
 from tests.tries import Tries, bbeq, example, is_told, read, run, script, write
 
 DRAWN = int(os.environ.get("CHECK_WHY", "20"))  # Drawn pairs whose error is explained.

@@ -7,9 +7,11 @@ Beside that, what is own, by hand; and the numbers of cells."""
 import os
 import random
 
+from bbeq_tools.verilog.bits import Bit
 from bbeq_tools.verilog.flat import Cell, Flat
 from bbeq_tools.verilog.language import Reader, number_of
-from bbeq_tools.verilog.values import Bit, Design, World
+from bbeq_tools.verilog.values import Design
+from bbeq_tools.verilog.world import World
 from tests.tries import Tries, bbeq, run, write
 
 DRAWN, AT_ONCE, VECTORS = int(os.environ.get("CHECK_WORDS", "300")), 25, 3

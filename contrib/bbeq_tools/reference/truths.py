@@ -6,7 +6,9 @@ from functools import cached_property, reduce
 from itertools import product
 
 from bbeq_tools.cli import Fault
-from bbeq_tools.verilog.values import Bit, Design, World, both, inverted
+from bbeq_tools.verilog.bits import Bit, both, inverted
+from bbeq_tools.verilog.values import Design
+from bbeq_tools.verilog.world import World
 
 # Bits of a vector, pins of one direction of a box, bits of all contents.
 MOST_INPUTS, MOST_PINS, MOST_CONTENTS = 12, 6, 16

@@ -4,8 +4,9 @@ from typing import NamedTuple
 
 from bbeq_tools.reference.truths import unknown
 from bbeq_tools.report.buses import shown
+from bbeq_tools.verilog.bits import Bit, same
 from bbeq_tools.verilog.language import bit_text
-from bbeq_tools.verilog.values import Bit, World, same
+from bbeq_tools.verilog.world import World
 
 MOST_PINS = 12  # Output pins of boxes whose values are tried.
 MOST_SHOWN = 8

@@ -12,9 +12,11 @@ from bbeq_tools.program import find_program
 from bbeq_tools.report.contents import tree
 from bbeq_tools.report.filler import Filler
 from bbeq_tools.report.reports import Tables, vectors
+from bbeq_tools.verilog.bits import Bit
 from bbeq_tools.verilog.language import (Expression, Module, Reader, Token, bit_text, tokens,
                                          written)
-from bbeq_tools.verilog.values import Bit, Design, Name, World
+from bbeq_tools.verilog.values import Design
+from bbeq_tools.verilog.world import Name, World
 
 Rows = Dict[str, Set[int]]  # Of tables, by the paths of boxes.
 
