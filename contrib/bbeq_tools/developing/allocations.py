@@ -13,6 +13,7 @@ import subprocess
 from bbeq_tools.cli import Fault
 
 STACK = 512  # Words of the stack that are kept.
+MAKE_ROOM = ("rattle_", "libc::", "std_", "core_", "core::")  # The libraries that make room.
 OBJECT = r"""
 #define _GNU_SOURCE
 #include <errno.h>
@@ -113,7 +114,7 @@ class Runs:
             at = bisect.bisect_right(starts, word - base) - 1
             if 0 <= at < len(starts) - 1 and starts[0] <= word - base:
                 name = self.symbols[at][1]
-                if not name.startswith(("rattle_", "std_", "core_")):
+                if not name.startswith(MAKE_ROOM):
                     return name.split("::<#")[0]
         return "a function without a name"
 
