@@ -16,7 +16,7 @@ from bbeq_tools.page.compose import Subject, page
 from bbeq_tools.page.picture import with_palette
 from bbeq_tools.page.sides import Side, check_fit
 from bbeq_tools.report.filler import Filler
-from bbeq_tools.report.reports import other_texts
+from bbeq_tools.report.reports import add_report_words, other_texts
 from bbeq_tools.report.unused import with_unused
 
 WIDTH = 1000  # Of a picture, in pixels.
@@ -26,16 +26,11 @@ def parse_words() -> Namespace:
     parser = Words(prog="page", description=(__doc__ or "").split("\n\n")[0],
                    epilog="Drawings need graphviz, and pictures chromium (Debian: apt-get install "
                    "graphviz chromium). A page without graphviz says that it has no drawings.")
-    parser.add_argument("report", metavar="REPORT",
-                        help="a file with what bbeq printed; - is standard input")
-    parser.add_argument("specification", metavar="SPEC", help="the specification that bbeq read")
-    parser.add_argument("implementation", metavar="IMPL", help="the implementation that bbeq read")
+    add_report_words(parser)
     parser.add_argument("-o", "--output", metavar="FILE",
                         help="where to write (otherwise standard output)")
     parser.add_argument("--png", metavar="FILE",
                         help="write a picture of the page too, or, without -o, alone")
-    parser.add_argument("--top-spec", help="the top module, as for bbeq")
-    parser.add_argument("--top-impl", help="the top module, as for bbeq")
     parser.add_argument("--shared", action="store_true", help="the report is one with --shared")
     parser.add_argument("--vector", type=int, default=1, metavar="N",
                         help="which input line of the report, from 1 (default 1)")

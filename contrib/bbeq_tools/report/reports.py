@@ -3,13 +3,23 @@ tables, its vectors, and the filled implementation behind its verdict."""
 import sys
 from typing import Dict, List, Optional, Tuple
 
-from bbeq_tools.cli import Fault
+from bbeq_tools.cli import Fault, Words
 
 Lines = List[str]
 Tables = Dict[str, List[Tuple[str, str]]]
 # The check, what is wrong as its kind and name, and the bits of the inputs.
 Vector = Tuple[Optional[str], Optional[Tuple[str, str]], Dict[str, str]]
 OTHER = "the report is of other texts: run bbeq on these and give its report"
+
+
+def add_report_words(parser: Words) -> None:
+    """The words of a script that shows a report of two texts."""
+    parser.add_argument("report", metavar="REPORT",
+                        help="a file with what bbeq printed; - is standard input")
+    parser.add_argument("specification", metavar="SPEC", help="the specification that bbeq read")
+    parser.add_argument("implementation", metavar="IMPL", help="the implementation that bbeq read")
+    parser.add_argument("--top-spec", help="the top module, as for bbeq")
+    parser.add_argument("--top-impl", help="the top module, as for bbeq")
 
 
 def is_verdict(line: str) -> bool:

@@ -12,7 +12,7 @@ import tempfile
 
 from bbeq_tools.cli import Fault, Output, Words, run_script
 from bbeq_tools.report.buses import grouped, hexadecimal, shown
-from bbeq_tools.report.reports import OTHER, read_report, vectors, verdict
+from bbeq_tools.report.reports import OTHER, add_report_words, read_report, vectors, verdict
 from bbeq_tools.verilog.language import bit_text, read_modules, top_of, written
 
 NARROW = 4  # Buses of fewer bits are shown bit by bit.
@@ -20,12 +20,7 @@ NARROW = 4  # Buses of fewer bits are shown bit by bit.
 
 def parse_words():
     parser = Words(prog="wave", description=__doc__.split("\n\n")[0], epilog="Needs iverilog.")
-    parser.add_argument("report", metavar="REPORT",
-                        help="a file with what bbeq printed; - is standard input")
-    parser.add_argument("specification", metavar="SPEC", help="the specification that bbeq read")
-    parser.add_argument("implementation", metavar="IMPL", help="the implementation that bbeq read")
-    parser.add_argument("--top-spec", help="the top module, as for bbeq")
-    parser.add_argument("--top-impl", help="the top module, as for bbeq")
+    add_report_words(parser)
     parser.add_argument("--vector", type=int, metavar="N",
                         help="which input line of the report, from 1 (otherwise all)")
     parser.add_argument("--wrong-only", action="store_true",

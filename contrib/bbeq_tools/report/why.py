@@ -14,7 +14,8 @@ from bbeq_tools.program import find_program
 from bbeq_tools.report.alike import boxes_seen, sight, telling, told_answers
 from bbeq_tools.report.buses import shown
 from bbeq_tools.report.least import least
-from bbeq_tools.report.reports import read_report, vectors as shown_vectors, verdict
+from bbeq_tools.report.reports import (add_report_words, read_report, vectors as shown_vectors,
+                                       verdict)
 from bbeq_tools.report.restricted import Restricted
 
 MOST_NAMED = 8
@@ -24,12 +25,7 @@ def parse_words():
     parser = Words(prog="why", description=__doc__.split("\n\n")[0],
                    epilog="The program is $BBEQ, or bbeq on the PATH, or the one that was built in "
                    "this repository. Words of bbeq after `--` are handed to it.")
-    parser.add_argument("report", metavar="REPORT",
-                        help="a file with what bbeq printed; - is standard input")
-    parser.add_argument("specification", metavar="SPEC", help="the specification that bbeq read")
-    parser.add_argument("implementation", metavar="IMPL", help="the implementation that bbeq read")
-    parser.add_argument("--top-spec", help="the top module, as for bbeq")
-    parser.add_argument("--top-impl", help="the top module, as for bbeq")
+    add_report_words(parser)
     parser.add_argument("--care", metavar="NAME",
                         help="the output that says where the two have to agree, as for bbeq")
     parser.add_argument("-o", "--output", metavar="FILE",
