@@ -82,9 +82,7 @@ class Documents(Tries):
                             for line in lines if line.startswith("./bbeq ")]:
                 try_shown(self, name, command, blocks, shop)
             for command in dict.fromkeys(re.findall(r"`(\./bbeq [^`]+)`", text)):
-                # These two are answered by ./bbeq itself, which the program in the shop is not.
-                is_own = command.split()[1] in ("--help", "--version")
-                try_mentioned(self, name, command, TOP if is_own else shop)
+                try_mentioned(self, name, command, shop)
         compare_examples(self, shop)
 
 
