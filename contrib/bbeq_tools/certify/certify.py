@@ -18,7 +18,8 @@ from bbeq_tools.certify.netlists import Design, check_fit, known_as, read_design
 from bbeq_tools.certify.refuted import refute
 from bbeq_tools.certify.simulated import Bits, Unread, simulate
 from bbeq_tools.cli import Fault, Words, run_script
-from bbeq_tools.report.reports import OTHER, Vector, read_report, vectors, verdict
+from bbeq_tools.report.reports import (OTHER, Vector, add_report_words, read_report, vectors,
+                                       verdict)
 
 NOT_SO, NOTHING_SHOWN = 1, 3  # Statuses.
 MOST_SIMULATED = 10  # Bits that the boxes give, of which all values are simulated.
@@ -42,12 +43,7 @@ def parse_words() -> argparse.Namespace:
     parser = Words(prog="certify", description=f"{first}\n\n{rest}",
                    formatter_class=argparse.RawDescriptionHelpFormatter,
                    epilog="Needs yosys and iverilog, and for `expand` cadical or minisat.")
-    parser.add_argument("report", metavar="REPORT",
-                        help="a file with what bbeq printed; - is standard input")
-    parser.add_argument("specification", metavar="SPEC", help="the specification that bbeq read")
-    parser.add_argument("implementation", metavar="IMPL", help="the implementation that bbeq read")
-    parser.add_argument("--top-spec", help="the top module, as for bbeq")
-    parser.add_argument("--top-impl", help="the top module, as for bbeq")
+    add_report_words(parser)
     parser.add_argument("--shared", action="store_true", help="as for bbeq")
     parser.add_argument("--care", metavar="NAME", help="as for bbeq")
     return parser.parse_args()
