@@ -66,8 +66,7 @@ class Turn:
 
     def go_on(self, budget, guard):
         if self.run is None:
-            self.run = Started(self.attempt.command, budget, self.attempt.is_quiet)
-            guard.add(self.run.group)
+            self.run = Started(self.attempt.command, budget, self.attempt.is_quiet, guard)
         elif not self.is_running:
             self.run.send(signal.SIGCONT)
         self.is_running = True

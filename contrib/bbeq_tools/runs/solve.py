@@ -73,8 +73,7 @@ def lasting(path, folder):
 
 def ask_first(request, guard, until):
     """The answer of the first run, or None where the time was over."""
-    run = Started(first_run(request).command)
-    guard.add(run.group)
+    run = Started(first_run(request).command, guard=guard)
     try:
         limit = until - time.monotonic() if until is not None else None
         if not run.wait(limit):

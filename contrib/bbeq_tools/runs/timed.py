@@ -19,9 +19,10 @@ LIBC = ctypes.CDLL(None)
 
 class Started:
     """A command that runs in a session of its own. Its output goes to a file, so that nobody has
-    to read it meanwhile. Where this process is killed, the kernel kills the command."""
+    to read it meanwhile. Where this process is killed, the kernel kills the command, and a guard
+    all that the command started: it knows of the command before this begins."""
 
-    def __init__(self, command, most_memory=None, is_quiet=False):
+    def __init__(self, command, most_memory=None, is_quiet=False, guard=None):
         self.output = tempfile.TemporaryFile()
         self.began, self.seconds = time.monotonic(), 0.0
         self.status, self.memory, parent = None, 0, os.getpid()
@@ -30,6 +31,8 @@ class Started:
             LIBC.prctl(SET_PARENT_DEATH_SIGNAL, signal.SIGKILL)
             if os.getppid() != parent:
                 os._exit(1)
+            if guard is not None:
+                guard.add(os.getpid())
             if most_memory is not None:
                 resource.setrlimit(resource.RLIMIT_AS, (most_memory, most_memory))
 
