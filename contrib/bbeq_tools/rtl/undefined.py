@@ -54,18 +54,18 @@ class Undefined:
         return self.cell("$_NOT_", A=bit)
 
     def both(self, left, right):
-        if NEVER in (left, right):
-            return NEVER
-        if ALWAYS in (left, right):
-            return right if left == ALWAYS else left
-        return self.cell("$_AND_", A=left, B=right)
+        return self.joined("$_AND_", NEVER, ALWAYS, left, right)
 
     def either(self, left, right):
-        if ALWAYS in (left, right):
-            return ALWAYS
-        if NEVER in (left, right):
-            return right if left == NEVER else left
-        return self.cell("$_OR_", A=left, B=right)
+        return self.joined("$_OR_", ALWAYS, NEVER, left, right)
+
+    def joined(self, kind, decides, leaves, left, right):
+        """A gate that one constant decides, and that leaves the other bit beside the other."""
+        if decides in (left, right):
+            return decides
+        if leaves in (left, right):
+            return right if left == leaves else left
+        return self.cell(kind, A=left, B=right)
 
     def is_known(self, bit, value):
         """Where a bit is known and has a value."""
