@@ -21,6 +21,9 @@ inputs_only = record { inputs = λ x. x; pins = λ x. [] }
 pub inputs_read : (p : NetPair) → IsPair p → (n : ℕ) → IsReadSo n 0 [] p.spec inputs_only
 inputs_read p pair n = record { inputs = λ i l x e. ap (bit_of x) (let h : i ≡ 0 + i = omega arith in h); pins = λ b pin l. absurd (no_pin p.spec.boxes b pin pair.beside.no_box l) }
 
+pub inputs_fit : (p : NetPair) → IsPair p → (n : ℕ) → n ≡ p.imp.inputs → n ≤ 2048 → AreVariables n 0 [] p.spec
+inputs_fit p pair n v few = record { few = few; inputs = omega (arith, pair.beside.inputs, v); pins = λ i pin l. absurd (no_pin p.spec.boxes i pin pair.beside.no_box l) }
+
 module _ (p : NetPair) (pair : IsPair p) (a : NodeStore) (v : p.imp.inputs ≡ a.vars) where
   abbrev bits : List Truth
   bits = tables p.imp.inputs (map (spec_bit p.spec) (places p.spec))
@@ -42,7 +45,7 @@ module _ (p : NetPair) (pair : IsPair p) (a : NodeStore) (v : p.imp.inputs ≡ a
     b_vars = first.kept.vars ∙ sym v
 
     pub spec_fits : a.vars ≤ 2048 → AreVariables b.vars 0 [] p.spec
-    spec_fits few = record { few = omega (arith, few, first.kept.vars); inputs = omega (arith, pair.beside.inputs, b_vars); pins = λ i pin l. absurd (no_pin p.spec.boxes i pin pair.beside.no_box l) }
+    spec_fits few = inputs_fit p pair b.vars b_vars (omega (arith, few, first.kept.vars))
 
     bits_are : tables b.vars (map (cell_bit inputs_only p.spec) (places p.spec)) ≡ bits
     bits_are = ap (λ n. tables n (map (cell_bit inputs_only p.spec) (places p.spec))) b_vars

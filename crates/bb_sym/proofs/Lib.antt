@@ -3,6 +3,7 @@ pub mod AlwaysWrong
 pub mod BlockLemmas
 pub mod Budget
 pub mod CellTables
+pub mod Deepened
 pub mod DependenceLemmas
 pub mod DifferenceLoop
 pub mod FoldLoop
@@ -24,6 +25,7 @@ pub mod PickedRefs
 pub mod PlainCells
 pub mod RailLemmas
 pub mod SomeWrong
+pub mod SpecificationBeads
 pub mod SumLemmas
 pub mod WrongOutputs
 pub mod WrongTables

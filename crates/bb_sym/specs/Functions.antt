@@ -18,6 +18,10 @@ use Rattle.bb_sym.specs.Plain.{Function, Reading, table, tables, variables, plac
 abbrev pub spec_bit : Netlist → ℕ → Function
 spec_bit spec place = λ x. bit_of (flat spec x []) place
 
+-- the cells of the specification alone, over the inputs of the implementation, which are its own
+abbrev pub specification_functions : Netlist → Netlist → List Truth
+specification_functions spec imp = tables imp.inputs (map (spec_bit spec) (places spec))
+
 abbrev pub is_one : Option Bool → Bool
 is_one None = false
 is_one (Some b) = b

@@ -1,5 +1,5 @@
 -- What a reader expects of the tables of functions, of what a sequence of calls leaves in a store, and of points as numbers.
-use Rattle.std.specs.Prelude.{◌≡◌, ◌<◌, ◌≤◌, ◌↔◌, ◌⊎◌, ℕ, ◌+◌, ◌*◌, ◌^◌, Bool, true, false, List, [], ◌∷◌, ◌++◌, length, map, replicate, All, Contains, slice_index}
+use Rattle.std.specs.Prelude.{◌≡◌, ◌<◌, ◌≤◌, ◌↔◌, ◌⊎◌, ℕ, ◌+◌, ◌*◌, ◌^◌, Bool, true, false, List, [], ◌∷◌, ◌++◌, length, map, take, drop, replicate, All, Contains, slice_index}
 use Rattle.bb_bits.specs.Numbers.{number_of}
 use Rattle.bb_bits.specs.Truth.{Truth, IsTruthTable, truth_at, constant, variable, combined, IsBeadOfAny}
 use Rattle.bb_bits.specs.TruthSets.{HasMoreThan}
@@ -9,8 +9,8 @@ use Rattle.bb_uniq.specs.declared.store.Ref.{Ref}
 use Rattle.bb_uniq.specs.Inside.Nodes.{NodeStore, IsStore}
 use Rattle.bb_uniq.specs.Inside.Meaning.{Keeps, Adds, IsTooMany}
 use Rattle.bb_sym.specs.Inside.Made.{Makes, AreTooMany, AreRefs, StandsFor, StandForAll, HaveCells, ref_at}
-use Rattle.bb_sym.specs.Functions.{high, low, known_tables}
-use Rattle.bb_sym.specs.Plain.{Function, Reading, table, one_of}
+use Rattle.bb_sym.specs.Functions.{specification_functions, high, low, known_tables}
+use Rattle.bb_sym.specs.Plain.{Function, Reading, table, one_of, plain_functions_at}
 
 -- functions and their tables
 pub record FunctionLaws : Type 0 where
@@ -29,6 +29,20 @@ pub record FunctionLaws : Type 0 where
 pub record KnownTableLaws : Type 0 where
   pub high_listed : (imp : Netlist) → IsNetlist imp → (place : ℕ) → place < length imp.cells → Contains (known_tables imp place) (high imp place)
   pub low_listed : (imp : Netlist) → IsNetlist imp → (place : ℕ) → place < length imp.cells → Contains (known_tables imp place) (low imp place)
+
+-- the functions of a check have more beads than a number where the cells of the specification alone have
+abbrev pub HoldsSpecification : (Netlist → Netlist → List Truth) → Type 0
+HoldsSpecification functions = (spec imp : Netlist) (k : ℕ) → HasMoreThan (IsBeadOfAny (specification_functions spec imp)) k → HasMoreThan (IsBeadOfAny (functions spec imp)) k
+
+-- of a point of so many variables the inputs are those beside each other behind the first ones, in their order
+pub record ReadsInputs (vars before inputs : ℕ) (r : Reading) : Type 0 where
+  pub within : before + inputs ≤ vars
+  pub read : (p : List Bool) → length p ≡ vars → r.inputs p ≡ take inputs (drop before p)
+
+-- where points are read so, the variables and the cells of both nets have them
+abbrev pub CellsHoldSpecification : Type 0
+CellsHoldSpecification = (spec imp : Netlist) (k vars before : ℕ) (r : Reading) → ReadsInputs vars before imp.inputs r
+    → HasMoreThan (IsBeadOfAny (specification_functions spec imp)) k → HasMoreThan (IsBeadOfAny (plain_functions_at vars r spec imp)) k
 
 -- a sequence of calls, by the tables that they made
 pub record MakingLaws : Type 0 where

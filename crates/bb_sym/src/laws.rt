@@ -2,7 +2,8 @@
 
 ghost use Rattle.bb_net.specs.Netlists.{Netlist, IsNetlist};
 ghost use Rattle.bb_sym.specs.Finds.{FindingsExist};
-ghost use Rattle.bb_sym.specs.Laws.{FunctionLaws, KnownTableLaws, MakingLaws, PointLaws};
+ghost use Rattle.bb_sym.specs.Functions.{symbolic_functions, local_functions, output_functions};
+ghost use Rattle.bb_sym.specs.Laws.{CellsHoldSpecification, FunctionLaws, HoldsSpecification, KnownTableLaws, MakingLaws, PointLaws};
 
 use bb_bits::{number_is_below, truth};
 use bb_net::{tern_exists, vectors_hold_or_not};
@@ -19,6 +20,18 @@ pub fn known_tables()
     ensures { KnownTableLaws }
 {
     tern_exists();
+}
+
+/// The functions of each check have at least as many beads as the cells of the specification alone: over its variables these have
+/// as many as over the inputs, which keep their order.
+pub fn specification_counts()
+    ensures cells { CellsHoldSpecification }
+    ensures symbolic { HoldsSpecification symbolic_functions }
+    ensures local { HoldsSpecification local_functions }
+    ensures output { HoldsSpecification output_functions }
+{
+    truth::tables();
+    truth::beads();
 }
 
 /// What a sequence of calls makes: the beads of the tables of all its results, and no others.
