@@ -15,3 +15,4 @@ pub mod RowSteps
 pub mod Stages
 pub mod Suits
 pub mod SomeAnswers
+pub mod SpecificationBeads

@@ -1,6 +1,8 @@
 //! Laws of the answers and of the functions on the way. The definitions are in the specifications; each function here has a law as
 //! its contract and does nothing.
 
+ghost use Rattle.bb_sym.specs.Laws.{HoldsSpecification};
+ghost use Rattle.bb_input.specs.InputFunctions.{input_functions};
 ghost use Rattle.bb_input.specs.Laws.{OneAnswer, AnswersExist, StagesSay, LastSays};
 
 use bb_bits::{
@@ -52,4 +54,11 @@ pub fn last_says()
     truth::quantifiers();
     truth::tables();
     laws::functions();
+}
+
+/// The functions of the check have at least as many beads as the cells of the specification alone.
+pub fn specification_counts()
+    ensures { HoldsSpecification input_functions }
+{
+    laws::specification_counts();
 }

@@ -14,7 +14,7 @@ mod staging;
 
 use bb_bits::Table;
 pub use checking::input;
-pub use laws::{answers_are_one, answers_exist, last_says, stages_say};
+pub use laws::{answers_are_one, answers_exist, last_says, specification_counts, stages_say};
 pub use rows::write_row;
 pub use staging::{Prefix, make_prefix};
 
