@@ -28,3 +28,4 @@ pub mod TableTexts
 pub mod ToldLaw
 pub mod ShownBoxes
 pub mod SomeClimbs
+pub mod SpecificationNodes

@@ -5,9 +5,11 @@ ghost use Rattle.bb_input.specs.InputFunctions.{input_functions};
 ghost use Rattle.bb_nest.specs.Answers.{IsAnswer};
 ghost use Rattle.bb_options.specs.declared.rung.Rung.TheVariants as rungs;
 ghost use Rattle.bb_options.specs.Rungs.{AreBounds, asked_rungs, is_asked};
+ghost use Rattle.bb_rungs.specs.Inside.Specification.{IsKnown};
 ghost use Rattle.bb_rungs.specs.Rungs.{AreTooMany, IsClimb, MayHit, MaySay, ends, told};
 
 use crate::line::{Evidence, Line, Proof, Said};
+use crate::specification::{Specification, known_after, known_before, tells_nodes};
 use crate::verdict::{is_error, is_repair};
 use bb_bits::NoMemory;
 use bb_expand::{ExpandFault, Expanded, expand};
@@ -134,6 +136,28 @@ fn say(alloc: Global, pair: &Pair, options: &Options, rung: Rung) -> Result<Said
     }
 }
 
+// What the next check says. Where the cells of the specification alone need more nodes than it may hold, it need not be run.
+fn say_next(
+    alloc: Global,
+    pair: &Pair,
+    options: &Options,
+    rung: Rung,
+    known: &mut Specification,
+) -> Result<Said, NoMemory>
+    requires bounds { AreBounds options.now }
+    requires known { IsKnown pair.now options.now known.old }
+    ensures known { OnOk result (IsKnown pair.now options.now known.new) }
+    ensures said { IfOk result (MaySay pair.now options.now rung) }
+{
+    *known = known_before(alloc, pair, options, rung, *known)?;
+    if tells_nodes(*known, rung) {
+        return Ok(Said::Nodes);
+    }
+    let said = say(alloc, pair, options, rung)?;
+    *known = known_after(*known, &said);
+    Ok(said)
+}
+
 // Whether a check is asked for.
 fn is_asked(options: &Options, rung: Rung) -> bool
     ensures asked { result ≡ is_asked options.now rung }
@@ -180,8 +204,9 @@ pub fn climb(alloc: Global, pair: &Pair, options: &Options) -> Result<Vec<Line>,
 {
     let rungs = asked(alloc, options)?;
     let mut lines = Vec::new(alloc);
+    let mut known = Specification::Unknown;
     for rung in &rungs {
-        let said = say(alloc, pair, options, *rung)?;
+        let said = say_next(alloc, pair, options, *rung, &mut known)?;
         let line = Line { rung: *rung, said };
         let last = ends(options, &line);
         lines.push(line)?;

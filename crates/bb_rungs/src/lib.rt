@@ -9,6 +9,7 @@ mod laws;
 mod line;
 mod proof_lines;
 mod reporting;
+mod specification;
 mod table_lines;
 mod verdict;
 

@@ -6,13 +6,16 @@ use Rattle.bb_rungs.proofs.Findings.{climb_ends, climb_goes}
 use Rattle.bb_rungs.proofs.climbing.climb.Goals as goal
 
 pub loop-rung-preserved : goal.loop-rung-preserved
-loop-rung-preserved c more rest =
+loop-rung-preserved c =
     let p = c.args.pair.now in
     let o = c.args.options.now in
     let rungs = c.deref-rung-items.result.now in
-    let k = c.loop-rung.rung-index in
-    subst (λ lines. Climbs p o rungs (lines ++ more)) (sym c.in_ok-push.ensures.items)
-    (climb_goes p o rungs k _ c.loop-rung-test.true (get_or_default rungs k Ternary _ c.loop-rung-test.true) c.loop-rung.lines.items c.in_ok-said.said c.loop-rung.invariant c.in_ok-said.ensures.said (sym c.if-last.ensures.ends) more rest)
+    let k = c.loop-rung.rung-index in (
+      c.in_ok-said.ensures.known,
+      λ more rest.
+          subst (λ lines. Climbs p o rungs (lines ++ more)) (sym c.in_ok-push.ensures.items)
+          (climb_goes p o rungs k _ c.loop-rung-test.true (get_or_default rungs k Ternary _ c.loop-rung-test.true) c.loop-rung.lines.items c.in_ok-said.said c.loop-rung.invariant.1 c.in_ok-said.ensures.said (sym c.if-last.ensures.ends) more rest),
+    )
 
 pub returns-then-last : goal.returns-then-last
 returns-then-last c =
@@ -22,7 +25,7 @@ returns-then-last c =
     let k = c.loop-rung.rung-index in
     record {
       lines = subst (λ rs. Climbs p o rs c.push.new.self.items) (c.deref-rung-items.ensures.value ∙ c.in_ok-rungs.ensures.asked)
-          (subst (Climbs p o rungs) (sym c.in_ok-push.ensures.items) (climb_ends p o rungs k _ c.loop-rung-test.true (get_or_default rungs k Ternary _ c.loop-rung-test.true) c.loop-rung.lines.items c.in_ok-said.said c.loop-rung.invariant c.in_ok-said.ensures.said (sym c.if-last.ensures.ends)));
+          (subst (Climbs p o rungs) (sym c.in_ok-push.ensures.items) (climb_ends p o rungs k _ c.loop-rung-test.true (get_or_default rungs k Ternary _ c.loop-rung-test.true) c.loop-rung.lines.items c.in_ok-said.said c.loop-rung.invariant.1 c.in_ok-said.ensures.said (sym c.if-last.ensures.ends)));
     }
 
 pub returns : goal.returns
@@ -32,5 +35,5 @@ returns c =
     let rungs = c.deref-rung-items.result.now in
     record {
       lines = subst (λ rs. Climbs p o rs c.loop-rung.lines.items) (c.deref-rung-items.ensures.value ∙ c.in_ok-rungs.ensures.asked)
-          (subst (Climbs p o rungs) (append-nil c.loop-rung.lines.items) (c.loop-rung.invariant [] (subst (λ rs. Climbs p o rs []) (sym (drop_all c.loop-rung.rung-index rungs c.loop-rung-test.false)) Top)));
+          (subst (Climbs p o rungs) (append-nil c.loop-rung.lines.items) (c.loop-rung.invariant.1 [] (subst (λ rs. Climbs p o rs []) (sym (drop_all c.loop-rung.rung-index rungs c.loop-rung-test.false)) Top)));
     }
