@@ -4,15 +4,14 @@ use crate::NoMemory;
 use crate::guide::Guide;
 use crate::trail::Entry;
 use bb_cnf::Lit;
-use bb_watch::Watches;
+use bb_watch::{Propagator, Side};
 use smallvec::SmallVec;
 use std::alloc::Global;
 
-/// Watches of the given clauses and of the learned ones, each by numbers of its own, and the guide.
+/// The propagator of the given clauses and of the learned ones, each by numbers of its own, and the guide.
 #[derive(Drop)]
 pub(crate) struct Helpers {
-    pub(crate) given: Watches,
-    pub(crate) learned: Watches,
+    pub(crate) propagator: Propagator,
     pub(crate) guide: Guide,
 }
 
@@ -20,23 +19,20 @@ impl Helpers {
     /// No clause is watched. There is room for so many given ones.
     pub(crate) fn new(alloc: Global, vars: u32, given: usize) -> Result<Helpers, NoMemory> {
         Ok(Helpers {
-            given: Watches::new(alloc, vars, given)?,
-            learned: Watches::new(alloc, vars, 0)?,
+            propagator: Propagator::new(alloc, vars, given, 0)?,
             guide: Guide::new(alloc, vars)?,
         })
     }
 
     /// There are variables up to this one.
     pub(crate) fn widen(&mut self, vars: u32) -> Result<(), NoMemory> {
-        self.given.widen(vars)?;
-        self.learned.widen(vars)?;
+        self.propagator.widen(vars)?;
         self.guide.widen(vars)
     }
 
     /// The trail ends at this place now.
     pub(crate) fn taken_back(&mut self, place: usize) {
-        self.given.taken_back(place);
-        self.learned.taken_back(place);
+        self.propagator.take_back(place);
     }
 
     // Watches the two literals of each clause that become false last, and has its variables decided.
@@ -46,9 +42,10 @@ impl Helpers {
         values: &[Option<bool>],
     ) -> Result<(), NoMemory> {
         for clause in clauses {
-            let (first, second) = self.guide.levels.last_two(clause.as_slice(), values);
-            self.given.add(first, second)?;
-            self.guide.meets(clause.as_slice(), values);
+            let clause = clause.as_slice();
+            let (first, second) = self.guide.levels.last_two(clause, values);
+            self.propagator.watch(Side::First, clause, first, second)?;
+            self.guide.meets(clause, values);
         }
         Ok(())
     }

@@ -2,7 +2,7 @@
 //! answer depends on which these are.
 
 use crate::NoMemory;
-use bb_watch::{Watches, read};
+use bb_watch::{Propagator, Side, read};
 use std::alloc::Global;
 
 // So many learned clauses are watched at first, and for every third of the given ones one more.
@@ -71,21 +71,26 @@ impl Retention {
     }
 
     // Clauses that were not used since this conflict are watched no more.
-    fn forget(&mut self, conflict: u32, watches: &mut Watches) {
+    fn forget(&mut self, conflict: u32, propagator: &mut Propagator) {
         for place in 0..self.uses.len() {
             if 0 < self.uses[place] && self.uses[place] < conflict {
                 self.uses[place] = 0;
                 self.watched = self.watched.saturating_sub(1);
-                watches.forget(place);
+                let number = u32::try_from(place).unwrap_or(u32::MAX);
+                propagator.forget(Side::Second, number);
             }
         }
     }
 
     /// Where too many clauses are watched, half of them are watched no more. Then a few more may be.
-    pub(crate) fn reduce(&mut self, alloc: Global, watches: &mut Watches) -> Result<(), NoMemory> {
+    pub(crate) fn reduce(
+        &mut self,
+        alloc: Global,
+        propagator: &mut Propagator,
+    ) -> Result<(), NoMemory> {
         if self.watched > self.limit {
             let middle = self.middle(alloc)?;
-            self.forget(middle, watches);
+            self.forget(middle, propagator);
             self.limit = self.limit.saturating_add(self.limit / 40);
         }
         Ok(())

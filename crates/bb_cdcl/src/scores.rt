@@ -47,55 +47,61 @@ impl Scores {
         }
     }
 
-    // Does the variable at the one place of the heap come before that at the other?
-    fn is_before(&self, first: u32, second: u32) -> bool {
-        let a = read(&self.heap, first);
-        let b = read(&self.heap, second);
+    // Does the one variable come before the other?
+    fn is_before(&self, a: u32, b: u32) -> bool {
         let (high, low) = (self.score(a), self.score(b));
         high > low || (high == low && a < b)
     }
 
-    fn swap(&mut self, first: u32, second: u32) {
-        let a = read(&self.heap, first);
-        let b = read(&self.heap, second);
-        write(&mut self.heap, first, b);
-        write(&mut self.heap, second, a);
-        write(&mut self.spots, a, second);
-        write(&mut self.spots, b, first);
+    fn put(&mut self, place: u32, var: u32) {
+        write(&mut self.heap, place, var);
+        write(&mut self.spots, var, place);
     }
 
+    // The variable at a place comes before all those on its way up that it is before.
     fn rise(&mut self, place: u32) {
+        let var = read(&self.heap, place);
         let mut at = place;
         while at > 1 {
-            if !self.is_before(at, at / 2) {
-                return;
+            let above = read(&self.heap, at / 2);
+            if !self.is_before(var, above) {
+                break;
             }
-            self.swap(at, at / 2);
+            self.put(at, above);
             at /= 2;
         }
+        self.put(at, var);
     }
 
-    // The greater of the two below a place.
-    fn below(&self, place: u32) -> u32 {
+    // The place below this one whose variable comes before the other's, and the variable. None where there is none.
+    fn below(&self, place: u32) -> Option<(u32, u32)> {
         let left = place.saturating_mul(2);
+        if left > self.count {
+            return None;
+        }
+        let first = read(&self.heap, left);
         let right = left.saturating_add(1);
-        if right <= self.count && self.is_before(right, left) {
-            right
+        let second = read(&self.heap, right);
+        if right <= self.count && self.is_before(second, first) {
+            Some((right, second))
         } else {
-            left
+            Some((left, first))
         }
     }
 
-    fn sink(&mut self) {
+    // The variable comes to the first place, and those that are before it rise.
+    fn sink(&mut self, var: u32) {
         let mut at: u32 = 1;
         for _ in 0..32 {
-            let next = self.below(at);
-            if next > self.count || !self.is_before(next, at) {
-                return;
+            match self.below(at) {
+                Some((next, other)) if self.is_before(other, var) => {
+                    self.put(at, other);
+                    at = next;
+                }
+                _ => break,
             }
-            self.swap(at, next);
-            at = next;
         }
+        self.put(at, var);
     }
 
     // Is the variable at its place of the heap?
@@ -120,10 +126,12 @@ impl Scores {
             return None;
         }
         let first = read(&self.heap, 1);
-        self.swap(1, self.count);
-        write(&mut self.spots, first, 0);
+        let last = read(&self.heap, self.count);
         self.count = self.count.saturating_sub(1);
-        self.sink();
+        if self.count > 0 {
+            self.sink(last);
+        }
+        write(&mut self.spots, first, 0);
         Some(first)
     }
 

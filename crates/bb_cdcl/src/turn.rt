@@ -16,7 +16,7 @@ use crate::state::{State, Turn, extend, go_back};
 use crate::trail::{Entry, pop_to};
 use crate::watches::propagated;
 use bb_cnf::{Lit, laws};
-use bb_watch::Clauses;
+use bb_watch::{Clauses, Side};
 use smallvec::SmallVec;
 use std::alloc::Global;
 
@@ -50,7 +50,13 @@ fn next_event(given: &[SmallVec<Lit, 4>], s: &State, helpers: &mut Helpers) -> E
 {
     let clauses = Clauses::new(given, &s.learned);
     let (entries, values) = (&s.trail.entries, &s.trail.values);
-    match propagated(helpers, &clauses, given.len(), entries, values) {
+    match propagated(
+        &mut helpers.propagator,
+        &clauses,
+        given.len(),
+        entries,
+        values,
+    ) {
         Event::Quiet => choice(given, values, &mut helpers.guide),
         event => event,
     }
@@ -67,10 +73,15 @@ fn watch_from(
     for at in place..s.learned.len() {
         let clause = s.learned[at].as_slice();
         let (first, second) = helpers.guide.levels.last_two(clause, &s.trail.values);
-        helpers.learned.add(first, second)?;
+        helpers
+            .propagator
+            .watch(Side::Second, clause, first, second)?;
         helpers.guide.retention.learned()?;
     }
-    helpers.guide.retention.reduce(alloc, &mut helpers.learned)
+    helpers
+        .guide
+        .retention
+        .reduce(alloc, &mut helpers.propagator)
 }
 
 // Learns from a false clause, and goes back.

@@ -2,27 +2,25 @@
 //! these are idle, and are looked at only where nothing comes of the others. No answer depends on which they are.
 
 use crate::NoMemory;
-use crate::watching::watch;
+use crate::watching::two_of;
 use bb_cnf::Lit;
-use bb_watch::{Clauses, Watches, read, write};
+use bb_watch::{Clauses, Found, Propagator, Side, read, write};
 use std::alloc::Global;
 
-/// So many additions later, an addition of which nothing came is idle.
+// So many additions later, an addition of which nothing came is idle.
 const IDLE: u32 = 4096;
 
-/// The watches of the clauses that are not idle, or those of all.
-#[derive(Clone, Copy, Debug)]
-pub(crate) enum Side {
-    Active,
-    All,
-}
+// So often the idle ones are left out.
+const SORTING: u32 = 1024;
 
-/// The watches of all clauses, and those of the clauses that are not idle.
+// No clause has this number.
+const LEFT_OUT: u32 = u32::MAX;
+
+/// The clauses that are not idle are the first ones of the propagator, and all clauses are the second ones.
 #[derive(Drop)]
 pub(crate) struct Search {
-    all: Watches,
-    active: Watches,
-    // The clause of each pair of nodes of the active ones.
+    propagator: Propagator,
+    // The clause of each of the first ones.
     owners: Vec<u32>,
     // For each clause: the addition by which something came of it last, and whether it is not idle.
     used: Vec<u32>,
@@ -36,7 +34,7 @@ pub(crate) struct Search {
 
 // Watches idle clauses again.
 fn watch_again(
-    active: &mut Watches,
+    propagator: &mut Propagator,
     owners: &mut Vec<u32>,
     marks: &[bool],
     clauses: &Clauses<'_>,
@@ -44,7 +42,8 @@ fn watch_again(
 ) -> Result<(), NoMemory> {
     for number in met {
         if (*number as usize) < clauses.len() {
-            watch(active, marks, clauses.at(*number as usize))?;
+            let (first, second) = two_of(clauses.at(*number as usize), marks);
+            propagator.watch_again(*number, first, second)?;
             owners.push(*number)?;
         }
     }
@@ -60,8 +59,7 @@ impl Search {
         count: usize,
     ) -> Result<Search, NoMemory> {
         Ok(Search {
-            all: Watches::new(alloc, vars, count)?,
-            active: Watches::new(alloc, vars, count)?,
+            propagator: Propagator::new(alloc, vars, count, count)?,
             owners: Vec::new(alloc),
             used: Vec::new(alloc),
             is_active: Vec::new(alloc),
@@ -71,54 +69,54 @@ impl Search {
         })
     }
 
-    /// The watches of a side.
-    pub(crate) fn watches(&self, side: Side) -> &Watches {
-        match side {
-            Side::Active => &self.active,
-            Side::All => &self.all,
+    /// Tells the propagator of the false literals that it does not know.
+    pub(crate) fn catch_up(&mut self, lits: &[Lit]) {
+        for place in self.propagator.len()..lits.len() {
+            self.propagator.make_false(lits[place]);
         }
     }
 
-    /// The same, to be changed.
-    pub(crate) fn watches_mut(&mut self, side: Side) -> &mut Watches {
-        match side {
-            Side::Active => &mut self.active,
-            Side::All => &mut self.all,
+    /// Only so many literals are false.
+    pub(crate) fn take_back(&mut self, place: usize) {
+        self.propagator.take_back(place);
+    }
+
+    /// The clause of which something may come where so many literals are false.
+    pub(crate) fn next(&mut self, place: usize) -> Option<usize> {
+        let found = self.propagator.next(place)?;
+        Some(self.number(found) as usize)
+    }
+
+    fn number(&self, found: Found) -> u32 {
+        match found.side {
+            Side::First => read(&self.owners, found.number),
+            Side::Second => found.number,
         }
     }
 
-    /// The number of the clause whose node comes next.
-    pub(crate) fn number(&self, side: Side) -> usize {
-        let pair = self.watches(side).node.saturating_sub(2) / 2;
-        match side {
-            Side::Active => read(&self.owners, pair) as usize,
-            Side::All => pair as usize,
+    fn is_idle(&self, number: u32) -> bool {
+        let used = read(&self.used, number);
+        number as usize >= self.given && self.turn.saturating_sub(used) > IDLE
+    }
+
+    // Leaves a clause out from the first ones.
+    fn leave_out(&mut self, first: usize, number: usize) {
+        let first = u32::try_from(first).unwrap_or(u32::MAX);
+        self.propagator.forget(Side::First, first);
+        write(&mut self.owners, first, LEFT_OUT);
+        if number < self.is_active.len() {
+            self.is_active[number] = false;
         }
     }
 
-    /// Is this clause left out on the side?
-    pub(crate) fn is_left_out(&self, side: Side, number: usize) -> bool {
-        match side {
-            Side::Active => self.active.is_forgotten() || self.is_idle(number),
-            Side::All => false,
-        }
-    }
-
-    fn is_idle(&self, number: usize) -> bool {
-        let used = read(&self.used, u32::try_from(number).unwrap_or(0));
-        number >= self.given && self.turn.saturating_sub(used) > IDLE
-    }
-
-    /// Leaves out the active clause whose node comes next on the list of the literal.
-    pub(crate) fn leave_out(&mut self, number: usize, lit: Lit) {
-        if !self.active.is_forgotten() {
-            let pair = self.active.node.saturating_sub(2) / 2;
-            self.active.forget(pair as usize);
-            if number < self.is_active.len() {
-                self.is_active[number] = false;
+    // Leaves those out that are idle.
+    fn sort_out(&mut self) {
+        for first in 0..self.owners.len() {
+            let number = self.owners[first];
+            if number != LEFT_OUT && self.is_idle(number) {
+                self.leave_out(first, number as usize);
             }
         }
-        self.active.take_out(lit);
     }
 
     /// Something came of the clause.
@@ -135,8 +133,9 @@ impl Search {
     /// Watches the next clause.
     pub(crate) fn add(&mut self, marks: &[bool], clause: &[Lit]) -> Result<(), NoMemory> {
         let number = u32::try_from(self.used.len()).unwrap_or(0);
-        watch(&mut self.all, marks, clause)?;
-        watch(&mut self.active, marks, clause)?;
+        let (first, second) = two_of(clause, marks);
+        self.propagator.watch(Side::Second, clause, first, second)?;
+        self.propagator.watch_again(number, first, second)?;
         self.owners.push(number)?;
         self.used.push(self.turn)?;
         self.is_active.push(true)?;
@@ -150,17 +149,19 @@ impl Search {
         marks: &[bool],
         clauses: &Clauses<'_>,
     ) -> Result<(), NoMemory> {
-        self.all.taken_back(place);
-        self.active.taken_back(place);
+        self.propagator.take_back(place);
         self.turn = self.turn.saturating_add(1);
         watch_again(
-            &mut self.active,
+            &mut self.propagator,
             &mut self.owners,
             marks,
             clauses,
             &self.met,
         )?;
         self.met.clear();
+        if self.turn % SORTING == 0 {
+            self.sort_out();
+        }
         Ok(())
     }
 }

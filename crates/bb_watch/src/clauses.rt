@@ -26,6 +26,7 @@ impl<'a> Model for Clauses<'a> {
 }
 
 /// The literals of the clause of this number.
+#[inline]
 pub fn clause_at<'a>(clauses: &'a [SmallVec<Lit, 4>], number: usize) -> &'a [Lit]
     requires { number < length clauses.now }
     ensures { slice_get (lists_of clauses.now) number ≡ Some result.now }
@@ -35,6 +36,7 @@ pub fn clause_at<'a>(clauses: &'a [SmallVec<Lit, 4>], number: usize) -> &'a [Lit
 
 impl<'a> Clauses<'a> {
     /// The added clauses have the numbers behind those of the given ones.
+    #[inline]
     pub fn new(given: &'a [SmallVec<Lit, 4>], added: &'a [SmallVec<Lit, 4>]) -> Clauses<'a>
         ensures { result ≡ lists_of given.entry.now ++ lists_of added.entry.now }
     {
@@ -42,6 +44,7 @@ impl<'a> Clauses<'a> {
     }
 
     /// How many clauses there are.
+    #[inline]
     pub fn len(&self) -> usize
         ensures { result ≡ length self.now }
     {
@@ -49,6 +52,7 @@ impl<'a> Clauses<'a> {
     }
 
     /// The literals of the clause of this number.
+    #[inline]
     pub fn at(&self, number: usize) -> &'a [Lit]
         requires { number < length self.now }
         ensures { slice_get self.now number ≡ Some result.now }

@@ -1,13 +1,16 @@
-//! Two lists of clauses as one, and for each literal the list of the clauses that watch it. Of the watches nothing is
-//! promised but that a call ends and reads no place that is not there: who propagates by them looks at each clause
-//! himself.
+//! Two lists of clauses as one, and propagation by two watched literals a clause. Of what propagation finds nothing is
+//! promised but that a call ends and reads no place that is not there: who propagates by it looks at each clause himself.
 #![tactic(auto)]
 
 mod clauses;
+mod codes;
+mod copies;
+mod false_literals;
 mod numbers;
+mod propagator;
 mod watch_lists;
 
 pub use clauses::{Clauses, clause_at};
 pub use numbers::{read, write};
+pub use propagator::{Found, Propagator, Side};
 pub use std::alloc::AllocError as NoMemory;
-pub use watch_lists::{Watches, other_node};
