@@ -100,21 +100,21 @@ impl Search {
     }
 
     // Leaves a clause out from the first ones.
-    fn leave_out(&mut self, first: usize, number: usize) {
-        let first = u32::try_from(first).unwrap_or(u32::MAX);
+    fn leave_out(&mut self, first: u32, number: u32) {
         self.propagator.forget(Side::First, first);
         write(&mut self.owners, first, LEFT_OUT);
-        if number < self.is_active.len() {
-            self.is_active[number] = false;
+        if (number as usize) < self.is_active.len() {
+            self.is_active[number as usize] = false;
         }
     }
 
     // Leaves those out that are idle.
     fn sort_out(&mut self) {
-        for first in 0..self.owners.len() {
-            let number = self.owners[first];
+        let count = u32::try_from(self.owners.len()).unwrap_or(u32::MAX);
+        for first in 0..count {
+            let number = read(&self.owners, first);
             if number != LEFT_OUT && self.is_idle(number) {
-                self.leave_out(first, number as usize);
+                self.leave_out(first, number);
             }
         }
     }
