@@ -20,5 +20,6 @@ pub mod Runs
 pub mod SeenDesigns
 pub mod SeenPairs
 pub mod SharedContents
+pub mod SomeCounterexamples
 pub mod SpelledContents
 pub mod WorldOutputs

@@ -50,7 +50,7 @@ some_fit laws d f allowed stands =
     let c = laws.contents d f (allowed.sound BoxTexts) stands (map zero_of f.net.boxes) (zeros_fit f.net.boxes) in
     (c.0, c.1)
 
-other_bit : (a b : Bool) → a ≢ b → a ≡ not b
+pub other_bit : (a b : Bool) → a ≢ b → a ≡ not b
 other_bit true true off = absurd (off refl)
 other_bit true false off = refl
 other_bit false true off = refl

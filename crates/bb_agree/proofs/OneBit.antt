@@ -13,21 +13,21 @@ use Rattle.bb_design.specs.Texts.{bit_text}
 use Rattle.bb_design.specs.Inside.Allowed.{IsAllowed}
 use Rattle.bb_design.specs.Worlds.{World, Vector, bit_in, next_bit, outputs_in}
 use Rattle.bb_agree.specs.DesignAgreement.{ContentsAgree}
-use Rattle.bb_agree.specs.Mistakes.{DifferAt, DifferAtTold, DifferWith, MistakesAmongRefute, MistakesRefute}
+use Rattle.bb_agree.specs.Mistakes.{CounterexamplesRefute, DifferAt, DifferAtTold, DifferWith, MistakesAmongRefute, MistakesRefute}
 
-called : {a b : CutOutput × Bool} → a ≡ b → a.0 ≡ b.0
+pub called : {a b : CutOutput × Bool} → a ≡ b → a.0 ≡ b.0
 called same = ap (λ (u : CutOutput × Bool). u.0) same
 
-valued : {a b : CutOutput × Bool} → a ≡ b → a.1 ≡ b.1
+pub valued : {a b : CutOutput × Bool} → a ≡ b → a.1 ≡ b.1
 valued same = ap (λ (u : CutOutput × Bool). u.1) same
 
-one_top : (a b : List ℕ) → TopOutput a ≡ TopOutput b → a ≡ b
+pub one_top : (a b : List ℕ) → TopOutput a ≡ TopOutput b → a ≡ b
 one_top a b e = cc e
 
-one_next : (a b : List ℕ) → NextState a ≡ NextState b → a ≡ b
+pub one_next : (a b : List ℕ) → NextState a ≡ NextState b → a ≡ b
 one_next a b e = cc e
 
-apart : (a b : List ℕ) → TopOutput a ≡ NextState b → ⊥
+pub apart : (a b : List ℕ) → TopOutput a ≡ NextState b → ⊥
 apart a b e = cc e
 
 -- where no text stands twice, an output has one bit in a world
@@ -84,3 +84,8 @@ pub mistakes_among_refute : MistakesAmongRefute
 mistakes_among_refute care shared spec imp vectors allowed among contents fill =
     let (x, there, with) = among contents fill in
     shown_differ care spec imp contents x None allowed with
+
+pub counterexamples_refute : CounterexamplesRefute
+counterexamples_refute care shared spec imp allowed all contents fill =
+    let (x, o, with) = all contents fill in
+    shown_differ care spec imp contents x (Some o) allowed with

@@ -18,6 +18,7 @@ use Rattle.bb_design.specs.Hierarchy.{Design}
 use Rattle.bb_design.specs.Refusals.{input_texts, output_texts, register_texts}
 use Rattle.bb_design.specs.Worlds.{World, Vector, HasVector, IsWorld, FitDesign, outputs_in}
 use Rattle.bb_match.specs.Pairing.{input_text, output_name}
+use Rattle.bb_agree.specs.Comparable.{AreComparable}
 use Rattle.bb_agree.specs.DesignAgreement.{IsAsked, IsCompared, IsPairFor, MayFill, NoContentsAgree}
 use Rattle.bb_match.specs.Refusals.{compared}
 
@@ -63,7 +64,26 @@ abbrev pub AreMistakesAmong : Option (List ℕ) → Bool → Design → Design �
 AreMistakesAmong care shared spec imp vectors = (contents : Contents) → MayFill shared imp contents
     → (x : Vector) × Contains vectors (map x (inputs_of spec)) × DifferWith care spec imp contents x None
 
+-- a counterexample to these contents: at some vector, at which agreement is asked, the two differ at some output or next state
+abbrev pub HaveCounterexample : Option (List ℕ) → Design → Design → Contents → Type 0
+HaveCounterexample care spec imp contents = (x : Vector) × (o : CutOutput) × DifferWith care spec imp contents x (Some o)
+
+-- there is one to all contents that may fill the boxes
+abbrev pub AllHaveCounterexamples : Option (List ℕ) → Bool → Design → Design → Type 0
+AllHaveCounterexamples care shared spec imp = (contents : Contents) → MayFill shared imp contents
+    → HaveCounterexample care spec imp contents
+
 -- laws that a reader expects
+
+-- where no contents agree, there is a counterexample to all of them: vectors are finitely many, and at each of them the two agree or differ
+abbrev pub CounterexamplesExist : Type 0
+CounterexamplesExist = (care : Option (List ℕ)) (shared : Bool) (spec imp : Design) → AreComparable care spec imp
+    → NoContentsAgree care shared spec imp → AllHaveCounterexamples care shared spec imp
+
+-- and where there is one to all, none agree
+abbrev pub CounterexamplesRefute : Type 0
+CounterexamplesRefute = (care : Option (List ℕ)) (shared : Bool) (spec imp : Design) → IsAllowed imp
+    → AllHaveCounterexamples care shared spec imp → NoContentsAgree care shared spec imp
 
 -- where an output of a pair that stands for two sound designs is wrong at a vector whatever the outputs of the boxes are, the vector of
 -- the designs with these bits shows a mistake at the output of the same number

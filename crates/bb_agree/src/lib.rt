@@ -2,4 +2,5 @@
 //! refusals, and the pairs that stand for them.
 #![tactic(auto)]
 
+pub mod counterexamples;
 pub mod laws;

@@ -2,6 +2,7 @@
 -- open every other does; and so they have one report.
 use Rattle.std.proofs.Common.{◌≡◌, ℕ, List, refl, sym, ◌∙◌, subst}
 use Rattle.bb_agree.specs.DesignAgreement.{ContentsAgree, MayFill, NoContentsAgree}
+use Rattle.bb_agree.specs.Mistakes.{CounterexamplesExist}
 use Rattle.bb_design.specs.Hierarchy.{Design}
 use Rattle.bb_rungs.specs.Laws.AlikePairs.{AlikeReportsAreOne, AlikeReportsBeginAsOne}
 use Rattle.bb_rungs.specs.Laws.{LeftOpenStaysOpen}
@@ -11,7 +12,7 @@ use Rattle.bb_rungs.specs.Reports.{status_of, verdict_of}
 use Rattle.bb_ladder.specs.declared.asked.Asked.{Asked}
 use Rattle.bb_ladder.specs.TextAnswers.{Judges, Refused, Judged, ErrorsRefute, RepairsFinish, OpenAnswersLeaveOpen, StayingOpenAreAnswered, AnswersMayDependOnSearch, StatusesAreOne, StatusesNeverClash, ReportsAreOne, ReportsBeginAsOne}
 use Rattle.bb_texts.specs.TextDesigns.{IsReadAs, TextsReadAsOne}
-use Rattle.bb_ladder.specs.TextPairs.{AreLeftOpen, AreRefuted, AreStayingOpen, AskAlike, FittingAreRefutedByDesigns, NotFinishedAndRefuted, NotPairAndRefusal, TextPairsAreAlike}
+use Rattle.bb_ladder.specs.TextPairs.{AreLeftOpen, AreRefuted, AreStayingOpen, AskAlike, FittingAreRefutedByDesigns, NotFinishedAndRefuted, NotPairAndRefusal, RefutedHaveCounterexamples, TextPairsAreAlike}
 use Rattle.bb_ladder.proofs.AnswerLaws.{is_pair}
 use Rattle.bb_ladder.proofs.TextPairLaws.{reads_as}
 
@@ -36,6 +37,9 @@ not_finished_and_refuted one asked other spec imp text alike finished refuted =
 pub fitting_are_refuted_by_designs : TextsReadAsOne → FittingAreRefutedByDesigns
 fitting_are_refuted_by_designs one asked spec imp (s, i, are, fit) refuted =
     (s, i, are, fit, refuted_by one asked spec imp refuted s i (reads_as are.spec_design) (reads_as are.imp_design))
+
+pub refuted_have_counterexamples : CounterexamplesExist → RefutedHaveCounterexamples
+refuted_have_counterexamples exist asked spec imp refuted = exist asked.care asked.options.shared refuted.s refuted.i refuted.comparable refuted.none
 
 -- a call asks the same as itself
 same_call : (asked : Asked) → AskAlike asked asked

@@ -13,6 +13,7 @@ use Rattle.bb_design.specs.Worlds.{FitDesign}
 use Rattle.bb_agree.specs.Comparable.{AreComparable}
 use Rattle.bb_agree.specs.DesignAgreement.{AreSpelled, ContentsAgree, IsPairFor, IsTableOf, MayFill, NoContentsAgree}
 use Rattle.bb_agree.specs.DesignFit.{DesignsFit, IsRefusalFor}
+use Rattle.bb_agree.specs.Mistakes.{AllHaveCounterexamples}
 use Rattle.bb_agree.specs.Runs.{RunAlike}
 use Rattle.bb_fill.specs.Answers.{Text, MayFill as MayPrint}
 use Rattle.bb_names.specs.Faults.{IsSound}
@@ -156,6 +157,11 @@ NotPairAndRefusal = (asked : Asked) (spec imp : List ℕ) (p : NetPair) (refusal
 abbrev pub FittingAreRefutedByDesigns : Type 0
 FittingAreRefutedByDesigns = (asked : Asked) (spec imp : List ℕ) → DoFit asked spec imp → AreRefuted asked spec imp
     → (s i : Design) × AreDesignsOf asked spec imp s i × DesignsFit asked.care s i × NoContentsAgree asked.care asked.options.shared s i
+
+-- of what is refuted, there is a counterexample to all contents that may fill the boxes
+abbrev pub RefutedHaveCounterexamples : Type 0
+RefutedHaveCounterexamples = (asked : Asked) (spec imp : List ℕ) (refuted : AreRefuted asked spec imp)
+    → AllHaveCounterexamples asked.care asked.options.shared refuted.s refuted.i
 
 -- two calls ask the same of two texts, but for how much the checks may need and which are run
 pub record AskAlike (asked other : Asked) : Type 0 where

@@ -12,6 +12,7 @@ mod quiet;
 mod refuting;
 mod running;
 pub mod text_laws;
+pub mod verdict_laws;
 mod words;
 
 pub use answer::Answer;

@@ -10,7 +10,7 @@ ghost use Rattle.bb_ladder.specs.Laws.FilledNets.{FilledNetsStand};
 ghost use Rattle.bb_ladder.specs.OpenReports.{OpenAnswersAreReports};
 ghost use Rattle.bb_ladder.specs.ShownMistakes.{ErrorsAreShown};
 ghost use Rattle.bb_ladder.specs.TextAnswers.{AnsweredFit, ErrorsRefute, FillingOnlyAdds, RepairsFill, RepairsFinish, RepairsRun, OpenAnswersLeaveOpen, DecidedAreAnswered, StayingOpenAreAnswered, JudgedRefusalsAreFirst, RefusedAreAnsweredOnce, ReportsAreOne, ReportsBeginAsOne, StatusesAreOne, StatusesNeverClash};
-ghost use Rattle.bb_ladder.specs.TextPairs.{DesignsAreAllowed, FilledTextsFinish, FittingAreRefutedByDesigns, NotFinishedAndRefuted, NotPairAndRefusal, RefusalsAreOne, TextPairsAreAlike};
+ghost use Rattle.bb_ladder.specs.TextPairs.{DesignsAreAllowed, FilledTextsFinish, NotPairAndRefusal, RefusalsAreOne, TextPairsAreAlike};
 
 use crate::refuting::refutations_are_answered;
 use bb_agree::laws::{
@@ -67,20 +67,6 @@ pub fn no_pair_and_refusal()
     texts_have_designs();
     pairs_stand_exactly_for_fitting();
     not_fit_and_refused();
-}
-
-/// What fits and is refuted is so by one pair of designs.
-pub fn fitting_are_refuted_by_designs()
-    ensures { FittingAreRefutedByDesigns }
-{
-    texts_have_designs();
-}
-
-/// No two texts are both finished and refuted, whatever the bounds of the two calls.
-pub fn not_finished_and_refuted()
-    ensures { NotFinishedAndRefuted }
-{
-    texts_have_designs();
 }
 
 /// Pairs that stand for two texts are alike.
