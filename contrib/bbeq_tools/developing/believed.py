@@ -17,7 +17,7 @@ TOP = CRATES / "bb_ladder" / "src" / "running.rt"
 OUTSIDE = CRATES / "bb_outside" / "src"
 LAW = re.compile(r"^pub fn \w+\(\)\n((?:    .*\n|\n)*?)(?=\{)", re.M)
 CLAUSE = re.compile(r"( *ensures (\w+) \{(.*?)\}\n)(?=\s*(?:ensures|\{|//|\n))", re.S)
-STATUSES = {"0": ["repairable", "filled", "passes", "fit"], "1": ["error", "fit"],
+STATUSES = {"0": ["repairable", "fit"], "1": ["error", "fit"],
             "2": ["refused", "stays_refused"], "3": ["left_open", "fit"],
             "rup": ["refuted_yes", "refuted_no", "refuted"],
             "answers": ["whole", "front", "decided", "stays_open", "open_compares", "given",

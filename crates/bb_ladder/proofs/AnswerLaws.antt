@@ -5,7 +5,6 @@ use Rattle.std.proofs.lemmas.List.Elements.{All-weaker}
 use Rattle.bb_agree.specs.Comparable.{FittingDesignsAreComparable}
 use Rattle.bb_agree.specs.DesignAgreement.{AreSpelled, FittingTablesAreOfBoxes, IsPairFor, IsTableOf, NoTablesNoContents, PairsHaveBoxOrders, SpelledContentsAgree, TablesSpellContents}
 use Rattle.bb_agree.specs.Laws.DesignRefusals.{PairsStandExactlyForFitting}
-use Rattle.bb_agree.specs.Runs.{AgreeingDesignsRunAlike}
 use Rattle.bb_bits.specs.Tables.{TableBits}
 use Rattle.bb_cells.specs.BoxOrders.{IsBoxOrder}
 use Rattle.bb_cells.specs.Stands.{box_texts}
@@ -17,7 +16,7 @@ use Rattle.bb_rungs.specs.Laws.AlikePairs.{AlikePairsAreLeftOpen, AlikePairsStay
 use Rattle.bb_rungs.specs.declared.line.Line.{Line}
 use Rattle.bb_rungs.specs.declared.verdict.Verdict.{Verdict}
 use Rattle.bb_rungs.specs.declared.verdict.Verdict.TheVariants as verdicts
-use Rattle.bb_rungs.specs.Laws.{ErrorsExcludeTables, RepairsAgree, ClimbsLeaveOpen, StayingOpenIsTold, DecidersDecide}
+use Rattle.bb_rungs.specs.Laws.{ErrorsExcludeTables, ClimbsLeaveOpen, StayingOpenIsTold, DecidersDecide}
 use Rattle.bb_rungs.specs.LeftOpen.{LeavesOpen, StaysOpen}
 use Rattle.bb_rungs.specs.Reports.{EndsWithTables, report_text, status_of, verdict_of}
 use Rattle.bb_options.specs.Rungs.{asked_rungs}
@@ -25,7 +24,7 @@ use Rattle.bb_rungs.specs.Rungs.{is_error, is_repair}
 use Rattle.bb_ladder.specs.declared.asked.Asked.{Asked}
 use Rattle.bb_ladder.specs.FilledTexts.{MayFollow, NoTablesFollow}
 use Rattle.bb_texts.specs.RefusalLines.{refusal_line}
-use Rattle.bb_ladder.specs.TextAnswers.{Refused, Judged, AnsweredFit, ErrorsRefute, RepairsFinish, RepairsRun, OpenAnswersLeaveOpen, DecidedAreAnswered, StayingOpenAreAnswered, RefusedAreAnsweredOnce}
+use Rattle.bb_ladder.specs.TextAnswers.{Refused, Judged, AnsweredFit, ErrorsRefute, OpenAnswersLeaveOpen, DecidedAreAnswered, StayingOpenAreAnswered, RefusedAreAnsweredOnce}
 use Rattle.bb_ladder.specs.TextPairs.{AreDesignsOf, AreFinished, StandsForTexts, DesignsAreAllowed, RefusalsAreOne, NotPairAndRefusal, TextPairsAreAlike}
 use Rattle.bb_ladder.proofs.FollowLaws.{nothing_unasked}
 use Rattle.bb_ladder.proofs.TextPairLaws.{are_read_as}
@@ -98,19 +97,6 @@ module _ (allowed : DesignsAreAllowed) (none_behind : NoTablesFollow) (spell : T
           contents = (spelled.0, spelled.1, subst (λ l. AreSpelled l p.kinds tables spelled.0) order.2 spelled.2);
           agree = λ contents fits spells. agree asked.care shared s i p s_allowed i_allowed for tables complete.fit complete.agree contents fits (subst (λ l. AreSpelled l p.kinds tables contents) (sym order.2) spells);
         }
-
-  pub repairs_finish : RepairsAgree → RepairsFinish
-  repairs_finish repairs asked spec imp status text (Refused r is s t) zero = absurd (omega (arith, s, zero))
-  repairs_finish repairs asked spec imp status text (Judged p lines s i are for climb same rest follows t) zero =
-      let (tables, given, complete, ends) = repairs p asked.options lines for.kept climb (is_repairable (verdict_of lines) (sym same ∙ zero)) in
-      finished asked spec imp text p lines s i are for rest follows t tables complete ends
-
-  pub repairs_run : RepairsAgree → AgreeingDesignsRunAlike → RepairsRun
-  repairs_run repairs run asked spec imp status text (Refused r is s t) zero = absurd (omega (arith, s, zero))
-  repairs_run repairs run asked spec imp status text (Judged p lines s i are for climb same rest follows t) zero =
-      let (tables, given, complete, ends) = repairs p asked.options lines for.kept climb (is_repairable (verdict_of lines) (sym same ∙ zero)) in
-      let done = finished asked spec imp text p lines s i are for rest follows t tables complete ends in
-      (done, λ contents fills. run asked.care s i contents (s_allowed asked spec imp text p lines s i are for rest follows t tables complete ends) (i_allowed asked spec imp text p lines s i are for rest follows t tables complete ends) done.comparable fills.0 (done.agree contents fills.0 fills.1))
 
 pub answered_fit : DesignsAreAllowed → PairsStandExactlyForFitting → AnsweredFit
 answered_fit allowed fitting asked spec imp status text (Refused r is s t) answered = absurd (answered s)

@@ -1,10 +1,11 @@
--- Where the filled implementation is asked for, after the verdict comes a text that finishes the design and passes as an implementation, or
--- why there is none; and it only adds to an answer.
+-- With status 0 a report says that the design is finished: by its tables, and where it is asked for by the filled implementation. This only
+-- adds to an answer.
 use Rattle.std.proofs.Common.{◌≡◌, ◌∙◌, ℕ, Bool, true, false, List, [], ◌++◌, map, refl, sym, ap, subst, arith, true≢false}
 use Rattle.std.proofs.lemmas.List.{append-nil}
 use Rattle.bb_agree.specs.Comparable.{FittingDesignsAreComparable}
 use Rattle.bb_agree.specs.DesignAgreement.{AreSpelled, FittingTablesAreOfBoxes, PairsHaveBoxOrders, SpelledContentsAgree, TablesSpellContents}
 use Rattle.bb_agree.specs.Laws.DesignRefusals.{PairsStandExactlyForFitting}
+use Rattle.bb_agree.specs.Runs.{AgreeingDesignsRunAlike}
 use Rattle.bb_bits.specs.Tables.{TableBits}
 use Rattle.bb_cells.specs.Stands.{box_texts}
 use Rattle.bb_design.specs.Hierarchy.{Design}
@@ -25,8 +26,8 @@ use Rattle.bb_texts.specs.declared.refusal.Refusal.{Refusal}
 use Rattle.bb_texts.specs.declared.refusal.Refusal.TheVariants.{Spec, Imp, Pair, NoMemory}
 use Rattle.bb_ladder.specs.declared.asked.Asked.{Asked}
 use Rattle.bb_ladder.specs.FilledTexts.{Clashes, Finished, Follows, FollowsVerdict, IsFinishedText, IsLarge, IsTwice, MayFollow, NoTablesFollow, NotAsked, NotFinished, answer_text}
-use Rattle.bb_ladder.specs.TextAnswers.{FillingOnlyAdds, Judged, Judges, Refused, RepairsFill}
-use Rattle.bb_ladder.specs.TextPairs.{DesignsAreAllowed, FilledTextsFinish, IsRefusal, Passes, RunsAsText}
+use Rattle.bb_ladder.specs.TextAnswers.{FillingOnlyAdds, Judged, Judges, Refused, RepairsFinish}
+use Rattle.bb_ladder.specs.TextPairs.{DesignsAreAllowed, FilledTextsFinish, IsFilledText, IsRefusal}
 use Rattle.bb_ladder.proofs.AnswerLaws.{finished, is_repairable, order}
 use Rattle.bb_ladder.proofs.FilledNames.{clash_is_twice}
 use Rattle.bb_ladder.proofs.FollowLaws.{something_follows}
@@ -56,9 +57,9 @@ told_clash f tables name (fill.IsFilled apart small is) = let no : Clash name �
 
 module _ (allowed : DesignsAreAllowed) (none_behind : NoTablesFollow) (spell : TablesSpellContents) (agree : SpelledContentsAgree) (exactly : PairsStandExactlyForFitting)
     (comparable : FittingDesignsAreComparable) (have_orders : PairsHaveBoxOrders) (of_boxes : FittingTablesAreOfBoxes) where
-  pub repairs_fill : RepairsAgree → TablesAreGivenOnce → FilledTextsFinish → RepairsFill
-  repairs_fill repairs once finish asked spec imp status text (Refused r is s t) zero = absurd (omega (arith, s, zero))
-  repairs_fill repairs once finish asked spec imp status text (Judged p lines s i are for climb same rest follows t) zero =
+  pub repairs_finish : RepairsAgree → TablesAreGivenOnce → AgreeingDesignsRunAlike → FilledTextsFinish → RepairsFinish
+  repairs_finish repairs once run finish asked spec imp status text (Refused r is s t) zero = absurd (omega (arith, s, zero))
+  repairs_finish repairs once run finish asked spec imp status text (Judged p lines s i are for climb same rest follows t) zero =
       let repairable = is_repairable (verdict_of lines) (sym same ∙ zero) in
       let (tables, given, complete, ends) = repairs p asked.options lines for.kept climb repairable in
       let boxes = order allowed none_behind spell agree exactly comparable have_orders of_boxes asked spec imp text p lines s i are for rest follows t tables complete ends in
@@ -67,16 +68,16 @@ module _ (allowed : DesignsAreAllowed) (none_behind : NoTablesFollow) (spell : T
       let twice = λ (name : List ℕ) (may : MayFill for.imp_net (spread p.kinds tables) (Clash name)). clash_is_twice i for.imp_net for.imp_stands name (told_clash for.imp_net (spread p.kinds tables) name may) in
       let finishes = λ (filled : List ℕ) (may : MayFill for.imp_net (spread p.kinds tables) (Text filled)).
       finish asked spec imp s i are p for tables complete filled may in
-      let named = λ (filled : List ℕ) (may : MayFill for.imp_net (spread p.kinds tables) (Text filled)).
-      subst (λ l. IsFinishedText asked.care s i (λ contents. FitDesign i contents × AreSpelled l p.kinds tables contents) filled) boxes.2 (finishes filled may).0 in (
-        (λ on. (
-          done,
-          rest_follows asked.fill i (IsFinishedText asked.care s i (λ contents. FitDesign i contents × AreSpelled (map (box_texts i) boxes.0) p.kinds tables contents)) p for.imp_net lines rest repairable tables
-              only named twice on follows,
-        )),
-        (λ on. (done, rest_follows asked.fill i (Passes asked spec) p for.imp_net lines rest repairable tables only (λ filled may. (finishes filled may).1) twice on follows)),
-        (λ on. (done, rest_follows asked.fill i (RunsAsText asked.care s) p for.imp_net lines rest repairable tables only (λ filled may. (finishes filled may).2) twice on follows)),
-      )
+      let is_filled : (filled : List ℕ) → MayFill for.imp_net (spread p.kinds tables) (Text filled) → IsFilledText done filled = λ filled may. record {
+        finishes = subst (λ l. IsFinishedText asked.care s i (λ contents. FitDesign i contents × AreSpelled l p.kinds tables contents) filled) boxes.2 (finishes filled may).0;
+        passes = (finishes filled may).1;
+        runs = (finishes filled may).2;
+      } in
+      record {
+        finished = done;
+        runs = λ contents fills. run asked.care s i contents (allowed asked.spec_top spec s are.spec_design) (allowed asked.imp_top imp i are.imp_design) done.comparable fills.0 (done.agree contents fills.0 fills.1);
+        filled = λ on. rest_follows asked.fill i (IsFilledText done) p for.imp_net lines rest repairable tables only is_filled twice on follows;
+      }
 
 -- a refusal is one whether the filled implementation is asked for or not
 refused_alike : (on : Bool) (asked : Asked) (spec imp : List ℕ) (r : Refusal) → IsRefusal asked spec imp r → IsRefusal (record asked { fill = on }) spec imp r

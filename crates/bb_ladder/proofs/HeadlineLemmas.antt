@@ -14,8 +14,8 @@ use Rattle.bb_ladder.specs.Refutations.{CheckLaws, Checks, FailsAt, IsRefutation
 use Rattle.bb_ladder.specs.OpenReports.{IsOpenReport, OpenAnswersAreReports}
 use Rattle.bb_ladder.specs.ShownMistakes.{AreShown, ErrorsAreShown}
 use Rattle.bb_ladder.specs.Sources.{AreBytes, Source}
-use Rattle.bb_ladder.specs.TextAnswers.{Judges, Refused, Judged, AnsweredFit, ErrorsRefute, RepairsFill, RepairsFinish, RepairsRun, OpenAnswersLeaveOpen}
-use Rattle.bb_ladder.specs.TextPairs.{AreRefuted, AreFinished, AreLeftOpen, DoFit, IsFilled, IsFilledToPass, IsFilledToRun, RunsAsSpecified}
+use Rattle.bb_ladder.specs.TextAnswers.{Judges, Refused, Judged, AnsweredFit, ErrorsRefute, RepairsFinish, OpenAnswersLeaveOpen}
+use Rattle.bb_ladder.specs.TextPairs.{AreRefuted, AreLeftOpen, DoFit, IsFinishedReport}
 use Rattle.bb_ladder.proofs.SourceLemmas.{both_whole}
 use Rattle.bb_ladder.proofs.AnswerLaws.{report_status}
 
@@ -164,20 +164,13 @@ no_failure status (inl (inr one)) four = omega (arith, one, four)
 no_failure status (inr three) four = omega (arith, three, four)
 
 -- what each status says of the texts of a call
-module _ (once : WordsAskOnce) (fit : AnsweredFit) (finish : RepairsFinish) (run : RepairsRun) (fills : RepairsFill) (refute : ErrorsRefute) (show : ErrorsAreShown) (leave : OpenAnswersLeaveOpen)
+module _ (once : WordsAskOnce) (fit : AnsweredFit) (finish : RepairsFinish) (refute : ErrorsRefute) (show : ErrorsAreShown) (leave : OpenAnswersLeaveOpen)
     (reports : OpenAnswersAreReports) where
   pub answers_speak : AnswersSpeakOfTexts
   answers_speak call from status text asked spec imp may texts = record {
     judged = λ verdict. answer_so once (λ asked spec imp text. Judges asked spec imp status text) status (no_refusal status verdict) (no_failure status verdict)
         (λ asked spec imp other text judged same. subst (λ n. Judges asked spec imp n text) same judged) call from status text asked spec imp may refl texts;
-    finished = λ zero. answer_so once AreFinished 0 (λ e. omega (arith, e)) (λ e. omega (arith, e)) finish call from status text asked spec imp may zero texts;
-    filled = λ zero. answer_so once IsFilled 0 (λ e. omega (arith, e)) (λ e. omega (arith, e)) (λ asked spec imp status text j z. (fills asked spec imp status text j z).0)
-        call from status text asked spec imp may zero texts;
-    passes = λ zero. answer_so once IsFilledToPass 0 (λ e. omega (arith, e)) (λ e. omega (arith, e)) (λ asked spec imp status text j z. (fills asked spec imp status text j z).1)
-        call from status text asked spec imp may zero texts;
-    runs = λ zero. answer_so once RunsAsSpecified 0 (λ e. omega (arith, e)) (λ e. omega (arith, e)) run call from status text asked spec imp may zero texts;
-    filled_runs = λ zero. answer_so once IsFilledToRun 0 (λ e. omega (arith, e)) (λ e. omega (arith, e)) (λ asked spec imp status text j z. (fills asked spec imp status text j z).2)
-        call from status text asked spec imp may zero texts;
+    finished = λ zero. answer_so once IsFinishedReport 0 (λ e. omega (arith, e)) (λ e. omega (arith, e)) finish call from status text asked spec imp may zero texts;
     refuted = λ one. (answer_so once (λ asked spec imp text. AreRefuted asked spec imp) 1 (λ e. omega (arith, e)) (λ e. omega (arith, e)) refute
         call from status text asked spec imp may one texts).2;
     fit = λ verdict. (answer_so once (λ asked spec imp text. DoFit asked spec imp) status (no_refusal status verdict) (no_failure status verdict)

@@ -47,7 +47,7 @@ same_call asked = record { spec_top = refl; imp_top = refl; care = refl; shared 
 
 pub statuses_never_clash : TextsReadAsOne → RepairsFinish → ErrorsRefute → StatusesNeverClash
 statuses_never_clash one finish refute asked spec imp status other text told a b zero is_one =
-    not_finished_and_refuted one asked asked spec imp text (same_call asked) (finish asked spec imp status text a zero) (refute asked spec imp other told b is_one)
+    not_finished_and_refuted one asked asked spec imp text (same_call asked) (finish asked spec imp status text a zero).finished (refute asked spec imp other told b is_one)
 
 -- where they are left open, the answer does not depend on the search
 abbrev IsFixed : Asked → List ℕ → List ℕ → Type 0

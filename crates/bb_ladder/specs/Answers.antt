@@ -9,7 +9,7 @@ use Rattle.bb_ladder.specs.OpenReports.{IsOpenReport}
 use Rattle.bb_ladder.specs.ShownMistakes.{AreShown}
 use Rattle.bb_ladder.specs.Sources.{AreBytes, Source}
 use Rattle.bb_ladder.specs.TextAnswers.{Judges}
-use Rattle.bb_ladder.specs.TextPairs.{AreFinished, AreLeftOpen, AreRefuted, DoFit, IsFilled, IsFilledToPass, IsFilledToRun, RunsAsSpecified}
+use Rattle.bb_ladder.specs.TextPairs.{AreLeftOpen, AreRefuted, DoFit, IsFinishedReport}
 use Rattle.bb_make.specs.Adders.{made_imp, made_spec}
 use Rattle.bb_ladder.specs.MadePairs.{JudgesMade, asked_of, head_of}
 use Rattle.bb_words.specs.Asked.{MadePair, Refutation, Request, asked, made_asked, rup_asked}
@@ -71,11 +71,7 @@ IsVerdict status = ((status ≡ 0) ⊎ (status ≡ 1)) ⊎ (status ≡ 3)
 -- what an answer with this status says of the texts: of them it is what two texts are answered, and so all else
 pub record Means (call : Call) (status : ℕ) (text : List ℕ) (asked : TextsAsked) (spec imp : List ℕ) : Type 0 where
   pub judged : IsVerdict status → IsReport (λ asked spec imp report. Judges asked spec imp status report) call.words asked spec imp text
-  pub finished : status ≡ 0 → IsReport AreFinished call.words asked spec imp text
-  pub filled : status ≡ 0 → IsReport IsFilled call.words asked spec imp text
-  pub passes : status ≡ 0 → IsReport IsFilledToPass call.words asked spec imp text
-  pub runs : status ≡ 0 → IsReport RunsAsSpecified call.words asked spec imp text
-  pub filled_runs : status ≡ 0 → IsReport IsFilledToRun call.words asked spec imp text
+  pub finished : status ≡ 0 → IsReport IsFinishedReport call.words asked spec imp text
   pub refuted : status ≡ 1 → AreRefuted asked spec imp
   pub fit : IsVerdict status → DoFit asked spec imp
   pub shown : status ≡ 1 → IsReport AreShown call.words asked spec imp text

@@ -14,7 +14,7 @@ use Rattle.bb_ladder.specs.declared.asked.Asked.{Asked}
 use Rattle.bb_texts.specs.declared.refusal.Refusal.{Refusal}
 use Rattle.bb_texts.specs.RefusalLines.{refusal_line}
 use Rattle.bb_ladder.specs.FilledTexts.{MayFollow}
-use Rattle.bb_ladder.specs.TextPairs.{AreDesignsOf, IsRefusal, StandsForTexts, DoFit, AreRefuted, AreFinished, AreLeftOpen, AreStayingOpen, AreDecided, IsFilled, IsFilledToPass, IsFilledToRun, RunsAsSpecified}
+use Rattle.bb_ladder.specs.TextPairs.{AreDesignsOf, IsRefusal, StandsForTexts, DoFit, AreRefuted, AreLeftOpen, AreStayingOpen, AreDecided, IsFinishedReport}
 
 pub data Judges (asked : Asked) (spec imp : List ℕ) (status : ℕ) (text : List ℕ) : Type 0 where
   Refused : (refusal : Refusal) → IsRefusal asked spec imp refusal → status ≡ 2 → text ≡ refusal_line refusal → Judges asked spec imp status text
@@ -31,20 +31,11 @@ AnsweredFit = (asked : Asked) (spec imp : List ℕ) (status : ℕ) (text : List 
 abbrev pub ErrorsRefute : Type 0
 ErrorsRefute = (asked : Asked) (spec imp : List ℕ) (status : ℕ) (text : List ℕ) → Judges asked spec imp status text → status ≡ 1 → AreRefuted asked spec imp
 
--- a design is finished only with tables whose contents make the two agree
+-- a design is finished only by a report that says so: by tables whose contents make the two agree and run alike, and a filled
+-- implementation that does
 abbrev pub RepairsFinish : Type 0
-RepairsFinish = (asked : Asked) (spec imp : List ℕ) (status : ℕ) (text : List ℕ) → Judges asked spec imp status text → status ≡ 0 → AreFinished asked spec imp text
-
--- and with these contents the two run alike
-abbrev pub RepairsRun : Type 0
-RepairsRun = (asked : Asked) (spec imp : List ℕ) (status : ℕ) (text : List ℕ) → Judges asked spec imp status text → status ≡ 0
-    → RunsAsSpecified asked spec imp text
-
--- where the filled implementation is asked for, after the verdict comes a text that finishes the design, passes as an implementation and
--- runs as the specification does, or why there is none
-abbrev pub RepairsFill : Type 0
-RepairsFill = (asked : Asked) (spec imp : List ℕ) (status : ℕ) (text : List ℕ) → Judges asked spec imp status text → status ≡ 0
-    → IsFilled asked spec imp text × IsFilledToPass asked spec imp text × IsFilledToRun asked spec imp text
+RepairsFinish = (asked : Asked) (spec imp : List ℕ) (status : ℕ) (text : List ℕ) → Judges asked spec imp status text → status ≡ 0
+    → IsFinishedReport asked spec imp text
 
 -- the filled implementation only adds to an answer: up to the verdict each is one without it, and each without it is the front of one with it
 pub record AddsOnly (asked : Asked) (spec imp : List ℕ) (status : ℕ) : Type 0 where

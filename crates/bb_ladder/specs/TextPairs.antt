@@ -99,37 +99,32 @@ pub record AreFinished (asked : Asked) (spec imp text : List ℕ) : Type 0 where
   pub agree : (contents : Contents) → FitDesign i contents → AreSpelled (map (box_texts i) order) kinds tables contents
       → ContentsAgree asked.care s i contents
 
--- contents that fill the boxes as the tables spell
-abbrev pub Fills : {asked : Asked} {spec imp text : List ℕ} → AreFinished asked spec imp text → Contents → Type 0
-Fills finished contents = FitDesign finished.i contents
+-- contents that fit the boxes and that the tables spell
+abbrev pub AreSpelledBy : {asked : Asked} {spec imp text : List ℕ} → AreFinished asked spec imp text → Contents → Type 0
+AreSpelledBy finished contents = FitDesign finished.i contents
     × AreSpelled (map (box_texts finished.i) finished.order) finished.kinds finished.tables contents
-
--- where it is asked for, after the verdict comes the implementation with such contents as one module, or why it does not
-abbrev pub IsFilled : Asked → List ℕ → List ℕ → List ℕ → Type 0
-IsFilled asked spec imp text = asked.fill ≡ true → (finished : AreFinished asked spec imp text)
-    × FollowsVerdict finished.i (IsFinishedText asked.care finished.s finished.i (Fills finished)) finished.rest
 
 -- the filled text passes as an implementation: nothing is at fault in it and it fits the specification, whether its top is named or not
 abbrev pub Passes : Asked → List ℕ → List ℕ → Type 0
 Passes asked spec filled = DoFit (record asked { imp_top = None }) spec filled
     × DoFit (record asked { imp_top = Some (codes "filled") }) spec filled
 
-abbrev pub IsFilledToPass : Asked → List ℕ → List ℕ → List ℕ → Type 0
-IsFilledToPass asked spec imp text = asked.fill ≡ true → (finished : AreFinished asked spec imp text)
-    × FollowsVerdict finished.i (Passes asked spec) finished.rest
-
--- with all contents that fit the boxes and that the tables spell the two run alike, whatever events come
-abbrev pub RunsAsSpecified : Asked → List ℕ → List ℕ → List ℕ → Type 0
-RunsAsSpecified asked spec imp text = (finished : AreFinished asked spec imp text)
-    × ((contents : Contents) → Fills finished contents → RunAlike asked.care finished.s finished.i contents)
-
 -- the text reads as a design that runs as the specification does, by texts that each have one meaning
 abbrev pub RunsAsText : Option (List ℕ) → Design → List ℕ → Type 0
 RunsAsText care s filled = (d : Design) × IsReadAs None filled d × HasOwnTexts d × ((contents : Contents) → RunAlike care s d contents)
 
-abbrev pub IsFilledToRun : Asked → List ℕ → List ℕ → List ℕ → Type 0
-IsFilledToRun asked spec imp text = asked.fill ≡ true → (finished : AreFinished asked spec imp text)
-    × FollowsVerdict finished.i (RunsAsText asked.care finished.s) finished.rest
+-- the text is the implementation with its boxes filled so: it agrees with the specification, passes, and runs as that does
+pub record IsFilledText {asked : Asked} {spec imp text : List ℕ} (finished : AreFinished asked spec imp text) (filled : List ℕ) : Type 0 where
+  pub finishes : IsFinishedText asked.care finished.s finished.i (AreSpelledBy finished) filled
+  pub passes : Passes asked spec filled
+  pub runs : RunsAsText asked.care finished.s filled
+
+-- all that a report says by which the two are finished, of one and the same parting of it: with all contents that the tables spell the
+-- two run alike, whatever events come, and where it is asked for, after the verdict comes the filled implementation, or why it does not
+pub record IsFinishedReport (asked : Asked) (spec imp text : List ℕ) : Type 0 where
+  pub finished : AreFinished asked spec imp text
+  pub runs : (contents : Contents) → AreSpelledBy finished contents → RunAlike asked.care finished.s finished.i contents
+  pub filled : asked.fill ≡ true → FollowsVerdict finished.i (IsFilledText finished) finished.rest
 
 -- a pair stands for the two for which a check that is asked for decides
 abbrev pub AreDecided : Asked → List ℕ → List ℕ → Type 0

@@ -9,7 +9,7 @@ ghost use Rattle.bb_ladder.specs.Inside.Made.{CanBeFilled, IsChecked};
 ghost use Rattle.bb_ladder.specs.OpenReports.{IsOpenReport};
 ghost use Rattle.bb_ladder.specs.ShownMistakes.{AreShown};
 ghost use Rattle.bb_ladder.specs.TextAnswers.{Judges};
-ghost use Rattle.bb_ladder.specs.TextPairs.{AreDecided, AreFinished, AreLeftOpen, AreRefuted, AreStayingOpen, DoFit, IsFilled, IsFilledToPass, IsFilledToRun, IsRefusal, RunsAsSpecified};
+ghost use Rattle.bb_ladder.specs.TextPairs.{AreDecided, AreLeftOpen, AreRefuted, AreStayingOpen, DoFit, IsFinishedReport, IsRefusal};
 
 use crate::answer::Answer;
 use crate::asked::Asked;
@@ -83,11 +83,7 @@ pub fn judge_pair(alloc: Global, spec: &[u8], imp: &[u8], asked: &Asked) -> Resu
     requires bounds { AreBounds asked.now.options }
     ensures answer { IfOk result (λ answer. Judges asked.now spec.now imp.now answer.status answer.report.items) }
     ensures fit { IfOk result (λ answer. (answer.status ≡ 2 → ⊥) → DoFit asked.now spec.now imp.now) }
-    ensures repairable { IfOk result (λ answer. answer.status ≡ 0 → AreFinished asked.now spec.now imp.now answer.report.items) }
-    ensures filled { IfOk result (λ answer. answer.status ≡ 0 → IsFilled asked.now spec.now imp.now answer.report.items) }
-    ensures passes { IfOk result (λ answer. answer.status ≡ 0 → IsFilledToPass asked.now spec.now imp.now answer.report.items) }
-    ensures runs { IfOk result (λ answer. answer.status ≡ 0 → RunsAsSpecified asked.now spec.now imp.now answer.report.items) }
-    ensures filled_runs { IfOk result (λ answer. answer.status ≡ 0 → IsFilledToRun asked.now spec.now imp.now answer.report.items) }
+    ensures repairable { IfOk result (λ answer. answer.status ≡ 0 → IsFinishedReport asked.now spec.now imp.now answer.report.items) }
     ensures error { IfOk result (λ answer. answer.status ≡ 1 → AreRefuted asked.now spec.now imp.now) }
     ensures shown { IfOk result (λ answer. answer.status ≡ 1 → AreShown asked.now spec.now imp.now answer.report.items) }
     ensures left_open { IfOk result (λ answer. answer.status ≡ 3 → AreLeftOpen asked.now spec.now imp.now) }

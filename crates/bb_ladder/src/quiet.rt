@@ -12,7 +12,7 @@ ghost use Rattle.bb_ladder.specs.Refutations.{AreRead, FailsAt, IsRefutation, Sa
 ghost use Rattle.bb_ladder.specs.OpenReports.{IsOpenReport};
 ghost use Rattle.bb_ladder.specs.ShownMistakes.{AreShown};
 ghost use Rattle.bb_ladder.specs.Sources.{Held, MayHaveFailed, Source};
-ghost use Rattle.bb_ladder.specs.TextPairs.{AreDecided, AreFinished, AreLeftOpen, AreRefuted, AreStayingOpen, DoFit, IsFilled, IsFilledToPass, IsFilledToRun, RunsAsSpecified};
+ghost use Rattle.bb_ladder.specs.TextPairs.{AreDecided, AreLeftOpen, AreRefuted, AreStayingOpen, DoFit, IsFinishedReport};
 
 use crate::running::run;
 use bb_outside::{QuietFiles, QuietSink};
@@ -41,19 +41,9 @@ pub fn run_quietly(
     ensures fit { IsVerdict result → OfTexts (called words.now holds_of reads_of files.old files.new) DoFit }
 
     // The design is finished by tables whose contents make every output and every next state agree on every vector, where a care output is
-    // asked for at which it is 1.
+    // asked for at which it is 1. So the two behave alike for ever, whatever events come.
     ensures repairable { result ≡ 0 → OfTexts (called words.now holds_of reads_of files.old files.new) (λ asked spec imp.
-        (text : List ℕ) × AreFinished asked spec imp text) }
-    ensures filled { result ≡ 0 → OfTexts (called words.now holds_of reads_of files.old files.new) (λ asked spec imp.
-        (text : List ℕ) × IsFilled asked spec imp text) }
-    ensures passes { result ≡ 0 → OfTexts (called words.now holds_of reads_of files.old files.new) (λ asked spec imp.
-        (text : List ℕ) × IsFilledToPass asked spec imp text) }
-
-    // So the two behave alike for ever, whatever events come.
-    ensures runs { result ≡ 0 → OfTexts (called words.now holds_of reads_of files.old files.new) (λ asked spec imp.
-        (text : List ℕ) × RunsAsSpecified asked spec imp text) }
-    ensures filled_runs { result ≡ 0 → OfTexts (called words.now holds_of reads_of files.old files.new) (λ asked spec imp.
-        (text : List ℕ) × IsFilledToRun asked spec imp text) }
+        (text : List ℕ) × IsFinishedReport asked spec imp text) }
 
     // No contents of the boxes make every output and every next state agree on every such vector, and a report shows how.
     ensures error { result ≡ 1 → OfTexts (called words.now holds_of reads_of files.old files.new) AreRefuted }

@@ -16,7 +16,7 @@ ghost use Rattle.bb_ladder.specs.OpenReports.{IsOpenReport};
 ghost use Rattle.bb_ladder.specs.ShownMistakes.{AreShown};
 ghost use Rattle.bb_ladder.specs.Sources.{MayHaveFailed, Source};
 ghost use Rattle.bb_ladder.specs.Inside.Tasks.{IsBounded, judged_by};
-ghost use Rattle.bb_ladder.specs.TextPairs.{AreDecided, AreFinished, AreLeftOpen, AreRefuted, AreStayingOpen, DoFit, IsFilled, IsFilledToPass, IsFilledToRun, RunsAsSpecified};
+ghost use Rattle.bb_ladder.specs.TextPairs.{AreDecided, AreLeftOpen, AreRefuted, AreStayingOpen, DoFit, IsFinishedReport};
 
 use crate::answer::{Answer, say};
 use crate::judging::judge_pair;
@@ -132,26 +132,14 @@ pub fn run<F: Files, K: Sink>(alloc: Global, words: &[String], files: &mut F, ou
     ensures fit { IsVerdict result → OfTexts (called words.now F.holds F.reads files.old files.new) DoFit }
 
     // The design is reported as repairable only with tables whose contents make every output and every next state agree on every vector,
-    // where a care output is asked for at which it is 1.
+    // where a care output is asked for at which it is 1. So they behave alike for ever: from the same states, whatever events come, the
+    // implementation with these contents gives the outputs of the specification at each event, but for the care output, and has its states
+    // after it; with a care output as long as it is 1. And where the filled implementation is asked for, after the verdict comes a line that
+    // says why there is none, or `fill` and a text that finishes the design: whoever reads it finds a design without boxes that agrees with
+    // the specification on every such vector, and with the implementation, its boxes filled as the tables say, on every vector, and that
+    // runs as the specification does. As an implementation nothing is at fault in it and it fits, whether its top is named or not.
     ensures repairable { result ≡ 0
-        → Reports K.written out.old out.new (called words.now F.holds F.reads files.old files.new) AreFinished }
-
-    // And where the filled implementation is asked for, after the verdict comes a line that says why there is none, or `fill` and a text
-    // that finishes the design: whoever reads it finds a design without boxes that agrees with the specification on every such vector,
-    // and with the implementation, its boxes filled as the tables say, on every vector. As an implementation nothing is at fault
-    // in it and it fits, whether its top is named or not.
-    ensures filled { result ≡ 0
-        → Reports K.written out.old out.new (called words.now F.holds F.reads files.old files.new) IsFilled }
-    ensures passes { result ≡ 0
-        → Reports K.written out.old out.new (called words.now F.holds F.reads files.old files.new) IsFilledToPass }
-
-    // So they behave alike for ever: from the same states, whatever events come, the implementation with these contents gives the outputs of
-    // the specification at each event, but for the care output, and has its states after it, and so does the filled text; with a care
-    // output as long as it is 1.
-    ensures runs { result ≡ 0
-        → Reports K.written out.old out.new (called words.now F.holds F.reads files.old files.new) RunsAsSpecified }
-    ensures filled_runs { result ≡ 0
-        → Reports K.written out.old out.new (called words.now F.holds F.reads files.old files.new) IsFilledToRun }
+        → Reports K.written out.old out.new (called words.now F.holds F.reads files.old files.new) IsFinishedReport }
 
     // An error is reported only where the two can be compared and no contents of the boxes make every output and every next state agree on
     // every such vector.

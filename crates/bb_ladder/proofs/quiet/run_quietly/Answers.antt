@@ -13,22 +13,6 @@ pub returns-clause-repairable : goal.returns-clause-repairable
 returns-clause-repairable c = λ answered from asked spec imp texts.
     let (text, written, (report, same, holds)) = c.run.ensures.repairable answered from asked spec imp texts in (report, holds)
 
-pub returns-clause-filled : goal.returns-clause-filled
-returns-clause-filled c = λ answered from asked spec imp texts.
-    let (text, written, (report, same, holds)) = c.run.ensures.filled answered from asked spec imp texts in (report, holds)
-
-pub returns-clause-passes : goal.returns-clause-passes
-returns-clause-passes c = λ answered from asked spec imp texts.
-    let (text, written, (report, same, holds)) = c.run.ensures.passes answered from asked spec imp texts in (report, holds)
-
-pub returns-clause-runs : goal.returns-clause-runs
-returns-clause-runs c = λ answered from asked spec imp texts.
-    let (text, written, (report, same, holds)) = c.run.ensures.runs answered from asked spec imp texts in (report, holds)
-
-pub returns-clause-filled_runs : goal.returns-clause-filled_runs
-returns-clause-filled_runs c = λ answered from asked spec imp texts.
-    let (text, written, (report, same, holds)) = c.run.ensures.filled_runs answered from asked spec imp texts in (report, holds)
-
 pub returns-clause-shown : goal.returns-clause-shown
 returns-clause-shown c = λ answered from asked spec imp texts.
     let (text, written, (report, same, holds)) = c.run.ensures.shown answered from asked spec imp texts in (report, holds)

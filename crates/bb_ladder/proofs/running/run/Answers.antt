@@ -16,22 +16,6 @@ pub returns-in-Ok-put_all-clause-repairable : goal.returns-in-Ok-put_all-clause-
 returns-in-Ok-put_all-clause-repairable g c = λ answered from asked spec imp texts.
     (c.in-Ok.answer.report.items, rw c.deref.ensures.value at c.in-Ok-put_all.ensures.ok, (c.answers_speak_of_texts.ensures _ from c.in-Ok.answer.status c.in-Ok.answer.report.items asked spec imp c.in-Ok.ensures.answer texts).finished answered)
 
-pub returns-in-Ok-put_all-clause-filled : goal.returns-in-Ok-put_all-clause-filled
-returns-in-Ok-put_all-clause-filled g c = λ answered from asked spec imp texts.
-    (c.in-Ok.answer.report.items, rw c.deref.ensures.value at c.in-Ok-put_all.ensures.ok, (c.answers_speak_of_texts.ensures _ from c.in-Ok.answer.status c.in-Ok.answer.report.items asked spec imp c.in-Ok.ensures.answer texts).filled answered)
-
-pub returns-in-Ok-put_all-clause-passes : goal.returns-in-Ok-put_all-clause-passes
-returns-in-Ok-put_all-clause-passes g c = λ answered from asked spec imp texts.
-    (c.in-Ok.answer.report.items, rw c.deref.ensures.value at c.in-Ok-put_all.ensures.ok, (c.answers_speak_of_texts.ensures _ from c.in-Ok.answer.status c.in-Ok.answer.report.items asked spec imp c.in-Ok.ensures.answer texts).passes answered)
-
-pub returns-in-Ok-put_all-clause-runs : goal.returns-in-Ok-put_all-clause-runs
-returns-in-Ok-put_all-clause-runs g c = λ answered from asked spec imp texts.
-    (c.in-Ok.answer.report.items, rw c.deref.ensures.value at c.in-Ok-put_all.ensures.ok, (c.answers_speak_of_texts.ensures _ from c.in-Ok.answer.status c.in-Ok.answer.report.items asked spec imp c.in-Ok.ensures.answer texts).runs answered)
-
-pub returns-in-Ok-put_all-clause-filled_runs : goal.returns-in-Ok-put_all-clause-filled_runs
-returns-in-Ok-put_all-clause-filled_runs g c = λ answered from asked spec imp texts.
-    (c.in-Ok.answer.report.items, rw c.deref.ensures.value at c.in-Ok-put_all.ensures.ok, (c.answers_speak_of_texts.ensures _ from c.in-Ok.answer.status c.in-Ok.answer.report.items asked spec imp c.in-Ok.ensures.answer texts).filled_runs answered)
-
 pub returns-in-Ok-put_all-clause-shown : goal.returns-in-Ok-put_all-clause-shown
 returns-in-Ok-put_all-clause-shown g c = λ answered from asked spec imp texts.
     (c.in-Ok.answer.report.items, rw c.deref.ensures.value at c.in-Ok-put_all.ensures.ok, (c.answers_speak_of_texts.ensures _ from c.in-Ok.answer.status c.in-Ok.answer.report.items asked spec imp c.in-Ok.ensures.answer texts).shown answered)

@@ -1,6 +1,6 @@
-use Rattle.bb_ladder.proofs.AnswerLaws.{answered_fit, decided_are_answered, errors_refute, open_answers_leave_open, refused_are_answered_once, repairs_finish, repairs_run, staying_open_are_answered}
+use Rattle.bb_ladder.proofs.AnswerLaws.{answered_fit, decided_are_answered, errors_refute, open_answers_leave_open, refused_are_answered_once, staying_open_are_answered}
 use Rattle.bb_ladder.proofs.CallRefusalLaws.{judged_refusals_are_first}
-use Rattle.bb_ladder.proofs.FilledAnswers.{repairs_fill}
+use Rattle.bb_ladder.proofs.FilledAnswers.{repairs_finish}
 use Rattle.bb_ladder.proofs.OpenLaw.{open_answers_are_reports}
 use Rattle.bb_ladder.proofs.ShownLaw.{errors_are_shown}
 use Rattle.bb_ladder.proofs.text_laws.answers_are_meant.Goals as goal
@@ -13,13 +13,8 @@ returns c = record {
       c.failing_vectors_are_mistakes.ensures c.refutations_show_vectors.ensures;
   repairs =
       repairs_finish c.designs_are_allowed.ensures c.no_tables_follow.ensures c.tables_spell_contents.ensures c.spelled_contents_agree.ensures c.pairs_stand_exactly_for_fitting.ensures
-      c.fitting_designs_are_comparable.ensures c.pairs_have_box_orders.ensures c.fitting_tables_are_of_boxes.ensures c.repairs_agree.ensures;
-  runs =
-      repairs_run c.designs_are_allowed.ensures c.no_tables_follow.ensures c.tables_spell_contents.ensures c.spelled_contents_agree.ensures c.pairs_stand_exactly_for_fitting.ensures
-      c.fitting_designs_are_comparable.ensures c.pairs_have_box_orders.ensures c.fitting_tables_are_of_boxes.ensures c.repairs_agree.ensures c.agreeing_designs_run_alike.ensures;
-  fills =
-      repairs_fill c.designs_are_allowed.ensures c.no_tables_follow.ensures c.tables_spell_contents.ensures c.spelled_contents_agree.ensures c.pairs_stand_exactly_for_fitting.ensures
-      c.fitting_designs_are_comparable.ensures c.pairs_have_box_orders.ensures c.fitting_tables_are_of_boxes.ensures c.repairs_agree.ensures c.tables_are_given_once.ensures c.filled_texts_finish.ensures;
+      c.fitting_designs_are_comparable.ensures c.pairs_have_box_orders.ensures c.fitting_tables_are_of_boxes.ensures c.repairs_agree.ensures c.tables_are_given_once.ensures
+      c.agreeing_designs_run_alike.ensures c.filled_texts_finish.ensures;
   open_reports = open_answers_are_reports;
   opens = open_answers_leave_open c.text_pairs_are_alike.ensures c.alike_pairs_are_left_open.ensures.left c.climbs_leave_open.ensures;
   stays_open = staying_open_are_answered c.no_pair_and_refusal.ensures c.text_pairs_are_alike.ensures c.alike_pairs_are_left_open.ensures.stays c.staying_open_is_told.ensures;
