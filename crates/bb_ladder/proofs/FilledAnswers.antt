@@ -33,15 +33,15 @@ use Rattle.bb_ladder.proofs.FilledNames.{clash_is_twice}
 use Rattle.bb_ladder.proofs.FollowLaws.{something_follows}
 
 -- what follows the verdict where the filled implementation is asked for and its text has a property
-module _ (fill : Bool) (i : Design) (Holds : List ℕ → Type 0) (p : NetPair) (f : FlatNet) (lines : List Line) (rest : List ℕ) (repairable : verdict_of lines ≡ verdicts.Repairable)
+module _ (fill : Bool) (i : Design) (Says : List ℕ → Type 0) (p : NetPair) (f : FlatNet) (lines : List Line) (rest : List ℕ) (repairable : verdict_of lines ≡ verdicts.Repairable)
     (tables : List TableBits) (only : (others : List TableBits) → GivesTables lines others → others ≡ tables)
-    (holds : (filled : List ℕ) → MayFill f (spread p.kinds tables) (Text filled) → Holds filled) (twice : (name : List ℕ) → MayFill f (spread p.kinds tables) (Clash name) → IsTwice i name) where
-  answer_follows : (answer : Answer) → MayFill f (spread p.kinds tables) answer → rest ≡ answer_text answer → FollowsVerdict i Holds rest
+    (holds : (filled : List ℕ) → MayFill f (spread p.kinds tables) (Text filled) → Says filled) (twice : (name : List ℕ) → MayFill f (spread p.kinds tables) (Clash name) → IsTwice i name) where
+  answer_follows : (answer : Answer) → MayFill f (spread p.kinds tables) answer → rest ≡ answer_text answer → FollowsVerdict i Says rest
   answer_follows (Clash name) may e = Clashes name e (twice name may)
   answer_follows TooLarge may e = IsLarge e
   answer_follows (Text filled) may e = Finished filled e (holds filled may)
 
-  rest_follows : fill ≡ true → MayFollow fill f p.kinds lines rest → FollowsVerdict i Holds rest
+  rest_follows : fill ≡ true → MayFollow fill f p.kinds lines rest → FollowsVerdict i Says rest
   rest_follows on (NotAsked off none) = absurd (true≢false (sym on ∙ off))
   rest_follows on (NotFinished other none) = absurd (other repairable)
   rest_follows on (Follows also verdict others gives answer may e) = answer_follows answer (subst (λ (z : List TableBits). MayFill f (spread p.kinds z) answer) (only others gives) may) e

@@ -90,8 +90,8 @@ filled_texts_finish laws asked spec imp s i are p pair tables completion text ma
     (laws.bits f all ready kept.clocks t.1) in (
       record {
         d = d;
-        unnamed = reads_as unnamed;
-        named = reads_as named;
+        reads = reads_as unnamed;
+        reads_by_name = reads_as named;
         sound = unnamed.faultless;
         own = own_texts d unnamed.sound;
         complete = sound.complete;

@@ -10,7 +10,7 @@ use Rattle.bb_words.specs.Laws.{WordsAskOnce}
 use Rattle.bb_ladder.specs.Answers.{AnswersSpeakOfTexts, Question, AfterSpec, ImpUnread, ImpLong, BothRead, OfFiles, SpecUnread, SpecLong, SpecRead, MayAnswer, Usage, Asked, Making, Refuting, AreRefutationTexts, AreTexts, FileTexts, MadeTexts, Gives, IsReport, IsVerdict, question, question_of}
 use Rattle.bb_ladder.specs.Calls.{Call}
 use Rattle.bb_ladder.specs.MadePairs.{JudgesMade, asked_of, head_by, head_of, made_head, made_text}
-use Rattle.bb_ladder.specs.Refutations.{CheckLaws, Checks, FailsAt, IsRefutation, no_line}
+use Rattle.bb_ladder.specs.Refutations.{CheckLaws, Checks, FailsAt, Refutes, no_line}
 use Rattle.bb_ladder.specs.OpenReports.{IsOpenReport, OpenAnswersAreReports}
 use Rattle.bb_ladder.specs.ShownMistakes.{AreShown, ErrorsAreShown}
 use Rattle.bb_ladder.specs.Sources.{AreBytes, Source}
@@ -183,8 +183,8 @@ module _ (once : WordsAskOnce) (fit : AnsweredFit) (finish : RepairsFinish) (ref
 
 -- with --rup what is written is the answer to the two texts
 pub yes_sound : WordsAskOnce → CheckLaws → (call : Call) (from : Source) (status : ℕ) (text : List ℕ) (f : Refutation) (first second : List ℕ) → MayAnswer call status text → status ≡ 0
-    → AreRefutationTexts call from f first second → (text ≡ codes "rup yes\n") × IsRefutation first second
-yes_sound once laws = refutation_so once (λ first second text. (text ≡ codes "rup yes\n") × IsRefutation first second) 0 (λ e. omega (arith, e)) (λ e. omega (arith, e)) laws.yes
+    → AreRefutationTexts call from f first second → (text ≡ codes "rup yes\n") × Refutes first second
+yes_sound once laws = refutation_so once (λ first second text. (text ≡ codes "rup yes\n") × Refutes first second) 0 (λ e. omega (arith, e)) (λ e. omega (arith, e)) laws.yes
 
 pub no_sound : WordsAskOnce → CheckLaws → (call : Call) (from : Source) (status : ℕ) (text : List ℕ) (f : Refutation) (first second : List ℕ) → MayAnswer call status text → status ≡ 1
     → AreRefutationTexts call from f first second → (n : ℕ) × (text ≡ no_line n) × FailsAt first second n

@@ -10,7 +10,7 @@ use Rattle.bb_rup.specs.declared.fault.RupFault.{RupFault}
 use Rattle.bb_rup.specs.declared.fault.RupFault.TheVariants.{NoMemory}
 use Rattle.bb_texts.specs.Refusals.{refusal}
 use Rattle.bb_ladder.specs.declared.answer.Answer.{Answer}
-use Rattle.bb_ladder.specs.Refutations.{rup_words, no_line, AreRead, IsCheckRefusal, OfFormula, OfAdditions, Tells, Yes, No, Checks, Faulty, Checked, IsRefutation, FailsAt, SaysWhether, CheckLaws}
+use Rattle.bb_ladder.specs.Refutations.{rup_words, no_line, AreRead, IsCheckRefusal, OfFormula, OfAdditions, Tells, Yes, No, Checks, Faulty, Checked, Refutes, FailsAt, SaysWhether, CheckLaws}
 
 -- a text is read once
 ok_same : {A : Type 0} (a b : A) (r : Result A RupFault) → r ≡ Ok a → r ≡ Ok b → a ≡ b
@@ -87,7 +87,7 @@ module _ (laws : AdditionsLaws) where
       by (Err fault) e = (2, refusal (codes "cnf") (rup_words fault), Faulty (OfFormula fault e refl) refl)
       by (Ok formula) e = with_formula formula e (additions_of second formula.vars) refl
 
-  yes : (first second : List ℕ) (status : ℕ) (text : List ℕ) → Checks first second status text → status ≡ 0 → (text ≡ codes "rup yes\n") × IsRefutation first second
+  yes : (first second : List ℕ) (status : ℕ) (text : List ℕ) → Checks first second status text → status ≡ 0 → (text ≡ codes "rup yes\n") × Refutes first second
   yes first second status text (Faulty r s) zero = absurd (omega (arith, s, zero))
   yes first second status text (Checked f a x (Yes y s t)) zero = (t, (f, a, x, y, laws.no_model f.clauses a y))
   yes first second status text (Checked f a x (No n y s t)) zero = absurd (omega (arith, s, zero))

@@ -47,8 +47,8 @@ NoTablesFollow = (fill : Bool) (f : FlatNet) (kinds : List ℕ) (lines : List Li
 -- the implementation with such contents
 pub record IsFinishedText (care : Option (List ℕ)) (s i : Design) (Fills : Contents → Type 0) (filled : List ℕ) : Type 0 where
   pub d : Design
-  pub unnamed : IsReadAs None filled d
-  pub named : IsReadAs (Some (codes "filled")) filled d
+  pub reads : IsReadAs None filled d
+  pub reads_by_name : IsReadAs (Some (codes "filled")) filled d
   pub sound : IsSound d.text
   pub own : HasOwnTexts d
   pub complete : boxes d ≡ []
@@ -62,7 +62,7 @@ IsTwice i name = (Contains (input_texts i) name × (Contains (register_texts i) 
     ⊎ (Contains (output_texts i) name × Contains (register_texts i) name)
 
 -- what comes after the verdict of an implementation: a text of which this holds, or why there is none
-pub data FollowsVerdict (i : Design) (Holds : List ℕ → Type 0) (rest : List ℕ) : Type 0 where
-  Finished : (filled : List ℕ) → rest ≡ codes "fill\n" ++ filled → Holds filled → FollowsVerdict i Holds rest
-  Clashes : (name : List ℕ) → rest ≡ codes "fill clash " ++ name ++ codes "\n" → IsTwice i name → FollowsVerdict i Holds rest
-  IsLarge : rest ≡ codes "fill toolarge\n" → FollowsVerdict i Holds rest
+pub data FollowsVerdict (i : Design) (Says : List ℕ → Type 0) (rest : List ℕ) : Type 0 where
+  Finished : (filled : List ℕ) → rest ≡ codes "fill\n" ++ filled → Says filled → FollowsVerdict i Says rest
+  Clashes : (name : List ℕ) → rest ≡ codes "fill clash " ++ name ++ codes "\n" → IsTwice i name → FollowsVerdict i Says rest
+  IsLarge : rest ≡ codes "fill toolarge\n" → FollowsVerdict i Says rest

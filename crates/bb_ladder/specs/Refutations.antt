@@ -48,8 +48,8 @@ pub data Checks (first second : List ℕ) (status : ℕ) (text : List ℕ) : Typ
       → Tells formula.clauses adds status text → Checks first second status text
 
 -- the second text refutes the first: its additions succeed, so no assignment makes all clauses true
-abbrev pub IsRefutation : List ℕ → List ℕ → Type 0
-IsRefutation first second = (formula : Formula) × (adds : List (List Lit)) × AreRead first second formula adds
+abbrev pub Refutes : List ℕ → List ℕ → Type 0
+Refutes first second = (formula : Formula) × (adds : List (List Lit)) × AreRead first second formula adds
     × Succeed formula.clauses adds × HaveNoModel formula.clauses
 
 -- the addition of this number is the first that does not follow
@@ -70,7 +70,7 @@ pub record CheckLaws : Type 0 where
   pub some : (first second : List ℕ) → (status : ℕ) × (text : List ℕ) × Checks first second status text
   -- what a status says, and that it comes where it is due
   pub yes : (first second : List ℕ) (status : ℕ) (text : List ℕ) → Checks first second status text → status ≡ 0
-      → (text ≡ codes "rup yes\n") × IsRefutation first second
+      → (text ≡ codes "rup yes\n") × Refutes first second
   pub no : (first second : List ℕ) (status : ℕ) (text : List ℕ) → Checks first second status text → status ≡ 1
       → (n : ℕ) × (text ≡ no_line n) × FailsAt first second n
   pub refused : (first second : List ℕ) (status : ℕ) (text : List ℕ) → Checks first second status text → status ≡ 2

@@ -8,7 +8,7 @@ ghost use Rattle.bb_ladder.specs.Answers.{IsVerdict, MayAnswer};
 ghost use Rattle.bb_ladder.specs.CallRefusals.{IsCallRefusal};
 ghost use Rattle.bb_ladder.specs.Calls.{called};
 ghost use Rattle.bb_ladder.specs.Clauses.{OfRefutations, OfTexts, OfWholeRefutations, OfWholeTexts};
-ghost use Rattle.bb_ladder.specs.Refutations.{AreRead, FailsAt, IsRefutation, SaysWhether};
+ghost use Rattle.bb_ladder.specs.Refutations.{AreRead, FailsAt, Refutes, SaysWhether};
 ghost use Rattle.bb_ladder.specs.OpenReports.{IsOpenReport};
 ghost use Rattle.bb_ladder.specs.ShownMistakes.{AreShown};
 ghost use Rattle.bb_ladder.specs.Sources.{Held, MayHaveFailed, Source};
@@ -61,7 +61,7 @@ pub fn run_quietly(
         AreDecided asked spec imp → ((result ≡ 0) ⊎ (result ≡ 1)) ⊎ (result ≡ 5)) }
 
     // With `--rup` the status says whether each addition follows.
-    ensures refuted_yes { result ≡ 0 → OfRefutations (called words.now holds_of reads_of files.old files.new) IsRefutation }
+    ensures refuted_yes { result ≡ 0 → OfRefutations (called words.now holds_of reads_of files.old files.new) Refutes }
     ensures refuted_no { result ≡ 1 → OfRefutations (called words.now holds_of reads_of files.old files.new) (λ first second.
         (n : ℕ) × FailsAt first second n) }
     ensures refuted { OfWholeRefutations (called words.now holds_of reads_of files.old files.new) (λ first second. (formula : Formula)

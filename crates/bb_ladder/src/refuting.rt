@@ -6,7 +6,7 @@ ghost use Rattle.bb_rup.specs.Dimacs.{dimacs_of};
 ghost use Rattle.bb_rup.specs.declared.fault.RupFault.{RupFault};
 ghost use Rattle.bb_texts.specs.declared.limit.TheConstants.{READ_LIMIT};
 ghost use Rattle.bb_texts.specs.Refusals.{refusal};
-ghost use Rattle.bb_ladder.specs.Refutations.{CheckLaws, Checks, FailsAt, IsCheckRefusal, IsRefutation, Tells, no_line, rup_words};
+ghost use Rattle.bb_ladder.specs.Refutations.{CheckLaws, Checks, FailsAt, IsCheckRefusal, Refutes, Tells, no_line, rup_words};
 
 use crate::answer::{Answer, say};
 use bb_bits::NoMemory;
@@ -115,7 +115,7 @@ pub fn judge_refutation(alloc: Global, first: &[u8], second: &[u8]) -> Result<An
     requires first { length first.now < READ_LIMIT }
     requires second { length second.now < READ_LIMIT }
     ensures answer { IfOk result (λ answer. Checks first.now second.now answer.status answer.report.items) }
-    ensures yes { IfOk result (λ answer. answer.status ≡ 0 → (answer.report.items ≡ codes "rup yes\n") × IsRefutation first.now second.now) }
+    ensures yes { IfOk result (λ answer. answer.status ≡ 0 → (answer.report.items ≡ codes "rup yes\n") × Refutes first.now second.now) }
     ensures no { IfOk result (λ answer. answer.status ≡ 1 → (n : ℕ) × (answer.report.items ≡ no_line n) × FailsAt first.now second.now n) }
     ensures refused { IfOk result (λ answer. answer.status ≡ 2 → IsCheckRefusal first.now second.now answer.report.items) }
 {

@@ -11,7 +11,7 @@ ghost use Rattle.bb_ladder.specs.CallRefusals.{AreTold, IsCallRefusal};
 ghost use Rattle.bb_ladder.specs.Calls.{called};
 ghost use Rattle.bb_ladder.specs.Clauses.{OfRefutations, OfTexts, OfWholeRefutations, OfWholeTexts, Reports, Writes};
 ghost use Rattle.bb_ladder.specs.GivenTexts.{HaveGiven};
-ghost use Rattle.bb_ladder.specs.Refutations.{AreRead, FailsAt, IsRefutation, SaysWhether, no_line};
+ghost use Rattle.bb_ladder.specs.Refutations.{AreRead, FailsAt, Refutes, SaysWhether, no_line};
 ghost use Rattle.bb_ladder.specs.OpenReports.{IsOpenReport};
 ghost use Rattle.bb_ladder.specs.ShownMistakes.{AreShown};
 ghost use Rattle.bb_ladder.specs.Sources.{MayHaveFailed, Source};
@@ -25,7 +25,7 @@ use crate::refuting::{judge_refutation, refutations_are_answered};
 use crate::text_laws::{
     answered_have_given, answers_are_meant, answers_speak_of_texts, calls_are_refused,
 };
-use crate::words::{Call, Question, Task, call_of};
+use crate::words::{Job, Question, Task, job_of};
 use bb_bits::NoMemory;
 use bb_outside::{FileFault, Files, Sink, put_all};
 use bb_texts::READ_LIMIT;
@@ -96,9 +96,9 @@ fn answer<F: Files>(alloc: Global, words: &[String], files: &mut F) -> Result<An
     ensures reads_nothing { (m : MadePair) → made_asked (map string_bytes words.now) ≡ Some m → F.reads files.new ≡ F.reads files.old }
 {
     words_ask_once();
-    match call_of(alloc, words) {
-        Ok(Call::Files(question)) => read_spec(alloc, &question, files),
-        Ok(Call::Made { n, fill, options }) => judge_made(alloc, n, fill, &options),
+    match job_of(alloc, words) {
+        Ok(Job::Files(question)) => read_spec(alloc, &question, files),
+        Ok(Job::Made { n, fill, options }) => judge_made(alloc, n, fill, &options),
         Err(WordsFault::Usage) => say(alloc, 2, "refused usage\n"),
         Err(WordsFault::NoMemory) => Err(NoMemory),
     }
@@ -169,7 +169,7 @@ pub fn run<F: Files, K: Sink>(alloc: Global, words: &[String], files: &mut F, ou
 
     // With `--rup` status 0 says that each addition follows, and so no assignment makes all clauses of the first text true.
     ensures refuted_yes { result ≡ 0 → OfRefutations (called words.now F.holds F.reads files.old files.new) (λ first second.
-        Appends (K.written out.old) (K.written out.new) (codes "rup yes\n") × IsRefutation first second) }
+        Appends (K.written out.old) (K.written out.new) (codes "rup yes\n") × Refutes first second) }
 
     // Status 1 names the first addition that does not.
     ensures refuted_no { result ≡ 1 → OfRefutations (called words.now F.holds F.reads files.old files.new) (λ first second.

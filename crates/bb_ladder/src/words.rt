@@ -3,7 +3,7 @@
 ghost use Rattle.std.specs.Prelude.{◌≡◌, ◌⊎◌, map, option_copied, string_bytes, IfErr, IfOk, None};
 ghost use Rattle.bb_words.specs.Asked.{made_asked, request_of, rup_asked};
 ghost use Rattle.bb_ladder.specs.Answers.{question, question_of};
-ghost use Rattle.bb_ladder.specs.Inside.Tasks.{AskCall, HasBounds};
+ghost use Rattle.bb_ladder.specs.Inside.Tasks.{AskJob, HasBounds};
 
 use crate::asked::Asked;
 use bb_bits::{Name, NoMemory};
@@ -30,7 +30,7 @@ pub struct Question<'a> {
 
 /// What a call does.
 #[derive(Debug, Drop)]
-pub enum Call<'a> {
+pub enum Job<'a> {
     /// Two files are read, and their texts are compared or checked.
     Files(Question<'a>),
     /// A pair is made, of adders of `n` bits, and its texts are compared.
@@ -83,16 +83,16 @@ fn comparison<'a>(alloc: Global, asked: &WordsAsked<'a>) -> Result<Question<'a>,
 ///
 /// `Usage` where the words are not of the command's form, and want of memory.
 #[tactic(auto, using(crate::proofs::TaskLemmas::asks_comparison, crate::proofs::TaskLemmas::comparison_bounded, crate::proofs::TaskLemmas::no_question))]
-pub fn call_of<'a>(alloc: Global, words: &'a [String]) -> Result<Call<'a>, WordsFault>
-    ensures call { IfOk result (AskCall (map string_bytes words.entry.now)) }
+pub fn job_of<'a>(alloc: Global, words: &'a [String]) -> Result<Job<'a>, WordsFault>
+    ensures job { IfOk result (AskJob (map string_bytes words.entry.now)) }
     ensures bounds { IfOk result HasBounds }
     ensures usage { IfErr result (λ fault. (fault ≡ WordsFault.NoMemory) ⊎ ((fault ≡ WordsFault.Usage) × (question_of (map string_bytes words.entry.now) ≡ None)
         × (made_asked (map string_bytes words.entry.now) ≡ None) × (rup_asked (map string_bytes words.entry.now) ≡ None))) }
 {
     match read_words(alloc, words)? {
-        Wanted::Comparison(asked) => Ok(Call::Files(comparison(alloc, &asked)?)),
-        Wanted::MadePair { n, fill, options } => Ok(Call::Made { n, fill, options }),
-        Wanted::Refutation { cnf, adds } => Ok(Call::Files(Question {
+        Wanted::Comparison(asked) => Ok(Job::Files(comparison(alloc, &asked)?)),
+        Wanted::MadePair { n, fill, options } => Ok(Job::Made { n, fill, options }),
+        Wanted::Refutation { cnf, adds } => Ok(Job::Files(Question {
             spec: cnf,
             imp: adds,
             task: Task::Refutation,

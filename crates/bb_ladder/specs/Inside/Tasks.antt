@@ -5,8 +5,8 @@ use Rattle.bb_words.specs.Asked.{made_asked, rup_asked}
 use Rattle.bb_ladder.specs.Answers.{question_of}
 use Rattle.bb_ladder.specs.Refutations.{Checks}
 use Rattle.bb_ladder.specs.TextAnswers.{Judges}
-use Rattle.bb_ladder.specs.declared.words.Call.{Call}
-use Rattle.bb_ladder.specs.declared.words.Call.TheVariants.{Files, Made}
+use Rattle.bb_ladder.specs.declared.words.Job.{Job}
+use Rattle.bb_ladder.specs.declared.words.Job.TheVariants.{Files, Made}
 use Rattle.bb_ladder.specs.declared.words.Task.{Task}
 use Rattle.bb_ladder.specs.declared.words.Task.TheVariants.{Comparison, Refutation}
 
@@ -25,12 +25,12 @@ abbrev pub IsBounded : Task → Type 0
 IsBounded (Comparison asked) = AreBounds asked.options
 IsBounded Refutation = Unit {0}
 
--- the words ask for this call
-abbrev pub AskCall : List (List ℕ) → Call → Type 0
-AskCall words (Files question) = AskTask words question.spec.now question.imp.now question.task
-AskCall words (Made n fill options) = made_asked words ≡ Some (record { n = n; fill = fill; options = options })
+-- the words ask for this job
+abbrev pub AskJob : List (List ℕ) → Job → Type 0
+AskJob words (Files question) = AskTask words question.spec.now question.imp.now question.task
+AskJob words (Made n fill options) = made_asked words ≡ Some (record { n = n; fill = fill; options = options })
 
 -- its numbers are within their bounds
-abbrev pub HasBounds : Call → Type 0
+abbrev pub HasBounds : Job → Type 0
 HasBounds (Files question) = IsBounded question.task
 HasBounds (Made n fill options) = (1 ≤ n) × (n ≤ 256) × AreBounds options
