@@ -1,7 +1,8 @@
--- When contents of its boxes make a design agree with a specification. Both are taken between their cut points: a register's
--- present state counts as an input and its next state as an output, and inputs and outputs of the two go by kind and text, so
--- that they agree in every state, in what they give and in the state that comes next. Where a care output is asked for, a bit of an
--- output port of the specification by its text, it says at which vectors the others count: those at which it is 1.
+-- When contents of its boxes make a design agree with a specification. Both are taken between their cut points: a
+-- register's present state counts as an input and its next state as an output, and inputs and outputs of the two go by
+-- kind and text, so that they agree in every state, in what they give and in the state that comes next. Where a care
+-- output is asked for, a bit of an output port of the specification by its text, it says at which vectors the others
+-- count: those at which it is 1.
 use Rattle.std.specs.Prelude.{◌≡◌, ◌≢◌, ◌↔◌, ℕ, Bool, true, false, List, map, length, Contains, Option, None, Some}
 use Rattle.std.specs.List.{AllZip}
 use Rattle.bb_bits.specs.Contents.{Contents}
@@ -35,28 +36,36 @@ abbrev pub IsAsked : Option (List ℕ) → List (CutOutput × Bool) → Type 0
 IsAsked None os = Unit {0}
 IsAsked (Some care) os = Contains os (TopOutput care, true)
 
--- for every vector, every world of the specification in which agreement is asked and every world of the implementation have the same bits
--- at all outputs that are compared; a specification without boxes has the same worlds for all contents
+-- this holds of each world of the one and each of the other that have one vector
+abbrev pub OfWorlds : Design → Design → Contents → (World → World → Type 0) → Type 0
+OfWorlds spec imp contents Says = (x : Vector) (w v : World) → IsWorld spec contents w → HasVector spec x w
+    → IsWorld imp contents v → HasVector imp x v → Says w v
+
+-- for every vector, every world of the specification in which agreement is asked and every world of the implementation
+-- have the same bits at all outputs that are compared; a specification without boxes has the same worlds for all
+-- contents
 abbrev pub ContentsAgree : Option (List ℕ) → Design → Design → Contents → Type 0
-ContentsAgree care spec imp contents = (x : Vector) (w v : World) → IsWorld spec contents w → HasVector spec x w → IsWorld imp contents v → HasVector imp x v
-    → IsAsked care (outputs_in spec w) → HaveSameBits care (outputs_in spec w) (outputs_in imp v)
+ContentsAgree care spec imp contents = OfWorlds spec imp contents (λ w v.
+    IsAsked care (outputs_in spec w) → HaveSameBits care (outputs_in spec w) (outputs_in imp v))
 
 -- boxes of one module have the same contents
 abbrev pub AreShared : Design → Contents → Type 0
-AreShared d contents = (s t : Scope) → Contains (boxes d) s → Contains (boxes d) t → s.source.name ≡ t.source.name → contents (path_text s.path) ≡ contents (path_text t.path)
+AreShared d contents = (s t : Scope) → Contains (boxes d) s → Contains (boxes d) t → s.source.name ≡ t.source.name
+    → contents (path_text s.path) ≡ contents (path_text t.path)
 
--- contents may fill the boxes of a design: they fit and, where asked for, boxes of one module share theirs, since an instance is a copy of
--- its module, so that one definition serves all (IEEE 1364-2005, 12.1.2)
+-- contents may fill the boxes of a design: they fit and, where asked for, boxes of one module share theirs, since an
+-- instance is a copy of its module, so that one definition serves all (IEEE 1364-2005, 12.1.2)
 pub record MayFill (shared : Bool) (d : Design) (contents : Contents) : Type 0 where
   pub fit : FitDesign d contents
   pub one : shared ≡ true → AreShared d contents
 
 -- no contents that may fill the boxes of the implementation do
 abbrev pub NoContentsAgree : Option (List ℕ) → Bool → Design → Design → Type 0
-NoContentsAgree care shared spec imp = (contents : Contents) → MayFill shared imp contents → ContentsAgree care spec imp contents → ⊥
+NoContentsAgree care shared spec imp = (contents : Contents) → MayFill shared imp contents
+    → ContentsAgree care spec imp contents → ⊥
 
--- a pair stands for two designs: it is the pair of flat netlists that stand for them, in which boxes of one module are of one kind where
--- they share their contents, and outputs count where the care output is 1, if one is asked for
+-- a pair stands for two designs: it is the pair of flat netlists that stand for them, in which boxes of one module are
+-- of one kind where they share their contents, and outputs count where the care output is 1, if one is asked for
 pub record IsPairFor (care : Option (List ℕ)) (shared : Bool) (spec imp : Design) (p : NetPair) : Type 0 where
   pub kept : IsPair p
   pub spec_net : FlatNet
@@ -67,19 +76,27 @@ pub record IsPairFor (care : Option (List ℕ)) (shared : Bool) (spec imp : Desi
   pub imp_flat : IsFlat imp_net
   pub paired : IsPairOf care shared spec_net imp_net p
 
+-- this holds of any two sound designs and any pair that stands for them
+abbrev pub OfPairs : ((care : Option (List ℕ)) (shared : Bool) (spec imp : Design) (p : NetPair)
+    → IsPairFor care shared spec imp p → Type 0) → Type 0
+OfPairs Says = (care : Option (List ℕ)) (shared : Bool) (spec imp : Design) (p : NetPair)
+    → IsAllowed spec → IsAllowed imp → (pair : IsPairFor care shared spec imp p) → Says care shared spec imp p pair
+
 -- tables agree in a pair that stands for two sound designs exactly where the contents agree whose tables they are
 abbrev pub TablesAgreeAsContents : Type 0
-TablesAgreeAsContents = (care : Option (List ℕ)) (shared : Bool) (spec imp : Design) (p : NetPair) → IsAllowed spec → IsAllowed imp → (pair : IsPairFor care shared spec imp p)
-    → (contents : Contents) (tables : List TableBits) → FitDesign imp contents → AreTablesOf pair.imp_net contents tables
-    → TablesAgree p.spec p.imp tables ↔ ContentsAgree care spec imp contents
+TablesAgreeAsContents = OfPairs (λ care shared spec imp p pair. (contents : Contents) (tables : List TableBits)
+    → FitDesign imp contents → AreTablesOf pair.imp_net contents tables
+    → TablesAgree p.spec p.imp tables ↔ ContentsAgree care spec imp contents)
 
 -- and no tables agree, one for each kind, exactly where no contents do that may fill the boxes
 abbrev pub NoTablesNoContents : Type 0
-NoTablesNoContents = (care : Option (List ℕ)) (shared : Bool) (spec imp : Design) (p : NetPair) → IsAllowed spec → IsAllowed imp → IsPairFor care shared spec imp p → NoSharedTablesAgree p.spec p.imp p.kinds ↔ NoContentsAgree care shared spec imp
+NoTablesNoContents = OfPairs (λ care shared spec imp p pair.
+    NoSharedTablesAgree p.spec p.imp p.kinds ↔ NoContentsAgree care shared spec imp)
 
 -- tables, one for each kind, spell contents: at the path of each box these have the rows of the table of its kind
 abbrev pub AreSpelled : List BoxTexts → List ℕ → List TableBits → Contents → Type 0
-AreSpelled boxes kinds tables contents = AllZip (λ box kind. contents box.path ≡ rows_of (table_at tables kind)) boxes kinds
+AreSpelled boxes kinds tables contents = AllZip (λ box kind.
+    contents box.path ≡ rows_of (table_at tables kind)) boxes kinds
 
 -- a table of a box, by the texts of its pins: it has a bit for each output in each row
 pub record IsTableOf (box : BoxTexts) (t : TableBits) : Type 0 where
@@ -87,47 +104,69 @@ pub record IsTableOf (box : BoxTexts) (t : TableBits) : Type 0 where
   pub outputs : t.outputs ≡ length box.outs
   pub whole : HasAllBits t
 
--- tables that fit the first boxes of all kinds of a pair are tables of these
+-- tables fit the first boxes of all kinds of a pair
+abbrev pub FitKindsOf : NetPair → List TableBits → Type 0
+FitKindsOf p tables = FitBoxes tables (shown p.kinds p.imp.boxes)
+
+-- they are then tables of these
 abbrev pub FittingTablesAreOfBoxes : Type 0
-FittingTablesAreOfBoxes = (p : NetPair) (tables : List TableBits) → IsPair p → FitBoxes tables (shown p.kinds p.imp.boxes) → AllZip IsTableOf (shown p.kinds p.boxes) tables
+FittingTablesAreOfBoxes = (p : NetPair) (tables : List TableBits) → IsPair p → FitKindsOf p tables
+    → AllZip IsTableOf (shown p.kinds p.boxes) tables
 
--- a pair that stands for two sound designs has the boxes of the implementation, in the order of their dependence, each of the kind of its key
+-- a pair that stands for two sound designs has the boxes of the implementation, in the order of their dependence, each
+-- of the kind of its key
 abbrev pub PairsHaveBoxOrders : Type 0
-PairsHaveBoxOrders = (care : Option (List ℕ)) (shared : Bool) (spec imp : Design) (p : NetPair) → IsAllowed imp → IsPairFor care shared spec imp p
-    → (order : List Scope) × IsBoxOrder imp order × (p.boxes ≡ map (box_texts imp) order) × AreKinds (map (box_key shared) p.boxes) p.kinds
+PairsHaveBoxOrders = (care : Option (List ℕ)) (shared : Bool) (spec imp : Design) (p : NetPair) → IsAllowed imp
+    → IsPairFor care shared spec imp p → (order : List Scope) × IsBoxOrder imp order
+    × (p.boxes ≡ map (box_texts imp) order) × AreKinds (map (box_key shared) p.boxes) p.kinds
 
--- tables that fit the first boxes of all kinds of a pair that stands for two sound designs spell contents that may fill the implementation
+-- tables that fit the first boxes of all kinds of a pair that stands for two sound designs spell contents that may fill
+-- the implementation
 abbrev pub TablesSpellContents : Type 0
-TablesSpellContents = (care : Option (List ℕ)) (shared : Bool) (spec imp : Design) (p : NetPair) → IsAllowed spec → IsAllowed imp → IsPairFor care shared spec imp p → (tables : List TableBits) → FitBoxes tables (shown p.kinds p.imp.boxes)
-    → (contents : Contents) × MayFill shared imp contents × AreSpelled p.boxes p.kinds tables contents
+TablesSpellContents = OfPairs (λ care shared spec imp p pair. (tables : List TableBits) → FitKindsOf p tables
+    → (contents : Contents) × MayFill shared imp contents × AreSpelled p.boxes p.kinds tables contents)
 
 -- and where the tables agree, so do all contents that they spell
 abbrev pub SpelledContentsAgree : Type 0
-SpelledContentsAgree = (care : Option (List ℕ)) (shared : Bool) (spec imp : Design) (p : NetPair) → IsAllowed spec → IsAllowed imp → IsPairFor care shared spec imp p → (tables : List TableBits) → FitBoxes tables (shown p.kinds p.imp.boxes)
-    → TablesAgree p.spec p.imp (spread p.kinds tables) → (contents : Contents) → FitDesign imp contents → AreSpelled p.boxes p.kinds tables contents → ContentsAgree care spec imp contents
+SpelledContentsAgree = OfPairs (λ care shared spec imp p pair. (tables : List TableBits) → FitKindsOf p tables
+    → TablesAgree p.spec p.imp (spread p.kinds tables) → (contents : Contents) → FitDesign imp contents
+    → AreSpelled p.boxes p.kinds tables contents → ContentsAgree care spec imp contents)
 
 -- contents that the tables spell have them as tables, one for each box, in the netlist of the implementation
 abbrev pub SpelledContentsHaveTables : Type 0
-SpelledContentsHaveTables = (care : Option (List ℕ)) (shared : Bool) (spec imp : Design) (p : NetPair) → IsAllowed spec → IsAllowed imp → (pair : IsPairFor care shared spec imp p) → (tables : List TableBits) → FitBoxes tables (shown p.kinds p.imp.boxes)
-    → (contents : Contents) → AreSpelled p.boxes p.kinds tables contents → AreTablesOf pair.imp_net contents (spread p.kinds tables)
+SpelledContentsHaveTables = OfPairs (λ care shared spec imp p pair. (tables : List TableBits) → FitKindsOf p tables
+    → (contents : Contents) → AreSpelled p.boxes p.kinds tables contents
+    → AreTablesOf pair.imp_net contents (spread p.kinds tables))
 
--- contents that fit may fill boxes that share nothing; shared contents are some of these, so that where no contents agree no shared ones do
+-- contents that fit may fill boxes that share nothing; shared contents are some of these, so that where no contents
+-- agree no shared ones do
 pub record SharingNarrows : Type 0 where
   pub apart : (d : Design) (contents : Contents) → MayFill false d contents ↔ FitDesign d contents
   pub less : (d : Design) (contents : Contents) → MayFill true d contents → MayFill false d contents
-  pub none : (care : Option (List ℕ)) (spec imp : Design) → NoContentsAgree care false spec imp → NoContentsAgree care true spec imp
+  pub none : (care : Option (List ℕ)) (spec imp : Design) → NoContentsAgree care false spec imp
+      → NoContentsAgree care true spec imp
 
 -- what is compared is the same at every vector, whether the care output is 1 there or not
 abbrev pub AgreeEverywhere : Option (List ℕ) → Design → Design → Contents → Type 0
-AgreeEverywhere care spec imp contents = (x : Vector) (w v : World) → IsWorld spec contents w → HasVector spec x w → IsWorld imp contents v → HasVector imp x v
-    → HaveSameBits care (outputs_in spec w) (outputs_in imp v)
+AgreeEverywhere care spec imp contents = OfWorlds spec imp contents (λ w v.
+    HaveSameBits care (outputs_in spec w) (outputs_in imp v))
 
--- with a care output less is asked than agreement at every vector: the same where it is 1 in all worlds, nothing where it is 1 in none, and
--- without one the two are the same
+-- the design has agreement asked in all its worlds, or in none
+abbrev pub IsAlwaysAsked : Option (List ℕ) → Design → Contents → Type 0
+IsAlwaysAsked care d contents = (x : Vector) (w : World) → IsWorld d contents w → HasVector d x w
+    → IsAsked care (outputs_in d w)
+
+abbrev pub IsNeverAsked : Option (List ℕ) → Design → Contents → Type 0
+IsNeverAsked care d contents = (x : Vector) (w : World) → IsWorld d contents w → HasVector d x w
+    → IsAsked care (outputs_in d w) → ⊥
+
+-- with a care output less is asked than agreement at every vector: the same where it is 1 in all worlds, nothing where
+-- it is 1 in none, and without one the two are the same
 pub record CareAsksForLess (spec imp : Design) (contents : Contents) : Type 0 where
   pub less : (care : Option (List ℕ)) → AgreeEverywhere care spec imp contents → ContentsAgree care spec imp contents
-  pub always : (care : Option (List ℕ)) → ((x : Vector) (w : World) → IsWorld spec contents w → HasVector spec x w → IsAsked care (outputs_in spec w)) → ContentsAgree care spec imp contents → AgreeEverywhere care spec imp contents
-  pub never : (care : Option (List ℕ)) → ((x : Vector) (w : World) → IsWorld spec contents w → HasVector spec x w → IsAsked care (outputs_in spec w) → ⊥) → ContentsAgree care spec imp contents
+  pub always : (care : Option (List ℕ)) → IsAlwaysAsked care spec contents → ContentsAgree care spec imp contents
+      → AgreeEverywhere care spec imp contents
+  pub never : (care : Option (List ℕ)) → IsNeverAsked care spec contents → ContentsAgree care spec imp contents
   pub without : ContentsAgree None spec imp contents ↔ AgreeEverywhere None spec imp contents
 
 abbrev pub CareOutputsAskForLess : Type 0
@@ -135,4 +174,5 @@ CareOutputsAskForLess = (spec imp : Design) (contents : Contents) → CareAsksFo
 
 -- a design agrees with itself, whatever fits its boxes
 abbrev pub DesignsAgreeWithThemselves : Type 0
-DesignsAgreeWithThemselves = (care : Option (List ℕ)) (d : Design) (f : FlatNet) → IsAllowed d → StandsFor d f → IsFlat f → (contents : Contents) → FitDesign d contents → ContentsAgree care d d contents
+DesignsAgreeWithThemselves = (care : Option (List ℕ)) (d : Design) (f : FlatNet) → IsAllowed d → StandsFor d f
+    → IsFlat f → (contents : Contents) → FitDesign d contents → ContentsAgree care d d contents

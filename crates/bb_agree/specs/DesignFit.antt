@@ -1,9 +1,11 @@
--- When two designs can be laid beside each other. They have to have the same inputs, outputs and registers by their texts, each
--- register with the same clock at the same edge, so that they can be compared output by output and next state by next state; the
--- specification has to be complete. Where a care output is asked for, it has to have that one besides, which is not compared, and the
--- implementation has not. The causes are those for which two flat netlists are refused, in the same order; here stands of designs when
--- each holds and which name is told of it, and beside it what holds where it does not.
-use Rattle.std.specs.Prelude.{◌≡◌, ◌≢◌, ◌⊎◌, ℕ, ◌+◌, ◌<◌, ◌≤◌, List, [], ◌∷◌, length, All, Contains, IfSome, Option, Some, sum_by}
+-- When two designs can be laid beside each other. They have to have the same inputs, outputs and registers by their
+-- texts, each register with the same clock at the same edge, so that they can be compared output by output and next
+-- state by next state; the specification has to be complete. Where a care output is asked for, it has to have that one
+-- besides, which is not compared, and the implementation has not. The causes are those for which two flat netlists are
+-- refused, in the same order; here stands of designs when each holds and which name is told of it, and beside it what
+-- holds where it does not.
+use Rattle.std.specs.Prelude.{◌≡◌, ◌≢◌, ◌⊎◌, ℕ, ◌+◌, ◌<◌, ◌≤◌, List, [], ◌∷◌, length, All, Contains, IfSome}
+use Rattle.std.specs.Prelude.{Option, Some, sum_by}
 use Rattle.bb_bits.specs.Closures.{IsFirst}
 use Rattle.bb_cells.specs.BoxOrders.{DependsOnBox}
 use Rattle.bb_cells.specs.Stands.{Follows}
@@ -13,7 +15,9 @@ use Rattle.bb_design.specs.Refusals.{input_texts, output_texts, register_texts}
 use Rattle.bb_design.specs.Registers.{RegisterBit, registers, cut_bits}
 use Rattle.bb_design.specs.Texts.{path_text, bit_text}
 use Rattle.bb_match.specs.declared.fault.MatchFault.{MatchFault}
-use Rattle.bb_match.specs.Refusals.{Cause, Box, Care, SpecInput, SpecOutput, ImpInput, ImpOutput, SpecRegister, ImpRegister, SpecClock, ImpClock, Clocks, Pins, AreAmong, IsFirstCause, IsFirstMissing, IsMissing, compared, most_pins}
+use Rattle.bb_match.specs.Refusals.{Cause, Box, Care, SpecInput, SpecOutput, ImpInput, ImpOutput, SpecRegister}
+use Rattle.bb_match.specs.Refusals.{ImpRegister, SpecClock, ImpClock, Clocks, Pins}
+use Rattle.bb_match.specs.Refusals.{AreAmong, IsFirstCause, IsFirstMissing, IsMissing, compared, most_pins}
 
 -- a box that depends on no box is the first that can be filled
 abbrev pub DependsOnNone : Design → Scope → Type 0
@@ -80,7 +84,8 @@ IsAbsent care spec imp SpecRegister = AreAmong (register_texts spec) (register_t
 IsAbsent care spec imp ImpRegister = AreAmong (register_texts imp) (register_texts spec)
 IsAbsent care spec imp SpecClock = All (HasClock spec) (registers spec)
 IsAbsent care spec imp ImpClock = All (HasClock imp) (registers imp)
-IsAbsent care spec imp Clocks = (r q : RegisterBit) → Contains (registers spec) r → Contains (registers imp) q → bit_text imp q.bit ≡ bit_text spec r.bit → AreClockedAlike spec imp r q
+IsAbsent care spec imp Clocks = (r q : RegisterBit) → Contains (registers spec) r → Contains (registers imp) q
+    → bit_text imp q.bit ≡ bit_text spec r.bit → AreClockedAlike spec imp r q
 IsAbsent care spec imp Pins = input_and_pin_count imp ≤ most_pins
 
 -- two designs fit: there is no cause to refuse them

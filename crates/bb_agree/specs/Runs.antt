@@ -1,10 +1,11 @@
--- Runs over several clock cycles, of designs whose clocks are inputs. An event gives a bit to each bit of an input port of the top, and says which of these had an edge. As
--- it comes, the design is in a world with these bits and the present states of its registers, and gives the outputs of that world. Then
--- each register bit whose clock had its edge takes its next state, all at once, and the others keep theirs (IEEE 1364-2005, 9.2.2 and
--- 9.7, for the one clocked form that is read). Nothing ties the bit of a clock to its edge: a design reads it as it is at the edge.
+-- Runs over several clock cycles, of designs whose clocks are inputs. An event gives a bit to each bit of an input port
+-- of the top, and says which of these had an edge. As it comes, the design is in a world with these bits and the
+-- present states of its registers, and gives the outputs of that world. Then each register bit whose clock had its edge
+-- takes its next state, all at once, and the others keep theirs (IEEE 1364-2005, 9.2.2 and 9.7, for the one clocked
+-- form that is read). Nothing ties the bit of a clock to its edge: a design reads it as it is at the edge.
 --
--- For example, of `always @(posedge c) q <= d; buf(y, q);` with q = 0 and the events d = 1 with an edge of c, d = 0 without, and d = 0
--- with one again, y is 0, 1, 1, and q is 1, 1, 0 after them.
+-- For example, of `always @(posedge c) q <= d; buf(y, q);` with q = 0 and the events d = 1 with an edge of c, d = 0
+-- without, and d = 0 with one again, y is 0, 1, 1, and q is 1, 1, 0 after them.
 use Rattle.std.specs.Prelude.{◌≡◌, ℕ, Bool, List, [], ◌∷◌, All, Contains, Option, Some}
 use Rattle.std.specs.List.{AllZip}
 use Rattle.bb_bits.specs.Contents.{Contents}
@@ -39,7 +40,8 @@ Stores d event r = (input : Bit) × Contains (top_inputs d) input × GoesBy d r 
     × (event.edges (bit_text d input) ≡ Some r.item.falling)
 
 -- an event comes in this world of the design, and after it its registers have these states
-pub record IsEvent (d : Design) (contents : Contents) (states : States) (event : Event) (w : World) (after : States) : Type 0 where
+pub record IsEvent (d : Design) (contents : Contents) (states : States) (event : Event) (w : World)
+    (after : States) : Type 0 where
   pub world : IsWorld d contents w
   pub vector : HasVector d (seen_at states event) w
   pub stores : (r : RegisterBit) → Contains (registers d) r → Stores d event r → after (bit_text d r.bit) ≡ next_bit w r
@@ -71,8 +73,8 @@ pub record AreSeenAlike (care : Option (List ℕ)) (spec : Design) (one other : 
 pub record HaveRuns (d : Design) (contents : Contents) : Type 0 where
   pub some : (states : States) (events : List Event) → (seen : List Seen) × Runs d contents states events seen
 
--- from the same states the same is seen of the two designs at each event of any list, where agreement is asked at each event of the run
--- of the specification: with a care output, for as long as this is 1
+-- from the same states the same is seen of the two designs at each event of any list, where agreement is asked at each
+-- event of the run of the specification: with a care output, for as long as this is 1
 abbrev pub ShowTheSame : Option (List ℕ) → Design → Design → Contents → Type 0
 ShowTheSame care spec imp contents = (states others : States) (events : List Event) (seen more : List Seen)
     → HaveSameStates spec states others → Runs spec contents states events seen → Runs imp contents others events more
@@ -88,11 +90,12 @@ pub record RunAlike (care : Option (List ℕ)) (spec imp : Design) (contents : C
 
 -- contents that make two designs agree at each vector make them run alike
 abbrev pub AgreeingDesignsRunAlike : Type 0
-AgreeingDesignsRunAlike = (care : Option (List ℕ)) (spec imp : Design) (contents : Contents) → IsAllowed spec → IsAllowed imp
-    → AreComparable care spec imp → FitDesign imp contents → ContentsAgree care spec imp contents
+AgreeingDesignsRunAlike = (care : Option (List ℕ)) (spec imp : Design) (contents : Contents) → IsAllowed spec
+    → IsAllowed imp → AreComparable care spec imp → FitDesign imp contents → ContentsAgree care spec imp contents
     → RunAlike care spec imp contents
 
 -- designs that can be compared have runs, whatever contents fit
 abbrev pub ComparableDesignsHaveRuns : Type 0
-ComparableDesignsHaveRuns = (care : Option (List ℕ)) (spec imp : Design) (contents : Contents) → IsAllowed spec → IsAllowed imp
-    → AreComparable care spec imp → FitDesign imp contents → HaveRuns spec contents × HaveRuns imp contents
+ComparableDesignsHaveRuns = (care : Option (List ℕ)) (spec imp : Design) (contents : Contents) → IsAllowed spec
+    → IsAllowed imp → AreComparable care spec imp → FitDesign imp contents
+    → HaveRuns spec contents × HaveRuns imp contents

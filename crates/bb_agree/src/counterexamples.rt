@@ -1,6 +1,8 @@
-//! Laws of counterexamples, which are vectors at which two designs differ. Each function has a law as its contract and does nothing.
+//! Laws of vectors at which two designs differ: they are counterexamples. Each function has a law as its contract and
+//! does nothing.
 
 ghost use Rattle.bb_agree.specs.Mistakes.{CounterexamplesExist, CounterexamplesRefute};
+ghost use Rattle.bb_agree.specs.Mistakes.{MistakesAmongRefute, MistakesRefute};
 
 /// Where no contents agree in designs that can be compared, each contents has a counterexample.
 pub fn counterexamples_exist()
@@ -10,4 +12,14 @@ pub fn counterexamples_exist()
 /// And where each has one, no contents agree.
 pub fn counterexamples_refute()
     ensures { CounterexamplesRefute }
+{}
+
+/// Where a vector shows a mistake, no contents agree.
+pub fn mistakes_refute()
+    ensures { MistakesRefute }
+{}
+
+/// Where for each contents one of some vectors shows a mistake, no contents agree.
+pub fn mistakes_among_refute()
+    ensures { MistakesAmongRefute }
 {}

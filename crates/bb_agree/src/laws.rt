@@ -3,9 +3,15 @@
 ghost use Rattle.bb_agree.specs.Inside.LowerLaws.{LowerLaws};
 ghost use Rattle.bb_agree.specs.Laws.AlikePairs.{PairsForDesignsAreAlike};
 ghost use Rattle.bb_agree.specs.Comparable.{FittingDesignsAreComparable};
-ghost use Rattle.bb_agree.specs.DesignAgreement.{CareOutputsAskForLess, DesignsAgreeWithThemselves, FittingTablesAreOfBoxes, NoTablesNoContents, PairsHaveBoxOrders, SharingNarrows, SpelledContentsAgree, SpelledContentsHaveTables, TablesAgreeAsContents, TablesSpellContents};
-ghost use Rattle.bb_agree.specs.Laws.DesignRefusals.{DesignRefusalsAreOne, FitOrRefused, FittingDesignsHavePairs, NetsAreTakenAsDesigns, NotFitAndRefused, PairsStandExactlyForFitting};
-ghost use Rattle.bb_agree.specs.Mistakes.{FailingVectorsAreMistakes, MistakesAmongRefute, MistakesRefute, PairsAreNamed, WrongOutputsAreMistakes, WrongVectorsAreMistakes};
+ghost use Rattle.bb_agree.specs.DesignAgreement.{CareOutputsAskForLess, DesignsAgreeWithThemselves, SharingNarrows};
+ghost use Rattle.bb_agree.specs.DesignAgreement.{FittingTablesAreOfBoxes, NoTablesNoContents, PairsHaveBoxOrders};
+ghost use Rattle.bb_agree.specs.DesignAgreement.{SpelledContentsAgree, SpelledContentsHaveTables};
+ghost use Rattle.bb_agree.specs.DesignAgreement.{TablesAgreeAsContents, TablesSpellContents};
+ghost use Rattle.bb_agree.specs.Laws.DesignRefusals.{DesignRefusalsAreOne, FitOrRefused, FittingDesignsHavePairs};
+ghost use Rattle.bb_agree.specs.Laws.DesignRefusals.{NetsAreTakenAsDesigns, NotFitAndRefused};
+ghost use Rattle.bb_agree.specs.Laws.DesignRefusals.{PairsStandExactlyForFitting};
+ghost use Rattle.bb_agree.specs.Mistakes.{FailingVectorsAreMistakes, PairsAreNamed};
+ghost use Rattle.bb_agree.specs.Mistakes.{WrongOutputsAreMistakes, WrongVectorsAreMistakes};
 ghost use Rattle.bb_agree.specs.Runs.{AgreeingDesignsRunAlike, ComparableDesignsHaveRuns};
 
 use bb_alike::laws::rearranged_stay_alike;
@@ -170,7 +176,8 @@ pub fn fitting_designs_are_comparable()
     tables_spell_contents();
 }
 
-/// Contents that fit may fill boxes that share nothing, and shared ones are some of these; where no contents agree no shared ones do.
+/// Contents that fit may fill boxes that share nothing, and shared ones are some of these; where no contents agree no
+/// shared ones do.
 pub fn sharing_narrows()
     ensures { SharingNarrows }
 {}
@@ -232,17 +239,8 @@ pub fn pairs_are_named()
     compared_are_the_others();
 }
 
-/// Where a vector shows a mistake, no contents agree.
-pub fn mistakes_refute()
-    ensures { MistakesRefute }
-{}
-
-/// Where for each contents one of some vectors shows a mistake, no contents agree.
-pub fn mistakes_among_refute()
-    ensures { MistakesAmongRefute }
-{}
-
-/// Contents that make two designs agree at each vector make them run alike, whatever events come; with a care output, as long as it is 1.
+/// Contents that make two designs agree at each vector make them run alike, whatever events come; with a care output,
+/// as long as it is 1.
 pub fn agreeing_designs_run_alike()
     ensures { AgreeingDesignsRunAlike }
 {}

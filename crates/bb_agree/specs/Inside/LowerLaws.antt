@@ -4,7 +4,8 @@ use Rattle.bb_net.specs.Values.{ValueGoesByBoxes}
 use Rattle.bb_cells.specs.Laws.ContentTables.{TablesGiveOutputs, ContentsHaveTables, TablesHaveContents}
 use Rattle.bb_cells.specs.Laws.ListLaws.{StandingNetsGiveOutputs}
 use Rattle.bb_care.specs.Laws.{CaredAreRight}
-use Rattle.bb_match.specs.Laws.{ComparedAreTheOthers, FlatNetsHaveCutsApart, FittingNetsHaveTheirOutputs, PairsAreKept, WithoutOutputsAreFlat}
+use Rattle.bb_match.specs.Laws.{ComparedAreTheOthers, FlatNetsHaveCutsApart, FittingNetsHaveTheirOutputs}
+use Rattle.bb_match.specs.Laws.{PairsAreKept, WithoutOutputsAreFlat}
 
 pub record LowerLaws : Type 0 where
   pub by_boxes : ValueGoesByBoxes

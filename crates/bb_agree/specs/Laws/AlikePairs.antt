@@ -8,4 +8,6 @@ use Rattle.bb_agree.specs.DesignAgreement.{IsPairFor}
 
 -- pairs that stand for the same two sound designs are alike
 abbrev pub PairsForDesignsAreAlike : Type 0
-PairsForDesignsAreAlike = (care : Option (List ℕ)) (shared : Bool) (spec imp : Design) (p q : NetPair) → IsAllowed spec → IsAllowed imp → IsPairFor care shared spec imp p → IsPairFor care shared spec imp q → ArePairsAlike p q
+PairsForDesignsAreAlike = (care : Option (List ℕ)) (shared : Bool) (spec imp : Design) (p q : NetPair)
+    → IsAllowed spec → IsAllowed imp → IsPairFor care shared spec imp p → IsPairFor care shared spec imp q
+    → ArePairsAlike p q

@@ -1,5 +1,5 @@
--- Laws of fit and refusal: two designs fit or have a first refusal, and not both; flat netlists that stand for them are refused alike,
--- so that a pair stands for two designs exactly where these fit.
+-- Laws of fit and refusal: two designs fit or have a first refusal, and not both; flat netlists that stand for them are
+-- refused alike, so that a pair stands for two designs exactly where these fit.
 use Rattle.std.specs.Prelude.{◌≡◌, ◌⊎◌, ◌↔◌, ℕ, Bool, List, Option}
 use Rattle.bb_net.specs.Pairs.{NetPair}
 use Rattle.bb_net.specs.Flats.{FlatNet, IsFlat}
@@ -23,28 +23,35 @@ pub record AreTakenAlike (care : Option (List ℕ)) (spec imp : Design) (f g : F
   pub refused : (fault : MatchFault) → IsFirstRefusal care f g fault ↔ IsRefusalFor care spec imp fault
 
 abbrev pub NetsAreTakenAsDesigns : Type 0
-NetsAreTakenAsDesigns = (care : Option (List ℕ)) (spec imp : Design) (f g : FlatNet) → IsAllowed spec → IsAllowed imp → AreNetsFor spec imp f g → AreTakenAlike care spec imp f g
+NetsAreTakenAsDesigns = (care : Option (List ℕ)) (spec imp : Design) (f g : FlatNet) → IsAllowed spec → IsAllowed imp
+    → AreNetsFor spec imp f g → AreTakenAlike care spec imp f g
 
 -- two designs have one first refusal at most
 abbrev pub DesignRefusalsAreOne : Type 0
-DesignRefusalsAreOne = (care : Option (List ℕ)) (spec imp : Design) (e f : MatchFault) → IsRefusalFor care spec imp e → IsRefusalFor care spec imp f → e ≡ f
+DesignRefusalsAreOne = (care : Option (List ℕ)) (spec imp : Design) (e f : MatchFault) → IsRefusalFor care spec imp e
+    → IsRefusalFor care spec imp f → e ≡ f
 
 -- and do not fit where they have one
 abbrev pub NotFitAndRefused : Type 0
-NotFitAndRefused = (care : Option (List ℕ)) (spec imp : Design) (fault : MatchFault) → DesignsFit care spec imp → IsRefusalFor care spec imp fault → ⊥
+NotFitAndRefused = (care : Option (List ℕ)) (spec imp : Design) (fault : MatchFault) → DesignsFit care spec imp
+    → IsRefusalFor care spec imp fault → ⊥
 
 -- two designs, of which the specification is sound, fit or have a first refusal
 abbrev pub FitOrRefused : Type 0
-FitOrRefused = (care : Option (List ℕ)) (spec imp : Design) → IsAllowed spec → DesignsFit care spec imp ⊎ ((fault : MatchFault) × IsRefusalFor care spec imp fault)
+FitOrRefused = (care : Option (List ℕ)) (spec imp : Design) → IsAllowed spec
+    → DesignsFit care spec imp ⊎ ((fault : MatchFault) × IsRefusalFor care spec imp fault)
 
 -- a pair stands for designs that fit alone, and where they do the pair of flat netlists that stand for them does
 pub record PairsStandForFitting (care : Option (List ℕ)) (shared : Bool) (spec imp : Design) : Type 0 where
   pub fit : (p : NetPair) → IsPairFor care shared spec imp p → DesignsFit care spec imp
-  pub pair : DesignsFit care spec imp → (f g : FlatNet) → AreNetsFor spec imp f g → IsFlat f → IsFlat g → (p : NetPair) × IsPairOf care shared f g p
+  pub pair : DesignsFit care spec imp → (f g : FlatNet) → AreNetsFor spec imp f g → IsFlat f → IsFlat g
+      → (p : NetPair) × IsPairOf care shared f g p
 
 abbrev pub PairsStandExactlyForFitting : Type 0
-PairsStandExactlyForFitting = (care : Option (List ℕ)) (shared : Bool) (spec imp : Design) → IsAllowed spec → IsAllowed imp → PairsStandForFitting care shared spec imp
+PairsStandExactlyForFitting = (care : Option (List ℕ)) (shared : Bool) (spec imp : Design) → IsAllowed spec
+    → IsAllowed imp → PairsStandForFitting care shared spec imp
 
 -- and two sound designs that fit have a pair
 abbrev pub FittingDesignsHavePairs : Type 0
-FittingDesignsHavePairs = (care : Option (List ℕ)) (shared : Bool) (spec imp : Design) → IsAllowed spec → IsAllowed imp → DesignsFit care spec imp → (p : NetPair) × IsPairFor care shared spec imp p
+FittingDesignsHavePairs = (care : Option (List ℕ)) (shared : Bool) (spec imp : Design) → IsAllowed spec → IsAllowed imp
+    → DesignsFit care spec imp → (p : NetPair) × IsPairFor care shared spec imp p
