@@ -13,12 +13,12 @@ use Rattle.bb_ladder.specs.Calls.{Call}
 use Rattle.bb_ladder.specs.declared.asked.Asked.{Asked as TextsAsked}
 use Rattle.bb_ladder.specs.Answers.{Question, AfterSpec, ImpUnread, ImpLong, BothRead, OfFiles, SpecUnread, SpecLong, SpecRead, MayAnswer, Usage, Asked, Making, Refuting, Gives, question_of}
 use Rattle.bb_ladder.specs.MadePairs.{asked_of}
-use Rattle.bb_ladder.specs.CallRefusals.{IsCallRefusal, OfWords, OfComparison, OfMadePair, OfRefutation, IsFilesRefusal, OfSpecLength, OfImpLength, OfTexts, IsPairRefusal, AreTold, AreToldOf, CallRefusalsAreOne, RefusalsAreTold, RefusedCallsAreTold}
+use Rattle.bb_ladder.specs.CallRefusals.{IsCallRefusal, OfWords, OfComparison, OfMadePair, OfRefutation, IsFilesRefusal, OfSpecLength, OfImpLength, OfTexts, AreTold, AreToldOf, CallRefusalsAreOne, RefusalsAreTold, RefusedCallsAreTold}
 use Rattle.bb_texts.specs.RefusalLines.{refusal_line}
 use Rattle.bb_ladder.specs.Refutations.{CheckLaws, Checks, Faulty, IsCheckRefusal}
 use Rattle.bb_ladder.specs.Sources.{AreBytes, IsFirst, MayHaveFailed, Source}
 use Rattle.bb_ladder.specs.TextAnswers.{Judges, Refused, Judged, JudgedRefusalsAreFirst, RefusedAreAnsweredOnce}
-use Rattle.bb_ladder.specs.TextPairs.{RefusalsAreOne}
+use Rattle.bb_ladder.specs.TextPairs.{IsPairRefusal, RefusalsAreOne}
 use Rattle.bb_ladder.proofs.HeadlineLemmas.{alone_at_two, asks_no_comparison, asks_no_pair, asks_no_refutation, never_both, never_files_and_made, same_pair, same_question, same_refutation}
 use Rattle.bb_ladder.proofs.SourceLemmas.{both_whole, failed_alone, failed_second, first_of_both, first_once, given_alone, given_first, given_long, given_never_long, given_never_short, given_second, given_whole, second_once}
 

@@ -26,6 +26,8 @@ comparison_bounded a task same bounds = rw same bounds
 pub no_question : (words : List (List ℕ)) → AskNothing words → question_of words ≡ None
 no_question words nothing = ap (option_map question) nothing.comparison
 
+pub ruleset questions_asked = (asks_comparison, comparison_bounded, no_question)
+
 -- words that ask for something of two files ask for no made pair
 pub task_or_pair : WordsAskOnce → (words : List (List ℕ)) (first second : List ℕ) (task : Task) (m : MadePair) → AskTask words first second task → made_asked words ≡ Some m → ⊥
 task_or_pair once words first second (Comparison asked) m asks makes = never_files_and_made once words (record { spec = first; imp = second; asked = asked }) m asks makes

@@ -1,5 +1,5 @@
--- Where the reads are told, those of a call gave what its answer speaks of. So what is said of given bytes is not empty talk: the two
--- texts of a verdict are there, and so is as much as a refusal rests on.
+-- Where the reads are told, those of a call gave what its answer speaks of. So what is said of given bytes is not empty
+-- talk: the two texts of a verdict are there, and so is as much as a refusal rests on.
 use Rattle.std.specs.Prelude.{◌≡◌, ℕ, List, Some}
 use Rattle.bb_outside.specs.Counts.{FileRead}
 use Rattle.bb_ladder.specs.declared.asked.Asked.{Asked as TextsAsked}
@@ -14,7 +14,8 @@ pub data HaveTexts (call : Call) : Type 0 where
   Compared : (asked : TextsAsked) (spec imp : List ℕ) → AreTexts call Given asked spec imp → HaveTexts call
   Checked : (f : Refutation) (first second : List ℕ) → AreRefutationTexts call Given f first second → HaveTexts call
 
--- the reads of a call with this status gave two texts where it is a verdict on them, and as much as was read where it is a refusal
+-- the reads of a call with this status gave two texts where it is a verdict on them, and as much as was read where it
+-- is a refusal
 pub record HaveGiven (call : Call) (status : ℕ) : Type 0 where
   pub verdict : IsVerdict status → HaveTexts call
   pub refusal : status ≡ 2 → AreTold call Given

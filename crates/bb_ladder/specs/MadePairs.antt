@@ -1,6 +1,8 @@
--- A made pair: two texts of known answer that the call makes itself, so that it reads no file. Its report begins with the width of its adders and
--- how many inputs they have. Where the two texts were refused, the line that says so would stand alone.
-use Rattle.std.specs.Prelude.{◌≡◌, ℕ, ◌==◌, Bool, if◌then◌else◌, List, [], ◌++◌, length, Option, None, Some, codes, decimal}
+-- A made pair: two texts of known answer that the call makes itself, so that it reads no file. Its report begins with
+-- the width of its adders and how many inputs they have. Where the two texts were refused, the line that says so would
+-- stand alone.
+use Rattle.std.specs.Prelude.{◌≡◌, ℕ, ◌==◌, Bool, if◌then◌else◌, List, [], ◌++◌, length, Option, None, Some, codes}
+use Rattle.std.specs.Prelude.{decimal}
 use Rattle.bb_make.specs.Adders.{inputs, made_imp, made_spec}
 use Rattle.bb_options.specs.declared.options.Options.{Options}
 use Rattle.bb_words.specs.Asked.{MadePair, made_asked}
@@ -9,7 +11,13 @@ use Rattle.bb_ladder.specs.TextAnswers.{Judges}
 
 -- what is asked of its two texts: the module add is the top of both, and all outputs have to agree everywhere
 abbrev pub asked_of : Bool → Options → TextsAsked
-asked_of fill options = record { spec_top = Some (codes "add"); imp_top = Some (codes "add"); care = None; fill = fill; options = options }
+asked_of fill options = record {
+  spec_top = Some (codes "add");
+  imp_top = Some (codes "add");
+  care = None;
+  fill = fill;
+  options = options;
+}
 
 -- the lines before its report: how wide it is, and how many inputs it has
 abbrev pub made_head : ℕ → List ℕ
@@ -30,4 +38,5 @@ made_text n status told = if status == 2 then told else made_head n ++ told
 
 -- what may be answered to a made pair
 abbrev pub JudgesMade : MadePair → ℕ → List ℕ → Type 0
-JudgesMade m status text = (told : List ℕ) × Judges (asked_of m.fill m.options) (made_spec m.n) (made_imp m.n) status told × (text ≡ made_text m.n status told)
+JudgesMade m status text = (told : List ℕ)
+    × Judges (asked_of m.fill m.options) (made_spec m.n) (made_imp m.n) status told × (text ≡ made_text m.n status told)

@@ -1,12 +1,12 @@
--- A report that leaves the question open: for each check that is asked for, in their order, a line that says that it found neither a
--- mistake nor tables, and the line of the verdict.
+-- A report that leaves the question open: for each check that is asked for, in their order, a line that says that it
+-- found neither a mistake nor tables, and the line of the verdict.
 use Rattle.std.specs.Prelude.{◌≡◌, ℕ, List, ◌++◌, Contains, codes}
 use Rattle.std.specs.List.{AllZip, flat_map}
 use Rattle.bb_options.specs.declared.rung.Rung.{Rung}
 use Rattle.bb_options.specs.Rungs.{asked_rungs}
 use Rattle.bb_ladder.specs.declared.asked.Asked.{Asked}
 use Rattle.bb_ladder.specs.ShownMistakes.{check_line, no_verdict}
-use Rattle.bb_ladder.specs.TextAnswers.{Judges}
+use Rattle.bb_ladder.specs.TextAnswers.{OfAnswers}
 
 -- the line of a check with a result that is no verdict
 abbrev pub IsOpenLine : Rung → List ℕ → Type 0
@@ -19,5 +19,4 @@ pub record IsOpenReport (asked : Asked) (spec imp text : List ℕ) : Type 0 wher
 
 -- The law of it: status 3 comes with such a report.
 abbrev pub OpenAnswersAreReports : Type 0
-OpenAnswersAreReports = (asked : Asked) (spec imp : List ℕ) (status : ℕ) (text : List ℕ) → Judges asked spec imp status text → status ≡ 3
-    → IsOpenReport asked spec imp text
+OpenAnswersAreReports = OfAnswers (λ asked spec imp status text. status ≡ 3 → IsOpenReport asked spec imp text)

@@ -33,7 +33,8 @@ pub record AreRead (first second : List ℕ) (formula : Formula) (adds : List (L
 pub data IsCheckRefusal (first second line : List ℕ) : Type 0 where
   OfFormula : (fault : RupFault) → dimacs_of first ≡ Err fault
       → line ≡ refusal (codes "cnf") (rup_words fault) → IsCheckRefusal first second line
-  OfAdditions : (formula : Formula) (fault : RupFault) → dimacs_of first ≡ Ok formula → additions_of second formula.vars ≡ Err fault
+  OfAdditions : (formula : Formula) (fault : RupFault) → dimacs_of first ≡ Ok formula
+      → additions_of second formula.vars ≡ Err fault
       → line ≡ refusal (codes "rup") (rup_words fault) → IsCheckRefusal first second line
 
 -- what is told of additions to clauses
@@ -59,7 +60,8 @@ FailsAt first second n = (formula : Formula) × (adds : List (List Lit)) × AreR
 
 -- the status says whether additions succeed
 abbrev pub SaysWhether : Formula → List (List Lit) → ℕ → Type 0
-SaysWhether formula adds status = ((status ≡ 0) × Succeed formula.clauses adds) ⊎ ((status ≡ 1) × (Succeed formula.clauses adds → ⊥))
+SaysWhether formula adds status = ((status ≡ 0) × Succeed formula.clauses adds)
+    ⊎ ((status ≡ 1) × (Succeed formula.clauses adds → ⊥))
 
 -- laws that a reader expects
 

@@ -1,10 +1,12 @@
--- What a report shows of an error. It is made of the lines of the checks that were run, each with what shows its error after it, and the
--- line of the verdict. A check that finds an error at a vector shows it: the output that is wrong there, where one is named, and the bits
--- of the vector, each with the name of its input, in the order of the specification; at that vector agreement is asked and the two
--- designs differ, whatever the boxes contain. The check by choices of the boxes shows nothing, and the expansion, where a proof is asked
--- for, some vectors: whatever contents may fill the boxes, with them the two differ at one of these. The clauses and steps that follow
--- them are said of the pair that stands for the texts, and not here.
-use Rattle.std.specs.Prelude.{◌≡◌, ℕ, if◌then◌else◌, List, [], ◌∷◌, ◌++◌, map, vec_items, All, Contains, Option, None, Some, codes}
+-- What a report shows of an error. It is made of the lines of the checks that were run, each with what shows its error
+-- after it, and the line of the verdict. A check that finds an error at a vector shows it: the output that is wrong
+-- there, where one is named, and the bits of the vector, each with the name of its input, in the order of the
+-- specification; at that vector agreement is asked and the two designs differ, whatever the boxes contain. The check by
+-- choices of the boxes shows nothing, and the expansion, where a proof is asked for, some vectors: whatever contents
+-- may fill the boxes, with them the two differ at one of these. The clauses and steps that follow them are said of the
+-- pair that stands for the texts, and not here.
+use Rattle.std.specs.Prelude.{◌≡◌, ℕ, if◌then◌else◌, List, [], ◌∷◌, ◌++◌, map, vec_items, All, Contains, Option, None}
+use Rattle.std.specs.Prelude.{Some, codes}
 use Rattle.std.specs.List.{flat_map}
 use Rattle.bb_agree.specs.Mistakes.{AreMistakesAmong, inputs_of, IsMistakeAt}
 use Rattle.bb_design.specs.Hierarchy.{Design}
@@ -17,7 +19,7 @@ use Rattle.bb_options.specs.Rungs.{rung_name}
 use Rattle.bb_rungs.specs.declared.line.Proof.{Proof}
 use Rattle.bb_rungs.specs.Reports.{input_line, output_line, proof_text}
 use Rattle.bb_ladder.specs.declared.asked.Asked.{Asked}
-use Rattle.bb_ladder.specs.TextAnswers.{Judges}
+use Rattle.bb_ladder.specs.TextAnswers.{OfAnswers}
 use Rattle.bb_ladder.specs.TextPairs.{AreReadAs}
 
 -- the line of a check with its result
@@ -39,14 +41,18 @@ vector_text s x named = named_text named ++ input_line (map input_text (inputs_o
 
 -- the text is the line of a check and what shows its error, if it has found one
 pub data ShowsError (asked : Asked) (s i : Design) (text : List ℕ) : Type 0 where
-  NoError : (rung : Rung) (result : List ℕ) → Contains no_verdict result → text ≡ check_line rung result → ShowsError asked s i text
+  NoError : (rung : Rung) (result : List ℕ) → Contains no_verdict result → text ≡ check_line rung result
+      → ShowsError asked s i text
   AtVector : (rung : Rung) (x : Vector) (named : Option CutOutput) → IsMistakeAt asked.care s i x named
       → text ≡ check_line rung (codes "error") ++ vector_text s x named → ShowsError asked s i text
   ByChoices : text ≡ check_line Input (codes "error") → ShowsError asked s i text
-  ByRefutation : (proof : Proof) → AreMistakesAmong asked.care asked.options.shared s i (map vec_items proof.vectors.items)
-      → text ≡ check_line Expand (codes "error") ++ (if asked.options.proof then proof_text proof else []) → ShowsError asked s i text
+  ByRefutation : (proof : Proof)
+      → AreMistakesAmong asked.care asked.options.shared s i (map vec_items proof.vectors.items)
+      → text ≡ check_line Expand (codes "error") ++ (if asked.options.proof then proof_text proof else [])
+      → ShowsError asked s i text
 
--- the text is a report of the two texts with the verdict that there is an error: some check has found one, and each shows its own
+-- the text is a report of the two texts with the verdict that there is an error: some check has found one, and each
+-- shows its own
 pub record AreShown (asked : Asked) (spec imp text : List ℕ) : Type 0 where
   pub s : Design
   pub i : Design
@@ -58,5 +64,4 @@ pub record AreShown (asked : Asked) (spec imp text : List ℕ) : Type 0 where
 
 -- The law of it: with status 1 the report shows the mistakes that it names.
 abbrev pub ErrorsAreShown : Type 0
-ErrorsAreShown = (asked : Asked) (spec imp : List ℕ) (status : ℕ) (text : List ℕ) → Judges asked spec imp status text → status ≡ 1
-    → AreShown asked spec imp text
+ErrorsAreShown = OfAnswers (λ asked spec imp status text. status ≡ 1 → AreShown asked spec imp text)

@@ -25,7 +25,8 @@ fn put_filled(
 ) -> Result<(), NoMemory>
     requires clocks { HaveClocks imp.now }
     requires tables { FitBoxes (spread kinds.now tables.now) imp.now.net.boxes }
-    ensures put { OnOk result ((answer : Answer) × MayFill imp.now (spread kinds.now tables.now) answer × (text.new.items ≡ text.old.items ++ answer_text answer)) }
+    ensures put { OnOk result ((answer : Answer) × MayFill imp.now (spread kinds.now tables.now) answer
+        × (text.new.items ≡ text.old.items ++ answer_text answer)) }
 {
     match fill(alloc, imp, tables, kinds) {
         Ok(filled) => {
@@ -43,7 +44,8 @@ fn put_filled(
     Ok(())
 }
 
-/// Puts what follows the verdict of these checks behind a report: the filled implementation, or why there is none, where the design can be finished.
+/// Puts what follows the verdict of these checks behind a report: the filled implementation, or why there is none,
+/// where the design can be finished.
 pub(crate) fn put_rest(
     alloc: Global,
     text: &mut Vec<u8>,
@@ -52,8 +54,10 @@ pub(crate) fn put_rest(
     lines: &[Line],
 ) -> Result<(), NoMemory>
     requires clocks { HaveClocks imp.now }
-    requires tables { (tables : List TableBits) → GivesTables lines.now tables → FitBoxes (spread kinds.now tables) imp.now.net.boxes }
-    ensures put { OnOk result ((rest : List ℕ) × MayFollow true imp.now kinds.now lines.now rest × (text.new.items ≡ text.old.items ++ rest)) }
+    requires tables { (tables : List TableBits) → GivesTables lines.now tables
+        → FitBoxes (spread kinds.now tables) imp.now.net.boxes }
+    ensures put { OnOk result ((rest : List ℕ) × MayFollow true imp.now kinds.now lines.now rest
+        × (text.new.items ≡ text.old.items ++ rest)) }
 {
     match given_tables(lines) {
         Some(tables) if verdict_of(lines) == Verdict::Repairable => {

@@ -9,7 +9,8 @@ ghost use Rattle.bb_ladder.specs.Inside.Made.{CanBeFilled, IsChecked};
 ghost use Rattle.bb_ladder.specs.OpenReports.{IsOpenReport};
 ghost use Rattle.bb_ladder.specs.ShownMistakes.{AreShown};
 ghost use Rattle.bb_ladder.specs.TextAnswers.{Judges};
-ghost use Rattle.bb_ladder.specs.TextPairs.{AreDecided, AreLeftOpen, AreRefuted, AreStayingOpen, DoFit, IsFinishedReport, IsRefusal};
+ghost use Rattle.bb_ladder.specs.TextPairs.{AreDecided, AreLeftOpen, AreRefuted, AreStayingOpen, DoFit};
+ghost use Rattle.bb_ladder.specs.TextPairs.{IsFinishedReport, IsPairRefusal, IsRefusal};
 
 use crate::answer::Answer;
 use crate::asked::Asked;
@@ -68,11 +69,13 @@ fn answer(alloc: Global, spec: &[u8], imp: &[u8], asked: &Asked) -> Result<Answe
 
 /// What is answered to the text of the specification and that of the implementation, whoever read them.
 ///
-/// Status 0 says that the tables at the end of the report make the two agree where that is asked, and so does the text behind the line
-/// `fill`, where the filled implementation is asked for and one is printed, which passes as an implementation, and that each of them runs
-/// as the specification does; status 1 that no contents of the boxes do and that the vectors of the report show mistakes, status 3 that each check that is asked for leaves the question open, and status 2 that the line is their
-/// first refusal; with every other status nothing is at fault in the two texts, and they fit. Where a check that is asked for decides, the
-/// status is 0 or 1, where the question stays open with each, it is 3, and where the two have a refusal, it is 2.
+/// Status 0 says that the tables at the end of the report make the two agree where that is asked, and so does the text
+/// behind the line `fill`, where the filled implementation is asked for and one is printed, which passes as an
+/// implementation, and that each of them runs as the specification does; status 1 that no contents of the boxes do and
+/// that the vectors of the report show mistakes, status 3 that each check that is asked for leaves the question open,
+/// and status 2 that the line is their first refusal; with every other status nothing is at fault in the two texts, and
+/// they fit. Where a check that is asked for decides, the status is 0 or 1, where the question stays open with each, it
+/// is 3, and where the two have a refusal, it is 2.
 ///
 /// # Errors
 ///
@@ -83,14 +86,20 @@ pub fn judge_pair(alloc: Global, spec: &[u8], imp: &[u8], asked: &Asked) -> Resu
     requires bounds { AreBounds asked.now.options }
     ensures answer { IfOk result (λ answer. Judges asked.now spec.now imp.now answer.status answer.report.items) }
     ensures fit { IfOk result (λ answer. (answer.status ≡ 2 → ⊥) → DoFit asked.now spec.now imp.now) }
-    ensures repairable { IfOk result (λ answer. answer.status ≡ 0 → IsFinishedReport asked.now spec.now imp.now answer.report.items) }
+    ensures repairable { IfOk result (λ answer. answer.status ≡ 0
+        → IsFinishedReport asked.now spec.now imp.now answer.report.items) }
     ensures error { IfOk result (λ answer. answer.status ≡ 1 → AreRefuted asked.now spec.now imp.now) }
-    ensures shown { IfOk result (λ answer. answer.status ≡ 1 → AreShown asked.now spec.now imp.now answer.report.items) }
+    ensures shown { IfOk result (λ answer. answer.status ≡ 1
+        → AreShown asked.now spec.now imp.now answer.report.items) }
     ensures left_open { IfOk result (λ answer. answer.status ≡ 3 → AreLeftOpen asked.now spec.now imp.now) }
-    ensures open_report { IfOk result (λ answer. answer.status ≡ 3 → IsOpenReport asked.now spec.now imp.now answer.report.items) }
-    ensures refused { IfOk result (λ answer. answer.status ≡ 2 → (refusal : Refusal) × IsRefusal asked.now spec.now imp.now refusal × (answer.report.items ≡ refusal_line refusal)) }
-    ensures stays_refused { IfOk result (λ answer. (refusal : Refusal) → IsRefusal asked.now spec.now imp.now refusal → (answer.status ≡ 2) × (answer.report.items ≡ refusal_line refusal)) }
-    ensures decided { IfOk result (λ answer. AreDecided asked.now spec.now imp.now → (answer.status ≡ 0) ⊎ (answer.status ≡ 1)) }
+    ensures open_report { IfOk result (λ answer. answer.status ≡ 3
+        → IsOpenReport asked.now spec.now imp.now answer.report.items) }
+    ensures refused { IfOk result (λ answer. answer.status ≡ 2
+        → IsPairRefusal asked.now spec.now imp.now answer.report.items) }
+    ensures stays_refused { IfOk result (λ answer. (refusal : Refusal) → IsRefusal asked.now spec.now imp.now refusal
+        → (answer.status ≡ 2) × (answer.report.items ≡ refusal_line refusal)) }
+    ensures decided { IfOk result (λ answer. AreDecided asked.now spec.now imp.now
+        → (answer.status ≡ 0) ⊎ (answer.status ≡ 1)) }
     ensures stays_open { IfOk result (λ answer. AreStayingOpen asked.now spec.now imp.now → answer.status ≡ 3) }
 {
     answers_are_meant();

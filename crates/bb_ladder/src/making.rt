@@ -66,7 +66,8 @@ fn headed(alloc: Global, n: u32, answer: Answer) -> Result<Answer, NoMemory>
 pub fn judge_made(alloc: Global, n: u32, fill: bool, options: &Options) -> Result<Answer, NoMemory>
     requires width { (1 ≤ n) × (n ≤ 256) }
     requires bounds { AreBounds options.now }
-    ensures answer { IfOk result (λ answer. JudgesMade (record { n = n; fill = fill; options = options.now }) answer.status answer.report.items) }
+    ensures answer { IfOk result (λ answer.
+        JudgesMade (record { n = n; fill = fill; options = options.now }) answer.status answer.report.items) }
 {
     read_limit_is();
     let asked = asked_of(alloc, fill, options)?;

@@ -12,15 +12,16 @@ ghost use Rattle.bb_ladder.specs.Refutations.{AreRead, FailsAt, Refutes, SaysWhe
 ghost use Rattle.bb_ladder.specs.OpenReports.{IsOpenReport};
 ghost use Rattle.bb_ladder.specs.ShownMistakes.{AreShown};
 ghost use Rattle.bb_ladder.specs.Sources.{Held, MayHaveFailed, Source};
-ghost use Rattle.bb_ladder.specs.TextPairs.{AreDecided, AreLeftOpen, AreRefuted, AreStayingOpen, DoFit, IsFinishedReport};
+ghost use Rattle.bb_ladder.specs.TextPairs.{AreDecided, AreLeftOpen, AreRefuted, AreStayingOpen, DoFit};
+ghost use Rattle.bb_ladder.specs.TextPairs.{IsFinishedReport};
 
 use crate::running::run;
 use bb_outside::{QuietFiles, QuietSink};
 use std::alloc::Global;
 
-/// [`run`] for a caller who wants the verdict alone and has the texts in memory. Nothing outside can fail, so statuses 4 and 6 do not come,
-/// and none was counted (`calm`). What each status says of the texts is what it says there; the report is made
-/// and not kept.
+/// [`run`] for a caller who wants the verdict alone and has the texts in memory. Nothing outside can fail, so statuses
+/// 4 and 6 do not come, and none was counted (`calm`). What each status says of the texts is what it says there; the
+/// report is made and not kept.
 pub fn run_quietly(
     alloc: Global,
     words: &[String],
@@ -35,25 +36,29 @@ pub fn run_quietly(
     ensures taken { result ≢ 6 }
 
     // The status is that of a report that may be answered, unless memory runs out.
-    ensures whole { result < 5 → (text : List ℕ) × MayAnswer (called words.now holds_of reads_of files.old files.new) result text }
+    ensures whole { result < 5
+        → (text : List ℕ) × MayAnswer (called words.now holds_of reads_of files.old files.new) result text }
 
     // Statuses 0, 1 and 3 come only of texts in which nothing is at fault and that fit.
     ensures fit { IsVerdict result → OfTexts (called words.now holds_of reads_of files.old files.new) DoFit }
 
-    // The design is finished by tables whose contents make every output and every next state agree on every vector, where a care output is
-    // asked for at which it is 1. So the two behave alike for ever, whatever events come.
-    ensures repairable { result ≡ 0 → OfTexts (called words.now holds_of reads_of files.old files.new) (λ asked spec imp.
+    // The design is finished by tables whose contents make every output and every next state agree on every vector,
+    // where a care output is asked for at which it is 1. So the two behave alike for ever, whatever events come.
+    ensures repairable { result ≡ 0
+        → OfTexts (called words.now holds_of reads_of files.old files.new) (λ asked spec imp.
         (text : List ℕ) × IsFinishedReport asked spec imp text) }
 
-    // No contents of the boxes make every output and every next state agree on every such vector, and a report shows how.
+    // No contents of the boxes make every output and every next state agree on every such vector, and a report shows
+    // how.
     ensures error { result ≡ 1 → OfTexts (called words.now holds_of reads_of files.old files.new) AreRefuted }
     ensures shown { result ≡ 1 → OfTexts (called words.now holds_of reads_of files.old files.new) (λ asked spec imp.
         (text : List ℕ) × AreShown asked spec imp text) }
 
-    // The question is left open only where each check that is asked for leaves it open; where it stays open with each, it is, and where
-    // one decides, it is not.
+    // The question is left open only where each check that is asked for leaves it open; where it stays open with each,
+    // it is, and where one decides, it is not.
     ensures left_open { result ≡ 3 → OfTexts (called words.now holds_of reads_of files.old files.new) AreLeftOpen }
-    ensures open_report { result ≡ 3 → OfTexts (called words.now holds_of reads_of files.old files.new) (λ asked spec imp.
+    ensures open_report { result ≡ 3
+        → OfTexts (called words.now holds_of reads_of files.old files.new) (λ asked spec imp.
         (text : List ℕ) × IsOpenReport asked spec imp text) }
     ensures stays_open { OfWholeTexts (called words.now holds_of reads_of files.old files.new) (λ asked spec imp.
         AreStayingOpen asked spec imp → (result ≡ 3) ⊎ (result ≡ 5)) }
@@ -62,15 +67,19 @@ pub fn run_quietly(
 
     // With `--rup` the status says whether each addition follows.
     ensures refuted_yes { result ≡ 0 → OfRefutations (called words.now holds_of reads_of files.old files.new) Refutes }
-    ensures refuted_no { result ≡ 1 → OfRefutations (called words.now holds_of reads_of files.old files.new) (λ first second.
+    ensures refuted_no { result ≡ 1
+        → OfRefutations (called words.now holds_of reads_of files.old files.new) (λ first second.
         (n : ℕ) × FailsAt first second n) }
-    ensures refuted { OfWholeRefutations (called words.now holds_of reads_of files.old files.new) (λ first second. (formula : Formula)
-        (adds : List (List Lit)) → AreRead first second formula adds → SaysWhether formula adds result ⊎ (result ≡ 5)) }
+    ensures refuted { OfWholeRefutations (called words.now holds_of reads_of files.old files.new) (λ first second.
+        (formula : Formula) (adds : List (List Lit)) → AreRead first second formula adds
+        → SaysWhether formula adds result ⊎ (result ≡ 5)) }
     ensures open_compares { result ≡ 3 → rup_asked (map string_bytes words.now) ≡ None }
 
     // Status 2 comes only where the call is refused, and then it comes.
-    ensures refused { result ≡ 2 → (line : List ℕ) × IsCallRefusal (called words.now holds_of reads_of files.old files.new) Held line }
-    ensures stays_refused { (line : List ℕ) → IsCallRefusal (called words.now holds_of reads_of files.old files.new) Held line
+    ensures refused { result ≡ 2
+        → (line : List ℕ) × IsCallRefusal (called words.now holds_of reads_of files.old files.new) Held line }
+    ensures stays_refused { (line : List ℕ)
+        → IsCallRefusal (called words.now holds_of reads_of files.old files.new) Held line
         → (result ≡ 2) ⊎ (result ≡ 5) }
 
     // Of a made pair no file is read.

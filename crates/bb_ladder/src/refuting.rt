@@ -6,7 +6,8 @@ ghost use Rattle.bb_rup.specs.Dimacs.{dimacs_of};
 ghost use Rattle.bb_rup.specs.declared.fault.RupFault.{RupFault};
 ghost use Rattle.bb_texts.specs.declared.limit.TheConstants.{READ_LIMIT};
 ghost use Rattle.bb_texts.specs.Refusals.{refusal};
-ghost use Rattle.bb_ladder.specs.Refutations.{CheckLaws, Checks, FailsAt, IsCheckRefusal, Refutes, Tells, no_line, rup_words};
+ghost use Rattle.bb_ladder.specs.Refutations.{CheckLaws, Checks, FailsAt, IsCheckRefusal, Refutes, Tells, no_line};
+ghost use Rattle.bb_ladder.specs.Refutations.{rup_words};
 
 use crate::answer::{Answer, say};
 use bb_bits::NoMemory;
@@ -72,7 +73,8 @@ fn say_no(alloc: Global, number: u32) -> Result<Answer, NoMemory>
 fn check(alloc: Global, cnf: &Cnf, adds: &[SmallVec<Lit, 4>]) -> Result<Answer, NoMemory>
     requires within { IsWithin cnf.now.vars (lists_of adds.now) }
     requires few { length adds.now < 4294967295 }
-    ensures answer { IfOk result (λ answer. Tells cnf.now.clauses (lists_of adds.now) answer.status answer.report.items) }
+    ensures answer { IfOk result (λ answer.
+        Tells cnf.now.clauses (lists_of adds.now) answer.status answer.report.items) }
 {
     match rup(alloc, cnf, adds)? {
         RupAnswer::Yes => say(alloc, 0, "rup yes\n"),
@@ -83,7 +85,8 @@ fn check(alloc: Global, cnf: &Cnf, adds: &[SmallVec<Lit, 4>]) -> Result<Answer, 
 // The answer to a formula and the text of additions.
 fn judge_additions(alloc: Global, cnf: &Cnf, second: &[u8]) -> Result<Answer, NoMemory>
     requires second { length second.now < READ_LIMIT }
-    ensures answer { IfOk result (λ answer. (first : List ℕ) → dimacs_of first ≡ Ok cnf.now → Checks first second.now answer.status answer.report.items) }
+    ensures answer { IfOk result (λ answer. (first : List ℕ) → dimacs_of first ≡ Ok cnf.now
+        → Checks first second.now answer.status answer.report.items) }
 {
     match additions(alloc, second, cnf.vars) {
         Ok(adds) => check(alloc, cnf, &adds),
@@ -105,8 +108,9 @@ fn answer(alloc: Global, first: &[u8], second: &[u8]) -> Result<Answer, NoMemory
 
 /// What is answered to the text of a formula and that of clause additions, whoever read them.
 ///
-/// Status 0 says that each addition follows and so no assignment makes all clauses true, status 1 which addition is the first that does
-/// not, counted from 1 without deletions, and status 2 what is wrong with the first text, or else with the second.
+/// Status 0 says that each addition follows and so no assignment makes all clauses true, status 1 which addition is the
+/// first that does not, counted from 1 without deletions, and status 2 what is wrong with the first text, or else with
+/// the second.
 ///
 /// # Errors
 ///
@@ -115,9 +119,12 @@ pub fn judge_refutation(alloc: Global, first: &[u8], second: &[u8]) -> Result<An
     requires first { length first.now < READ_LIMIT }
     requires second { length second.now < READ_LIMIT }
     ensures answer { IfOk result (λ answer. Checks first.now second.now answer.status answer.report.items) }
-    ensures yes { IfOk result (λ answer. answer.status ≡ 0 → (answer.report.items ≡ codes "rup yes\n") × Refutes first.now second.now) }
-    ensures no { IfOk result (λ answer. answer.status ≡ 1 → (n : ℕ) × (answer.report.items ≡ no_line n) × FailsAt first.now second.now n) }
-    ensures refused { IfOk result (λ answer. answer.status ≡ 2 → IsCheckRefusal first.now second.now answer.report.items) }
+    ensures yes { IfOk result (λ answer. answer.status ≡ 0
+        → (answer.report.items ≡ codes "rup yes\n") × Refutes first.now second.now) }
+    ensures no { IfOk result (λ answer. answer.status ≡ 1
+        → (n : ℕ) × (answer.report.items ≡ no_line n) × FailsAt first.now second.now n) }
+    ensures refused { IfOk result (λ answer. answer.status ≡ 2
+        → IsCheckRefusal first.now second.now answer.report.items) }
 {
     refutations_are_answered();
     answer(alloc, first, second)

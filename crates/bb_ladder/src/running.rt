@@ -1,5 +1,7 @@
-//! The top call: the words are read, then the two files, or two texts are made, and the report is made whole before its first byte is written.
-ghost use Rattle.std.specs.Prelude.{◌≡◌, ◌≤◌, ◌<◌, ◌⊎◌, ℕ, List, None, Some, codes, length, map, take, string_bytes, IfOk};
+//! The top call: the words are read, then the two files, or two texts are made, and the report is made whole before its
+//! first byte is written.
+ghost use Rattle.std.specs.Prelude.{◌≡◌, ◌≤◌, ◌<◌, ◌⊎◌, ℕ, List, None, Some, codes, length, map, take, string_bytes};
+ghost use Rattle.std.specs.Prelude.{IfOk};
 ghost use Rattle.std.specs.Io.KnownBytes.{Appends, Keeps};
 ghost use Rattle.bb_outside.specs.Counts.{CountsWhere, FileRead, Rose, next_count};
 ghost use Rattle.bb_cnf.specs.Clauses.{Formula};
@@ -16,7 +18,8 @@ ghost use Rattle.bb_ladder.specs.OpenReports.{IsOpenReport};
 ghost use Rattle.bb_ladder.specs.ShownMistakes.{AreShown};
 ghost use Rattle.bb_ladder.specs.Sources.{MayHaveFailed, Source};
 ghost use Rattle.bb_ladder.specs.Inside.Tasks.{IsBounded, judged_by};
-ghost use Rattle.bb_ladder.specs.TextPairs.{AreDecided, AreLeftOpen, AreRefuted, AreStayingOpen, DoFit, IsFinishedReport};
+ghost use Rattle.bb_ladder.specs.TextPairs.{AreDecided, AreLeftOpen, AreRefuted, AreStayingOpen, DoFit};
+ghost use Rattle.bb_ladder.specs.TextPairs.{IsFinishedReport};
 
 use crate::answer::{Answer, say};
 use crate::judging::judge_pair;
@@ -54,7 +57,8 @@ fn read_imp<F: Files>(
 ) -> Result<Answer, NoMemory>
     requires short { length spec.now < READ_LIMIT }
     requires bounds { IsBounded question.now.task }
-    ensures answer { IfOk result (λ answer. AfterSpec (judged_by question.now.task) (F.holds files.old question.now.imp.now) question.now.imp.now
+    ensures answer { IfOk result (λ answer.
+        AfterSpec (judged_by question.now.task) (F.holds files.old question.now.imp.now) question.now.imp.now
         (F.reads files.old) (F.reads files.new) spec.now answer.status answer.report.items) }
     ensures never_falls { (F.reads files.old).faults ≤ (F.reads files.new).faults }
     ensures kept { (n : List ℕ) → F.holds files.new n ≡ F.holds files.old n }
@@ -74,7 +78,8 @@ fn read_spec<F: Files>(
     files: &mut F,
 ) -> Result<Answer, NoMemory>
     requires bounds { IsBounded question.now.task }
-    ensures answer { IfOk result (λ answer. OfFiles (judged_by question.now.task) (F.holds files.old) question.now.spec.now question.now.imp.now
+    ensures answer { IfOk result (λ answer.
+        OfFiles (judged_by question.now.task) (F.holds files.old) question.now.spec.now question.now.imp.now
         (F.reads files.old) (F.reads files.new) answer.status answer.report.items) }
     ensures never_falls { (F.reads files.old).faults ≤ (F.reads files.new).faults }
     ensures kept { (n : List ℕ) → F.holds files.new n ≡ F.holds files.old n }
@@ -93,7 +98,8 @@ fn answer<F: Files>(alloc: Global, words: &[String], files: &mut F) -> Result<An
         answer.status answer.report.items) }
     ensures never_falls { (F.reads files.old).faults ≤ (F.reads files.new).faults }
     ensures kept { (n : List ℕ) → F.holds files.new n ≡ F.holds files.old n }
-    ensures reads_nothing { (m : MadePair) → made_asked (map string_bytes words.now) ≡ Some m → F.reads files.new ≡ F.reads files.old }
+    ensures reads_nothing { (m : MadePair) → made_asked (map string_bytes words.now) ≡ Some m
+        → F.reads files.new ≡ F.reads files.old }
 {
     words_ask_once();
     match job_of(alloc, words) {
@@ -104,10 +110,11 @@ fn answer<F: Files>(alloc: Global, words: &[String], files: &mut F) -> Result<An
     }
 }
 
-/// Compares the implementation with the specification, or those of a made pair, or checks clause additions against a formula, and writes a report. It answers a status:
+/// Compares the implementation with the specification, or those of a made pair, or checks clause additions against a
+/// formula, and writes a report. It answers a status:
 ///
-/// - 0: the report is written and ends with tables and `verdict repairable`, after which the filled implementation comes where it is asked
-///   for, or is `rup yes`;
+/// - 0: the report is written and ends with tables and `verdict repairable`, after which the filled implementation
+///   comes where it is asked for, or is `rup yes`;
 /// - 1: the report is written and ends with `verdict error`, or is `rup no` and a number;
 /// - 2: the report is the line of a refusal;
 /// - 3: the report is written and ends with `verdict open`;
@@ -115,8 +122,9 @@ fn answer<F: Files>(alloc: Global, words: &[String], files: &mut F) -> Result<An
 /// - 5: nothing is written, as where memory runs out;
 /// - 6: the sink failed, and a prefix of a report is written.
 ///
-/// The first word is the program's name. The specification is read first and the implementation after it, each by one read; of a
-/// made pair nothing is read, and two lines stand before its report. What is said of their texts is said of what the files hold, where they tell it, and of the bytes that the two reads gave, where the reads are told.
+/// The first word is the program's name. The specification is read first and the implementation after it, each by one
+/// read; of a made pair nothing is read, and two lines stand before its report. What is said of their texts is said of
+/// what the files hold, where they tell it, and of the bytes that the two reads gave, where the reads are told.
 pub fn run<F: Files, K: Sink>(alloc: Global, words: &[String], files: &mut F, out: &mut K) -> u8
     ensures status { result ≤ 6 }
 
@@ -131,70 +139,82 @@ pub fn run<F: Files, K: Sink>(alloc: Global, words: &[String], files: &mut F, ou
     // Statuses 0, 1 and 3 come only of texts in which nothing is at fault and that fit.
     ensures fit { IsVerdict result → OfTexts (called words.now F.holds F.reads files.old files.new) DoFit }
 
-    // The design is reported as repairable only with tables whose contents make every output and every next state agree on every vector,
-    // where a care output is asked for at which it is 1. So they behave alike for ever: from the same states, whatever events come, the
-    // implementation with these contents gives the outputs of the specification at each event, but for the care output, and has its states
-    // after it; with a care output as long as it is 1. And where the filled implementation is asked for, after the verdict comes a line that
-    // says why there is none, or `fill` and a text that finishes the design: whoever reads it finds a design without boxes that agrees with
-    // the specification on every such vector, and with the implementation, its boxes filled as the tables say, on every vector, and that
-    // runs as the specification does. As an implementation nothing is at fault in it and it fits, whether its top is named or not.
+    // The design is reported as repairable only with tables whose contents make every output and every next state agree
+    // on every vector, where a care output is asked for at which it is 1. So they behave alike for ever: from the same
+    // states, whatever events come, the implementation with these contents gives the outputs of the specification at
+    // each event, but for the care output, and has its states after it; with a care output as long as it is 1. And
+    // where the filled implementation is asked for, after the verdict comes a line that says why there is none, or
+    // `fill` and a text that finishes the design: whoever reads it finds a design without boxes that agrees with the
+    // specification on every such vector, and with the implementation, its boxes filled as the tables say, on every
+    // vector, and that runs as the specification does. As an implementation nothing is at fault in it and it fits,
+    // whether its top is named or not.
     ensures repairable { result ≡ 0
         → Reports K.written out.old out.new (called words.now F.holds F.reads files.old files.new) IsFinishedReport }
 
-    // An error is reported only where the two can be compared and no contents of the boxes make every output and every next state agree on
-    // every such vector.
+    // An error is reported only where the two can be compared and no contents of the boxes make every output and every
+    // next state agree on every such vector.
     ensures error { result ≡ 1 → OfTexts (called words.now F.holds F.reads files.old files.new) AreRefuted }
 
-    // And the report shows how: after the line of a check that finds it at a vector come the output that is wrong there, where one is
-    // named, and the vector, at which the two designs differ whatever the boxes contain; and after the line of the expansion, where a proof
-    // is asked for, vectors at one of which they differ with each contents.
+    // And the report shows how: after the line of a check that finds it at a vector come the output that is wrong
+    // there, where one is named, and the vector, at which the two designs differ whatever the boxes contain; and after
+    // the line of the expansion, where a proof is asked for, vectors at one of which they differ with each contents.
     ensures shown { result ≡ 1
         → Reports K.written out.old out.new (called words.now F.holds F.reads files.old files.new) AreShown }
 
-    // The question is left open only where, for each pair that stands for the texts, each check that is asked for finds neither a mistake
-    // nor tables, would need more nodes or may need more clauses than it may have, or would need wider tables. And the report has a line
-    // for each of them.
+    // The question is left open only where, for each pair that stands for the texts, each check that is asked for finds
+    // neither a mistake nor tables, would need more nodes or may need more clauses than it may have, or would need
+    // wider tables. And the report has a line for each of them.
     ensures left_open { result ≡ 3 → OfTexts (called words.now F.holds F.reads files.old files.new) AreLeftOpen }
     ensures open_report { result ≡ 3
         → Reports K.written out.old out.new (called words.now F.holds F.reads files.old files.new) IsOpenReport }
 
-    // Where the texts are within the limit, no read of them may have failed, and a check that is asked for decides a pair that stands for
-    // the texts, the answer is an error or tables, unless memory runs out.
-    ensures decided { OfWholeTexts (called words.now F.holds F.reads files.old files.new) (λ asked spec imp. AreDecided asked spec imp
-        → (Rose (K.faults out.old) (K.faults out.new) → ⊥) → ((result ≡ 0) ⊎ (result ≡ 1)) ⊎ (result ≡ 5)) }
+    // Where the texts are within the limit, no read of them may have failed, and a check that is asked for decides a
+    // pair that stands for the texts, the answer is an error or tables, unless memory runs out.
+    ensures decided { OfWholeTexts (called words.now F.holds F.reads files.old files.new) (λ asked spec imp.
+        AreDecided asked spec imp → (Rose (K.faults out.old) (K.faults out.new) → ⊥)
+        → ((result ≡ 0) ⊎ (result ≡ 1)) ⊎ (result ≡ 5)) }
 
-    // And where the question stays open with each check that is asked for, whatever the solver does, that is the answer.
+    // And where the question stays open with each check that is asked for, whatever the solver does, that is the
+    // answer.
     ensures stays_open { OfWholeTexts (called words.now F.holds F.reads files.old files.new) (λ asked spec imp.
-        AreStayingOpen asked spec imp → (Rose (K.faults out.old) (K.faults out.new) → ⊥) → (result ≡ 3) ⊎ (result ≡ 5)) }
+        AreStayingOpen asked spec imp → (Rose (K.faults out.old) (K.faults out.new) → ⊥)
+        → (result ≡ 3) ⊎ (result ≡ 5)) }
 
-    // With `--rup` status 0 says that each addition follows, and so no assignment makes all clauses of the first text true.
-    ensures refuted_yes { result ≡ 0 → OfRefutations (called words.now F.holds F.reads files.old files.new) (λ first second.
+    // With `--rup` status 0 says that each addition follows, and so no assignment makes all clauses of the first text
+    // true.
+    ensures refuted_yes { result ≡ 0
+        → OfRefutations (called words.now F.holds F.reads files.old files.new) (λ first second.
         Appends (K.written out.old) (K.written out.new) (codes "rup yes\n") × Refutes first second) }
 
     // Status 1 names the first addition that does not.
-    ensures refuted_no { result ≡ 1 → OfRefutations (called words.now F.holds F.reads files.old files.new) (λ first second.
+    ensures refuted_no { result ≡ 1
+        → OfRefutations (called words.now F.holds F.reads files.old files.new) (λ first second.
         (n : ℕ) × Appends (K.written out.old) (K.written out.new) (no_line n) × FailsAt first second n) }
 
-    // Where both texts are read without fault and no read of them may have failed, one of the two comes, by whether the additions succeed,
-    // unless memory runs out.
-    ensures refuted { OfWholeRefutations (called words.now F.holds F.reads files.old files.new) (λ first second. (formula : Formula)
-        (adds : List (List Lit)) → AreRead first second formula adds → (Rose (K.faults out.old) (K.faults out.new) → ⊥)
+    // Where both texts are read without fault and no read of them may have failed, one of the two comes, by whether the
+    // additions succeed, unless memory runs out.
+    ensures refuted { OfWholeRefutations (called words.now F.holds F.reads files.old files.new) (λ first second.
+        (formula : Formula) (adds : List (List Lit)) → AreRead first second formula adds
+        → (Rose (K.faults out.old) (K.faults out.new) → ⊥)
         → SaysWhether formula adds result ⊎ (result ≡ 5)) }
 
     // A question is left open only of a comparison.
     ensures open_compares { result ≡ 3 → rup_asked (map string_bytes words.now) ≡ None }
 
-    // Status 2 names the first thing for which the call is refused: its words, the length of a file, or what is wrong with the two texts.
+    // Status 2 names the first thing for which the call is refused: its words, the length of a file, or what is wrong
+    // with the two texts.
     ensures refused { result ≡ 2 → (from : Source) → AreTold (called words.now F.holds F.reads files.old files.new) from
         → Writes K.written out.old out.new (IsCallRefusal (called words.now F.holds F.reads files.old files.new) from) }
 
     // And where the call is to be refused and no read may have failed, that is the answer, unless memory runs out.
     ensures stays_refused { (from : Source) (line : List ℕ)
         → IsCallRefusal (called words.now F.holds F.reads files.old files.new) from line
-        → (MayHaveFailed from (F.reads files.old) (F.reads files.new) → ⊥) → (Rose (K.faults out.old) (K.faults out.new) → ⊥)
+        → (MayHaveFailed from (F.reads files.old) (F.reads files.new) → ⊥)
+        → (Rose (K.faults out.old) (K.faults out.new) → ⊥)
         → ((result ≡ 2) × Appends (K.written out.old) (K.written out.new) line) ⊎ (result ≡ 5) }
 
-    // Where the reads are told, those of this call gave the texts of which statuses 0, 1 and 3 speak, and as much as a refusal rests on.
+    // Where the reads are told, those of this call gave the texts of which statuses 0, 1 and 3 speak, and as much as a
+    // refusal rests on.
     ensures given { (earlier : List FileRead) → (F.reads files.old).told ≡ Some earlier
         → HaveGiven (called words.now F.holds F.reads files.old files.new) result }
 
@@ -202,8 +222,8 @@ pub fn run<F: Files, K: Sink>(alloc: Global, words: &[String], files: &mut F, ou
     ensures reads_nothing { (m : MadePair) → made_asked (map string_bytes words.now) ≡ Some m
         → (F.reads files.new ≡ F.reads files.old) × (result ≡ 4 → ⊥) }
 
-    // What the files hold stays. One failed read was counted where a file is blamed, and none with a lower status; one failed write was
-    // counted exactly where the sink is blamed.
+    // What the files hold stays. One failed read was counted where a file is blamed, and none with a lower status; one
+    // failed write was counted exactly where the sink is blamed.
     ensures kept { (n : List ℕ) → F.holds files.new n ≡ F.holds files.old n }
     ensures unread { result ≡ 4 → (F.reads files.new).faults ≡ next_count (F.reads files.old).faults }
     ensures readable { result < 4 → (F.reads files.new).faults ≡ (F.reads files.old).faults }

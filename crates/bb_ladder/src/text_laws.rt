@@ -1,5 +1,5 @@
-//! Laws of two texts: refusals are one, a refusal and a pair exclude each other, and what an answer says of the texts. Each function has
-//! a law as its contract and does nothing.
+//! Laws of two texts: refusals are one, a refusal and a pair exclude each other, and what an answer says of the texts.
+//! Each function has a law as its contract and does nothing.
 
 ghost use Rattle.bb_ladder.specs.Answers.{AnswersSpeakOfTexts};
 ghost use Rattle.bb_ladder.specs.CallRefusals.{CallRefusalsAreOne, RefusalsAreTold, RefusedCallsAreTold};
@@ -9,8 +9,12 @@ ghost use Rattle.bb_ladder.specs.Inside.Made.{MadeCanBeFilled};
 ghost use Rattle.bb_ladder.specs.Laws.FilledNets.{FilledNetsStand};
 ghost use Rattle.bb_ladder.specs.OpenReports.{OpenAnswersAreReports};
 ghost use Rattle.bb_ladder.specs.ShownMistakes.{ErrorsAreShown};
-ghost use Rattle.bb_ladder.specs.TextAnswers.{AnsweredFit, ErrorsRefute, FillingOnlyAdds, RepairsFinish, OpenAnswersLeaveOpen, DecidedAreAnswered, StayingOpenAreAnswered, JudgedRefusalsAreFirst, RefusedAreAnsweredOnce, ReportsAreOne, ReportsBeginAsOne, StatusesAreOne, StatusesNeverClash};
-ghost use Rattle.bb_ladder.specs.TextPairs.{DesignsAreAllowed, FilledTextsFinish, NotPairAndRefusal, RefusalsAreOne, TextPairsAreAlike};
+ghost use Rattle.bb_ladder.specs.TextAnswers.{AnsweredFit, ErrorsRefute, FillingOnlyAdds, RepairsFinish};
+ghost use Rattle.bb_ladder.specs.TextAnswers.{OpenAnswersLeaveOpen, DecidedAreAnswered, StayingOpenAreAnswered};
+ghost use Rattle.bb_ladder.specs.TextAnswers.{JudgedRefusalsAreFirst, RefusedAreAnsweredOnce, ReportsAreOne};
+ghost use Rattle.bb_ladder.specs.TextAnswers.{ReportsBeginAsOne, StatusesAreOne, StatusesNeverClash};
+ghost use Rattle.bb_ladder.specs.TextPairs.{DesignsAreAllowed, FilledTextsFinish, NotPairAndRefusal, RefusalsAreOne};
+ghost use Rattle.bb_ladder.specs.TextPairs.{TextPairsAreAlike};
 
 use crate::refuting::refutations_are_answered;
 use bb_agree::laws::{
@@ -109,8 +113,8 @@ pub fn filled_texts_finish()
     spelled_contents_have_tables();
 }
 
-/// A flat netlist that stands for the filled design is called as the netlist that was filled, has no box, and has the bits that the
-/// other has with the tables in its boxes.
+/// A flat netlist that stands for the filled design is called as the netlist that was filled, has no box, and has the
+/// bits that the other has with the tables in its boxes.
 pub fn filled_nets_stand()
     ensures { FilledNetsStand }
 {
@@ -143,14 +147,14 @@ pub fn filling_only_adds()
 pub fn answers_are_meant()
     // What is not refused fits.
     ensures fit { AnsweredFit }
-    // An error is told only where no contents agree, and its vectors show mistakes; tables only where all that they spell agree, so that
-    // the two run alike, whatever events come. Where it is asked for, the filled implementation follows, which passes as one, or why
-    // there is none.
+    // An error is told only where no contents agree, and its vectors show mistakes; tables only where all that they
+    // spell agree, so that the two run alike, whatever events come. Where it is asked for, the filled implementation
+    // follows, which passes as one, or why there is none.
     ensures errors { ErrorsRefute }
     ensures shown { ErrorsAreShown }
     ensures repairs { RepairsFinish }
-    // The question is left open only where each check that is asked for leaves it open; where it stays open with each, it is, and where
-    // one decides, it is not.
+    // The question is left open only where each check that is asked for leaves it open; where it stays open with each,
+    // it is, and where one decides, it is not.
     ensures opens { OpenAnswersLeaveOpen }
     ensures open_reports { OpenAnswersAreReports }
     ensures stays_open { StayingOpenAreAnswered }
@@ -190,8 +194,8 @@ pub fn answers_are_meant()
     deciders_decide();
 }
 
-/// Two texts have one status, whichever pair stands for them, unless they are left open and the answer may depend on the search; and
-/// there too none is 0 where another is 1.
+/// Two texts have one status, whichever pair stands for them, unless they are left open and the answer may depend on
+/// the search; and there too none is 0 where another is 1.
 pub fn statuses_are_one()
     ensures one { StatusesAreOne }
     ensures clash { StatusesNeverClash }
@@ -202,8 +206,8 @@ pub fn statuses_are_one()
     answers_are_meant();
 }
 
-/// Two texts have one report, whichever pair stands for them, but for what stands behind the line of the expansion, and but for this
-/// line where it may depend on the search; the lines before it are the same there too.
+/// Two texts have one report, whichever pair stands for them, but for what stands behind the line of the expansion, and
+/// but for this line where it may depend on the search; the lines before it are the same there too.
 pub fn reports_are_one()
     ensures one { ReportsAreOne }
     ensures begin { ReportsBeginAsOne }

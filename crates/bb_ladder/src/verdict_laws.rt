@@ -1,5 +1,5 @@
-//! Laws of verdicts: what it means that two texts are refuted, and that they are not finished then. Each function has a law as its
-//! contract and does nothing.
+//! Laws of verdicts: what it means that two texts are refuted, and that they are not finished then. Each function has a
+//! law as its contract and does nothing.
 
 ghost use Rattle.bb_ladder.specs.TextPairs.{FittingAreRefutedByDesigns, NotFinishedAndRefuted};
 ghost use Rattle.bb_ladder.specs.TextPairs.{RefutedHaveCounterexamples};

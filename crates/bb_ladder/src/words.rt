@@ -82,12 +82,14 @@ fn comparison<'a>(alloc: Global, asked: &WordsAsked<'a>) -> Result<Question<'a>,
 /// # Errors
 ///
 /// `Usage` where the words are not of the command's form, and want of memory.
-#[tactic(auto, using(crate::proofs::TaskLemmas::asks_comparison, crate::proofs::TaskLemmas::comparison_bounded, crate::proofs::TaskLemmas::no_question))]
+#[tactic(auto, using(crate::proofs::TaskLemmas::questions_asked))]
 pub fn job_of<'a>(alloc: Global, words: &'a [String]) -> Result<Job<'a>, WordsFault>
     ensures job { IfOk result (AskJob (map string_bytes words.entry.now)) }
     ensures bounds { IfOk result HasBounds }
-    ensures usage { IfErr result (λ fault. (fault ≡ WordsFault.NoMemory) ⊎ ((fault ≡ WordsFault.Usage) × (question_of (map string_bytes words.entry.now) ≡ None)
-        × (made_asked (map string_bytes words.entry.now) ≡ None) × (rup_asked (map string_bytes words.entry.now) ≡ None))) }
+    ensures usage { IfErr result (λ fault. (fault ≡ WordsFault.NoMemory)
+        ⊎ ((fault ≡ WordsFault.Usage) × (question_of (map string_bytes words.entry.now) ≡ None)
+        × (made_asked (map string_bytes words.entry.now) ≡ None)
+        × (rup_asked (map string_bytes words.entry.now) ≡ None))) }
 {
     match read_words(alloc, words)? {
         Wanted::Comparison(asked) => Ok(Job::Files(comparison(alloc, &asked)?)),

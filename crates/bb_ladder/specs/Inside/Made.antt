@@ -1,5 +1,5 @@
--- What two texts are made into, as the code hands it on: the pair, and the flat netlist of the implementation from which it is made, where
--- the filled implementation is asked for; and what the checks of the pair answer.
+-- What two texts are made into, as the code hands it on: the pair, and the flat netlist of the implementation from
+-- which it is made, where the filled implementation is asked for; and what the checks of the pair answer.
 use Rattle.std.specs.Prelude.{◌≡◌, ◌++◌, ℕ, true, List, [], Option, None, Some, IfSome, if◌then◌else◌}
 use Rattle.bb_agree.specs.DesignAgreement.{IsPairFor}
 use Rattle.bb_bits.specs.Tables.{TableBits}
@@ -28,7 +28,8 @@ pub record IsMade (asked : Asked) (spec imp : List ℕ) (made : Made) : Type 0 w
 -- the netlist may be filled with tables, one for each kind of boxes of the pair
 pub record CanBeFilled (p : NetPair) (f : FlatNet) : Type 0 where
   pub clocks : HaveClocks f
-  pub tables : (tables : List TableBits) → FitBoxes tables (shown p.kinds p.imp.boxes) → FitBoxes (spread p.kinds tables) f.net.boxes
+  pub tables : (tables : List TableBits) → FitBoxes tables (shown p.kinds p.imp.boxes)
+      → FitBoxes (spread p.kinds tables) f.net.boxes
 
 -- what follows the verdict, where the netlist is kept
 abbrev pub KeptFollows : Option FlatNet → List ℕ → List Line → List ℕ → Type 0
@@ -45,4 +46,5 @@ pub record IsChecked (made : Made) (o : Options) (answer : Answer) : Type 0 wher
 
 -- the law of it: what is kept of two texts may be filled
 abbrev pub MadeCanBeFilled : Type 0
-MadeCanBeFilled = (asked : Asked) (spec imp : List ℕ) (made : Made) → IsMade asked spec imp made → IfSome made.imp (CanBeFilled made.pair)
+MadeCanBeFilled = (asked : Asked) (spec imp : List ℕ) (made : Made) → IsMade asked spec imp made
+    → IfSome made.imp (CanBeFilled made.pair)

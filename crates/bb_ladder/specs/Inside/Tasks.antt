@@ -17,7 +17,8 @@ judged_by Refutation = Checks
 
 -- the words ask for it, of files with these names
 abbrev pub AskTask : List (List ℕ) → List ℕ → List ℕ → Task → Type 0
-AskTask words first second (Comparison asked) = question_of words ≡ Some (record { spec = first; imp = second; asked = asked })
+AskTask words first second (Comparison asked) =
+    question_of words ≡ Some (record { spec = first; imp = second; asked = asked })
 AskTask words first second Refutation = rup_asked words ≡ Some (record { cnf = first; adds = second })
 
 -- its checks are within their bounds

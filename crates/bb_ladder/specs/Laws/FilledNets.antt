@@ -1,5 +1,6 @@
--- The filled text as a flat netlist: each one that stands for its design is called as the netlist that was filled, has no box, and has at
--- every vector the bits that this one has with the tables in its boxes. Its registers may stand in another order.
+-- The filled text as a flat netlist: each one that stands for its design is called as the netlist that was filled, has
+-- no box, and has at every vector the bits that this one has with the tables in its boxes. Its registers may stand in
+-- another order.
 use Rattle.std.specs.Prelude.{◌≡◌, ◌↔◌, Bool, List, [], length, All, Contains}
 use Rattle.bb_bits.specs.Tables.{TableBits}
 use Rattle.bb_cells.specs.Stands.{StandsFor}
@@ -24,7 +25,9 @@ pub record IsFilledNet (f : FlatNet) (tables : List TableBits) (g : FlatNet) : T
   pub each : All (λ r. (q : Register) × Contains f.regs q × IsSameRegister g f r q) g.regs
   pub all : All (λ q. (r : Register) × Contains g.regs r × IsSameRegister g f r q) f.regs
   pub count : length g.regs ≡ length f.regs
-  pub bits : (x : Vector) (o : CutOutput) (b : Bool) → Contains (outputs_by g [] x) (o, b) ↔ Contains (outputs_by f tables x) (o, b)
+  pub bits : (x : Vector) (o : CutOutput) (b : Bool)
+      → Contains (outputs_by g [] x) (o, b) ↔ Contains (outputs_by f tables x) (o, b)
 
 abbrev pub FilledNetsStand : Type 0
-FilledNetsStand = (f : FlatNet) (tables : List TableBits) → IsReady f tables → HaveClocks f → IsSmall f tables → (g : FlatNet) → StandsFor (filled_design f tables) g → IsFilledNet f tables g
+FilledNetsStand = (f : FlatNet) (tables : List TableBits) → IsReady f tables → HaveClocks f → IsSmall f tables
+    → (g : FlatNet) → StandsFor (filled_design f tables) g → IsFilledNet f tables g

@@ -1,5 +1,5 @@
--- A law of what may be answered to two texts: there is an answer. Refutations that the expansion may need have to be short enough for a
--- list in memory.
+-- A law of what may be answered to two texts: there is an answer. Refutations that the expansion may need have to be
+-- short enough for a list in memory.
 use Rattle.std.specs.Prelude.{ℕ, List}
 use Rattle.bb_net.specs.Pairs.{NetPair}
 use Rattle.bb_options.specs.Rungs.{AreBounds}
@@ -14,4 +14,5 @@ AreProvable asked spec imp = (p : NetPair) → StandsForTexts asked spec imp p �
 
 -- so any two texts have a status and a report
 abbrev pub TextsAreJudged : Type 0
-TextsAreJudged = (asked : Asked) (spec imp : List ℕ) → AreBounds asked.options → AreProvable asked spec imp → (status : ℕ) × (text : List ℕ) × Judges asked spec imp status text
+TextsAreJudged = (asked : Asked) (spec imp : List ℕ) → AreBounds asked.options → AreProvable asked spec imp
+    → (status : ℕ) × (text : List ℕ) × Judges asked spec imp status text
