@@ -20,6 +20,7 @@ pub mod Runs
 pub mod SeenDesigns
 pub mod SeenPairs
 pub mod SharedContents
+pub mod ShownByEvents
 pub mod SomeCounterexamples
 pub mod SpelledContents
 pub mod WorldOutputs

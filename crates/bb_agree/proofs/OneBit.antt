@@ -59,7 +59,7 @@ module _ (d : Design) (sound : IsSoundDesign d) (w : World) (o : CutOutput) wher
       let same : s ≡ t = one_by (λ (r : RegisterBit). bit_text d r.bit) (registers d) (sound RegisterTexts) s t in_s in_t text in
       sym (valued is) ∙ ap (next_bit w) same ∙ valued also
 
-turned : (b : Bool) → b ≡ not b → ⊥
+pub turned : (b : Bool) → b ≡ not b → ⊥
 turned true e = cc e
 turned false e = cc e
 

@@ -19,6 +19,7 @@ use Rattle.bb_design.specs.Worlds.{World, Vector, IsWorld, HasVector, FitDesign,
 use Rattle.bb_net.specs.CutPoints.{TopInput, State, CutOutput}
 use Rattle.bb_agree.specs.Comparable.{AreComparable, GoesBy}
 use Rattle.bb_agree.specs.DesignAgreement.{ContentsAgree, HaveSameBits, IsAsked}
+use Rattle.bb_agree.specs.Mistakes.{HaveCounterexample}
 
 -- by the text of an input bit: its bit, and whether it had an edge, and then whether it fell
 pub record Event : Type 0 where
@@ -86,6 +87,13 @@ pub record RunAlike (care : Option (List ℕ)) (spec imp : Design) (contents : C
   pub imp_runs : HaveRuns imp contents
   pub alike : ShowTheSame care spec imp contents
 
+-- an event shows that the two differ: from some states, which both have, agreement is asked as it comes, and what is
+-- seen of the two then is not the same
+abbrev pub EventShows : Option (List ℕ) → Design → Design → Contents → Type 0
+EventShows care spec imp contents = (states : States) × (event : Event) × ((seen more : List Seen)
+    → Runs spec contents states (event ∷ []) seen → Runs imp contents states (event ∷ []) more
+    → All (λ (one : Seen). IsAsked care one.outputs) seen × (AllZip (AreSeenAlike care spec) seen more → ⊥))
+
 -- laws that a reader expects
 
 -- contents that make two designs agree at each vector make them run alike
@@ -99,3 +107,8 @@ abbrev pub ComparableDesignsHaveRuns : Type 0
 ComparableDesignsHaveRuns = (care : Option (List ℕ)) (spec imp : Design) (contents : Contents) → IsAllowed spec
     → IsAllowed imp → AreComparable care spec imp → FitDesign imp contents
     → HaveRuns spec contents × HaveRuns imp contents
+
+-- a counterexample is seen at an event, from states with the bits of its vector
+abbrev pub EventsShowCounterexamples : Type 0
+EventsShowCounterexamples = (care : Option (List ℕ)) (spec imp : Design) (contents : Contents) → IsAllowed imp
+    → HaveCounterexample care spec imp contents → EventShows care spec imp contents

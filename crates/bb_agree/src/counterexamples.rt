@@ -3,6 +3,7 @@
 
 ghost use Rattle.bb_agree.specs.Mistakes.{CounterexamplesExist, CounterexamplesRefute};
 ghost use Rattle.bb_agree.specs.Mistakes.{MistakesAmongRefute, MistakesRefute};
+ghost use Rattle.bb_agree.specs.Runs.{EventsShowCounterexamples};
 
 /// Where no contents agree in designs that can be compared, each contents has a counterexample.
 pub fn counterexamples_exist()
@@ -22,4 +23,9 @@ pub fn mistakes_refute()
 /// Where for each contents one of some vectors shows a mistake, no contents agree.
 pub fn mistakes_among_refute()
     ensures { MistakesAmongRefute }
+{}
+
+/// A counterexample is seen at an event, from states with the bits of its vector.
+pub fn events_show_counterexamples()
+    ensures { EventsShowCounterexamples }
 {}

@@ -2,7 +2,8 @@
 -- open every other does; and so they have one report.
 use Rattle.std.proofs.Common.{◌≡◌, ℕ, List, refl, sym, ◌∙◌, subst}
 use Rattle.bb_agree.specs.DesignAgreement.{ContentsAgree, MayFill, NoContentsAgree}
-use Rattle.bb_agree.specs.Mistakes.{CounterexamplesExist}
+use Rattle.bb_agree.specs.Mistakes.{AllHaveCounterexamples, CounterexamplesExist}
+use Rattle.bb_agree.specs.Runs.{EventsShowCounterexamples}
 use Rattle.bb_design.specs.Hierarchy.{Design}
 use Rattle.bb_rungs.specs.Laws.AlikePairs.{AlikeReportsAreOne, AlikeReportsBeginAsOne}
 use Rattle.bb_rungs.specs.Laws.{LeftOpenStaysOpen}
@@ -12,7 +13,7 @@ use Rattle.bb_rungs.specs.Reports.{status_of, verdict_of}
 use Rattle.bb_ladder.specs.declared.asked.Asked.{Asked}
 use Rattle.bb_ladder.specs.TextAnswers.{Judges, Refused, Judged, ErrorsRefute, RepairsFinish, OpenAnswersLeaveOpen, StayingOpenAreAnswered, AnswersMayDependOnSearch, StatusesAreOne, StatusesNeverClash, ReportsAreOne, ReportsBeginAsOne}
 use Rattle.bb_texts.specs.TextDesigns.{IsReadAs, TextsReadAsOne}
-use Rattle.bb_ladder.specs.TextPairs.{AreLeftOpen, AreRefuted, AreStayingOpen, AskAlike, FittingAreRefutedByDesigns, NotFinishedAndRefuted, NotPairAndRefusal, RefutedHaveCounterexamples, TextPairsAreAlike}
+use Rattle.bb_ladder.specs.TextPairs.{AreLeftOpen, AreRefuted, AreStayingOpen, AskAlike, DesignsAreAllowed, FittingAreRefutedByDesigns, NotFinishedAndRefuted, NotPairAndRefusal, RefutedAreSeen, RefutedHaveCounterexamples, TextPairsAreAlike}
 use Rattle.bb_ladder.proofs.AnswerLaws.{is_pair}
 use Rattle.bb_ladder.proofs.TextPairLaws.{reads_as}
 
@@ -40,6 +41,14 @@ fitting_are_refuted_by_designs one asked spec imp (s, i, are, fit) refuted =
 
 pub refuted_have_counterexamples : CounterexamplesExist → RefutedHaveCounterexamples
 refuted_have_counterexamples exist asked spec imp refuted = exist asked.care asked.options.shared refuted.s refuted.i refuted.comparable refuted.none
+
+pub refuted_are_seen : TextsReadAsOne → DesignsAreAllowed → CounterexamplesExist → EventsShowCounterexamples → RefutedAreSeen
+refuted_are_seen one allowed exist shown asked spec imp (s, i, are, fit) refuted =
+    let left : refuted.s ≡ s = one asked.spec_top spec refuted.s s refuted.reads.spec_reads (reads_as are.spec_design) in
+    let right : refuted.i ≡ i = one asked.imp_top imp refuted.i i refuted.reads.imp_reads (reads_as are.imp_design) in
+    let all = refuted_have_counterexamples exist asked spec imp refuted in
+    let each = subst (λ z. AllHaveCounterexamples asked.care asked.options.shared z i) left (subst (λ z. AllHaveCounterexamples asked.care asked.options.shared refuted.s z) right all) in
+    (s, i, are, λ contents fill. shown asked.care s i contents (allowed asked.imp_top imp i are.imp_design) (each contents fill))
 
 -- a call asks the same as itself
 same_call : (asked : Asked) → AskAlike asked asked

@@ -15,7 +15,7 @@ use Rattle.bb_agree.specs.Comparable.{AreComparable}
 use Rattle.bb_agree.specs.DesignAgreement.{AreSpelled, ContentsAgree, IsPairFor, IsTableOf, MayFill, NoContentsAgree}
 use Rattle.bb_agree.specs.DesignFit.{DesignsFit, IsRefusalFor}
 use Rattle.bb_agree.specs.Mistakes.{AllHaveCounterexamples}
-use Rattle.bb_agree.specs.Runs.{RunAlike}
+use Rattle.bb_agree.specs.Runs.{EventShows, RunAlike}
 use Rattle.bb_fill.specs.Answers.{Text, MayFill as MayPrint}
 use Rattle.bb_names.specs.Faults.{IsSound}
 use Rattle.bb_net.specs.Kinds.{AreKinds, AreSharedCompletion, shown, spread}
@@ -176,6 +176,12 @@ FittingAreRefutedByDesigns = (asked : Asked) (spec imp : List ℕ) → DoFit ask
 abbrev pub RefutedHaveCounterexamples : Type 0
 RefutedHaveCounterexamples = (asked : Asked) (spec imp : List ℕ) (refuted : AreRefuted asked spec imp)
     → AllHaveCounterexamples asked.care asked.options.shared refuted.s refuted.i
+
+-- and where the two fit, some event shows of their designs that they differ, whatever contents may fill the boxes
+abbrev pub RefutedAreSeen : Type 0
+RefutedAreSeen = (asked : Asked) (spec imp : List ℕ) → DoFit asked spec imp → AreRefuted asked spec imp
+    → (s i : Design) × AreDesignsOf asked spec imp s i × ((contents : Contents)
+    → MayFill asked.options.shared i contents → EventShows asked.care s i contents)
 
 -- two calls ask the same of two texts, but for how much the checks may need and which are run
 pub record AskAlike (asked other : Asked) : Type 0 where

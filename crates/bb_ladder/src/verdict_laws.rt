@@ -2,9 +2,10 @@
 //! law as its contract and does nothing.
 
 ghost use Rattle.bb_ladder.specs.TextPairs.{FittingAreRefutedByDesigns, NotFinishedAndRefuted};
-ghost use Rattle.bb_ladder.specs.TextPairs.{RefutedHaveCounterexamples};
+ghost use Rattle.bb_ladder.specs.TextPairs.{RefutedAreSeen, RefutedHaveCounterexamples};
 
-use bb_agree::counterexamples::counterexamples_exist;
+use crate::text_laws::designs_are_allowed;
+use bb_agree::counterexamples::{counterexamples_exist, events_show_counterexamples};
 use bb_texts::texts_have_designs;
 
 /// What fits and is refuted is so by one pair of designs.
@@ -19,6 +20,16 @@ pub fn refuted_have_counterexamples()
     ensures { RefutedHaveCounterexamples }
 {
     counterexamples_exist();
+}
+
+/// And where the two fit, some event shows it.
+pub fn refuted_are_seen()
+    ensures { RefutedAreSeen }
+{
+    texts_have_designs();
+    designs_are_allowed();
+    counterexamples_exist();
+    events_show_counterexamples();
 }
 
 /// No two texts are both finished and refuted, whatever the bounds of the two calls.
