@@ -12,7 +12,8 @@ from tests.tries import (BBEQ, LIMIT, REFUSED, SMALL_PROOF, Tries, bbeq, example
 # bad
 
 SCRIPTS = ("gates", "fill", "wave", "order", "ladder", "names", "why", "page", "drat", "lrat",
-           "certify", "edits", "evaluate", "made", "parts", "run", "minutes", "solve", "check")
+           "certify", "edits", "evaluate", "made", "benchmark", "parts", "run", "minutes", "solve",
+           "check")
 
 
 class Bad(Tries):
