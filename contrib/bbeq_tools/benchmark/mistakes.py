@@ -70,8 +70,8 @@ def hidden_mistake(spec: Circuit, imp: Circuit, draw: random.Random) -> Circuit:
 
 
 class Contents:
-    """Looks for contents of the boxes, by clauses over vectors at which those that it found before
-    are wrong (Clarke and others, 2003)."""
+    """Looks for contents of the boxes by counterexamples: clauses over vectors at which those that
+    it found before are wrong."""
 
     def __init__(self, spec: Circuit, imp: Circuit, draw: random.Random) -> None:
         self.spec, self.imp, self.draw, self.solver = spec, imp, draw, Solver()
