@@ -6,22 +6,16 @@ ghost use Rattle.bb_net.specs.Completions.{table_bits};
 ghost use Rattle.bb_net.specs.Kinds.{spread};
 ghost use Rattle.bb_net.specs.Netlists.{Netlist, ReadsBefore, IsPinAt, box_at, cell_at};
 ghost use Rattle.bb_net.specs.Values.{FitBoxes, table_at};
-ghost use Rattle.bb_filled.specs.Embeddings.{moved, StandsAt};
+ghost use Rattle.bb_filled.specs.Embeddings.{StandsAt};
 ghost use Rattle.bb_filled.specs.Filled.{IsFilled, column};
 ghost use Rattle.bb_filled.specs.Inside.Filling.{CostsAreFew, GrowsBy, HasConstants, IsFilledUpTo, cost};
 ghost use Rattle.bb_filled.specs.Trees.{IsTree, IsInTree};
 
+use crate::moving::{moved, place_of};
 use crate::trees::{add_tree, column};
 use bb_bits::{NoMemory, Table};
 use bb_net::{BoxPins, Cell, Net, tables_are_spread};
 use std::alloc::Global;
-
-// The place of a cell in the new netlist.
-fn place_of(places: &[u32], k: u32) -> u32
-    ensures place { result ≡ slice_index places.now k }
-{
-    places.get(k as usize).copied().unwrap_or(0)
-}
 
 // The places of cells in the new netlist.
 fn places_of(alloc: Global, places: &[u32], old: &[u32]) -> Result<Vec<u32>, NoMemory>
@@ -32,26 +26,6 @@ fn places_of(alloc: Global, places: &[u32], old: &[u32]) -> Result<Vec<u32>, NoM
         new.push(place_of(places, *k))?;
     }
     Ok(new)
-}
-
-// A cell that reads the places of what it read.
-fn moved(places: &[u32], cell: Cell) -> Cell
-    ensures cell { result ≡ moved (slice_index places.now) cell }
-{
-    match cell {
-        Cell::Const(b) => Cell::Const(b),
-        Cell::Input(i) => Cell::Input(i),
-        Cell::Not(a) => Cell::Not(place_of(places, a)),
-        Cell::And(a, b) => Cell::And(place_of(places, a), place_of(places, b)),
-        Cell::Or(a, b) => Cell::Or(place_of(places, a), place_of(places, b)),
-        Cell::Xor(a, b) => Cell::Xor(place_of(places, a), place_of(places, b)),
-        Cell::Mux(c, t, e) => Cell::Mux(
-            place_of(places, c),
-            place_of(places, t),
-            place_of(places, e),
-        ),
-        Cell::BoxOut(b, p) => Cell::BoxOut(b, p),
-    }
 }
 
 // Puts what stands for an output pin of a box with these input pins behind the cells, and gives its place.

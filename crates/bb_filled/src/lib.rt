@@ -3,6 +3,8 @@
 
 mod filling;
 pub mod laws;
+mod moving;
 mod trees;
 
 pub use filling::fill;
+pub use moving::{moved, place_of};

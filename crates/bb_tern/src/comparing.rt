@@ -35,8 +35,8 @@ pub fn differ_at(
     Ok(marks)
 }
 
-// The words of the cells for these patterns, where box outputs are 0.
-fn words(alloc: Global, net: &Net, patterns: &[Vec<bool>]) -> Result<Vec<u64>, NoMemory>
+/// The bits of the cells at up to 64 patterns, where box outputs are 0: a word for each cell, whose lowest bit is that at the first pattern.
+pub fn words(alloc: Global, net: &Net, patterns: &[Vec<bool>]) -> Result<Vec<u64>, NoMemory>
     requires count { length patterns.now ≤ 64 }
     requires inputs { All (λ p. length p.items ≡ net.now.inputs) patterns.now }
     ensures len { IfOk result (λ words. length words.items ≡ length net.now.cells) }

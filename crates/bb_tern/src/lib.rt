@@ -9,6 +9,6 @@ mod packing;
 mod passing;
 mod simulation;
 
-pub use comparing::differ_at;
+pub use comparing::{differ_at, words};
 pub use drawing::patterns;
 pub use simulation::{Hit, simulate};

@@ -1,0 +1,4 @@
+pub mod BitLaws
+pub mod GateBits
+pub mod Copied
+pub mod Cut

@@ -1,0 +1,2 @@
+-- What the code says to itself.
+pub mod Parts

@@ -1,0 +1,73 @@
+//! A netlist is copied into another.
+
+ghost use Rattle.std.specs.Prelude.{◌≡◌, ◌+◌, ◌*◌, ◌<◌, ◌^◌, [], length, IfOk, OnOk};
+ghost use Rattle.bb_strash.specs.Extensions.{bit, Extends, Gives};
+ghost use Rattle.bb_strash.specs.Copies.{AreCopied};
+
+use crate::bit_laws::bits;
+use crate::hashed::Hashed;
+use bb_bits::NoMemory;
+use bb_filled::moved;
+use bb_net::Net;
+use std::alloc::Global;
+
+/// Which cells of a copy go on as others that have the same bit at every vector.
+pub trait Merger {
+    /// A cell with the bits of the one at `place`, which was copied from the cell `number` of the source.
+    fn merge(
+        &mut self,
+        alloc: Global,
+        hashed: &mut Hashed,
+        number: usize,
+        place: u32,
+    ) -> Result<u32, NoMemory>
+        requires none { hashed.old.boxes ≡ [] }
+        requires there { place < length hashed.old.cells }
+        requires room { length hashed.old.cells + 10 < 2 ^ 32 }
+        ensures extends { OnOk result (Extends hashed.old hashed.new 10) }
+        ensures gives { IfOk result (λ other. Gives hashed.new other (λ x. bit hashed.old x place)) };
+}
+
+/// No cell goes on as another.
+#[derive(Clone, Copy, Debug)]
+pub struct Unmerged;
+
+impl Merger for Unmerged {
+    fn merge(
+        &mut self,
+        alloc: Global,
+        hashed: &mut Hashed,
+        number: usize,
+        place: u32,
+    ) -> Result<u32, NoMemory> {
+        let _ = (alloc, number);
+        let _ = hashed.net();
+        Ok(place)
+    }
+}
+
+/// Copies the cells of a netlist without boxes, and gives the place of each, in order.
+pub fn copy<M: Merger>(
+    alloc: Global,
+    hashed: &mut Hashed,
+    source: &Net,
+    merger: &mut M,
+) -> Result<Vec<u32>, NoMemory>
+    requires inputs { hashed.old.inputs ≡ source.now.inputs }
+    requires none { hashed.old.boxes ≡ [] }
+    requires source { source.now.boxes ≡ [] }
+    requires room { length hashed.old.cells + 15 * length source.now.cells < 2 ^ 32 }
+    ensures extends { OnOk result (Extends hashed.old hashed.new (15 * length source.now.cells)) }
+    ensures copied { IfOk result (λ places. AreCopied source.now (length source.now.cells) hashed.new places.items) }
+{
+    bits();
+    let _ = hashed.net();
+    let cells = source.cells();
+    let mut places = Vec::with_capacity(alloc, cells.len())?;
+    for (number, cell) in cells.iter().enumerate() {
+        let copied = hashed.add(moved(&places, *cell))?;
+        let place = merger.merge(alloc, hashed, number, copied)?;
+        places.push(place)?;
+    }
+    Ok(places)
+}

@@ -1,0 +1,198 @@
+//! Windows of a netlist.
+
+ghost use Rattle.std.specs.Prelude.{List, ◌≡◌, ◌≢◌, ◌+◌, ◌*◌, ◌<◌, ◌≤◌, ◌^◌, ◌++◌, ◌∷◌, [], ℕ, All, length, slice_index, IfOk, IfSome, OnOk};
+ghost use Rattle.std.specs.List.{range_with_len};
+ghost use Rattle.bb_net.specs.Netlists.{IsNetlist, cell_at};
+ghost use Rattle.bb_strash.specs.Extensions.{Extends};
+ghost use Rattle.bb_strash.specs.Inside.Parts.{AreCut, IsMoved, IsMovedGate};
+ghost use Rattle.bb_strash.specs.Windows.{IsWindow};
+
+use crate::bit_laws::bits;
+use crate::hashed::Hashed;
+use crate::parts::{Part, part_of};
+use bb_bits::NoMemory;
+use bb_net::{Cell, Net};
+use indexmap::IndexMap;
+use std::alloc::Global;
+
+/// A part of the cone of a cell, with the cells at which it is cut, in the order of its inputs.
+#[derive(Debug, Drop)]
+pub struct Window {
+    pub net: Net,
+    pub leaves: Vec<u32>,
+}
+
+// The most gates and leaves.
+const MOST: usize = 1 << 27;
+
+// The constants, the leaves, and then the gates of a window, each behind those that it reads.
+fn known_cells(alloc: Global, part: &Part) -> Result<Vec<u32>, NoMemory>
+    ensures { IfOk result (λ known. (more : List ℕ) × (known.items ≡ 0 ∷ 1 ∷ part.now.leaves.items ++ more)) }
+{
+    let mut known = Vec::with_capacity(alloc, part.gates.len())?;
+    known.push(0)?;
+    known.push(1)?;
+    known.extend_from_slice(&part.leaves)?;
+    push_gates(&mut known, &part.gates)?;
+    Ok(known)
+}
+
+// Adds the gates, the first one first.
+fn push_gates(known: &mut Vec<u32>, gates: &[u32]) -> Result<(), NoMemory>
+    ensures { OnOk result ((more : List ℕ) × (known.new.items ≡ known.old.items ++ more)) }
+{
+    for gate in gates.iter().rev() {
+        known.push(*gate)?;
+    }
+    Ok(())
+}
+
+// The number of each cell of a window.
+fn numbers(alloc: Global, known: &[u32]) -> Result<IndexMap<u32, usize>, NoMemory> {
+    let mut numbers = IndexMap::with_capacity(alloc, known.len())?;
+    for (number, place) in known.iter().enumerate() {
+        numbers.insert(*place, number)?;
+    }
+    Ok(numbers)
+}
+
+// The places of the constants and the leaves in the window.
+fn first_places(alloc: Global, count: u32) -> Result<Vec<u32>, NoMemory>
+    ensures places { IfOk result (λ places. places.items ≡ range_with_len 0 count) }
+{
+    let mut places = Vec::with_capacity(alloc, count as usize)?;
+    for k in 0..count {
+        places.push(k)?;
+    }
+    Ok(places)
+}
+
+/// Where the cells of a netlist stand in a window. What the numbers say is looked at before it is believed.
+#[derive(Clone, Copy)]
+struct Known<'a> {
+    cells: &'a [u32],
+    numbers: &'a IndexMap<u32, usize>,
+    places: &'a [u32],
+}
+
+// The place of a cell in the window. None where it has none yet.
+fn place_in(known: Known, cell: u32) -> Option<u32>
+    ensures { IfSome result (λ place. IsMoved known.entry.cells.now known.entry.places.now cell place) }
+{
+    let number = *known.numbers.get(&cell)?;
+    if known.cells.get(number) == Some(&cell) {
+        known.places.get(number).copied()
+    } else {
+        None
+    }
+}
+
+// The gate over the places in the window of what it reads. None where one of these has none.
+fn moved_gate(known: Known, gate: Cell) -> Option<Cell>
+    ensures { IfSome result (λ new. IsMovedGate known.entry.cells.now known.entry.places.now gate new) }
+{
+    match gate {
+        Cell::Const(bit) => Some(Cell::Const(bit)),
+        Cell::Not(a) => Some(Cell::Not(place_in(known, a)?)),
+        Cell::And(a, b) => Some(Cell::And(place_in(known, a)?, place_in(known, b)?)),
+        Cell::Or(a, b) => Some(Cell::Or(place_in(known, a)?, place_in(known, b)?)),
+        Cell::Xor(a, b) => Some(Cell::Xor(place_in(known, a)?, place_in(known, b)?)),
+        Cell::Mux(c, t, e) => Some(Cell::Mux(
+            place_in(known, c)?,
+            place_in(known, t)?,
+            place_in(known, e)?,
+        )),
+        Cell::Input(_) | Cell::BoxOut(_, _) => None,
+    }
+}
+
+// The same for the gate at a place.
+fn moved_at(known: Known, cells: &[Cell], place: u32) -> Option<Cell>
+    ensures { IfSome result (λ new. (place < length cells.now) × IsMovedGate known.entry.cells.now known.entry.places.now (cell_at cells.now place) new) }
+{
+    moved_gate(known, *cells.get(place as usize)?)
+}
+
+// Adds the gates of a window to its leaves. False where one reads what has no place.
+fn add_gates(
+    hashed: &mut Hashed,
+    net: &Net,
+    cells: &[u32],
+    numbers: &IndexMap<u32, usize>,
+    leaves: &[u32],
+    places: &mut Vec<u32>,
+) -> Result<bool, NoMemory>
+    requires none { net.now.boxes ≡ [] }
+    requires begun { AreCut net.now leaves.now cells.now hashed.old places.old.items }
+    requires few { length places.old.items ≤ length cells.now }
+    requires plain { hashed.old.boxes ≡ [] }
+    requires room { length hashed.old.cells + 5 * length cells.now < 2 ^ 32 }
+    ensures cut { OnOk result (AreCut net.now leaves.now cells.now hashed.new places.new.items) }
+    ensures extends { OnOk result (Extends hashed.old hashed.new (5 * length cells.now)) }
+{
+    bits();
+    let _ = hashed.net();
+    for k in places.len()..cells.len() {
+        let known = Known {
+            cells,
+            numbers,
+            places,
+        };
+        let Some(gate) = moved_at(known, net.cells(), cells[k]) else {
+            return Ok(false);
+        };
+        let place = hashed.add(gate)?;
+        places.push(place)?;
+    }
+    Ok(true)
+}
+
+/// The window of a cell that has at most so many gates, those that stand last behind it; with enough of them it is the whole cone, and
+/// its leaves are inputs. None where it has more than 2^27 leaves or gates.
+pub fn window_of(
+    alloc: Global,
+    net: &Net,
+    place: u32,
+    most: usize,
+) -> Result<Option<Window>, NoMemory>
+    requires none { net.now.boxes ≡ [] }
+    ensures { IfOk result (λ found. IfSome found (λ w. IsWindow net.now place w.net w.leaves.items)) }
+{
+    bits();
+    net.keeps_its_order();
+    let part = part_of(alloc, net, place, most)?;
+    let cells = known_cells(alloc, &part)?;
+    if part.leaves.len() > MOST || cells.len() > MOST {
+        return Ok(None);
+    }
+    let numbers = numbers(alloc, &cells)?;
+    let leaves = part.leaves.len() as u32;
+    let mut hashed = Hashed::start(alloc, leaves)?;
+    let _ = hashed.net();
+    let mut places = first_places(alloc, leaves + 2)?;
+    if !add_gates(
+        &mut hashed,
+        net,
+        &cells,
+        &numbers,
+        &part.leaves,
+        &mut places,
+    )? {
+        return Ok(None);
+    }
+    let known = Known {
+        cells: &cells,
+        numbers: &numbers,
+        places: &places,
+    };
+    let Some(root) = place_in(known, place) else {
+        return Ok(None);
+    };
+    let mut outs = Vec::new(alloc);
+    outs.push(root)?;
+    let net = hashed.finish(outs)?;
+    Ok(Some(Window {
+        net,
+        leaves: part.leaves,
+    }))
+}

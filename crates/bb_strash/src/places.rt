@@ -1,0 +1,57 @@
+//! The places of gates: each has one.
+
+ghost use Rattle.std.specs.Prelude.{◌≡◌, ◌+◌, ◌<◌, ◌^◌, [], ℕ, true, length, IfOk, IfSome, OnOk};
+ghost use Rattle.bb_net.specs.Netlists.{IsNetlist, ReadsBefore, cell_at};
+ghost use Rattle.bb_strash.specs.Extensions.{Extends};
+
+use crate::key::{Index, Key};
+use bb_bits::NoMemory;
+use bb_net::{Cell, Net};
+
+/// Two cells are equal exactly where they are one cell.
+fn same_cells()
+    ensures { (a b : Cell) → ⟦<Cell as PartialEq>⟧.eq a b ≡ true → a ≡ b }
+{}
+
+// Is this the cell at the place?
+fn is_at(net: &Net, place: u32, cell: Cell) -> bool
+    ensures { result ≡ true → (place < length net.now.cells) × (cell_at net.now.cells place ≡ cell) }
+{
+    same_cells();
+    match net.cells().get(place as usize) {
+        Some(here) => *here == cell,
+        None => false,
+    }
+}
+
+// The place that the gate has already.
+fn known_place(net: &Net, index: &Index, key: Key, cell: Cell) -> Option<u32>
+    ensures { IfSome result (λ place. (place < length net.now.cells) × (cell_at net.now.cells place ≡ cell)) }
+{
+    let place = *index.get(&key)?;
+    if is_at(net, place, cell) {
+        Some(place)
+    } else {
+        None
+    }
+}
+
+/// The place of a gate: the one that it has, or else a new one at the end.
+pub(crate) fn place_of(net: &mut Net, index: &mut Index, cell: Cell) -> Result<u32, NoMemory>
+    requires none { net.old.boxes ≡ [] }
+    requires reads { ReadsBefore net.old.inputs [] (length net.old.cells) cell }
+    requires gate { (b p : ℕ) → cell ≡ Cell.BoxOut b p → ⊥ }
+    requires room { length net.old.cells + 1 < 2 ^ 32 }
+    ensures extends { OnOk result (Extends net.old net.new 1) }
+    ensures stands { IfOk result (λ place. (place < length net.new.cells) × (cell_at net.new.cells place ≡ cell)) }
+{
+    net.keeps_its_order();
+    let key = Key::of(cell);
+    if let Some(place) = known_place(net, index, key, cell) {
+        return Ok(place);
+    }
+    let place = net.push(cell)?;
+    net.keeps_its_order();
+    index.insert(key, place)?;
+    Ok(place)
+}

@@ -1,0 +1,42 @@
+//! A netlist in which cells go on as others.
+
+ghost use Rattle.std.specs.Prelude.{◌≡◌, ◌<◌, [], All, length, map, slice_index, IfOk, IfSome};
+ghost use Rattle.bb_strash.specs.Miters.{HasOutputsOf};
+
+use crate::bit_laws::bits;
+use crate::copying::{Merger, copy};
+use crate::hashed::Hashed;
+use crate::joining::MOST;
+use bb_bits::NoMemory;
+use bb_filled::place_of;
+use bb_net::Net;
+use std::alloc::Global;
+
+// The new places of cells.
+fn new_places(alloc: Global, places: &[u32], old: &[u32]) -> Result<Vec<u32>, NoMemory>
+    ensures { IfOk result (λ new. new.items ≡ map (slice_index places.now) old.now) }
+{
+    let mut new = Vec::with_capacity(alloc, old.len())?;
+    for k in old {
+        new.push(place_of(places, *k))?;
+    }
+    Ok(new)
+}
+
+/// The netlist with the same outputs at every vector in which cells are merged. None where it has more than 2^25 cells.
+pub fn swept<M: Merger>(alloc: Global, net: &Net, merger: &mut M) -> Result<Option<Net>, NoMemory>
+    requires none { net.now.boxes ≡ [] }
+    ensures { IfOk result (λ found. IfSome found (HasOutputsOf net.now)) }
+{
+    bits();
+    net.keeps_its_order();
+    if net.cells().len() > MOST {
+        return Ok(None);
+    }
+    let mut hashed = Hashed::start(alloc, net.inputs())?;
+    let _ = hashed.net();
+    let places = copy(alloc, &mut hashed, net, merger)?;
+    let outs = new_places(alloc, &places, net.outs())?;
+    let swept = hashed.finish(outs)?;
+    Ok(Some(swept))
+}
