@@ -2,6 +2,7 @@ pub mod AllVectors
 pub mod BoxesThere
 pub mod CellLaw
 pub mod ClauseNumbers
+pub mod WindowLemmas
 pub mod Counts
 pub mod Decided
 pub mod ExpandedVectors
@@ -25,6 +26,7 @@ pub mod Sizes
 pub mod SomeExpanded
 pub mod SomeModels
 pub mod Spelled
+pub mod Swept
 pub mod TableBits
 pub mod Tested
 pub mod ToModel

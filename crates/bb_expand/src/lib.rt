@@ -1,8 +1,10 @@
 //! The check of a pair by expansion: clauses for vectors that are held one after another, until tables agree everywhere or none do.
 #![tactic(auto)]
 
+mod candidates;
 mod cells;
 mod clauses;
+mod cones;
 mod counting;
 mod decision;
 mod expanded;
@@ -14,7 +16,9 @@ mod free_laws;
 mod held;
 mod holding;
 mod laws;
+mod merging;
 mod numbers;
+mod outputs;
 mod rows;
 mod seeking;
 mod sought;

@@ -17,6 +17,7 @@ ghost use Rattle.bb_expand.specs.Inside.Failures.{AreDistinctWith, FailsAt};
 use crate::counting::is_within_budget;
 use crate::expanded::ExpandFault;
 use crate::free::by_solver;
+use crate::outputs::by_miter;
 use crate::sought::Sought;
 use crate::sweep::first_failure;
 use bb_bits::{NoMemory, Table};
@@ -32,11 +33,7 @@ const NODES: u32 = 1_000_000;
 
 const CACHE: u32 = 65_536;
 
-// After so many learned clauses the solver gives up: before diagrams are tried, and once more where they are too large. Of 280 drawn pairs
-// with 20 to 40 inputs six are open with the first number alone, and three with both. With more at first those take longer whose diagrams
-// are small, and with more at last the clauses take some hundred MB.
-const LEARNED: u32 = 20_000;
-
+// After so many learned clauses the solver gives up where diagrams are too large. With more the clauses take some hundred MB.
 const LEARNED_AT_LAST: u32 = 100_000;
 
 // The most bits of tables with which boxes are filled.
@@ -90,7 +87,7 @@ fn seek_by_diagrams(
     }
 }
 
-// A vector at which some output differs, if there is one: by the solver, and where it gives up by diagrams.
+// A vector at which some output differs, if there is one: by the miter of the two, and where that gives up by diagrams.
 fn seek_one(
     alloc: Global,
     spec: &Net,
@@ -103,7 +100,7 @@ fn seek_one(
     ensures none { IfOk result (λ found. IfNone found (AreEquivalent spec.now filled.now)) }
     ensures nodes { IsErrOf result RungFault.Nodes → HasMoreThan (IsBeadOfAny (output_functions spec.now filled.now)) 1000000 }
 {
-    match by_solver(alloc, spec, filled, clauses, LEARNED)? {
+    match by_miter(alloc, spec, filled, clauses)? {
         Sought::At(x) => Ok(Some(x)),
         Sought::Nowhere => Ok(None),
         Sought::GivenUp => seek_by_diagrams(alloc, spec, filled, clauses),

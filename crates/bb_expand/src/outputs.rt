@@ -1,0 +1,160 @@
+//! Whether two netlists without boxes differ, output by output of their miter.
+
+ghost use Rattle.std.specs.Prelude.{◌≡◌, ◌≤◌, [], IfOk};
+ghost use Rattle.bb_miter.specs.Inside.Equivalence.{AreComparable};
+ghost use Rattle.bb_expand.specs.Inside.Cones.{IfNone, IfSomeOne};
+ghost use Rattle.bb_expand.specs.Inside.Searches.{IfAt, IfNowhere};
+ghost use Rattle.bb_strash.specs.Miters.{IsMiter};
+
+use crate::cones::{Effort, seek_one};
+use crate::free::by_solver;
+use crate::merging::Sweep;
+use crate::sought::Sought;
+use bb_bits::NoMemory;
+use bb_net::Net;
+use bb_strash::{miter, swept};
+use std::alloc::Global;
+
+// A vector at which some output is 1, or that none ever is, one output after another. Where so many are left open, the others are not
+// looked at.
+fn by_outputs(alloc: Global, net: &Net, effort: Effort, most: u32) -> Result<Sought, NoMemory>
+    requires none { net.now.boxes ≡ [] }
+    requires budget { effort.clauses ≤ 8000000 }
+    ensures one { IfOk result (IfSomeOne net.now) }
+    ensures zero { IfOk result (IfNone net.now) }
+{
+    let mut open: u32 = 0;
+    for out in net.outs() {
+        match seek_one(alloc, net, *out, effort)? {
+            Sought::At(x) => return Ok(Sought::At(x)),
+            Sought::Nowhere => {}
+            Sought::GivenUp => open = open.saturating_add(1),
+        }
+        if open >= most {
+            return Ok(Sought::GivenUp);
+        }
+    }
+    if open == 0 {
+        Ok(Sought::Nowhere)
+    } else {
+        Ok(Sought::GivenUp)
+    }
+}
+
+// What is said of the miter of two is said of the two.
+fn lifted(spec: &Net, imp: &Net, net: &Net, sought: Sought) -> Sought
+    requires miter { IsMiter spec.now imp.now net.now }
+    requires one { IfSomeOne net.now sought }
+    requires zero { IfNone net.now sought }
+    ensures at { IfAt spec.now imp.now result }
+    ensures nowhere { IfNowhere spec.now imp.now result }
+{
+    let _ = spec;
+    let _ = imp;
+    let _ = net;
+    sought
+}
+
+// The same after cells that have one bit at every vector were merged.
+fn by_sweeping(alloc: Global, net: &Net, effort: Effort) -> Result<Sought, NoMemory>
+    requires none { net.now.boxes ≡ [] }
+    requires inputs { net.now.inputs ≤ 2048 }
+    requires budget { effort.clauses ≤ 8000000 }
+    ensures one { IfOk result (IfSomeOne net.now) }
+    ensures zero { IfOk result (IfNone net.now) }
+{
+    let mut sweep = Sweep::of(alloc, net)?;
+    match swept(alloc, net, &mut sweep)? {
+        Some(merged) => by_outputs(alloc, &merged, effort, 1),
+        None => Ok(Sought::GivenUp),
+    }
+}
+
+// What is tried one after another: which outputs are 0 as they stand; how many clauses the solver may learn for all outputs together,
+// where it finds vectors of many kinds; for each output; and for each after cells were merged.
+const NOTHING: Effort = Effort {
+    gates: 0,
+    clauses: 100,
+    learned: 1,
+};
+
+const TOGETHER: u32 = 2_000;
+
+const EACH: u32 = 1_000;
+
+// So many outputs may be left open where each is tried.
+const OPEN: u32 = 4;
+
+const MERGED: u32 = 10_000;
+
+// A vector at which some output of a miter is 1, or that none ever is.
+fn seek_in_miter(alloc: Global, net: &Net, clauses: u32) -> Result<Sought, NoMemory>
+    requires none { net.now.boxes ≡ [] }
+    requires inputs { net.now.inputs ≤ 2048 }
+    requires budget { clauses ≤ 8000000 }
+    ensures one { IfOk result (IfSomeOne net.now) }
+    ensures zero { IfOk result (IfNone net.now) }
+{
+    let each = Effort {
+        gates: usize::MAX,
+        clauses,
+        learned: EACH,
+    };
+    match by_outputs(alloc, net, each, OPEN)? {
+        Sought::GivenUp => by_sweeping(
+            alloc,
+            net,
+            Effort {
+                gates: usize::MAX,
+                clauses,
+                learned: MERGED,
+            },
+        ),
+        answer => Ok(answer),
+    }
+}
+
+// The same for two netlists with their miter: what all outputs together are, and then each.
+fn seek_both(
+    alloc: Global,
+    spec: &Net,
+    imp: &Net,
+    net: &Net,
+    clauses: u32,
+) -> Result<Sought, NoMemory>
+    requires comparable { AreComparable spec.now imp.now }
+    requires miter { IsMiter spec.now imp.now net.now }
+    requires budget { clauses ≤ 8000000 }
+    ensures at { IfOk result (IfAt spec.now imp.now) }
+    ensures nowhere { IfOk result (IfNowhere spec.now imp.now) }
+{
+    match by_solver(alloc, spec, imp, clauses, TOGETHER)? {
+        Sought::GivenUp => {
+            let sought = seek_in_miter(alloc, net, clauses)?;
+            Ok(lifted(spec, imp, net, sought))
+        }
+        answer => Ok(answer),
+    }
+}
+
+/// A vector at which some output of the two differs, or that there is none. In their miter no gate stands twice, so that outputs whose
+/// cones are one need no search. Gives up where an output takes more clauses, or more learned ones, than are allowed.
+pub(crate) fn by_miter(
+    alloc: Global,
+    spec: &Net,
+    imp: &Net,
+    clauses: u32,
+) -> Result<Sought, NoMemory>
+    requires comparable { AreComparable spec.now imp.now }
+    requires budget { clauses ≤ 8000000 }
+    ensures at { IfOk result (IfAt spec.now imp.now) }
+    ensures nowhere { IfOk result (IfNowhere spec.now imp.now) }
+{
+    let Some(net) = miter(alloc, spec, imp)? else {
+        return Ok(Sought::GivenUp);
+    };
+    match by_outputs(alloc, &net, NOTHING, 1)? {
+        Sought::GivenUp => seek_both(alloc, spec, imp, &net, clauses),
+        answer => Ok(lifted(spec, imp, &net, answer)),
+    }
+}
