@@ -28,8 +28,11 @@ use bb_net::{Net, Pair};
 use bb_sym::RungFault;
 use std::alloc::Global;
 
-// How many beads the diagrams may hold, and how many results their cache.
+// How many beads the diagrams may hold, and how many results their cache. A multiplier of ten bits has some 4,000,000, and no solver
+// gets through it.
 const NODES: u32 = 1_000_000;
+
+const NODES_AT_LAST: u32 = 8_000_000;
 
 const CACHE: u32 = 65_536;
 
@@ -47,7 +50,22 @@ pub(crate) fn may_be_filled(imp: &Net) -> bool
     imp.table_bits().is_some_and(|bits| bits <= FILLED_BITS)
 }
 
-// A vector at which some output differs, if there is one, by the solver. Where it gives up, diagrams were too large.
+// A vector at which some output differs, if there is one, by larger diagrams.
+fn seek_by_large_diagrams(
+    alloc: Global,
+    spec: &Net,
+    filled: &Net,
+) -> Result<Option<Vec<bool>>, RungFault>
+    requires comparable { AreComparable spec.now filled.now }
+    requires nodes { HasMoreThan (IsBeadOfAny (output_functions spec.now filled.now)) 1000000 }
+    ensures found { IfOk result (λ found. IfSome found (λ x. DiffersAt spec.now filled.now x.items)) }
+    ensures none { IfOk result (λ found. IfNone found (AreEquivalent spec.now filled.now)) }
+    ensures nodes { IsErrOf result RungFault.Nodes → HasMoreThan (IsBeadOfAny (output_functions spec.now filled.now)) 1000000 }
+{
+    difference(alloc, spec, filled, NODES_AT_LAST, CACHE)
+}
+
+// The same where diagrams were too large: by the solver, and where it gives up by larger ones.
 fn seek_at_last(
     alloc: Global,
     spec: &Net,
@@ -64,7 +82,7 @@ fn seek_at_last(
     match by_solver(alloc, spec, filled, clauses, LEARNED_AT_LAST)? {
         Sought::At(x) => Ok(Some(x)),
         Sought::Nowhere => Ok(None),
-        Sought::GivenUp => Err(RungFault::Nodes),
+        Sought::GivenUp => seek_by_large_diagrams(alloc, spec, filled),
     }
 }
 
