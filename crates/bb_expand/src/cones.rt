@@ -1,9 +1,7 @@
 //! Whether a cell of a netlist without boxes is 1 at some vector, by a solver over its cone or a window of it.
 
 ghost use Rattle.std.specs.Prelude.{◌≡◌, ◌<◌, ◌≤◌, [], length, IfOk};
-ghost use Rattle.bb_miter.specs.Inside.Equivalence.{AreComparable};
-ghost use Rattle.bb_expand.specs.Inside.Cones.{IfOne, IfZero, IsZero, IsOneAt};
-ghost use Rattle.bb_strash.specs.Windows.{IsWindow};
+ghost use Rattle.bb_expand.specs.Inside.Cones.{IfOne, IfZero, IsZero};
 
 use crate::free::by_solver;
 use crate::sought::Sought;

@@ -1,7 +1,7 @@
 //! Cells are merged that have one bit at every vector, as SAT sweeping does (Kuehlmann, Dynamic transition relation simplification for
 //! bounded property checking, 2004).
 
-ghost use Rattle.std.specs.Prelude.{◌≡◌, ◌+◌, ◌<◌, ◌≤◌, ◌^◌, [], true, All, length, Bool, IfOk, IfSome, OnOk};
+ghost use Rattle.std.specs.Prelude.{◌≡◌, ◌+◌, ◌<◌, ◌≤◌, ◌^◌, [], true, length, IfOk, IfSome, OnOk};
 ghost use Rattle.bb_expand.specs.Inside.Cones.{IfOne, IfZero};
 ghost use Rattle.bb_strash.specs.Extensions.{bit, Extends, Gives};
 

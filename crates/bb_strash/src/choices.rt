@@ -1,6 +1,6 @@
 //! Multiplexers are added in one form each.
 
-ghost use Rattle.std.specs.Prelude.{◌≡◌, ◌≢◌, ◌+◌, ◌<◌, ◌^◌, ◌&&◌, ◌||◌, not, if◌then◌else◌, [], length, Bool, List, IfOk, OnOk};
+ghost use Rattle.std.specs.Prelude.{◌≡◌, ◌+◌, ◌<◌, ◌^◌, ◌&&◌, ◌||◌, not, if◌then◌else◌, [], length, IfOk, OnOk};
 ghost use Rattle.bb_strash.specs.Extensions.{bit, Extends, Gives};
 
 use crate::bit_laws::bits;

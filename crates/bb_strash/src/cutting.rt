@@ -1,8 +1,8 @@
 //! Windows of a netlist.
 
-ghost use Rattle.std.specs.Prelude.{List, ◌≡◌, ◌≢◌, ◌+◌, ◌*◌, ◌<◌, ◌≤◌, ◌^◌, ◌++◌, ◌∷◌, [], ℕ, All, length, slice_index, IfOk, IfSome, OnOk};
+ghost use Rattle.std.specs.Prelude.{List, ◌≡◌, ◌+◌, ◌*◌, ◌<◌, ◌≤◌, ◌^◌, ◌++◌, ◌∷◌, [], ℕ, length, IfOk, IfSome, OnOk};
 ghost use Rattle.std.specs.List.{range_with_len};
-ghost use Rattle.bb_net.specs.Netlists.{IsNetlist, cell_at};
+ghost use Rattle.bb_net.specs.Netlists.{cell_at};
 ghost use Rattle.bb_strash.specs.Extensions.{Extends};
 ghost use Rattle.bb_strash.specs.Inside.Parts.{AreCut, IsMoved, IsMovedGate};
 ghost use Rattle.bb_strash.specs.Windows.{IsWindow};

@@ -1,6 +1,6 @@
 //! Gates are added in one form each, where constants and equal operands are folded.
 
-ghost use Rattle.std.specs.Prelude.{◌≡◌, ◌≢◌, ◌⊎◌, ◌+◌, ◌<◌, ◌^◌, ◌&&◌, ◌||◌, not, if◌then◌else◌, [], true, length, Bool, List, IfOk, IfSome, OnOk};
+ghost use Rattle.std.specs.Prelude.{◌≡◌, ◌⊎◌, ◌+◌, ◌<◌, ◌^◌, ◌&&◌, ◌||◌, not, [], length, IfOk, IfSome, OnOk};
 ghost use Rattle.bb_net.specs.Netlists.{IsNetlist};
 ghost use Rattle.bb_net.specs.Values.{xor};
 ghost use Rattle.bb_strash.specs.Extensions.{bit, Extends, Gives};

@@ -1,7 +1,6 @@
 //! The miter of two netlists.
 
-ghost use Rattle.std.specs.Prelude.{◌≡◌, ◌+◌, ◌*◌, ◌<◌, ◌^◌, [], ℕ, List, Bool, All, length, slice_index, IfOk, IfSome, OnOk};
-ghost use Rattle.bb_net.specs.Netlists.{IsNetlist};
+ghost use Rattle.std.specs.Prelude.{◌≡◌, ◌+◌, ◌*◌, ◌<◌, ◌^◌, [], ℕ, length, slice_index, IfOk, IfSome, OnOk};
 ghost use Rattle.bb_net.specs.Values.{xor};
 ghost use Rattle.bb_strash.specs.Extensions.{bit, Extends, Gives};
 ghost use Rattle.bb_strash.specs.Miters.{IsMiter};

@@ -1,7 +1,7 @@
 //! The places of gates: each has one.
 
 ghost use Rattle.std.specs.Prelude.{◌≡◌, ◌+◌, ◌<◌, ◌^◌, [], ℕ, true, length, IfOk, IfSome, OnOk};
-ghost use Rattle.bb_net.specs.Netlists.{IsNetlist, ReadsBefore, cell_at};
+ghost use Rattle.bb_net.specs.Netlists.{ReadsBefore, cell_at};
 ghost use Rattle.bb_strash.specs.Extensions.{Extends};
 
 use crate::key::{Index, Key};

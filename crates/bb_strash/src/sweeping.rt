@@ -1,6 +1,6 @@
 //! A netlist in which cells go on as others.
 
-ghost use Rattle.std.specs.Prelude.{◌≡◌, ◌<◌, [], All, length, map, slice_index, IfOk, IfSome};
+ghost use Rattle.std.specs.Prelude.{◌≡◌, ◌<◌, [], map, slice_index, IfOk, IfSome};
 ghost use Rattle.bb_strash.specs.Miters.{HasOutputsOf};
 
 use crate::bit_laws::bits;

@@ -1,10 +1,10 @@
-use Rattle.std.proofs.Common.{rules, ◌≡◌, ◌≤◌, [], map, IsErrOf, refl, subst, sym, ap, ◌∙◌, arith}
+use Rattle.std.proofs.Common.{rules, ◌≡◌, [], refl, subst, sym, ap, ◌∙◌, arith}
 use Rattle.bb_bits.specs.Truth.{IsBeadOfAny}
 use Rattle.bb_bits.specs.TruthSets.{HasMoreThan}
 use Rattle.bb_net.specs.Netlists.{Netlist}
 use Rattle.bb_dd.specs.Inside.State.{DiagramState}
 use Rattle.bb_sym.specs.Functions.{specification_functions}
-use Rattle.bb_sym.specs.Plain.{AreVariables, cell_bit, tables, places}
+use Rattle.bb_sym.specs.Plain.{AreVariables}
 use Rattle.bb_sym.specs.Inside.Made.{Makes, AreTooMany, bits_tables}
 use Rattle.bb_sym.proofs.Budget.{all_refused, all_fit}
 use Rattle.bb_sym.proofs.InputCells.{inputs_only, inputs_read, inputs_fit}
