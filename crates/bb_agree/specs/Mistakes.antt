@@ -73,20 +73,20 @@ abbrev pub HaveCounterexample : Option (List ℕ) → Design → Design → Cont
 HaveCounterexample care spec imp contents = (x : Vector) × (o : CutOutput)
     × DifferWith care spec imp contents x (Some o)
 
--- there is one to all contents that may fill the boxes
+-- to each contents that may fill the boxes there is one
 abbrev pub AllHaveCounterexamples : Option (List ℕ) → Bool → Design → Design → Type 0
 AllHaveCounterexamples care shared spec imp = (contents : Contents) → MayFill shared imp contents
     → HaveCounterexample care spec imp contents
 
 -- laws that a reader expects
 
--- where no contents agree, there is a counterexample to all of them: vectors are finitely many, and at each of them the
--- two agree or differ
+-- where no contents agree, there is a counterexample to each of them: vectors are finitely many, and at each of them
+-- the two agree or differ
 abbrev pub CounterexamplesExist : Type 0
 CounterexamplesExist = (care : Option (List ℕ)) (shared : Bool) (spec imp : Design) → AreComparable care spec imp
     → NoContentsAgree care shared spec imp → AllHaveCounterexamples care shared spec imp
 
--- and where there is one to all, none agree
+-- and where there is one to each, none agree
 abbrev pub CounterexamplesRefute : Type 0
 CounterexamplesRefute = (care : Option (List ℕ)) (shared : Bool) (spec imp : Design) → IsAllowed imp
     → AllHaveCounterexamples care shared spec imp → NoContentsAgree care shared spec imp

@@ -25,7 +25,7 @@ pub fn mistakes_among_refute()
     ensures { MistakesAmongRefute }
 {}
 
-/// A counterexample is seen at an event, from states with the bits of its vector.
+/// A counterexample is observed at an event, from states with the bits of its vector.
 pub fn events_show_counterexamples()
     ensures { EventsShowCounterexamples }
 {}

@@ -1,4 +1,5 @@
-//! Which cells may have one bit at every vector: those that have at all patterns that were simulated. Nothing is proved of it.
+//! Which cells may have one bit at every vector: those that have at all patterns that were simulated. Nothing is proved
+//! of it.
 
 ghost use Rattle.std.specs.Prelude.{◌≡◌, ◌≤◌, true, All, length};
 

@@ -66,9 +66,10 @@ fn tried(alloc: Global, net: &Net, place: u32, x: Vec<bool>) -> Result<Sought, N
     }
 }
 
-/// A vector at which the cell is 1, or that there is none, by a window of its cone. Gives up where that takes more than the effort, or
-/// where the window is 1 for bits of its leaves that no vector gives them.
-pub(crate) fn seek_one(
+/// A vector at which the cell is 1, or that there is none, by a window of its cone. Gives up where that takes more than
+/// the effort, where the window has more than 2,048 leaves, or where the window is 1 and the one vector that is tried
+/// for it does not show it.
+pub(crate) fn seek_cell(
     alloc: Global,
     net: &Net,
     place: u32,

@@ -1,12 +1,12 @@
-//! Cells are merged that have one bit at every vector, as SAT sweeping does (Kuehlmann, Dynamic transition relation simplification for
-//! bounded property checking, 2004).
+//! Cells are merged that have one bit at every vector, as SAT sweeping does (Kuehlmann, Dynamic transition relation
+//! simplification for bounded property checking, 2004).
 
 ghost use Rattle.std.specs.Prelude.{◌≡◌, ◌+◌, ◌<◌, ◌≤◌, ◌^◌, [], true, length, IfOk, IfSome, OnOk};
 ghost use Rattle.bb_expand.specs.Inside.Cones.{IfOne, IfZero};
 ghost use Rattle.bb_strash.specs.Extensions.{bit, Extends, Gives};
 
 use crate::candidates::{Candidate, Classes};
-use crate::cones::{Effort, seek_one};
+use crate::cones::{Effort, seek_cell};
 use crate::sought::Sought;
 use bb_bits::NoMemory;
 use bb_net::{Cell, Net};
@@ -26,11 +26,11 @@ const FAR: Effort = Effort {
     learned: 1_000,
 };
 
-// How much may fail before no other candidates are tried: one that is refuted by a vector counts 1, and one that stays open more. So many
-// vectors are kept before classes are refined.
+// How much may fail before no other candidates are tried: one that is refuted by a vector counts 1, and one that stays
+// open more. So many vectors are kept before classes are refined.
 const FAILED: u32 = 4_000;
 
-const OPEN: u32 = 250;
+const LEFT_OPEN: u32 = 250;
 
 const KEPT: usize = 32;
 
@@ -75,8 +75,8 @@ fn seek_near(alloc: Global, net: &Net, place: u32) -> Result<Sought, NoMemory>
     ensures one { IfOk result (IfOne net.now place) }
     ensures zero { IfOk result (IfZero net.now place) }
 {
-    match seek_one(alloc, net, place, NEAR)? {
-        Sought::GivenUp => seek_one(alloc, net, place, FAR),
+    match seek_cell(alloc, net, place, NEAR)? {
+        Sought::GivenUp => seek_cell(alloc, net, place, FAR),
         answer => Ok(answer),
     }
 }
@@ -157,7 +157,7 @@ impl<'a> Sweep<'a> {
                 self.failed = self.failed.saturating_add(1);
                 self.against.push(x)?;
             }
-            None if failed => self.failed = self.failed.saturating_add(OPEN),
+            None if failed => self.failed = self.failed.saturating_add(LEFT_OPEN),
             None => {}
         }
         if self.against.len() >= KEPT {

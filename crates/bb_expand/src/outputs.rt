@@ -6,7 +6,7 @@ ghost use Rattle.bb_expand.specs.Inside.Cones.{IfNone, IfSomeOne};
 ghost use Rattle.bb_expand.specs.Inside.Searches.{IfAt, IfNowhere};
 ghost use Rattle.bb_strash.specs.Miters.{IsMiter};
 
-use crate::cones::{Effort, seek_one};
+use crate::cones::{Effort, seek_cell};
 use crate::free::by_solver;
 use crate::merging::Sweep;
 use crate::sought::Sought;
@@ -15,8 +15,8 @@ use bb_net::Net;
 use bb_strash::{miter, swept};
 use std::alloc::Global;
 
-// A vector at which some output is 1, or that none ever is, one output after another. Where so many are left open, the others are not
-// looked at.
+// A vector at which some output is 1, or that none ever is, one output after another. Where so many are left open, the
+// others are not looked at.
 fn by_outputs(alloc: Global, net: &Net, effort: Effort, most: u32) -> Result<Sought, NoMemory>
     requires none { net.now.boxes ≡ [] }
     requires budget { effort.clauses ≤ 8000000 }
@@ -25,7 +25,7 @@ fn by_outputs(alloc: Global, net: &Net, effort: Effort, most: u32) -> Result<Sou
 {
     let mut open: u32 = 0;
     for out in net.outs() {
-        match seek_one(alloc, net, *out, effort)? {
+        match seek_cell(alloc, net, *out, effort)? {
             Sought::At(x) => return Ok(Sought::At(x)),
             Sought::Nowhere => {}
             Sought::GivenUp => open = open.saturating_add(1),
@@ -70,17 +70,17 @@ fn by_sweeping(alloc: Global, net: &Net, effort: Effort) -> Result<Sought, NoMem
     }
 }
 
-// What is tried one after another: which outputs are 0 as they stand; how many clauses the solver may learn for all outputs together,
-// where it finds vectors of many kinds; for each output; and for each after cells were merged.
-const NOTHING: Effort = Effort {
+// What is tried one after another: whether all outputs are the constant 0 as they are; how many clauses the solver may
+// learn for all outputs together, where it finds vectors of many kinds; for each; and for each after cells were merged.
+const AS_IT_IS: Effort = Effort {
     gates: 0,
     clauses: 100,
     learned: 1,
 };
 
-const TOGETHER: u32 = 2_000;
+const TOGETHER: u32 = 500;
 
-const EACH: u32 = 1_000;
+const EACH: u32 = 200;
 
 // So many outputs may be left open where each is tried.
 const OPEN: u32 = 4;
@@ -137,8 +137,9 @@ fn seek_both(
     }
 }
 
-/// A vector at which some output of the two differs, or that there is none. In their miter no gate stands twice, so that outputs whose
-/// cones are one need no search. Gives up where an output takes more clauses, or more learned ones, than are allowed.
+/// A vector at which some output of the two differs, or that there is none. In their miter gates are looked up before
+/// they are added, so that outputs whose cones are one need no search. Gives up where an output takes more clauses, or
+/// more learned ones, than are allowed.
 pub(crate) fn by_miter(
     alloc: Global,
     spec: &Net,
@@ -153,7 +154,7 @@ pub(crate) fn by_miter(
     let Some(net) = miter(alloc, spec, imp)? else {
         return Ok(Sought::GivenUp);
     };
-    match by_outputs(alloc, &net, NOTHING, 1)? {
+    match by_outputs(alloc, &net, AS_IT_IS, 1)? {
         Sought::GivenUp => seek_both(alloc, spec, imp, &net, clauses),
         answer => Ok(lifted(spec, imp, &net, answer)),
     }

@@ -15,11 +15,11 @@ ghost use Rattle.bb_expand.specs.GivenUp.{FillTooLarge};
 ghost use Rattle.bb_expand.specs.Inside.Failures.{AreDistinctWith, FailsAt};
 
 use crate::counting::is_within_budget;
+use crate::enumeration::first_failure;
 use crate::expanded::ExpandFault;
 use crate::free::by_solver;
 use crate::outputs::by_miter;
 use crate::sought::Sought;
-use crate::sweep::first_failure;
 use bb_bits::{NoMemory, Table};
 use bb_filled::fill;
 use bb_filled::laws::filled_are_right;
@@ -28,8 +28,8 @@ use bb_net::{Net, Pair};
 use bb_sym::RungFault;
 use std::alloc::Global;
 
-// How many beads the diagrams may hold, and how many results their cache. A multiplier of ten bits has some 4,000,000, and no solver
-// gets through it.
+// How many beads the diagrams may hold, and how many results their cache. A multiplier of ten bits, which the solver
+// leaves open, has some 4,000,000.
 const NODES: u32 = 1_000_000;
 
 const NODES_AT_LAST: u32 = 8_000_000;

@@ -1,6 +1,7 @@
 -- Two texts have one status, but for what may depend on the search, since what is finished is not refuted and what one answer leaves
 -- open every other does; and so they have one report.
 use Rattle.std.proofs.Common.{◌≡◌, ℕ, List, refl, sym, ◌∙◌, subst}
+use Rattle.bb_agree.specs.Comparable.{AreComparable}
 use Rattle.bb_agree.specs.DesignAgreement.{ContentsAgree, MayFill, NoContentsAgree}
 use Rattle.bb_agree.specs.Mistakes.{AllHaveCounterexamples, CounterexamplesExist}
 use Rattle.bb_agree.specs.Runs.{EventsShowCounterexamples}
@@ -48,7 +49,8 @@ refuted_are_seen one allowed exist shown asked spec imp (s, i, are, fit) refuted
     let right : refuted.i ≡ i = one asked.imp_top imp refuted.i i refuted.reads.imp_reads (reads_as are.imp_design) in
     let all = refuted_have_counterexamples exist asked spec imp refuted in
     let each = subst (λ z. AllHaveCounterexamples asked.care asked.options.shared z i) left (subst (λ z. AllHaveCounterexamples asked.care asked.options.shared refuted.s z) right all) in
-    (s, i, are, λ contents fill. shown asked.care s i contents (allowed asked.imp_top imp i are.imp_design) (each contents fill))
+    let can = subst (λ z. AreComparable asked.care z i) left (subst (λ z. AreComparable asked.care refuted.s z) right refuted.comparable) in
+    (s, i, are, λ contents fill. shown asked.care s i contents (allowed asked.spec_top spec s are.spec_design) (allowed asked.imp_top imp i are.imp_design) can fill.fit (each contents fill))
 
 -- a call asks the same as itself
 same_call : (asked : Asked) → AskAlike asked asked

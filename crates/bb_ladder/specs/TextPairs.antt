@@ -172,12 +172,13 @@ FittingAreRefutedByDesigns = (asked : Asked) (spec imp : List ℕ) → DoFit ask
     → (s i : Design) × AreDesignsOf asked spec imp s i × DesignsFit asked.care s i
     × NoContentsAgree asked.care asked.options.shared s i
 
--- of what is refuted, there is a counterexample to all contents that may fill the boxes
+-- of what is refuted, there is a counterexample to each contents that may fill the boxes
 abbrev pub RefutedHaveCounterexamples : Type 0
 RefutedHaveCounterexamples = (asked : Asked) (spec imp : List ℕ) (refuted : AreRefuted asked spec imp)
     → AllHaveCounterexamples asked.care asked.options.shared refuted.s refuted.i
 
--- and where the two fit, some event shows of their designs that they differ, whatever contents may fill the boxes
+-- and where the two fit, to each contents that may fill the boxes there is an event that shows of their designs that
+-- they differ
 abbrev pub RefutedAreSeen : Type 0
 RefutedAreSeen = (asked : Asked) (spec imp : List ℕ) → DoFit asked spec imp → AreRefuted asked spec imp
     → (s i : Design) × AreDesignsOf asked spec imp s i × ((contents : Contents)

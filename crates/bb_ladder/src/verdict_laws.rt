@@ -22,7 +22,7 @@ pub fn refuted_have_counterexamples()
     counterexamples_exist();
 }
 
-/// And where the two fit, some event shows it.
+/// And where the two fit, an event shows it of each contents.
 pub fn refuted_are_seen()
     ensures { RefutedAreSeen }
 {

@@ -7,7 +7,7 @@ use crate::bit_laws::bits;
 use crate::gates::{add_and, add_not, add_or};
 use crate::inverters::without_inverter;
 use crate::key::Index;
-use crate::places::place_of;
+use crate::places::place_of_gate;
 use bb_bits::NoMemory;
 use bb_net::{Cell, Net};
 
@@ -49,7 +49,8 @@ fn add_plain_mux(net: &mut Net, index: &mut Index, c: u32, t: u32, e: u32) -> Re
     requires e { e < length net.old.cells }
     requires room { length net.old.cells + 5 < 2 ^ 32 }
     ensures extends { OnOk result (Extends net.old net.new 5) }
-    ensures gives { IfOk result (λ place. Gives net.new place (λ x. if bit net.old x c then bit net.old x t else bit net.old x e)) }
+    ensures gives { IfOk result (λ place. Gives net.new place (λ x.
+        if bit net.old x c then bit net.old x t else bit net.old x e)) }
 {
     bits();
     net.keeps_its_order();
@@ -68,7 +69,7 @@ fn add_plain_mux(net: &mut Net, index: &mut Index, c: u32, t: u32, e: u32) -> Re
     if e == 1 {
         return add_implies(net, index, c, t);
     }
-    place_of(net, index, Cell::Mux(c, t, e))
+    place_of_gate(net, index, Cell::Mux(c, t, e))
 }
 
 /// The choice between two cells by a third: the branches are exchanged where that is an inverter.
@@ -85,7 +86,8 @@ pub(crate) fn add_mux(
     requires e { e < length net.old.cells }
     requires room { length net.old.cells + 5 < 2 ^ 32 }
     ensures extends { OnOk result (Extends net.old net.new 5) }
-    ensures gives { IfOk result (λ place. Gives net.new place (λ x. if bit net.old x c then bit net.old x t else bit net.old x e)) }
+    ensures gives { IfOk result (λ place. Gives net.new place (λ x.
+        if bit net.old x c then bit net.old x t else bit net.old x e)) }
 {
     bits();
     net.keeps_its_order();

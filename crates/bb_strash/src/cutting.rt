@@ -108,7 +108,8 @@ fn moved_gate(known: Known, gate: Cell) -> Option<Cell>
 
 // The same for the gate at a place.
 fn moved_at(known: Known, cells: &[Cell], place: u32) -> Option<Cell>
-    ensures { IfSome result (λ new. (place < length cells.now) × IsMovedGate known.entry.cells.now known.entry.places.now (cell_at cells.now place) new) }
+    ensures { IfSome result (λ new. (place < length cells.now)
+        × IsMovedGate known.entry.cells.now known.entry.places.now (cell_at cells.now place) new) }
 {
     moved_gate(known, *cells.get(place as usize)?)
 }
@@ -147,8 +148,8 @@ fn add_gates(
     Ok(true)
 }
 
-/// The window of a cell that has at most so many gates, those that stand last behind it; with enough of them it is the whole cone, and
-/// its leaves are inputs. None where it has more than 2^27 leaves or gates.
+/// The window of a cell with at most so many gates, the last ones of its cone; where these are all, its leaves are
+/// inputs. None where it has more than 2^27 leaves or gates.
 pub fn window_of(
     alloc: Global,
     net: &Net,

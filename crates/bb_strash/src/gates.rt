@@ -8,7 +8,7 @@ ghost use Rattle.bb_strash.specs.Extensions.{bit, Extends, Gives};
 use crate::bit_laws::bits;
 use crate::inverters::{are_complements, inverted, without_inverter};
 use crate::key::Index;
-use crate::places::place_of;
+use crate::places::place_of_gate;
 use bb_bits::NoMemory;
 use bb_net::{Cell, Net};
 
@@ -30,7 +30,7 @@ pub(crate) fn add_not(net: &mut Net, index: &mut Index, a: u32) -> Result<u32, N
     }
     match inverted(net, a) {
         Some(b) => Ok(b),
-        None => place_of(net, index, Cell::Not(a)),
+        None => place_of_gate(net, index, Cell::Not(a)),
     }
 }
 
@@ -79,7 +79,7 @@ pub(crate) fn add_and(net: &mut Net, index: &mut Index, a: u32, b: u32) -> Resul
     bits();
     match folded_and(net, a, b) {
         Some(place) => Ok(place),
-        None => place_of(net, index, and_of(a, b)),
+        None => place_of_gate(net, index, and_of(a, b)),
     }
 }
 
@@ -145,7 +145,7 @@ fn add_plain_xor(net: &mut Net, index: &mut Index, a: u32, b: u32) -> Result<u32
     bits();
     match folded_xor(net, a, b) {
         Some(place) => Ok(place),
-        None => place_of(net, index, xor_of(a, b)),
+        None => place_of_gate(net, index, xor_of(a, b)),
     }
 }
 

@@ -1,4 +1,4 @@
-//! A netlist without boxes in which no gate stands twice.
+//! A netlist without boxes in which gates are looked up before they are added.
 
 ghost use Rattle.std.specs.Prelude.{◌≡◌, ◌+◌, ◌<◌, ◌^◌, [], ℕ, All, length, IfOk, OnOk};
 ghost use Rattle.bb_net.specs.Netlists.{first_cells, IsNetlist, ReadsBefore};
@@ -13,8 +13,9 @@ use bb_net::{Cell, Net};
 use std::alloc::Global;
 use std::marker::Model;
 
-/// A netlist without boxes that is built cell by cell. A gate over the same cells as an earlier one, or whose value is a constant or
-/// one of its operands, adds none.
+/// A netlist without boxes that is built cell by cell. A gate over the same cells as an earlier one adds none, nor does
+/// one with a constant operand, two equal operands, or one operand that is the other's inverse, where that makes it a
+/// constant or one of them.
 #[derive(Debug, Drop)]
 pub struct Hashed {
     net: Net,

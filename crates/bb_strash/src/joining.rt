@@ -27,13 +27,16 @@ fn differences(
 ) -> Result<Vec<u32>, NoMemory>
     requires none { hashed.old.boxes ≡ [] }
     requires count { length other_outs.now ≡ length outs.now }
-    requires there { (j : ℕ) → j < length outs.now → slice_index places.now (slice_index outs.now j) < length hashed.old.cells }
-    requires other { (j : ℕ) → j < length outs.now → slice_index other_places.now (slice_index other_outs.now j) < length hashed.old.cells }
+    requires there { (j : ℕ) → j < length outs.now
+        → slice_index places.now (slice_index outs.now j) < length hashed.old.cells }
+    requires other { (j : ℕ) → j < length outs.now
+        → slice_index other_places.now (slice_index other_outs.now j) < length hashed.old.cells }
     requires room { length hashed.old.cells + 5 * length outs.now < 2 ^ 32 }
     ensures extends { OnOk result (Extends hashed.old hashed.new (5 * length outs.now)) }
     ensures count { IfOk result (λ all. length all.items ≡ length outs.now) }
     ensures gives { IfOk result (λ all. (j : ℕ) → j < length outs.now → Gives hashed.new (slice_index all.items j) (λ x.
-        xor (bit hashed.old x (slice_index places.now (slice_index outs.now j))) (bit hashed.old x (slice_index other_places.now (slice_index other_outs.now j))))) }
+        xor (bit hashed.old x (slice_index places.now (slice_index outs.now j)))
+        (bit hashed.old x (slice_index other_places.now (slice_index other_outs.now j))))) }
 {
     bits();
     let _ = hashed.net();
@@ -48,8 +51,8 @@ fn differences(
     Ok(all)
 }
 
-/// The miter of two netlists without boxes, with the same inputs and as many outputs, in which no gate stands twice. None where they
-/// have more than 2^25 cells or outputs.
+/// The miter of two netlists without boxes, with the same inputs and as many outputs, over cells that they share. None
+/// where they have more than 2^25 cells or outputs.
 pub fn miter(alloc: Global, spec: &Net, imp: &Net) -> Result<Option<Net>, NoMemory>
     requires inputs { spec.now.inputs ≡ imp.now.inputs }
     requires outputs { length spec.now.outs ≡ length imp.now.outs }

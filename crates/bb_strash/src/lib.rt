@@ -1,5 +1,5 @@
-//! Structural hashing: netlists without boxes in which a gate over the same cells stands once, the miter of two netlists, and parts
-//! of one that are cut out.
+//! Structural hashing: netlists without boxes in which gates are looked up before they are added, the miter of two
+//! netlists, and windows of one.
 #![tactic(auto)]
 
 mod bit_laws;

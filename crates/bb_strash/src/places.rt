@@ -37,7 +37,7 @@ fn known_place(net: &Net, index: &Index, key: Key, cell: Cell) -> Option<u32>
 }
 
 /// The place of a gate: the one that it has, or else a new one at the end.
-pub(crate) fn place_of(net: &mut Net, index: &mut Index, cell: Cell) -> Result<u32, NoMemory>
+pub(crate) fn place_of_gate(net: &mut Net, index: &mut Index, cell: Cell) -> Result<u32, NoMemory>
     requires none { net.old.boxes ≡ [] }
     requires reads { ReadsBefore net.old.inputs [] (length net.old.cells) cell }
     requires gate { (b p : ℕ) → cell ≡ Cell.BoxOut b p → ⊥ }

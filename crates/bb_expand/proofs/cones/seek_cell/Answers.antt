@@ -1,7 +1,7 @@
 use Rattle.std.proofs.Common.{◌∙◌}
 use Rattle.bb_strash.specs.Windows.{IsWindow}
 use Rattle.bb_expand.proofs.WindowLemmas.{never_in_window}
-use Rattle.bb_expand.proofs.cones.seek_one.Goals as goal
+use Rattle.bb_expand.proofs.cones.seek_cell.Goals as goal
 
 pub returns-in-Nowhere-clause-zero : goal.returns-in-Nowhere-clause-zero
 returns-in-Nowhere-clause-zero c =

@@ -7,7 +7,7 @@ use Rattle.bb_expand.proofs.AllVectors.{agree_from_all}
 use Rattle.bb_expand.proofs.ExpandedVectors.{count_is, few_inputs_left}
 use Rattle.bb_expand.proofs.Pieces.{all_hold}
 use Rattle.bb_expand.proofs.Spelled.{spelled_bits}
-use Rattle.bb_expand.proofs.sweep.first_failure.Goals as goal
+use Rattle.bb_expand.proofs.enumeration.first_failure.Goals as goal
 
 one_more : (P : ℕ → Type 0) (n : ℕ) → ((k : ℕ) → k < n → P k) → P n → (k : ℕ) → k < n + 1 → P k
 one_more P n before here k h = elim (cases_eq k n) [

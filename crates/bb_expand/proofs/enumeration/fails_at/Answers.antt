@@ -3,7 +3,7 @@ use Rattle.bb_net.specs.Kinds.{spread}
 use Rattle.bb_net.specs.Netlists.{Netlist}
 use Rattle.bb_net.specs.Values.{flat, flat_with}
 use Rattle.bb_expand.specs.Inside.Failures.{HasSameBits, HasOtherBit}
-use Rattle.bb_expand.proofs.sweep.fails_at.Goals as goal
+use Rattle.bb_expand.proofs.enumeration.fails_at.Goals as goal
 
 -- what is told of the lists that were compared is told of the netlists
 told : (P : List ℕ → List Bool → List ℕ → List Bool → Type 0) (places at others there : List ℕ) (bits value wanted other : List Bool) → places ≡ at → bits ≡ value → others ≡ there → wanted ≡ other → P places bits others wanted → P at value there other

@@ -2,7 +2,7 @@ use Rattle.std.proofs.Common.{◌≡◌, ℕ, ◌<◌, length, vec_len}
 use Rattle.bb_bits.specs.Numbers.{bits_of}
 use Rattle.bb_filled.specs.Forced.{AgreeAt}
 use Rattle.bb_net.specs.Kinds.{spread}
-use Rattle.bb_expand.proofs.sweep.first_failure.Given as goal
+use Rattle.bb_expand.proofs.enumeration.first_failure.Given as goal
 
 abbrev pub invariant-loop-number : goal.invariant-loop-number
 invariant-loop-number l = record {
