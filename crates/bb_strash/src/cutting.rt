@@ -2,7 +2,7 @@
 
 ghost use Rattle.std.specs.Prelude.{List, ◌≡◌, ◌+◌, ◌*◌, ◌<◌, ◌≤◌, ◌^◌, ◌++◌, ◌∷◌, [], ℕ, length, IfOk, IfSome, OnOk};
 ghost use Rattle.std.specs.List.{range_with_len};
-ghost use Rattle.bb_net.specs.Netlists.{cell_at};
+ghost use Rattle.bb_net.specs.Netlists.{cell_at, first_cells};
 ghost use Rattle.bb_strash.specs.Extensions.{Extends};
 ghost use Rattle.bb_strash.specs.Inside.Parts.{AreCut, IsMoved, IsMovedGate};
 ghost use Rattle.bb_strash.specs.Windows.{IsWindow};
@@ -148,6 +148,77 @@ fn add_gates(
     Ok(true)
 }
 
+// A window of its constants and leaves alone, and where they stand in it.
+#[derive(Debug, Drop)]
+struct Begun {
+    hashed: Hashed,
+    places: Vec<u32>,
+}
+
+fn begin(alloc: Global, net: &Net, cells: &[u32], leaves: &[u32]) -> Result<Begun, NoMemory>
+    requires none { net.now.boxes ≡ [] }
+    requires few { length leaves.now ≤ 2 ^ 27 }
+    requires known { (more : List ℕ) × (cells.now ≡ 0 ∷ 1 ∷ leaves.now ++ more) }
+    ensures cut { IfOk result (λ b. AreCut net.now leaves.now cells.now b.hashed b.places.items) }
+    ensures few { IfOk result (λ b. length b.places.items ≤ length cells.now) }
+    ensures start { IfOk result (λ b. b.hashed
+        ≡ record { inputs = length leaves.now; cells = first_cells (length leaves.now); boxes = []; outs = [] }) }
+{
+    bits();
+    net.keeps_its_order();
+    let count = leaves.len() as u32;
+    let hashed = Hashed::start(alloc, count)?;
+    let _ = hashed.net();
+    let places = first_places(alloc, count + 2)?;
+    Ok(Begun { hashed, places })
+}
+
+// The netlist with this one output.
+fn with_output(alloc: Global, hashed: Hashed, root: u32) -> Result<Net, NoMemory>
+    requires there { root < length hashed.cells }
+    requires none { hashed.outs ≡ [] }
+    ensures net { IfOk result (λ net. net ≡ record hashed { outs = root ∷ [] }) }
+{
+    let mut outs = Vec::new(alloc);
+    outs.push(root)?;
+    hashed.finish(outs)
+}
+
+// The window of a cell that has these leaves and gates. None where a gate reads what is not among them.
+fn cut(
+    alloc: Global,
+    net: &Net,
+    place: u32,
+    cells: &[u32],
+    leaves: &[u32],
+) -> Result<Option<Net>, NoMemory>
+    requires none { net.now.boxes ≡ [] }
+    requires few { length cells.now ≤ 2 ^ 27 }
+    requires known { (more : List ℕ) × (cells.now ≡ 0 ∷ 1 ∷ leaves.now ++ more) }
+    ensures { IfOk result (λ found. IfSome found (λ part. IsWindow net.now place part leaves.now)) }
+{
+    bits();
+    net.keeps_its_order();
+    let numbers = numbers(alloc, cells)?;
+    let Begun {
+        mut hashed,
+        mut places,
+    } = begin(alloc, net, cells, leaves)?;
+    if !add_gates(&mut hashed, net, cells, &numbers, leaves, &mut places)? {
+        return Ok(None);
+    }
+    let known = Known {
+        cells,
+        numbers: &numbers,
+        places: &places,
+    };
+    let Some(root) = place_in(known, place) else {
+        return Ok(None);
+    };
+    let part = with_output(alloc, hashed, root)?;
+    Ok(Some(part))
+}
+
 /// The window of a cell with at most so many gates, the last ones of its cone; where these are all, its leaves are
 /// inputs. None where it has more than 2^27 leaves or gates.
 pub fn window_of(
@@ -159,41 +230,16 @@ pub fn window_of(
     requires none { net.now.boxes ≡ [] }
     ensures { IfOk result (λ found. IfSome found (λ w. IsWindow net.now place w.net w.leaves.items)) }
 {
-    bits();
-    net.keeps_its_order();
     let part = part_of(alloc, net, place, most)?;
     let cells = known_cells(alloc, &part)?;
-    if part.leaves.len() > MOST || cells.len() > MOST {
+    if cells.len() > MOST {
         return Ok(None);
     }
-    let numbers = numbers(alloc, &cells)?;
-    let leaves = part.leaves.len() as u32;
-    let mut hashed = Hashed::start(alloc, leaves)?;
-    let _ = hashed.net();
-    let mut places = first_places(alloc, leaves + 2)?;
-    if !add_gates(
-        &mut hashed,
-        net,
-        &cells,
-        &numbers,
-        &part.leaves,
-        &mut places,
-    )? {
-        return Ok(None);
+    match cut(alloc, net, place, &cells, &part.leaves)? {
+        Some(net) => Ok(Some(Window {
+            net,
+            leaves: part.leaves,
+        })),
+        None => Ok(None),
     }
-    let known = Known {
-        cells: &cells,
-        numbers: &numbers,
-        places: &places,
-    };
-    let Some(root) = place_in(known, place) else {
-        return Ok(None);
-    };
-    let mut outs = Vec::new(alloc);
-    outs.push(root)?;
-    let net = hashed.finish(outs)?;
-    Ok(Some(Window {
-        net,
-        leaves: part.leaves,
-    }))
 }
