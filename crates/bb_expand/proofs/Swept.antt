@@ -3,7 +3,7 @@ use Rattle.std.proofs.Common.{◌≡◌, ◌⊎◌, ℕ, ◌+◌, ◌<◌, inl, 
 use Rattle.std.specs.Prelude.{slice_index}
 use Rattle.bb_lists.proofs.Orders.{same_or_less}
 use Rattle.bb_net.specs.Netlists.{Netlist}
-use Rattle.bb_strash.specs.Miters.{IsMiter, HasOutputsOf}
+use Rattle.bb_strash.specs.Inside.Miters.{IsMiter, HasOutputsOf}
 use Rattle.bb_expand.specs.declared.sought.Sought.{Sought}
 use Rattle.bb_expand.specs.declared.sought.Sought.TheVariants as answers
 use Rattle.bb_expand.specs.Inside.Cones.{IfNone, IfSomeOne, IsNeverOne}

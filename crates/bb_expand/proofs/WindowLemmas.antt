@@ -6,10 +6,10 @@ use Rattle.bb_net.specs.Agreement.{out_bit, wanted_bit}
 use Rattle.bb_net.specs.Netlists.{Netlist}
 use Rattle.bb_net.specs.Values.{flat, xor}
 use Rattle.bb_miter.specs.Inside.Equivalence.{AreComparable, AreEquivalent, DiffersAt}
-use Rattle.bb_strash.specs.Extensions.{bit}
+use Rattle.bb_strash.specs.Inside.Extensions.{bit}
 use Rattle.bb_strash.specs.Laws.{ConstantsAreBits}
-use Rattle.bb_strash.specs.Miters.{IsMiter, HasOutputsOf}
-use Rattle.bb_strash.specs.Windows.{IsWindow}
+use Rattle.bb_strash.specs.Inside.Miters.{IsMiter, HasOutputsOf}
+use Rattle.bb_strash.specs.Inside.Windows.{IsWindow}
 use Rattle.bb_expand.specs.Inside.Cones.{HasNoOne, HasOneAt, IsNeverOne, IsZero}
 
 -- a window beside the netlist whose output is 0

@@ -3,7 +3,7 @@
 
 ghost use Rattle.std.specs.Prelude.{◌≡◌, ◌+◌, ◌<◌, ◌≤◌, ◌^◌, [], true, length, IfOk, IfSome, OnOk};
 ghost use Rattle.bb_expand.specs.Inside.Cones.{IfOne, IfZero};
-ghost use Rattle.bb_strash.specs.Extensions.{bit, Extends, Gives};
+ghost use Rattle.bb_strash.specs.Inside.Extensions.{bit, Extends, Gives};
 
 use crate::candidates::{Candidate, Classes};
 use crate::cones::{Effort, seek_cell};

@@ -4,7 +4,7 @@ ghost use Rattle.std.specs.Prelude.{◌≡◌, ◌≤◌, [], IfOk};
 ghost use Rattle.bb_miter.specs.Inside.Equivalence.{AreComparable};
 ghost use Rattle.bb_expand.specs.Inside.Cones.{IfNone, IfSomeOne};
 ghost use Rattle.bb_expand.specs.Inside.Searches.{IfAt, IfNowhere};
-ghost use Rattle.bb_strash.specs.Miters.{IsMiter};
+ghost use Rattle.bb_strash.specs.Inside.Miters.{IsMiter};
 
 use crate::cones::{Effort, seek_cell};
 use crate::free::by_solver;

@@ -7,7 +7,7 @@ use Rattle.bb_net.specs.Netlists.{Netlist, IsNetlist, IsOrdered, Pins, box_at, c
 use Rattle.bb_net.specs.Values.{free_bit, gate, value_of, IsValue}
 use Rattle.bb_filled.specs.Embeddings.{StandsAt}
 use Rattle.bb_filled.specs.Laws.EmbeddingLaws.{StandingKeepsBits}
-use Rattle.bb_strash.specs.Extensions.{bit, gate_bit, Extends}
+use Rattle.bb_strash.specs.Inside.Extensions.{bit, gate_bit, Extends}
 use Rattle.bb_strash.specs.Laws.{BitsAreGates, BitsStay}
 
 abbrev pub ValueExists : Type 0

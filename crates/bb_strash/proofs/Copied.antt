@@ -9,10 +9,10 @@ use Rattle.bb_net.specs.declared.cell.Cell.TheVariants.{Const, Input, Not, And, 
 use Rattle.bb_net.specs.Netlists.{Netlist, IsNetlist, Pins, cell_at, ReadsBefore}
 use Rattle.bb_net.specs.Values.{xor}
 use Rattle.bb_filled.specs.Embeddings.{moved}
-use Rattle.bb_strash.specs.Copies.{AreCopied}
-use Rattle.bb_strash.specs.Extensions.{bit, gate_bit, Extends, Gives}
+use Rattle.bb_strash.specs.Inside.Copies.{AreCopied}
+use Rattle.bb_strash.specs.Inside.Extensions.{bit, gate_bit, Extends, Gives}
 use Rattle.bb_strash.specs.Laws.{BitsAreGates, BitsStay}
-use Rattle.bb_strash.specs.Miters.{IsMiter, HasOutputsOf}
+use Rattle.bb_strash.specs.Inside.Miters.{IsMiter, HasOutputsOf}
 use Rattle.bb_strash.proofs.BitLaws.{longer, no_pin}
 
 -- a cell that reads the new places of what it read

@@ -9,10 +9,10 @@ use Rattle.bb_net.specs.declared.cell.Cell.{Cell}
 use Rattle.bb_net.specs.declared.cell.Cell.TheVariants.{Const, Input, Not, And, Or, Xor, Mux, BoxOut}
 use Rattle.bb_net.specs.Netlists.{Netlist, IsNetlist, cell_at, ReadsBefore}
 use Rattle.bb_net.specs.Values.{xor, bit_of}
-use Rattle.bb_strash.specs.Extensions.{bit, gate_bit, Extends, Gives}
+use Rattle.bb_strash.specs.Inside.Extensions.{bit, gate_bit, Extends, Gives}
 use Rattle.bb_strash.specs.Inside.Parts.{AreCut, IsMoved, IsMovedGate}
 use Rattle.bb_strash.specs.Laws.{BitsAreGates, BitsStay}
-use Rattle.bb_strash.specs.Windows.{IsWindow}
+use Rattle.bb_strash.specs.Inside.Windows.{IsWindow}
 use Rattle.bb_strash.proofs.BitLaws.{longer}
 use Rattle.bb_strash.proofs.GateBits.{zero_bit, one_bit, input_bit, begins}
 

@@ -9,7 +9,7 @@ use Rattle.bb_net.specs.declared.cell.Cell.{Cell}
 use Rattle.bb_net.specs.declared.cell.Cell.TheVariants.{Const, Input, Not, And, Or, Xor, Mux, BoxOut}
 use Rattle.bb_net.specs.Netlists.{Netlist, IsNetlist, Pins, cell_at, first_cells, ReadsBefore, with_cell, with_pin}
 use Rattle.bb_net.specs.Values.{bit_of, xor}
-use Rattle.bb_strash.specs.Extensions.{bit, gate_bit, Extends, Gives}
+use Rattle.bb_strash.specs.Inside.Extensions.{bit, gate_bit, Extends, Gives}
 use Rattle.bb_strash.specs.Laws.{BitsAreGates, BitsStay}
 use Rattle.bb_strash.proofs.BitLaws.{longer}
 

@@ -1,7 +1,7 @@
 -- Laws of the bits of cells.
 use Rattle.std.specs.Prelude.{◌≡◌, ℕ, ◌<◌, ◌≤◌, Bool, true, false, List, [], length}
 use Rattle.bb_net.specs.Netlists.{Netlist, IsNetlist, cell_at}
-use Rattle.bb_strash.specs.Extensions.{bit, gate_bit, Extends}
+use Rattle.bb_strash.specs.Inside.Extensions.{bit, gate_bit, Extends}
 
 -- a cell's bit is its gate's function of the bits that it reads
 abbrev pub BitsAreGates : Type 0

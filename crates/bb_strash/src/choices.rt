@@ -1,7 +1,7 @@
 //! Multiplexers are added in one form each.
 
 ghost use Rattle.std.specs.Prelude.{◌≡◌, ◌+◌, ◌<◌, ◌^◌, ◌&&◌, ◌||◌, not, if◌then◌else◌, [], length, IfOk, OnOk};
-ghost use Rattle.bb_strash.specs.Extensions.{bit, Extends, Gives};
+ghost use Rattle.bb_strash.specs.Inside.Extensions.{bit, Extends, Gives};
 
 use crate::bit_laws::bits;
 use crate::gates::{add_and, add_not, add_or};

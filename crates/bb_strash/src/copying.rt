@@ -1,8 +1,8 @@
 //! A netlist is copied into another.
 
 ghost use Rattle.std.specs.Prelude.{◌≡◌, ◌+◌, ◌*◌, ◌<◌, ◌^◌, [], length, IfOk, OnOk};
-ghost use Rattle.bb_strash.specs.Extensions.{bit, Extends, Gives};
-ghost use Rattle.bb_strash.specs.Copies.{AreCopied};
+ghost use Rattle.bb_strash.specs.Inside.Extensions.{bit, Extends, Gives};
+ghost use Rattle.bb_strash.specs.Inside.Copies.{AreCopied};
 
 use crate::bit_laws::bits;
 use crate::hashed::Hashed;

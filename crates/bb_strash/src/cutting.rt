@@ -3,9 +3,9 @@
 ghost use Rattle.std.specs.Prelude.{List, ◌≡◌, ◌+◌, ◌*◌, ◌<◌, ◌≤◌, ◌^◌, ◌++◌, ◌∷◌, [], ℕ, length, IfOk, IfSome, OnOk};
 ghost use Rattle.std.specs.List.{range_with_len};
 ghost use Rattle.bb_net.specs.Netlists.{cell_at, first_cells};
-ghost use Rattle.bb_strash.specs.Extensions.{Extends};
+ghost use Rattle.bb_strash.specs.Inside.Extensions.{Extends};
 ghost use Rattle.bb_strash.specs.Inside.Parts.{AreCut, IsMoved, IsMovedGate};
-ghost use Rattle.bb_strash.specs.Windows.{IsWindow};
+ghost use Rattle.bb_strash.specs.Inside.Windows.{IsWindow};
 
 use crate::bit_laws::bits;
 use crate::hashed::Hashed;

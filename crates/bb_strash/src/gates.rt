@@ -3,7 +3,7 @@
 ghost use Rattle.std.specs.Prelude.{◌≡◌, ◌⊎◌, ◌+◌, ◌<◌, ◌^◌, ◌&&◌, ◌||◌, not, [], length, IfOk, IfSome, OnOk};
 ghost use Rattle.bb_net.specs.Netlists.{IsNetlist};
 ghost use Rattle.bb_net.specs.Values.{xor};
-ghost use Rattle.bb_strash.specs.Extensions.{bit, Extends, Gives};
+ghost use Rattle.bb_strash.specs.Inside.Extensions.{bit, Extends, Gives};
 
 use crate::bit_laws::bits;
 use crate::inverters::{are_complements, inverted, without_inverter};

@@ -2,7 +2,7 @@
 
 ghost use Rattle.std.specs.Prelude.{◌≡◌, ◌+◌, ◌<◌, ◌^◌, [], ℕ, All, length, IfOk, OnOk};
 ghost use Rattle.bb_net.specs.Netlists.{first_cells, IsNetlist, ReadsBefore};
-ghost use Rattle.bb_strash.specs.Extensions.{bit, gate_bit, Extends, Gives};
+ghost use Rattle.bb_strash.specs.Inside.Extensions.{bit, gate_bit, Extends, Gives};
 
 use crate::bit_laws::bits;
 use crate::choices::add_mux;

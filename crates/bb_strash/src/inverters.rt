@@ -3,7 +3,7 @@
 ghost use Rattle.std.specs.Prelude.{◌≡◌, ◌≢◌, ◌⊎◌, ◌<◌, [], true, length, Bool, List, IfSome};
 ghost use Rattle.bb_net.specs.Netlists.{IsNetlist, cell_at};
 ghost use Rattle.bb_net.specs.Values.{xor};
-ghost use Rattle.bb_strash.specs.Extensions.{bit};
+ghost use Rattle.bb_strash.specs.Inside.Extensions.{bit};
 
 use crate::bit_laws::bits;
 use bb_net::{Cell, Net};

@@ -2,8 +2,8 @@
 
 ghost use Rattle.std.specs.Prelude.{◌≡◌, ◌+◌, ◌*◌, ◌<◌, ◌^◌, [], ℕ, length, slice_index, IfOk, IfSome, OnOk};
 ghost use Rattle.bb_net.specs.Values.{xor};
-ghost use Rattle.bb_strash.specs.Extensions.{bit, Extends, Gives};
-ghost use Rattle.bb_strash.specs.Miters.{IsMiter};
+ghost use Rattle.bb_strash.specs.Inside.Extensions.{bit, Extends, Gives};
+ghost use Rattle.bb_strash.specs.Inside.Miters.{IsMiter};
 
 use crate::bit_laws::bits;
 use crate::copying::{Unmerged, copy};

@@ -2,7 +2,7 @@
 
 ghost use Rattle.std.specs.Prelude.{◌≡◌, ◌+◌, ◌<◌, ◌^◌, [], ℕ, true, length, IfOk, IfSome, OnOk};
 ghost use Rattle.bb_net.specs.Netlists.{ReadsBefore, cell_at};
-ghost use Rattle.bb_strash.specs.Extensions.{Extends};
+ghost use Rattle.bb_strash.specs.Inside.Extensions.{Extends};
 
 use crate::key::{Index, Key};
 use bb_bits::NoMemory;

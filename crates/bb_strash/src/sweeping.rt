@@ -1,7 +1,7 @@
 //! A netlist in which cells go on as others.
 
 ghost use Rattle.std.specs.Prelude.{◌≡◌, ◌<◌, [], map, slice_index, IfOk, IfSome};
-ghost use Rattle.bb_strash.specs.Miters.{HasOutputsOf};
+ghost use Rattle.bb_strash.specs.Inside.Miters.{HasOutputsOf};
 
 use crate::bit_laws::bits;
 use crate::copying::{Merger, copy};

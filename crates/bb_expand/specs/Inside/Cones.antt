@@ -4,7 +4,7 @@ use Rattle.bb_net.specs.Agreement.{IsVector}
 use Rattle.bb_net.specs.Netlists.{Netlist, IsNetlist}
 use Rattle.bb_expand.specs.declared.sought.Sought.{Sought}
 use Rattle.bb_expand.specs.declared.sought.Sought.TheVariants as answers
-use Rattle.bb_strash.specs.Extensions.{bit}
+use Rattle.bb_strash.specs.Inside.Extensions.{bit}
 
 -- the cell is 1 at the vector
 abbrev pub IsOneAt : Netlist → ℕ → List Bool → Type 0

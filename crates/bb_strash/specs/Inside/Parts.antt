@@ -3,7 +3,7 @@ use Rattle.std.specs.Prelude.{◌≡◌, ℕ, ◌<◌, Bool, List, length, map, 
 use Rattle.bb_net.specs.declared.cell.Cell.{Cell}
 use Rattle.bb_net.specs.declared.cell.Cell.TheVariants.{Const, Input, Not, And, Or, Xor, Mux, BoxOut}
 use Rattle.bb_net.specs.Netlists.{Netlist}
-use Rattle.bb_strash.specs.Extensions.{bit}
+use Rattle.bb_strash.specs.Inside.Extensions.{bit}
 
 -- a cell that was at one place is at another one now, where the first list has the old places and the second the new ones
 abbrev pub IsMoved : List ℕ → List ℕ → ℕ → ℕ → Type 0

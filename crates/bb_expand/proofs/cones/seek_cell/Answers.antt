@@ -1,5 +1,5 @@
 use Rattle.std.proofs.Common.{◌∙◌}
-use Rattle.bb_strash.specs.Windows.{IsWindow}
+use Rattle.bb_strash.specs.Inside.Windows.{IsWindow}
 use Rattle.bb_expand.proofs.WindowLemmas.{never_in_window}
 use Rattle.bb_expand.proofs.cones.seek_cell.Goals as goal
 

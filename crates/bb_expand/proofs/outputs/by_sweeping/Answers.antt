@@ -1,5 +1,5 @@
 use Rattle.std.proofs.lemmas.Result.{IfOk-weaker}
-use Rattle.bb_strash.specs.Miters.{HasOutputsOf}
+use Rattle.bb_strash.specs.Inside.Miters.{HasOutputsOf}
 use Rattle.bb_expand.proofs.Swept.{swept_none, swept_one}
 use Rattle.bb_expand.proofs.outputs.by_sweeping.Goals as goal
 

@@ -1,6 +1,6 @@
 use Rattle.std.proofs.Common.{ap, ◌∙◌}
 use Rattle.std.proofs.lemmas.Result.{IfOk-weaker}
-use Rattle.bb_strash.specs.Extensions.{bit}
+use Rattle.bb_strash.specs.Inside.Extensions.{bit}
 use Rattle.bb_strash.proofs.GateBits.{gives_same, implies_is_choice, one_bit, or_is_choice}
 use Rattle.bb_strash.proofs.choices.add_plain_mux.Goals as goal
 

@@ -3,8 +3,8 @@ use Rattle.std.specs.Prelude.{slice_index}
 use Rattle.bb_net.specs.declared.cell.Cell.{Cell}
 use Rattle.bb_net.specs.Netlists.{cell_at}
 use Rattle.bb_filled.specs.Embeddings.{moved}
-use Rattle.bb_strash.specs.Copies.{AreCopied}
-use Rattle.bb_strash.specs.Extensions.{bit, gate_bit}
+use Rattle.bb_strash.specs.Inside.Copies.{AreCopied}
+use Rattle.bb_strash.specs.Inside.Extensions.{bit, gate_bit}
 use Rattle.bb_strash.proofs.BitLaws.{no_pin}
 use Rattle.bb_strash.proofs.Copied.{copied_next, moved_pin}
 use Rattle.bb_strash.proofs.GateBits.{at_most, gives_same, then_more}

@@ -1,6 +1,6 @@
 use Rattle.std.proofs.Common.{◌*◌}
-use Rattle.bb_strash.specs.Copies.{AreCopied}
-use Rattle.bb_strash.specs.Extensions.{Extends}
+use Rattle.bb_strash.specs.Inside.Copies.{AreCopied}
+use Rattle.bb_strash.specs.Inside.Extensions.{Extends}
 use Rattle.bb_strash.proofs.copying.copy.Given as goal
 
 abbrev pub invariant-loop-number : goal.invariant-loop-number

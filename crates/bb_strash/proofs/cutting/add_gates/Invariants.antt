@@ -1,5 +1,5 @@
 use Rattle.std.proofs.Common.{◌≡◌, ◌≤◌, ◌*◌, length}
-use Rattle.bb_strash.specs.Extensions.{Extends}
+use Rattle.bb_strash.specs.Inside.Extensions.{Extends}
 use Rattle.bb_strash.specs.Inside.Parts.{AreCut}
 use Rattle.bb_strash.proofs.cutting.add_gates.Given as goal
 

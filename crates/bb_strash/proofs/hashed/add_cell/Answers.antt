@@ -1,6 +1,6 @@
 use Rattle.std.proofs.Common.{[], ◌<◌, length, sym, ap, ◌∙◌, subst, arith}
 use Rattle.bb_net.specs.Netlists.{ReadsBefore}
-use Rattle.bb_strash.specs.Extensions.{bit, gate_bit}
+use Rattle.bb_strash.specs.Inside.Extensions.{bit, gate_bit}
 use Rattle.bb_strash.proofs.GateBits.{begins, input_bit}
 use Rattle.bb_strash.proofs.hashed.add_cell.Goals as goal
 

@@ -1,5 +1,5 @@
 use Rattle.std.proofs.Common.{sym, ap, not, ◌∙◌}
-use Rattle.bb_strash.specs.Extensions.{bit}
+use Rattle.bb_strash.specs.Inside.Extensions.{bit}
 use Rattle.bb_strash.proofs.GateBits.{zero_bit, one_bit, inverter_bit, inverter_reads}
 use Rattle.bb_strash.proofs.inverters.without_inverter.Goals as goal
 

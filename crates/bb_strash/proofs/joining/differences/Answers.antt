@@ -2,7 +2,7 @@ use Rattle.std.proofs.Common.{◌+◌, ◌*◌, ◌<◌, ◌∷◌, [], ℕ, Lis
 use Rattle.std.specs.Prelude.{slice_index}
 use Rattle.std.proofs.lemmas.List.{length-append}
 use Rattle.bb_net.specs.Values.{xor}
-use Rattle.bb_strash.specs.Extensions.{bit, Gives}
+use Rattle.bb_strash.specs.Inside.Extensions.{bit, Gives}
 use Rattle.bb_strash.proofs.Copied.{difference_next}
 use Rattle.bb_strash.proofs.GateBits.{at_most, then_more}
 use Rattle.bb_strash.proofs.joining.differences.Goals as goal

@@ -1,7 +1,7 @@
 use Rattle.std.proofs.Common.{◌≡◌, ◌*◌, ◌<◌, ℕ, length}
 use Rattle.std.specs.Prelude.{slice_index}
 use Rattle.bb_net.specs.Values.{xor}
-use Rattle.bb_strash.specs.Extensions.{bit, Extends, Gives}
+use Rattle.bb_strash.specs.Inside.Extensions.{bit, Extends, Gives}
 use Rattle.bb_strash.proofs.joining.differences.Given as goal
 
 abbrev pub invariant-loop-j : goal.invariant-loop-j

@@ -2,7 +2,7 @@ use Rattle.std.proofs.Common.{◌<◌, ℕ, List, length, sym, ap, ◌∙◌, su
 use Rattle.std.specs.Prelude.{slice_index}
 use Rattle.bb_net.specs.Netlists.{Netlist}
 use Rattle.bb_net.specs.Values.{xor}
-use Rattle.bb_strash.specs.Extensions.{bit, Gives}
+use Rattle.bb_strash.specs.Inside.Extensions.{bit, Gives}
 use Rattle.bb_strash.proofs.BitLaws.{longer}
 use Rattle.bb_strash.proofs.Copied.{miter_is, out_there}
 use Rattle.bb_strash.proofs.GateBits.{begins}

@@ -5,7 +5,7 @@ use Rattle.std.specs.Prelude.{◌≡◌, ℕ, Bool, List, [], length, map}
 use Rattle.bb_net.specs.Agreement.{out_bit}
 use Rattle.bb_net.specs.Netlists.{Netlist}
 use Rattle.bb_net.specs.Values.{flat}
-use Rattle.bb_strash.specs.Extensions.{bit}
+use Rattle.bb_strash.specs.Inside.Extensions.{bit}
 
 pub record IsWindow (net : Netlist) (place : ℕ) (part : Netlist) (leaves : List ℕ) : Type 0 where
   pub inputs : part.inputs ≡ length leaves
