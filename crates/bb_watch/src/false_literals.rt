@@ -12,7 +12,13 @@ struct Fall {
     found: Found,
 }
 
-/// A mark for each literal by its code, and the list of those that are false.
+// How many literals there are with variables up to this one, and with none.
+fn literals(vars: u32) -> usize {
+    2 * (vars as usize + 1)
+}
+
+/// A mark for each literal by its code, and the list of those that are false. It has room for each literal once, so that none
+/// is passed over for want of memory.
 #[derive(Drop)]
 pub(crate) struct FalseLiterals {
     marks: Vec<bool>,
@@ -23,14 +29,16 @@ impl FalseLiterals {
     /// None is false.
     pub(crate) fn new(alloc: Global, vars: u32) -> Result<FalseLiterals, NoMemory> {
         Ok(FalseLiterals {
-            marks: vec![in alloc; false; 2 * (vars as usize + 1)]?,
-            falls: Vec::new(alloc),
+            marks: vec![in alloc; false; literals(vars)]?,
+            falls: Vec::with_capacity(alloc, literals(vars))?,
         })
     }
 
     /// There are variables up to this one.
     pub(crate) fn widen(&mut self, vars: u32) -> Result<(), NoMemory> {
-        self.marks.resize(2 * (vars as usize + 1), false)
+        let count = literals(vars);
+        self.falls.reserve(count.saturating_sub(self.falls.len()))?;
+        self.marks.resize(count, false)
     }
 
     /// How many are false.
@@ -60,7 +68,7 @@ impl FalseLiterals {
         Some(fall.found)
     }
 
-    /// One more literal is false. Where memory is wanting it is passed over, and less is found.
+    /// One more literal is false, which was not.
     #[inline]
     pub(crate) fn add(&mut self, code: Code, found: Found) {
         if self.falls.push(Fall { code, found }).is_ok() {
