@@ -2,12 +2,11 @@
 use Rattle.std.proofs.Common.{◌≡◌, ◌≢◌, ◌∙◌, ℕ, Bool, true, false, List, [], ◌∷◌, ◌++◌, Option, None, Some, if◌then◌else◌, codes, refl, subst, sym, ap}
 use Rattle.std.specs.Prelude.{◌&&◌, ◌||◌, is_some, not, option_and_then}
 use Rattle.std.specs.List.{list_all}
-use Rattle.clap.specs.Words.{Row, first_of}
-use Rattle.bb_words.specs.Asked.{MadePair, Refutation, Request, asked, asked_comparison, asked_made, asked_options, asked_refutation, asked_request, file, has_no_files, is_absent, is_alone, is_making, is_refuting, is_true, made_asked, rup_asked}
-use Rattle.bb_words.specs.Commands.{found_in, is_taken, options}
+use Rattle.bb_words.specs.Asked.{MadePair, Refutation, Request, asked_comparison, asked_made, asked_options, asked_refutation, asked_request, file, has_no_files, is_absent, is_alone, is_making, is_refuting}
+use Rattle.bb_words.specs.CommandLines.{Found, found_in, options}
 use Rattle.bb_words.specs.Laws.{WordsAskOnce}
 use Rattle.bb_words.specs.Numbers.{number_within}
-use Rattle.bb_words.proofs.WithinLemmas.{both, given-some, if-some, file-some}
+use Rattle.bb_words.proofs.WithinLemmas.{both, file-some, given-some, if-some, some-same}
 
 not_true : true ≡ false → ⊥
 not_true e = cc e
@@ -26,36 +25,36 @@ abbrev other_options : List (List ℕ)
 other_options = codes "top-spec" ∷ codes "top-impl" ∷ codes "from" ∷ codes "to" ∷ codes "patterns" ∷ codes "seed" ∷ codes "nodes" ∷ codes "clauses" ∷ codes "cache" ∷ codes "care" ∷ []
 
 -- what is found where a refutation is asked for
-pub record FoundRefutation (found : List Row) (f : Refutation) : Type 0 where
+pub record FoundRefutation (found : Found) (f : Refutation) : Type 0 where
   pub flag : is_refuting found ≡ true
   pub no_width : is_making found ≡ false
   pub cnf : f.cnf ≢ []
   pub adds : f.adds ≢ []
 
-found_refutation : (found : List Row) (f : Refutation) → asked_refutation found ≡ Some f → FoundRefutation found f
+found_refutation : (found : Found) (f : Refutation) → asked_refutation found ≡ Some f → FoundRefutation found f
 found_refutation found f e =
-    let cnf = given-some (file (first_of (codes "SPEC") found)) _ f e in
-    let adds = given-some (file (first_of (codes "IMPL") found)) _ f cnf.2 in
+    let cnf = given-some (file found.spec) _ f e in
+    let adds = given-some (file found.imp) _ f cnf.2 in
     let end = if-some (is_refuting found && is_alone found) _ f adds.2 in
     let marks = both (is_refuting found) (is_alone found) end.0 in
     let names = subst (λ (z : Refutation). (z.cnf ≢ []) × (z.adds ≢ [])) end.1
-    (file-some (first_of (codes "SPEC") found) cnf.0 cnf.1, file-some (first_of (codes "IMPL") found) adds.0 adds.1) in
+    (file-some found.spec cnf.0 cnf.1, file-some found.imp adds.0 adds.1) in
     record { flag = marks.0; no_width = ap not (no_option marks.1); cnf = names.0; adds = names.1 }
   where
     no_option : is_alone found ≡ true → is_absent found (codes "make") ≡ true
     no_option alone =
         last_of (is_absent found) other_options (codes "make")
-        (both (not (is_true (first_of (codes "all") found)) && not (is_true (first_of (codes "proof") found)) && not (is_true (first_of (codes "shared") found)) && not (is_true (first_of (codes "fill") found))) (list_all (is_absent found) options) alone).1
+        (both (not (found.is_given (codes "all")) && not (found.is_given (codes "proof")) && not (found.is_given (codes "shared")) && not (found.is_given (codes "fill"))) (list_all (is_absent found) options) alone).1
 
 -- what is found where a made pair is asked for
-pub record FoundPair (found : List Row) : Type 0 where
+pub record FoundPair (found : Found) : Type 0 where
   pub flag : is_refuting found ≡ false
   pub width : is_making found ≡ true
 
-found_pair : (found : List Row) (m : MadePair) → asked_made found ≡ Some m → FoundPair found
+found_pair : (found : Found) (m : MadePair) → asked_made found ≡ Some m → FoundPair found
 found_pair found m e =
-    let width = given-some (option_and_then (number_within 1 256) (first_of (codes "make") found)) _ m e in
-    let text = given-some (first_of (codes "make") found) (number_within 1 256) width.0 width.1 in
+    let width = given-some (option_and_then (number_within 1 256) (found.value (codes "make"))) _ m e in
+    let text = given-some (found.value (codes "make")) (number_within 1 256) width.0 width.1 in
     let options = given-some (asked_options found) _ m width.2 in
     let end = if-some (not (is_refuting found) && (not options.0.shared && has_no_files found)) _ m options.2 in
     record {
@@ -68,15 +67,15 @@ found_pair found m e =
     was_false true e = cc
 
 -- and so none is where the flag is given
-pub no_pair_beside : (found : List Row) → is_refuting found ≡ true → asked_made found ≡ None
+pub no_pair_beside : (found : Found) → is_refuting found ≡ true → asked_made found ≡ None
 no_pair_beside found flag = unset (asked_made found) (is_refuting found) false (λ m e. (found_pair found m e).flag) (λ e. not_true (sym flag ∙ e))
 
 -- and where files are compared
-pub record FoundFiles (found : List Row) : Type 0 where
+pub record FoundFiles (found : Found) : Type 0 where
   pub flag : is_refuting found ≡ false
   pub width : is_making found ≡ false
 
-found_files : (found : List Row) (r : Request) → asked_comparison found ≡ Some r → FoundFiles found
+found_files : (found : Found) (r : Request) → asked_comparison found ≡ Some r → FoundFiles found
 found_files found r = by (is_refuting found) (is_making found) refl refl
   where
     by : (a b : Bool) → is_refuting found ≡ a → is_making found ≡ b → (if a || b then None else asked_request found) ≡ Some r → FoundFiles found
@@ -84,38 +83,31 @@ found_files found r = by (is_refuting found) (is_making found) refl refl
     by false true flag width e = cc
     by false false flag width e = record { flag = flag; width = width }
 
--- the same of words
-of_words : {X : Type 0} (P : List Row → X → Type 0) (f : List Row → Option X) → ((found : List Row) (x : X) → f found ≡ Some x → P found x)
-    → (words : List (List ℕ)) (x : X) → (if is_taken words then f (found_in words) else None) ≡ Some x → P (found_in words) x
-of_words P f law words x = by (is_taken words)
-  where
-    by : (taken : Bool) → (if taken then f (found_in words) else None) ≡ Some x → P (found_in words) x
-    by true e = law (found_in words) x e
-    by false e = cc
-
-asks_refutation : (words : List (List ℕ)) (f : Refutation) → rup_asked words ≡ Some f → FoundRefutation (found_in words) f
-asks_refutation = of_words FoundRefutation asked_refutation found_refutation
-
-asks_pair : (words : List (List ℕ)) (m : MadePair) → made_asked words ≡ Some m → FoundPair (found_in words)
-asks_pair = of_words (λ found m. FoundPair found) asked_made found_pair
-
-asks_files : (words : List (List ℕ)) (r : Request) → asked words ≡ Some r → FoundFiles (found_in words)
-asks_files = of_words (λ found r. FoundFiles found) asked_comparison found_files
+-- two things asked for by the same words are found in the same
+module _ {X Y : Type 0} (f : Found → Option X) (g : Found → Option Y) (o : Option Found) (mark : Found → Bool)
+    (by_f : (found : Found) (x : X) → f found ≡ Some x → mark found ≡ false) (by_g : (found : Found) (y : Y) → g found ≡ Some y → mark found ≡ true) where
+  never_two : (x : X) (y : Y) → option_and_then f o ≡ Some x → option_and_then g o ≡ Some y → ⊥
+  never_two x y first second =
+      let a = given-some o f x first in
+      let b = given-some o g y second in
+      not_true (sym (by_g b.0 y b.2) ∙ ap mark (some-same b.0 a.0 (sym b.1 ∙ a.1)) ∙ by_f a.0 x a.2)
 
 pub words_once : WordsAskOnce
 words_once = record {
-  not_both = λ words r f files refutes. not_true (sym (asks_refutation words f refutes).flag ∙ (asks_files words r files).flag);
-  not_files_and_made = λ words r m files made. not_true (sym (asks_pair words m made).width ∙ (asks_files words r files).width);
-  not_made_and_refuted = λ words m f made refutes. not_true (sym (asks_refutation words f refutes).flag ∙ (asks_pair words m made).flag);
-  without = λ words none. unset (rup_asked words) (is_refuting (found_in words)) true (λ f e. (asks_refutation words f e).flag) (λ e. not_true (sym e ∙ none));
-  with = λ words flag. (
-    unset (asked words) (is_refuting (found_in words)) false (λ r e. (asks_files words r e).flag) (λ e. not_true (sym flag ∙ e)),
-    unset (made_asked words) (is_refuting (found_in words)) false (λ m e. (asks_pair words m e).flag) (λ e. not_true (sym flag ∙ e)),
+  not_both = λ words r f. never_two asked_comparison asked_refutation (found_in words) is_refuting (λ found x e. (found_files found x e).flag) (λ found y e. (found_refutation found y e).flag) r f;
+  not_files_and_made = λ words r m. never_two asked_comparison asked_made (found_in words) is_making (λ found x e. (found_files found x e).width) (λ found y e. (found_pair found y e).width) r m;
+  not_made_and_refuted = λ words m f. never_two asked_made asked_refutation (found_in words) is_refuting (λ found x e. (found_pair found x e).flag) (λ found y e. (found_refutation found y e).flag) m f;
+  without = λ words found there none. rw there (unset (asked_refutation found) (is_refuting found) true (λ f e. (found_refutation found f e).flag) (λ e. not_true (sym e ∙ none)));
+  with = λ words found there flag. (
+    rw there (unset (asked_comparison found) (is_refuting found) false (λ r e. (found_files found r e).flag) (λ e. not_true (sym flag ∙ e))),
+    rw there (unset (asked_made found) (is_refuting found) false (λ m e. (found_pair found m e).flag) (λ e. not_true (sym flag ∙ e))),
   );
-  without_width = λ words none. unset (made_asked words) (is_making (found_in words)) true (λ m e. (asks_pair words m e).width) (λ e. not_true (sym e ∙ none));
-  with_width = λ words width. (
-    unset (asked words) (is_making (found_in words)) false (λ r e. (asks_files words r e).width) (λ e. not_true (sym width ∙ e)),
-    unset (rup_asked words) (is_making (found_in words)) false (λ f e. (asks_refutation words f e).no_width) (λ e. not_true (sym width ∙ e)),
+  without_width = λ words found there none. rw there (unset (asked_made found) (is_making found) true (λ m e. (found_pair found m e).width) (λ e. not_true (sym e ∙ none)));
+  with_width = λ words found there width. (
+    rw there (unset (asked_comparison found) (is_making found) false (λ r e. (found_files found r e).width) (λ e. not_true (sym width ∙ e))),
+    rw there (unset (asked_refutation found) (is_making found) false (λ f e. (found_refutation found f e).no_width) (λ e. not_true (sym width ∙ e))),
   );
-  names = λ words f e. ((asks_refutation words f e).cnf, (asks_refutation words f e).adds);
+  names = λ words f e.
+      let a = given-some (found_in words) asked_refutation f e in
+      let names = found_refutation a.0 f a.2 in (names.cnf, names.adds);
 }

@@ -1,15 +1,16 @@
 -- Whatever words ask for is within the table of the options.
-use Rattle.std.proofs.Common.{◌≡◌, ◌≢◌, ℕ, ◌≤◌, Bool, true, false, List, [], ◌∷◌, Option, None, Some, if◌then◌else◌, arith, codes, refl, subst}
+use Rattle.std.proofs.Common.{◌≡◌, ◌≢◌, ℕ, ◌≤◌, Bool, true, false, List, [], ◌∷◌, Option, None, Some, if◌then◌else◌, arith, codes, refl, subst, sym, ◌∙◌}
 use Rattle.std.specs.Prelude.{All, IfOk, IfSome, Result, Ok, Err, nat_le, not, option_and_then, option_map, ◌&&◌, ◌||◌}
 use Rattle.std.specs.Char.{is_ascii_graphic}
 use Rattle.std.specs.List.{list_all}
 use Rattle.std.proofs.lemmas.List.Elements.{All-cons, All-nil}
-use Rattle.clap.specs.Words.{Row, first_of}
 use Rattle.bb_options.specs.declared.options.Options.{Options}
 use Rattle.bb_options.specs.declared.rung.Rung.TheVariants.{Ternary, Expand}
 use Rattle.bb_options.specs.Rungs.{AreBounds, rank}
 use Rattle.bb_words.specs.Asked.{Ask, AskNothing, HasBounds, IsWantedBy, MadePair, Request, asked_comparison, asked_made, asked_options, asked_refutation, asked_request, care, file, given, has_no_files, is_making, is_refuting, name, request_of, rung_named, top, value_or}
-use Rattle.bb_words.specs.Commands.{found_in, is_taken}
+use Rattle.bb_words.specs.CommandLines.{Found, found_in}
+use Rattle.clap.specs.declared.parser.matches.ArgMatches.{ArgMatches}
+use Rattle.bb_words.specs.Inside.Commands.{AreSame, FindsIn, by_matches}
 use Rattle.bb_words.specs.declared.asked.Wanted.{Wanted}
 use Rattle.bb_words.specs.declared.asked.Wanted.TheVariants as wanted
 use Rattle.bb_words.specs.declared.asked.WordsFault.{WordsFault}
@@ -70,39 +71,39 @@ care-within (Some text) given e = from (list_all is_ascii_graphic text) refl e
         named [] is e = cc
         named (b ∷ bs) is e = subst (λ o. IfSome o (λ text. (text ≢ []) × All (λ b. (33 ≤ b) × (b ≤ 126)) text)) (some-same (Some (b ∷ bs)) given e) ((λ empty. cc), graphic (b ∷ bs) is)
 
-options-within : (found : List Row) (o : Options) → asked_options found ≡ Some o → AreBounds o
+options-within : (found : Found) (o : Options) → asked_options found ≡ Some o → AreBounds o
 options-within found o e =
-    let from = given-some (value_or Ternary rung_named (first_of (codes "from") found)) _ o e in
-    let to = given-some (value_or Expand rung_named (first_of (codes "to") found)) _ o from.2 in
-    let patterns = given-some (value_or 32 (number_within 0 4096) (first_of (codes "patterns") found)) _ o to.2 in
-    let seed = given-some (value_or 1 (number_within 1 18446744073709551615) (first_of (codes "seed") found)) _ o patterns.2 in
-    let nodes = given-some (value_or 1000000 (number_within 0 50000000) (first_of (codes "nodes") found)) _ o seed.2 in
-    let cache = given-some (value_or 65536 (number_within 1 1048576) (first_of (codes "cache") found)) _ o nodes.2 in
-    let clauses = given-some (value_or 2000000 (number_within 0 8000000) (first_of (codes "clauses") found)) _ o cache.2 in
+    let from = given-some (value_or Ternary rung_named (found.value (codes "from"))) _ o e in
+    let to = given-some (value_or Expand rung_named (found.value (codes "to"))) _ o from.2 in
+    let patterns = given-some (value_or 32 (number_within 0 4096) (found.value (codes "patterns"))) _ o to.2 in
+    let seed = given-some (value_or 1 (number_within 1 18446744073709551615) (found.value (codes "seed"))) _ o patterns.2 in
+    let nodes = given-some (value_or 1000000 (number_within 0 50000000) (found.value (codes "nodes"))) _ o seed.2 in
+    let cache = given-some (value_or 65536 (number_within 1 1048576) (found.value (codes "cache"))) _ o nodes.2 in
+    let clauses = given-some (value_or 2000000 (number_within 0 8000000) (found.value (codes "clauses"))) _ o cache.2 in
     let end = if-some (nat_le (rank from.0) (rank to.0)) _ o clauses.2 in
-    let p = bounded 32 0 4096 (first_of (codes "patterns") found) patterns.0 (omega arith) (omega arith) patterns.1 in
-    let s = bounded 1 1 18446744073709551615 (first_of (codes "seed") found) seed.0 (omega arith) (omega arith) seed.1 in
-    let n = bounded 1000000 0 50000000 (first_of (codes "nodes") found) nodes.0 (omega arith) (omega arith) nodes.1 in
-    let c = bounded 65536 1 1048576 (first_of (codes "cache") found) cache.0 (omega arith) (omega arith) cache.1 in
-    let l = bounded 2000000 0 8000000 (first_of (codes "clauses") found) clauses.0 (omega arith) (omega arith) clauses.1 in
+    let p = bounded 32 0 4096 (found.value (codes "patterns")) patterns.0 (omega arith) (omega arith) patterns.1 in
+    let s = bounded 1 1 18446744073709551615 (found.value (codes "seed")) seed.0 (omega arith) (omega arith) seed.1 in
+    let n = bounded 1000000 0 50000000 (found.value (codes "nodes")) nodes.0 (omega arith) (omega arith) nodes.1 in
+    let c = bounded 65536 1 1048576 (found.value (codes "cache")) cache.0 (omega arith) (omega arith) cache.1 in
+    let l = bounded 2000000 0 8000000 (found.value (codes "clauses")) clauses.0 (omega arith) (omega arith) clauses.1 in
     subst AreBounds end.1 (record { order = le-true (rank from.0) (rank to.0) end.0; seed = s.0; patterns = p.1; nodes = n.1; cache_least = c.0; cache_most = c.1; clauses = l.1 })
 
-request-within : (found : List Row) (r : Request) → asked_request found ≡ Some r → IsWithin r
+request-within : (found : Found) (r : Request) → asked_request found ≡ Some r → IsWithin r
 request-within found r e =
-    let spec = given-some (file (first_of (codes "SPEC") found)) _ r e in
-    let imp = given-some (file (first_of (codes "IMPL") found)) _ r spec.2 in
-    let top_spec = given-some (top (first_of (codes "top-spec") found)) _ r imp.2 in
-    let top_imp = given-some (top (first_of (codes "top-impl") found)) _ r top_spec.2 in
-    let care = given-some (care (first_of (codes "care") found)) _ r top_imp.2 in
+    let spec = given-some (file found.spec) _ r e in
+    let imp = given-some (file found.imp) _ r spec.2 in
+    let top_spec = given-some (top (found.value (codes "top-spec"))) _ r imp.2 in
+    let top_imp = given-some (top (found.value (codes "top-impl"))) _ r top_spec.2 in
+    let care = given-some (care (found.value (codes "care"))) _ r top_imp.2 in
     let options = given-some (asked_options found) _ r care.2 in
     subst IsWithin (some-same _ r options.2) (record {
-      spec = file-some (first_of (codes "SPEC") found) spec.0 spec.1;
-      imp = file-some (first_of (codes "IMPL") found) imp.0 imp.1;
-      care = care-within (first_of (codes "care") found) care.0 care.1;
+      spec = file-some found.spec spec.0 spec.1;
+      imp = file-some found.imp imp.0 imp.1;
+      care = care-within (found.value (codes "care")) care.0 care.1;
       bounds = options-within found options.0 options.1;
     })
 
-comparison-some : (found : List Row) (r : Request) → asked_comparison found ≡ Some r → asked_request found ≡ Some r
+comparison-some : (found : Found) (r : Request) → asked_comparison found ≡ Some r → asked_request found ≡ Some r
 comparison-some found r = by (is_refuting found || is_making found)
   where
     by : (b : Bool) → (if b then None else asked_request found) ≡ Some r → asked_request found ≡ Some r
@@ -110,11 +111,8 @@ comparison-some found r = by (is_refuting found || is_making found)
     by false e = e
 
 pub requests_within : RequestsAreWithin
-requests_within words r e = go (is_taken words) e
-  where
-    go : (taken : Bool) → (if taken then asked_comparison (found_in words) else None) ≡ Some r → IsWithin r
-    go true e = request-within (found_in words) r (comparison-some (found_in words) r e)
-    go false e = cc
+requests_within words r e =
+    let found = given-some (found_in words) asked_comparison r e in request-within found.0 r (comparison-some found.0 r found.2)
 
 -- of three that hold together the second is a denial
 denied : (a b c : Bool) → (a && (not b && c)) ≡ true → b ≡ false
@@ -122,10 +120,10 @@ denied true false c e = refl
 denied true true c e = cc
 denied false b c e = cc
 
-made-within : (found : List Row) (m : MadePair) → asked_made found ≡ Some m → IsMadeWithin m
+made-within : (found : Found) (m : MadePair) → asked_made found ≡ Some m → IsMadeWithin m
 made-within found m e =
-    let width = given-some (option_and_then (number_within 1 256) (first_of (codes "make") found)) _ m e in
-    let text = given-some (first_of (codes "make") found) (number_within 1 256) width.0 width.1 in
+    let width = given-some (option_and_then (number_within 1 256) (found.value (codes "make"))) _ m e in
+    let text = given-some (found.value (codes "make")) (number_within 1 256) width.0 width.1 in
     let options = given-some (asked_options found) _ m width.2 in
     let bounds = number_within-some 1 256 text.0 width.0 text.2 in
     let end = if-some (not (is_refuting found) && (not options.0.shared && has_no_files found)) _ m options.2 in
@@ -137,11 +135,7 @@ made-within found m e =
     })
 
 pub made_within : MadePairsAreWithin
-made_within words m e = go (is_taken words) e
-  where
-    go : (taken : Bool) → (if taken then asked_made (found_in words) else None) ≡ Some m → IsMadeWithin m
-    go true e = made-within (found_in words) m e
-    go false e = cc
+made_within words m e = let found = given-some (found_in words) asked_made m e in made-within found.0 m found.2
 
 -- so what the code hands over is within the bounds of the checks
 pub handed_within : (words : List (List ℕ)) (r : Result Wanted WordsFault) → IfOk r (Ask words) → IfOk r HasBounds
@@ -150,14 +144,83 @@ handed_within words (Ok (wanted.MadePair n fill options)) asks = let m = made_wi
 handed_within words (Ok (wanted.Refutation cnf adds)) asks = tt
 handed_within words (Err fault) asks = tt
 
--- what is found in the rows of words that are taken is asked for by them
-pub asks_by_rows : (words : List (List ℕ)) (found : List Row) (w : Wanted) → found ≡ found_in words → is_taken words ≡ true → IsWantedBy found w → Ask words w
-asks_by_rows words found (wanted.Comparison a) same taken is = rw (taken, ← same) is
-asks_by_rows words found (wanted.MadePair n fill options) same taken is = rw (taken, ← same) is
-asks_by_rows words found (wanted.Refutation cnf adds) same taken is = rw (taken, ← same) is
+-- what is found by two ways that agree at each name is asked for alike
+module _ (f g : Found) (same : AreSame f g) where
+  same_options : asked_options f ≡ asked_options g
+  same_options = rw (
+    same.value (codes "from") refl,
+    same.value (codes "to") refl,
+    same.value (codes "patterns") refl,
+    same.value (codes "seed") refl,
+    same.value (codes "nodes") refl,
+    same.value (codes "cache") refl,
+    same.value (codes "clauses") refl,
+    same.is_given (codes "all") refl,
+    same.is_given (codes "proof") refl,
+    same.is_given (codes "shared") refl,
+  ) refl
 
-pub nothing_by_rows : (words : List (List ℕ)) (found : List Row) → found ≡ found_in words → is_taken words ≡ true → asked_comparison found ≡ None → asked_made found ≡ None → asked_refutation found ≡ None → AskNothing words
-nothing_by_rows words found same taken none no_pair neither = record { comparison = rw (taken, ← same) none; made = rw (taken, ← same) no_pair; refutation = rw (taken, ← same) neither }
+  same_comparison : asked_comparison f ≡ asked_comparison g
+  same_comparison = rw (
+    same.is_given (codes "rup") refl,
+    same.value (codes "make") refl,
+    same.spec,
+    same.imp,
+    same.value (codes "top-spec") refl,
+    same.value (codes "top-impl") refl,
+    same.value (codes "care") refl,
+    same.is_given (codes "fill") refl,
+    same_options,
+  ) refl
 
-pub nothing_untaken : (words : List (List ℕ)) → is_taken words ≡ false → AskNothing words
-nothing_untaken words not_taken = record { comparison = rw not_taken refl; made = rw not_taken refl; refutation = rw not_taken refl }
+  same_made : asked_made f ≡ asked_made g
+  same_made = rw (
+    same.value (codes "make") refl,
+    same_options,
+    same.is_given (codes "rup") refl,
+    same.spec,
+    same.imp,
+    same.value (codes "top-spec") refl,
+    same.value (codes "top-impl") refl,
+    same.value (codes "care") refl,
+    same.is_given (codes "fill") refl,
+  ) refl
+
+  same_refutation : asked_refutation f ≡ asked_refutation g
+  same_refutation = rw (
+    same.spec,
+    same.imp,
+    same.is_given (codes "rup") refl,
+    same.is_given (codes "all") refl,
+    same.is_given (codes "proof") refl,
+    same.is_given (codes "shared") refl,
+    same.is_given (codes "fill") refl,
+    same.value (codes "top-spec") refl,
+    same.value (codes "top-impl") refl,
+    same.value (codes "from") refl,
+    same.value (codes "to") refl,
+    same.value (codes "patterns") refl,
+    same.value (codes "seed") refl,
+    same.value (codes "nodes") refl,
+    same.value (codes "clauses") refl,
+    same.value (codes "cache") refl,
+    same.value (codes "care") refl,
+    same.value (codes "make") refl,
+  ) refl
+
+-- so what clap finds is asked for by the words
+module _ (words : List (List ℕ)) (m : ArgMatches) (finds : FindsIn words m) where
+  pub asks_found : (w : Wanted) → IsWantedBy (by_matches m) w → Ask words w
+  asks_found (wanted.Comparison a) is = rw finds.1 (sym (same_comparison (by_matches m) finds.0 finds.2) ∙ is)
+  asks_found (wanted.MadePair n fill options) is = rw finds.1 (sym (same_made (by_matches m) finds.0 finds.2) ∙ is)
+  asks_found (wanted.Refutation cnf adds) is = rw finds.1 (sym (same_refutation (by_matches m) finds.0 finds.2) ∙ is)
+
+  pub nothing_found : asked_comparison (by_matches m) ≡ None → asked_made (by_matches m) ≡ None → asked_refutation (by_matches m) ≡ None → AskNothing words
+  nothing_found none no_pair neither = record {
+    comparison = rw finds.1 (sym (same_comparison (by_matches m) finds.0 finds.2) ∙ none);
+    made = rw finds.1 (sym (same_made (by_matches m) finds.0 finds.2) ∙ no_pair);
+    refutation = rw finds.1 (sym (same_refutation (by_matches m) finds.0 finds.2) ∙ neither);
+  }
+
+pub nothing_taken : (words : List (List ℕ)) → found_in words ≡ None → AskNothing words
+nothing_taken words none = record { comparison = rw none refl; made = rw none refl; refutation = rw none refl }

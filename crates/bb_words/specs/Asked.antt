@@ -1,16 +1,18 @@
--- What the words of a command line ask for: which files are compared and which module is the top of each, by which output the specification
--- says where agreement is asked, whether the filled implementation is to be printed, which checks are run, and within which bounds; or, with `--make`, how wide a pair is made and compared by these checks, without a file; or, with `--rup`, in which files a formula
--- and its refutation stand. Words that clap does not take, or whose values are not in the table below, ask for nothing.
-use Rattle.std.specs.Prelude.{◌≡◌, ◌&&◌, ◌||◌, ◌≤◌, ℕ, Bool, false, not, is_some, nat_le, List, [], ◌∷◌, Option, Some, None, if◌then◌else◌, option_and_then, option_map, option_copied, find, codes}
+-- What the words of a command line ask for: which files are compared and which module is the top of each, by which output the
+-- specification says where agreement is asked, whether the filled implementation is to be printed, which checks are run, and within
+-- which bounds; or, with `--make`, how wide a pair is made and compared by these checks, without a file; or, with `--rup`, in which
+-- files a formula and its refutation stand. Words that are no command line, or whose values are not in the table below, ask for
+-- nothing.
+use Rattle.std.specs.Prelude.{◌≡◌, ◌&&◌, ◌||◌, ◌≤◌, ℕ, Bool, not, is_some, nat_le, List, [], ◌∷◌, Option, Some, None}
+use Rattle.std.specs.Prelude.{if◌then◌else◌, option_and_then, option_map, option_copied, find, codes}
 use Rattle.std.specs.Char.{is_ascii_graphic}
 use Rattle.std.specs.List.{list_all}
 use Rattle.std.specs.Str.{bytes_eq}
-use Rattle.clap.specs.Words.{Row, first_of}
 use Rattle.bb_options.specs.declared.options.Options.{Options}
 use Rattle.bb_options.specs.declared.rung.Rung.{Rung}
 use Rattle.bb_options.specs.declared.rung.Rung.TheVariants.{Ternary, Expand}
 use Rattle.bb_options.specs.Rungs.{AreBounds, all_rungs, rank, rung_name}
-use Rattle.bb_words.specs.Commands.{found_in, is_taken, options}
+use Rattle.bb_words.specs.CommandLines.{Found, found_in, options}
 use Rattle.bb_words.specs.Numbers.{number_within}
 use Rattle.bb_words.specs.declared.asked.Asked.{Asked}
 use Rattle.bb_words.specs.declared.asked.Wanted.{Wanted}
@@ -73,46 +75,41 @@ printable text = if list_all is_ascii_graphic text then name text else None
 abbrev pub care : Option (List ℕ) → Option (Option (List ℕ))
 care = value_or None (λ text. option_map (λ given. Some given) (printable text))
 
--- whether a flag is given
-abbrev pub is_true : Option (List ℕ) → Bool
-is_true None = false
-is_true (Some text) = bytes_eq text (codes "true")
-
 -- what follows from a value, if there is one
 abbrev pub given : {X Y : Type 0} → Option X → (X → Option Y) → Option Y
 given value next = option_and_then next value
 
 -- which checks are run, and their bounds, by what was found
-abbrev pub asked_options : List Row → Option Options
+abbrev pub asked_options : Found → Option Options
 asked_options found =
-    given (value_or Ternary rung_named (first_of (codes "from") found)) (λ from.
-    given (value_or Expand rung_named (first_of (codes "to") found)) (λ to.
-    given (value_or 32 (number_within 0 4096) (first_of (codes "patterns") found)) (λ patterns.
-    given (value_or 1 (number_within 1 18446744073709551615) (first_of (codes "seed") found)) (λ seed.
-    given (value_or 1000000 (number_within 0 50000000) (first_of (codes "nodes") found)) (λ nodes.
-    given (value_or 65536 (number_within 1 1048576) (first_of (codes "cache") found)) (λ cache.
-    given (value_or 2000000 (number_within 0 8000000) (first_of (codes "clauses") found)) (λ clauses.
+    given (value_or Ternary rung_named (found.value (codes "from"))) (λ from.
+    given (value_or Expand rung_named (found.value (codes "to"))) (λ to.
+    given (value_or 32 (number_within 0 4096) (found.value (codes "patterns"))) (λ patterns.
+    given (value_or 1 (number_within 1 18446744073709551615) (found.value (codes "seed"))) (λ seed.
+    given (value_or 1000000 (number_within 0 50000000) (found.value (codes "nodes"))) (λ nodes.
+    given (value_or 65536 (number_within 1 1048576) (found.value (codes "cache"))) (λ cache.
+    given (value_or 2000000 (number_within 0 8000000) (found.value (codes "clauses"))) (λ clauses.
     if nat_le (rank from) (rank to) then Some (record {
       from = from;
       to = to;
-      all = is_true (first_of (codes "all") found);
+      all = found.is_given (codes "all");
       patterns = patterns;
       seed = seed;
       nodes = nodes;
       cache = cache;
       clauses = clauses;
-      proof = is_true (first_of (codes "proof") found);
-      shared = is_true (first_of (codes "shared") found);
+      proof = found.is_given (codes "proof");
+      shared = found.is_given (codes "shared");
     }) else None)))))))
 
 -- all that is asked, by what was found
-abbrev pub asked_request : List Row → Option Request
+abbrev pub asked_request : Found → Option Request
 asked_request found =
-    given (file (first_of (codes "SPEC") found)) (λ spec.
-    given (file (first_of (codes "IMPL") found)) (λ imp.
-    given (top (first_of (codes "top-spec") found)) (λ top_spec.
-    given (top (first_of (codes "top-impl") found)) (λ top_imp.
-    given (care (first_of (codes "care") found)) (λ care.
+    given (file found.spec) (λ spec.
+    given (file found.imp) (λ imp.
+    given (top (found.value (codes "top-spec"))) (λ top_spec.
+    given (top (found.value (codes "top-impl"))) (λ top_imp.
+    given (care (found.value (codes "care"))) (λ care.
     given (asked_options found) (λ options.
     Some (record {
       spec = spec;
@@ -120,62 +117,64 @@ asked_request found =
       top_spec = top_spec;
       top_imp = top_imp;
       care = care;
-      fill = is_true (first_of (codes "fill") found);
+      fill = found.is_given (codes "fill");
       options = options;
     })))))))
 
 -- whether the flag for a refutation is given
-abbrev pub is_refuting : List Row → Bool
-is_refuting found = is_true (first_of (codes "rup") found)
+abbrev pub is_refuting : Found → Bool
+is_refuting found = found.is_given (codes "rup")
 
 -- whether an option is not given, whatever its value would be
-abbrev pub is_absent : List Row → List ℕ → Bool
-is_absent found option = not (is_some (first_of option found))
+abbrev pub is_absent : Found → List ℕ → Bool
+is_absent found option = not (is_some (found.value option))
 
 -- no other flag is given, and no option
-abbrev pub is_alone : List Row → Bool
+abbrev pub is_alone : Found → Bool
 is_alone found =
-    not (is_true (first_of (codes "all") found)) && not (is_true (first_of (codes "proof") found)) && not (is_true (first_of (codes "shared") found))
-    && not (is_true (first_of (codes "fill") found)) && list_all (is_absent found) options
+    not (found.is_given (codes "all")) && not (found.is_given (codes "proof")) && not (found.is_given (codes "shared"))
+    && not (found.is_given (codes "fill")) && list_all (is_absent found) options
 
 -- whether the width of a made pair is given
-abbrev pub is_making : List Row → Bool
+abbrev pub is_making : Found → Bool
 is_making found = not (is_absent found (codes "make"))
 
 -- no file, no top and no care output is given
-abbrev pub has_no_files : List Row → Bool
-has_no_files found = list_all (is_absent found) (codes "SPEC" ∷ codes "IMPL" ∷ codes "top-spec" ∷ codes "top-impl" ∷ codes "care" ∷ [])
+abbrev pub has_no_files : Found → Bool
+has_no_files found = not (is_some found.spec) && not (is_some found.imp)
+    && list_all (is_absent found) (codes "top-spec" ∷ codes "top-impl" ∷ codes "care" ∷ [])
 
 -- files are compared without that flag and without a width
-abbrev pub asked_comparison : List Row → Option Request
+abbrev pub asked_comparison : Found → Option Request
 asked_comparison found = if is_refuting found || is_making found then None else asked_request found
 
 -- a made pair, which has one box, is asked for by its width, from 1 to 256, without that flag, the one for shared contents, a
 -- file, a top or a care output
-abbrev pub asked_made : List Row → Option MadePair
+abbrev pub asked_made : Found → Option MadePair
 asked_made found =
-    given (option_and_then (number_within 1 256) (first_of (codes "make") found)) (λ n.
+    given (option_and_then (number_within 1 256) (found.value (codes "make"))) (λ n.
     given (asked_options found) (λ options.
-    if not (is_refuting found) && (not options.shared && has_no_files found) then Some (record { n = n; fill = is_true (first_of (codes "fill") found); options = options }) else None))
+    if not (is_refuting found) && (not options.shared && has_no_files found)
+    then Some (record { n = n; fill = found.is_given (codes "fill"); options = options }) else None))
 
 -- a refutation is asked for with it alone, and with both files
-abbrev pub asked_refutation : List Row → Option Refutation
+abbrev pub asked_refutation : Found → Option Refutation
 asked_refutation found =
-    given (file (first_of (codes "SPEC") found)) (λ cnf.
-    given (file (first_of (codes "IMPL") found)) (λ adds.
+    given (file found.spec) (λ cnf.
+    given (file found.imp) (λ adds.
     if is_refuting found && is_alone found then Some (record { cnf = cnf; adds = adds }) else None))
 
 -- the comparison of files that words ask for
 abbrev pub asked : List (List ℕ) → Option Request
-asked words = if is_taken words then asked_comparison (found_in words) else None
+asked words = option_and_then asked_comparison (found_in words)
 
 -- the made pair that words ask for
 abbrev pub made_asked : List (List ℕ) → Option MadePair
-made_asked words = if is_taken words then asked_made (found_in words) else None
+made_asked words = option_and_then asked_made (found_in words)
 
 -- the refutation that words ask for
 abbrev pub rup_asked : List (List ℕ) → Option Refutation
-rup_asked words = if is_taken words then asked_refutation (found_in words) else None
+rup_asked words = option_and_then asked_refutation (found_in words)
 
 -- the request that the code hands over
 abbrev pub request_of : Asked → Request
@@ -189,11 +188,13 @@ request_of a = record {
   options = a.options;
 }
 
--- what the code hands over, found in these rows
-abbrev pub IsWantedBy : List Row → Wanted → Type 0
+-- what the code hands over, by what was found
+abbrev pub IsWantedBy : Found → Wanted → Type 0
 IsWantedBy found (wanted.Comparison a) = asked_comparison found ≡ Some (request_of a)
-IsWantedBy found (wanted.MadePair n fill options) = asked_made found ≡ Some (record { n = n; fill = fill; options = options })
-IsWantedBy found (wanted.Refutation cnf adds) = asked_refutation found ≡ Some (record { cnf = cnf.now; adds = adds.now })
+IsWantedBy found (wanted.MadePair n fill options) =
+    asked_made found ≡ Some (record { n = n; fill = fill; options = options })
+IsWantedBy found (wanted.Refutation cnf adds) =
+    asked_refutation found ≡ Some (record { cnf = cnf.now; adds = adds.now })
 
 -- and asked for by words
 abbrev pub Ask : List (List ℕ) → Wanted → Type 0

@@ -6,7 +6,7 @@ use Rattle.bb_options.specs.declared.rung.Rung.TheVariants.{Ternary, Expand}
 use Rattle.bb_options.specs.Rungs.{AreBounds}
 use Rattle.bb_options.specs.declared.options.Options.{Options}
 use Rattle.bb_words.specs.Asked.{AskNothing, MadePair, Refutation, Request, asked, is_making, is_refuting, made_asked, rup_asked}
-use Rattle.bb_words.specs.Commands.{flags, found_in, options}
+use Rattle.bb_words.specs.CommandLines.{Found, flags, found_in, options}
 use Rattle.bb_words.specs.Numbers.{number_within}
 
 -- each name that has to be given is not empty, a care output has a name that can be printed, each number is within its bounds, and so is
@@ -87,10 +87,14 @@ pub record WordsAskOnce : Type 0 where
   pub not_files_and_made : (words : List (List ℕ)) (r : Request) (m : MadePair) → asked words ≡ Some r → made_asked words ≡ Some m → ⊥
   pub not_made_and_refuted : (words : List (List ℕ)) (m : MadePair) (f : Refutation) → made_asked words ≡ Some m → rup_asked words ≡ Some f → ⊥
   -- and the flag and the width alone say which
-  pub without : (words : List (List ℕ)) → is_refuting (found_in words) ≡ false → rup_asked words ≡ None
-  pub with : (words : List (List ℕ)) → is_refuting (found_in words) ≡ true → (asked words ≡ None) × (made_asked words ≡ None)
-  pub without_width : (words : List (List ℕ)) → is_making (found_in words) ≡ false → made_asked words ≡ None
-  pub with_width : (words : List (List ℕ)) → is_making (found_in words) ≡ true → (asked words ≡ None) × (rup_asked words ≡ None)
+  pub without : (words : List (List ℕ)) (found : Found) → found_in words ≡ Some found → is_refuting found ≡ false
+      → rup_asked words ≡ None
+  pub with : (words : List (List ℕ)) (found : Found) → found_in words ≡ Some found → is_refuting found ≡ true
+      → (asked words ≡ None) × (made_asked words ≡ None)
+  pub without_width : (words : List (List ℕ)) (found : Found) → found_in words ≡ Some found → is_making found ≡ false
+      → made_asked words ≡ None
+  pub with_width : (words : List (List ℕ)) (found : Found) → found_in words ≡ Some found → is_making found ≡ true
+      → (asked words ≡ None) × (rup_asked words ≡ None)
   -- the names of a refutation's files are not empty
   pub names : (words : List (List ℕ)) (f : Refutation) → rup_asked words ≡ Some f → (f.cnf ≢ []) × (f.adds ≢ [])
 

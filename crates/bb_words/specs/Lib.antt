@@ -1,4 +1,5 @@
 pub mod Asked
-pub mod Commands
+pub mod CommandLines
+pub mod Inside
 pub mod Laws
 pub mod Numbers

@@ -1,8 +1,9 @@
 //! The command whose words are read.
 
-ghost use Rattle.std.specs.Prelude.{◌≡◌, ◌⊎◌, false, true, map, option_copied, string_bytes, IfOk, IfErr};
+ghost use Rattle.std.specs.Prelude.{◌≡◌, ◌⊎◌, false, map, None, option_copied, string_bytes, IfOk, IfErr};
 ghost use Rattle.clap.specs.Words.{app_of, first_of, found_of, kind_of, rows_of, rule_of};
-ghost use Rattle.bb_words.specs.Commands.{bare, command, flag, found_in, is_taken, positional, valued};
+ghost use Rattle.bb_words.specs.CommandLines.{found_in};
+ghost use Rattle.bb_words.specs.Inside.Commands.{FindsIn, bare, command, flag, positional, valued};
 
 use clap::error::ErrorKind;
 use clap::{Arg, ArgAction, ArgMatches, Command, Error};
@@ -67,9 +68,9 @@ fn command<'a>(alloc: Global) -> Result<Command<'a>, AllocError>
 
 /// What is found in the words, of which the first is the program's own name.
 pub fn parse<'a>(alloc: Global, words: &'a [String]) -> Result<ArgMatches<'a>, Error>
-    ensures found { IfOk result (λ m. rows_of (found_of m) ≡ found_in (map string_bytes words.entry.now)) }
-    ensures taken { IfOk result (λ _. is_taken (map string_bytes words.entry.now) ≡ true) }
-    ensures refused { IfErr result (λ e. (kind_of e ≡ ErrorKind.OutOfMemory) ⊎ (is_taken (map string_bytes words.entry.now) ≡ false)) }
+    ensures found { IfOk result (FindsIn (map string_bytes words.entry.now)) }
+    ensures refused { IfErr result (λ e. (kind_of e ≡ ErrorKind.OutOfMemory)
+        ⊎ (found_in (map string_bytes words.entry.now) ≡ None)) }
 {
     command(alloc)?.try_get_matches_from(words)
 }

@@ -2,8 +2,8 @@
 
 ghost use Rattle.std.specs.Prelude.{◌≡◌, ◌⊎◌, ◌∷◌, [], false, true, codes, map, option_map, string_bytes, IfOk, IfErr, IfSome, IfNone, None, Some};
 ghost use Rattle.std.specs.List.{list_all};
-ghost use Rattle.clap.specs.Words.{found_of, rows_of};
-ghost use Rattle.bb_words.specs.Commands.{options as option_names};
+ghost use Rattle.bb_words.specs.CommandLines.{options as option_names};
+ghost use Rattle.bb_words.specs.Inside.Commands.{by_matches};
 ghost use Rattle.bb_words.specs.Asked.{Ask, AskNothing, HasBounds, IsWantedBy, asked_comparison, asked_made, asked_options, asked_refutation, asked_request, has_no_files, is_absent, is_alone, is_refuting, request_of};
 
 use crate::asked::{Asked, Wanted, WordsFault};
@@ -16,7 +16,7 @@ use std::alloc::Global;
 
 // Which checks are run, and their bounds.
 fn options(matches: &ArgMatches<'_>) -> Option<Options>
-    ensures options { result ≡ asked_options (rows_of (found_of matches.now)) }
+    ensures options { result ≡ asked_options (by_matches matches.now) }
 {
     let from = rung_or(value(matches, "from"), Rung::Ternary)?;
     let to = rung_or(value(matches, "to"), Rung::Expand)?;
@@ -44,7 +44,7 @@ fn options(matches: &ArgMatches<'_>) -> Option<Options>
 
 // All that is asked.
 fn request<'a>(matches: &ArgMatches<'a>) -> Option<Asked<'a>>
-    ensures request { option_map request_of result ≡ asked_request (rows_of (found_of matches.now)) }
+    ensures request { option_map request_of result ≡ asked_request (by_matches matches.now) }
 {
     let spec = file(value(matches, "SPEC"))?;
     let imp = file(value(matches, "IMPL"))?;
@@ -66,7 +66,7 @@ fn request<'a>(matches: &ArgMatches<'a>) -> Option<Asked<'a>>
 
 // No bound, no care output and no width is given.
 fn no_bound(matches: &ArgMatches<'_>) -> bool
-    ensures { result ≡ list_all (is_absent (rows_of (found_of matches.now)))
+    ensures { result ≡ list_all (is_absent (by_matches matches.now))
         (codes "patterns" ∷ codes "seed" ∷ codes "nodes" ∷ codes "clauses" ∷ codes "cache" ∷ codes "care" ∷ codes "make" ∷ []) }
 {
     value(matches, "patterns").is_none()
@@ -80,7 +80,7 @@ fn no_bound(matches: &ArgMatches<'_>) -> bool
 
 // No option is given.
 fn no_option(matches: &ArgMatches<'_>) -> bool
-    ensures { result ≡ list_all (is_absent (rows_of (found_of matches.now))) option_names }
+    ensures { result ≡ list_all (is_absent (by_matches matches.now)) option_names }
 {
     value(matches, "top-spec").is_none()
         && value(matches, "top-impl").is_none()
@@ -91,7 +91,7 @@ fn no_option(matches: &ArgMatches<'_>) -> bool
 
 // No other flag and no option is given.
 fn is_alone(matches: &ArgMatches<'_>) -> bool
-    ensures alone { result ≡ is_alone (rows_of (found_of matches.now)) }
+    ensures alone { result ≡ is_alone (by_matches matches.now) }
 {
     !is_true(value(matches, "all"))
         && !is_true(value(matches, "proof"))
@@ -102,9 +102,9 @@ fn is_alone(matches: &ArgMatches<'_>) -> bool
 
 // The refutation that is asked for.
 fn refutation<'a>(matches: &ArgMatches<'a>) -> Option<Wanted<'a>>
-    requires refuting { is_refuting (rows_of (found_of matches.now)) ≡ true }
-    ensures some { IfSome result (IsWantedBy (rows_of (found_of matches.now))) }
-    ensures none { IfNone result (asked_refutation (rows_of (found_of matches.now)) ≡ None) }
+    requires refuting { is_refuting (by_matches matches.now) ≡ true }
+    ensures some { IfSome result (IsWantedBy (by_matches matches.now)) }
+    ensures none { IfNone result (asked_refutation (by_matches matches.now) ≡ None) }
 {
     let cnf = file(value(matches, "SPEC"))?;
     let adds = file(value(matches, "IMPL"))?;
@@ -116,7 +116,7 @@ fn refutation<'a>(matches: &ArgMatches<'a>) -> Option<Wanted<'a>>
 
 // No file, no top and no care output is given.
 fn no_files(matches: &ArgMatches<'_>) -> bool
-    ensures none { result ≡ has_no_files (rows_of (found_of matches.now)) }
+    ensures none { result ≡ has_no_files (by_matches matches.now) }
 {
     value(matches, "SPEC").is_none()
         && value(matches, "IMPL").is_none()
@@ -127,9 +127,9 @@ fn no_files(matches: &ArgMatches<'_>) -> bool
 
 // The made pair that is asked for.
 fn made_pair<'a>(matches: &ArgMatches<'a>) -> Option<Wanted<'a>>
-    requires comparing { is_refuting (rows_of (found_of matches.now)) ≡ false }
-    ensures some { IfSome result (IsWantedBy (rows_of (found_of matches.now))) }
-    ensures none { IfNone result (asked_made (rows_of (found_of matches.now)) ≡ None) }
+    requires comparing { is_refuting (by_matches matches.now) ≡ false }
+    ensures some { IfSome result (IsWantedBy (by_matches matches.now)) }
+    ensures none { IfNone result (asked_made (by_matches matches.now) ≡ None) }
 {
     let n = small(value(matches, "make"), 1, 256)?;
     let options = options(matches)?;
@@ -142,10 +142,10 @@ fn made_pair<'a>(matches: &ArgMatches<'a>) -> Option<Wanted<'a>>
 
 // The comparison that is asked for.
 fn comparison<'a>(matches: &ArgMatches<'a>) -> Option<Wanted<'a>>
-    requires comparing { is_refuting (rows_of (found_of matches.now)) ≡ false }
-    ensures some { IfSome result (IsWantedBy (rows_of (found_of matches.now))) }
-    ensures no_comparison { IfNone result (asked_comparison (rows_of (found_of matches.now)) ≡ None) }
-    ensures no_made { IfNone result (asked_made (rows_of (found_of matches.now)) ≡ None) }
+    requires comparing { is_refuting (by_matches matches.now) ≡ false }
+    ensures some { IfSome result (IsWantedBy (by_matches matches.now)) }
+    ensures no_comparison { IfNone result (asked_comparison (by_matches matches.now) ≡ None) }
+    ensures no_made { IfNone result (asked_made (by_matches matches.now) ≡ None) }
 {
     if value(matches, "make").is_some() {
         made_pair(matches)
@@ -157,10 +157,10 @@ fn comparison<'a>(matches: &ArgMatches<'a>) -> Option<Wanted<'a>>
 // What is asked for.
 #[tactic(auto, using(crate::proofs::OnceLemmas::no_pair_beside))]
 fn wanted<'a>(matches: &ArgMatches<'a>) -> Option<Wanted<'a>>
-    ensures some { IfSome result (IsWantedBy (rows_of (found_of matches.now))) }
-    ensures no_comparison { IfNone result (asked_comparison (rows_of (found_of matches.now)) ≡ None) }
-    ensures no_made { IfNone result (asked_made (rows_of (found_of matches.now)) ≡ None) }
-    ensures no_refutation { IfNone result (asked_refutation (rows_of (found_of matches.now)) ≡ None) }
+    ensures some { IfSome result (IsWantedBy (by_matches matches.now)) }
+    ensures no_comparison { IfNone result (asked_comparison (by_matches matches.now) ≡ None) }
+    ensures no_made { IfNone result (asked_made (by_matches matches.now) ≡ None) }
+    ensures no_refutation { IfNone result (asked_refutation (by_matches matches.now) ≡ None) }
 {
     if is_true(value(matches, "rup")) {
         refutation(matches)
@@ -187,16 +187,17 @@ fn wanted<'a>(matches: &ArgMatches<'a>) -> Option<Wanted<'a>>
 /// A value stands behind its option as the next word or behind `=`; one that begins with a minus sign, and is more than that,
 /// has to stand behind `=`. No name is empty. A number has at most 20 digits. Behind `--` every word is a file.
 ///
-/// With `--make` and a number from 1 to 256 a pair is made and compared, and no file, no top, no `--shared`
-/// and no `--care` may be given. With `--rup` the two
-/// files are a formula and clause additions, and no other flag and no option may be given.
+/// With `--make` and a number from 1 to 256 a pair is made and compared, and no file, no top, no `--shared` and no `--care` may
+/// be given. With `--rup` the two files are a formula and clause additions, and no other flag and no option may be given.
 ///
 /// # Errors
 /// `Usage` where the words are not of this form, and `NoMemory` where there is no memory to read them.
+#[tactic(auto, using(crate::proofs::WithinLemmas::nothing_found, crate::proofs::WithinLemmas::nothing_taken))]
 pub fn read_words<'a>(alloc: Global, words: &'a [String]) -> Result<Wanted<'a>, WordsFault>
     ensures ok { IfOk result (Ask (map string_bytes words.entry.now)) }
     ensures bounds { IfOk result HasBounds }
-    ensures usage { IfErr result (λ fault. (fault ≡ WordsFault.NoMemory) ⊎ ((fault ≡ WordsFault.Usage) × AskNothing (map string_bytes words.entry.now))) }
+    ensures usage { IfErr result (λ fault. (fault ≡ WordsFault.NoMemory)
+        ⊎ ((fault ≡ WordsFault.Usage) × AskNothing (map string_bytes words.entry.now))) }
 {
     match parse(alloc, words) {
         Ok(matches) => wanted(&matches).ok_or(WordsFault::Usage),

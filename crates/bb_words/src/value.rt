@@ -3,7 +3,8 @@
 ghost use Rattle.std.specs.Prelude.{◌≡◌, option_and_then, option_map, option_copied};
 ghost use Rattle.std.specs.Char.{is_ascii_graphic};
 ghost use Rattle.std.specs.List.{list_all};
-ghost use Rattle.bb_words.specs.Asked.{care, file, is_true, name, printable, rung_named, top, value_or};
+ghost use Rattle.bb_words.specs.Asked.{care, file, name, printable, rung_named, top, value_or};
+ghost use Rattle.bb_words.specs.Inside.Commands.{is_true};
 ghost use Rattle.bb_words.specs.Numbers.{number_within};
 
 use crate::number::{number_within, small_within};

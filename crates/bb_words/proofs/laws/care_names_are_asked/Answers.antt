@@ -1,4 +1,4 @@
-use Rattle.bb_words.proofs.CareWords.{care_names}
+use Rattle.bb_words.proofs.PlainLemmas.{care_names}
 use Rattle.bb_words.proofs.laws.care_names_are_asked.Goals as goal
 
 pub returns : goal.returns

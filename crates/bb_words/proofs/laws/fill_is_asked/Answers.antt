@@ -1,4 +1,4 @@
-use Rattle.bb_words.proofs.FillWords.{fill_is_asked}
+use Rattle.bb_words.proofs.PlainLemmas.{fill_is_asked}
 use Rattle.bb_words.proofs.laws.fill_is_asked.Goals as goal
 
 pub returns : goal.returns

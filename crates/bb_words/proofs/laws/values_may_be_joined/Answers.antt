@@ -1,4 +1,4 @@
-use Rattle.bb_words.proofs.JoinedWords.{joined_values}
+use Rattle.bb_words.proofs.PlainLemmas.{joined_values}
 use Rattle.bb_words.proofs.laws.values_may_be_joined.Goals as goal
 
 pub returns : goal.returns
