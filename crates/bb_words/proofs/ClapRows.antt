@@ -187,7 +187,7 @@ again-more (File text) xs a = refl
 again-more (Flag name) xs a = any-more (has_name name) xs a
 again-more (Valued name value) xs a = any-more (has_name name) xs a
 
-again-alike : (x a : Argument) → comes_again x (a ∷ []) ≡ comes_again a (x ∷ [])
+pub again-alike : (x a : Argument) → comes_again x (a ∷ []) ≡ comes_again a (x ∷ [])
 again-alike (File text) (File other) = refl
 again-alike (File text) (Flag other) = refl
 again-alike (File text) (Valued other value) = refl
@@ -198,7 +198,7 @@ again-alike (Valued name value) (File text) = refl
 again-alike (Valued name value) (Flag other) = ap (λ b. b || false) (same_eq other name)
 again-alike (Valued name value) (Valued other more) = ap (λ b. b || false) (same_eq other name)
 
-again-cons : (a x : Argument) (xs : List Argument) → comes_again a (x ∷ xs) ≡ (comes_again a (x ∷ []) || comes_again a xs)
+pub again-cons : (a x : Argument) (xs : List Argument) → comes_again a (x ∷ xs) ≡ (comes_again a (x ∷ []) || comes_again a xs)
 again-cons (File text) x xs = refl
 again-cons (Flag name) x xs = or-past (has_name name x) (list_any (has_name name) xs)
 again-cons (Valued name value) x xs = or-past (has_name name x) (list_any (has_name name) xs)

@@ -10,6 +10,7 @@ pub mod ClapWords
 pub mod FoundLemmas
 pub mod NumberLemmas
 pub mod OnceLemmas
+pub mod OrderLemmas
 pub mod PlainLemmas
 pub mod RungNames
 pub mod WithinLemmas

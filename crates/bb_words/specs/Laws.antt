@@ -6,7 +6,7 @@ use Rattle.bb_options.specs.declared.rung.Rung.TheVariants.{Ternary, Expand}
 use Rattle.bb_options.specs.Rungs.{AreBounds}
 use Rattle.bb_options.specs.declared.options.Options.{Options}
 use Rattle.bb_words.specs.Asked.{AskNothing, MadePair, Refutation, Request, asked, is_making, is_refuting, made_asked, rup_asked}
-use Rattle.bb_words.specs.CommandLines.{Found, flags, found_in, options}
+use Rattle.bb_words.specs.CommandLines.{Argument, Found, are_taken, file_in, flags, found_among, found_in, options}
 use Rattle.bb_words.specs.Numbers.{number_within}
 
 -- each name that has to be given is not empty, a care output has a name that can be printed, each number is within its bounds, and so is
@@ -114,3 +114,17 @@ SomeWordsAreRefused = (program spec imp : List ℕ) → is_plain spec ≡ true �
 -- two words behind `--` are two files, also with a minus sign in front
 abbrev pub AllAreFilesBehind : Type 0
 AllAreFilesBehind = (program spec imp : List ℕ) → spec ≢ [] → imp ≢ [] → asked (program ∷ codes "--" ∷ spec ∷ imp ∷ []) ≡ Some (files_alone spec imp)
+
+-- the same is found among these arguments
+pub record SayTheSame (arguments others : List Argument) : Type 0 where
+  pub taken : are_taken arguments ≡ are_taken others
+  pub spec : (found_among arguments).spec ≡ (found_among others).spec
+  pub imp : (found_among arguments).imp ≡ (found_among others).imp
+  pub is_given : (name : List ℕ) → (found_among arguments).is_given name ≡ (found_among others).is_given name
+  pub value : (name : List ℕ) → (found_among arguments).value name ≡ (found_among others).value name
+
+-- of arguments that are taken two neighbours may be exchanged of which one is no file, so flags and options may stand
+-- anywhere
+abbrev pub OrderIsFree : Type 0
+OrderIsFree = (before behind : List Argument) (a b : Argument) → file_in a ≡ None
+    → are_taken (before ++ a ∷ b ∷ behind) ≡ true → SayTheSame (before ++ a ∷ b ∷ behind) (before ++ b ∷ a ∷ behind)

@@ -1,6 +1,8 @@
 //! Laws of what words ask for. Each function has a law as its contract and does nothing.
 
-ghost use Rattle.bb_words.specs.Laws.{AllAreFilesBehind, CareNamesAreAsked, FewWordsAskForNothing, FillIsAsked, MadePairsAreWithin, PlainWordsAreFiles, RequestsAreWithin, SomeWordsAreRefused, ValuesMayBeJoined, WidthsAskForPairs, WordsAskOnce};
+ghost use Rattle.bb_words.specs.Laws.{AllAreFilesBehind, CareNamesAreAsked, FewWordsAskForNothing, FillIsAsked};
+ghost use Rattle.bb_words.specs.Laws.{MadePairsAreWithin, OrderIsFree, PlainWordsAreFiles, RequestsAreWithin};
+ghost use Rattle.bb_words.specs.Laws.{SomeWordsAreRefused, ValuesMayBeJoined, WidthsAskForPairs, WordsAskOnce};
 
 /// Whatever words ask for is within the table of the options.
 pub fn requests_are_within()
@@ -55,4 +57,9 @@ pub fn some_words_are_refused()
 /// Two words behind `--` are two files.
 pub fn all_are_files_behind()
     ensures { AllAreFilesBehind }
+{}
+
+/// Flags and options may stand in any order, before, between and behind the files.
+pub fn order_is_free()
+    ensures { OrderIsFree }
 {}
