@@ -45,6 +45,9 @@ class Closed:
     def flush(self) -> None:
         pass
 
+    def isatty(self) -> bool:
+        return False
+
 
 def run_script(name: str, main: Callable[[], None]) -> None:
     """Runs a script; what it cannot do is said on standard error, and the status is 125. Where a

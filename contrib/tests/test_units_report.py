@@ -8,8 +8,8 @@ from bbeq_tools.report import lrat
 from bbeq_tools.report.contents import assign_lines, case_lines, casez_lines, cubes, tree
 from bbeq_tools.report.sums import expression
 from bbeq_tools.report.drat import proof_lines, resolve
-from bbeq_tools.report.reports import (OTHER, other_texts, read_filled, read_report, tables,
-                                       vectors, verdict)
+from bbeq_tools.report.reports import (OTHER, on_terminal, other_texts, read_filled, read_report,
+                                       tables, vectors, verdict)
 from bbeq_tools.verilog.language import Reader
 from tests.tries import SMALL_PROOF
 
@@ -47,7 +47,10 @@ class Reports(Files):
         self.assertEqual(tables(["rung input repair", "table u o[1] 01", "table v q 0011",
                                  "table u o[0] 10"]),
                          {"u": [("o[1]", "01"), ("o[0]", "10")], "v": [("q", "0011")]})
-        for line in ("table", "table u o", "table u o 012", "table u o 01 1"):
+        long = "table u o[1] " + "01" * 4_096
+        self.assertEqual(on_terminal(long[:-4_096]), long[:-4_096])
+        self.assertRegex(on_terminal(long + "\n"), r"^table u o\[1\] \.\. \(8,192 bits, .*\)\n$")
+        for line in ("table", "table u o", "table u o 012", "table u o 01 1", on_terminal(long)):
             with self.assertRaisesRegex(Fault, "is no table line"):
                 tables([line])
 

@@ -11,6 +11,7 @@ import time
 
 from bbeq_tools.cli import Fault, Output, Words, run_script
 from bbeq_tools.program import find_program
+from bbeq_tools.report.reports import print_report
 from bbeq_tools.runs.program_words import CHECKS, add_program_words, program_words
 from bbeq_tools.runs.timed import finished
 
@@ -121,7 +122,7 @@ def command():
         print(told(check), file=sys.stderr, flush=True)
     verdict = verdict_of(checks)
     told_all = "".join(f"{line}\n" for check in checks for line in check.report())
-    sys.stdout.write(told_all + (f"verdict {verdict}\n" if verdict else ""))
+    print_report(told_all + (f"verdict {verdict}\n" if verdict else ""))
     if output:
         output.write(as_json(checks, verdict))
     sys.stdout.flush()

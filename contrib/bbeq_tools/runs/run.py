@@ -12,6 +12,7 @@ import sys
 from fcntl import LOCK_SH
 
 from bbeq_tools.cli import Fault, Misuse, Words, run_script
+from bbeq_tools.report.reports import print_report
 from bbeq_tools.runs.folders import SIDES, locked, read_parts
 from bbeq_tools.runs.joined import STATUSES, joined
 from bbeq_tools.runs.kept import Job
@@ -95,7 +96,7 @@ def run_part(words, pair):
     with locked(os.path.join(words.target, job.name, "lock")):
         answer = Runs(words,
                       words.kept or os.path.join(words.target, "kept")).all([job]).get(job.name)
-    sys.stdout.write(answer.report if answer else "")
+    print_report(answer.report if answer else "")
     if not answer or answer.status is None:
         raise Fault(f"part {words.part}: {answer.verdict if answer else 'no answer'}")
     return answer.status
@@ -115,7 +116,7 @@ def run_folder(words):
         print(f"run: part {name} was open; {steps} brought it through: {answers[name].verdict}",
               file=sys.stderr)
     lines, status = joined(pair, [answers.get(job.name) for job in jobs])
-    sys.stdout.write("".join(f"{line}\n" for line in lines))
+    print_report("".join(f"{line}\n" for line in lines))
     return status
 
 

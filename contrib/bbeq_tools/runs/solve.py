@@ -11,8 +11,9 @@ import sys
 import tempfile
 import time
 
-from bbeq_tools.cli import Fault, Words, run_script, write_bytes
+from bbeq_tools.cli import Fault, Words, run_script
 from bbeq_tools.program import find_program
+from bbeq_tools.report.reports import print_report
 from bbeq_tools.runs.climbs import MOST_CLAUSES, MOST_NODES
 from bbeq_tools.runs.guard import Guard
 from bbeq_tools.runs.joined import advice_on, last_rung
@@ -86,8 +87,8 @@ def ask_first(request, guard, until):
 
 
 def finish(answer):
-    """Prints a report byte for byte, and ends with its status."""
-    write_bytes(answer.report.encode("latin-1"))
+    """Prints a report, and ends with its status."""
+    print_report(answer.report)
     sys.exit(answer.status if answer.status >= 0 else 128 - answer.status)
 
 
