@@ -183,6 +183,12 @@ TOLD = {"an import": (TYPED + "module m import p::*; (input word_t a, output wor
         (MODULE.format("function [3:0] f(input [1:0] b); endfunction\n  assign y = f(a);"), "m.sv:",
          "the result of function f is read and has no driver"),
         "a net without a driver": (MODULE.format("logic [3:0] n; assign y = n;"), "m.sv:3: ", BOX)}
+# What a message says to write there is read.
+MENDED = {"write PACKAGE::NAME": TYPED + MODULE.format("p::word_t w; assign y = w; assign w = a;"),
+          "give it one range": MODULE.format("logic [3:0] w; assign y = w; assign w = {a, a};"),
+          "leave it out": TYPED + MODULE.format("p::state_t s; assign y = s; assign s = a;"),
+          "assign each part": MODULE.format("logic [1:0] w [2]; assign y = w[0]; always_comb begin "
+                                            "w[0] = a; w[1] = a; end")}
 TURNED = "module m(input clk, input [1:0] a, output [3:0] y); assign y = {a, a}; endmodule\n"
 WIDE = """module m(input clk, input [9:0] at, input [63:0] in, output [63:0] out);
   reg [63:0] words [31:0]; reg [4:0] last;
@@ -204,6 +210,9 @@ class Messages(Tries):
                        self.folder)
             right = is_told(done, "gates") and place in done.err and wanted in done.err
             self.note(f"gates tells of {name}: {done.err.strip()}", right, done.why())
+        for name, text in MENDED.items():
+            done = run([script("gates"), write(self.folder, "m.sv", text)])
+            self.note(f"gates reads what it says to write: {name}", done.status == 0, done.why())
         plain = write(self.folder, "m.sv", TYPED + MODULE.format("assign y = a == BUSY;"))
         done = run([script("gates"), os.path.basename(plain)], self.folder)
         told = ("m.sv:7: warning: BUSY is not declared, and is taken for a wire of one bit; a name "

@@ -5,10 +5,13 @@ import re
 import subprocess
 
 SV2V = "--sv2v has sv2v turn it into Verilog"
-UNREAD = ((r"\bimport\b", "an import"),
-          (r"\]\s*\[[^;]*\]\s*\w", "a packed array of several ranges"),
-          (r"'\{", "an assignment pattern"), (r"\w'\(", "a cast to a type"),
-          (r"\b(interface|modport)\b", "an interface"), (r"\binside\b", "an `inside`"))
+# What stands on a line that is not read, and what to write there.
+UNREAD = ((r"\bimport\b", "an import", "write PACKAGE::NAME for each name"),
+          (r"\]\s*\[[^;]*\]\s*\w", "a packed array of several ranges", "give it one range"),
+          (r"'\{", "an assignment pattern", "assign each part"),
+          (r"\w'\(", "a cast to a type", "leave it out"),
+          (r"\b(interface|modport)\b", "an interface", "make its signals ports"),
+          (r"\binside\b", "an `inside`", "compare with each value"))
 COMMENT = re.compile(r"//[^\n]*|/\*.*?\*/", re.DOTALL)
 # In yosys 0.23 the range of `a` takes the place of that of its type.
 ARRAY = ("module m(input t_in, output y); typedef logic [3:0] t; t [1:0] a; assign y = "
@@ -21,14 +24,17 @@ def version():
 
 
 def unread(text):
-    """What stands on the line of an error, where it is known not to be read."""
+    """What stands on the line of an error, where it is known not to be read, and what to do."""
     source = re.match(r"(.*\.sv):(\d+): ", text)
     try:
         with open(source.group(1), encoding="latin-1") as file:
             line = file.read().splitlines()[int(source.group(2)) - 1]
     except (OSError, IndexError):
-        return "this"
-    return next((what for form, what in UNREAD if re.search(form, line)), "this")
+        line = ""
+    for form, what, instead in UNREAD:
+        if re.search(form, line):
+            return f"{what} of SystemVerilog: {instead}, or {SV2V}"
+    return f"this of SystemVerilog: {SV2V}"
 
 
 def advice(text):
@@ -38,7 +44,7 @@ def advice(text):
         return (f"{text.split(' for width detection')[0]}; yosys does not import names of "
                 f"packages: where it stands in one, write PACKAGE::{unknown.group(1)}, or {SV2V}")
     if re.match(r".*\.sv:\d+: syntax error", text):
-        return f"{text}; yosys {version()} does not read {unread(text)} of SystemVerilog: {SV2V}"
+        return f"{text}; yosys {version()} does not read {unread(text)}"
     return text
 
 
