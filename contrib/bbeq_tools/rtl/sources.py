@@ -60,6 +60,11 @@ def run_yosys(script, folder):
         parameter = re.search(r"Can't find object for defparam `(.*)`", lines[0] if lines else "")
         if parameter:
             raise Fault(f"the top has no parameter {parameter.group(1)}")
+        given = re.search(r"Module `(\S+)' referenced in .* not have a parameter named '(\w+)'",
+                          lines[0] if lines else "")
+        if given:
+            raise Fault(f"module {given.group(1)} has no parameter {given.group(2)}, which an "
+                        "instance gives; `fill --rtl FILE` writes it with those of the RTL")
         if done.returncode < 0:
             raise Fault(f"yosys was ended by signal {-done.returncode}, as where modules "
                         "instantiate each other without end")
