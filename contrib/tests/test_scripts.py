@@ -3,7 +3,9 @@ import os
 import re
 import sys
 
+from bbeq_tools.report.buses import shown
 from bbeq_tools.report.filler import STYLES
+from bbeq_tools.report.reports import vectors
 from tests.tries import (BBEQ, DESIGNS, SMALL_PROOF, Tries, bbeq, designs_in, example, is_told,
                          read, run, script, write)
 
@@ -156,7 +158,7 @@ class Wave(Tries):
             waves = os.path.join(self.folder, f"{name}.vcd")
             done = run([script("wave"), report, spec, implementation, "--vcd", waves])
             marked = [line for line in done.out.splitlines() if "named by the report" in line]
-            vector = [line for line in read(report).splitlines() if line.startswith("input ")]
+            vector = [f"input {shown(bits)}" for _, _, bits in vectors(read(report).splitlines())]
             right = (done.status == 0 and os.path.getsize(waves) > 100
                      and (not wrong or len(marked) == 1 and "wrong" in marked[0]))
             self.note(f"wave {name}: the wrong output is seen", right, done.why())

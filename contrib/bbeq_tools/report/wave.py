@@ -280,6 +280,8 @@ def show(rows, named, wrong_only):
     widths = [max(len(word) for word in column) for column in zip(*table)]
     for line in table:
         print("  ".join(word.ljust(width) for word, width in zip(line, widths)).rstrip())
+    if not any(line[-1] for line in table):
+        print("No bit is wrong by itself; `why` shows which cannot be right together.")
 
 
 def command():
@@ -310,7 +312,7 @@ def tell_vectors(path, found):
     for place, (number, (check, _, vector)) in enumerate(found):
         source = f"that the check {check} shows" if check else f"{number} of the report"
         print(f"{path} has the vector {source}, from time {10 + 20 * place} on.")
-        print(f"input {shown(vector, NARROW)}")
+        print(f"input {shown(vector)}")
 
 
 def main():
