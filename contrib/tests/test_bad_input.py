@@ -183,9 +183,9 @@ TOLD = {"an import": (TYPED + "module m import p::*; (input word_t a, output wor
         (MODULE.format("function [3:0] f(input [1:0] b); endfunction\n  assign y = f(a);"), "m.sv:",
          "the result of function f is read and has no driver"),
         "a net without a driver": (MODULE.format("logic [3:0] n; assign y = n;"), "m.sv:3: ", BOX),
-        "a parameter": (MODULE.format("part #(.W(2)) u(a, y);") + "module part(input logic [1:0] a, "
-                        "output logic [3:0] y); endmodule\n", "module part has no parameter W",
-                        "`fill --rtl FILE`")}
+        "a parameter": (MODULE.format("part #(.W(2)) u(a, y);")
+                        + "module part(input logic [1:0] a, output logic [3:0] y); endmodule\n",
+                        "module part has no parameter W", "`fill --rtl FILE`")}
 # What a message says to write there is read.
 MENDED = {"write PACKAGE::NAME": TYPED + MODULE.format("p::word_t w; assign y = w; assign w = a;"),
           "give it one range": MODULE.format("logic [3:0] w; assign y = w; assign w = {a, a};"),
