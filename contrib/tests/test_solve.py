@@ -95,11 +95,18 @@ class Solve(Tries):
     def test_refusals(self):
         spec, implementation = example("carry", "spec.v"), example("carry", "impl.v")
         broken = write(self.folder, "broken.v", "module m(a; endmodule\n")
-        for words in ([broken, implementation], [spec, "nowhere.v"], [spec, self.folder],
-                      [implementation, implementation], ["--top-spec=other", spec, implementation]):
+        for words, why in (([broken, implementation], "broken.v is no netlist that bbeq reads"),
+                           ([spec, "nowhere.v"], "nowhere.v: No such file or directory"),
+                           ([spec, self.folder], f"{self.folder}: Is a directory"),
+                           ([example("counter", "spec.v"), example("counter", "unfinished.v")],
+                            "of RTL `gates` makes one"), ([spec, example("counter", "impl.v")],
+                                                          "`names SPEC IMPL` lists"),
+                           ([implementation, implementation], ""),
+                           (["--top-spec=other", spec, implementation], "")):
             own, done = bbeq(*words), run([script("solve"), *words])
             self.note(f"solve {' '.join(map(os.path.basename, words))}",
-                      (own.status, own.out) == (done.status, done.out) and not done.err, done.why())
+                      (own.status, own.out) == (done.status, done.out) and bool(done.err)
+                      == bool(why) and why in done.err, done.why())
         pipe = os.path.join(self.folder, "pipe")
         os.mkfifo(pipe)
         with subprocess.Popen(["cp", spec, pipe]):
@@ -128,13 +135,14 @@ class Solve(Tries):
 
     def test_open(self):
         """Where each run has ended the report is that of one that is open, and what to try is
-        said."""
-        spec, implementation = example("holes", "spec.v"), example("holes", "impl.v")
-        done = run([script("solve"), spec, implementation, "--clauses", "1000", "--nodes", "1000"])
-        is_said = ("nothing decided" in done.err
-                   and "solve:   try (rung expand clauses): " in done.err)
-        self.note("solve of a pair that stays open", done.status == 3 and is_said
-                  and done.out == "rung expand clauses\nverdict open\n", done.why())
+        said; --shared where some module has two instances."""
+        for name, most, shares in (("holes", "1000", True), ("counter", "1", False)):
+            done = run([script("solve"), example(name, "spec.v"), example(name, "impl.v"),
+                        "--clauses", most, "--nodes", most])
+            is_said = ("nothing decided" in done.err and ("`--shared`" in done.err) == shares
+                       and "solve:   try (rung expand clauses): " in done.err)
+            self.note(f"solve of {name}, which stays open", done.status == 3 and is_said
+                      and done.out == "rung expand clauses\nverdict open\n", done.why())
 
     def test_ended(self):
         """Ended at random moments, by a signal that it sees or does not, it leaves nothing."""

@@ -10,6 +10,7 @@ import shutil
 import sys
 import tempfile
 import time
+from collections import Counter
 
 from bbeq_tools.cli import Fault, Words, run_script
 from bbeq_tools.program import find_program
@@ -22,6 +23,7 @@ from bbeq_tools.runs.portfolio import Portfolio, available_memory, told_bytes, t
 from bbeq_tools.runs.program_words import add_program_words, program_words
 from bbeq_tools.runs.timed import Started
 from bbeq_tools.runs.ways import BY_ORDER, BY_PARTS, Request, first_run, ways_of
+from bbeq_tools.verilog.language import read_modules
 
 TOO_LONG = 7  # The seconds of --limit were over.
 HELPS = {"nodes": f"at most so many nodes in a check by diagrams (default {MOST_NODES})",
@@ -86,6 +88,23 @@ def ask_first(request, guard, until):
         return Answer(run.status, run.seconds, run.memory, run.printed().decode("latin-1"))
 
 
+def cause(report, files):
+    """What a line that refuses a pair leaves unsaid, or None."""
+    words = report.split()
+    path = files[words[1] == "impl"]
+    if words[0] == "unread":
+        try:
+            with open(path, "rb") as file:
+                file.read()
+        except OSError as error:
+            return f"{path}: {error.strerror}"
+    if words[2:3] in (["token"], ["statement"]):
+        return f"{path} is no netlist that bbeq reads; of RTL `gates` makes one"
+    if words[1:3] in (["pair", "register"], ["pair", "port"]):
+        return "`names SPEC IMPL` lists all that one of the two lacks, with likely partners"
+    return None
+
+
 def finish(answer):
     """Prints a report, and ends with its status."""
     print_report(answer.report)
@@ -105,7 +124,14 @@ def told_way(turn, request):
     return f"bbeq {shlex.join(words)}{source}"
 
 
-def tell_open(portfolio, why):
+def may_share(path):
+    """Whether boxes may be instances of one module, which --shared is for."""
+    used = Counter(instance.module for module in read_modules(path)[1].values()
+                   for instance in module.instances)
+    return max(used.values(), default=0) > 1
+
+
+def tell_open(portfolio, why, implementation):
     """What the runs found that decided nothing, and what to try."""
     say(f"nothing decided{why}")
     for found in portfolio.found():
@@ -115,7 +141,8 @@ def tell_open(portfolio, why):
     for rung in rungs:
         # A check that had no more to look for says nothing of what to try.
         for advice in advice_on(rung) if rung and not rung.endswith(" none") else ():
-            say(f"  try ({rung}): {advice}")
+            if "`--shared`" not in advice or may_share(implementation):
+                say(f"  try ({rung}): {advice}")
 
 
 def farthest(portfolio, first):
@@ -136,6 +163,10 @@ def solve(words, program, folder, guard):
     if first is None:
         say(f"nothing decided in {words.limit:g} s, in which the pair was not read; --limit more")
         sys.exit(TOO_LONG)
+    why = (first.status in (2, 4)
+           and cause(first.report, (words.specification, words.implementation)))
+    if why:
+        say(why)
     if first.status != 3:
         finish(first)
     request = request._replace(memory=first.memory)
@@ -151,9 +182,11 @@ def solve(words, program, folder, guard):
         say(f"{turn.answer.verdict} after {seconds:.1f} s by {told_way(turn, request)}")
         finish(turn.answer)
     if until is not None and time.monotonic() >= until:
-        tell_open(portfolio, f" in {words.limit:g} s; a larger --limit gives the runs more time")
+        tell_open(portfolio, f" in {words.limit:g} s; a larger --limit gives the runs more time",
+                  files[1])
         sys.exit(TOO_LONG)
-    tell_open(portfolio, f": each run has ended, with at most {told_bytes(budget)} of memory")
+    tell_open(portfolio, f": each run has ended, with at most {told_bytes(budget)} of memory",
+              files[1])
     finish(farthest(portfolio, first))
 
 
