@@ -71,9 +71,10 @@ def on_error(account: Account, words: Words, boxes: int) -> Advice:
         meaning = sentence("At the vector below the two designs differ ", place, ", whatever the "
                            "boxes contain." if boxes else ".")
         steps = [sentence("Follow the red wires of the drawing back from the output: the mistake "
-                          "is among the gates that they pass, or these read the wrong signal."
-                          if named else "Look at the outputs that are red or open (x) below: one "
-                          "of them cannot be right at this vector."),
+                          "is among the gates that they pass, or these read the wrong signal.")
+                 if named else
+                 sentence("Find the outputs that cannot be right together at this vector: ",
+                          command("why", words, words.spec, words.impl), "."),
                  sentence("The same as waves for a viewer: ",
                           command("wave", words, words.spec, words.impl), ".")]
         return Advice("There is an error outside the boxes" if boxes else "The two designs differ",
