@@ -16,7 +16,7 @@ from bbeq_tools.runs.guard import Guard
 from bbeq_tools.runs.joined import joined, padded
 from bbeq_tools.runs.kept import Answer, Job, Kept, answer_of, digest
 from bbeq_tools.runs.portfolio import Portfolio
-from bbeq_tools.runs.ways import Attempt
+from bbeq_tools.runs.ways import Attempt, clause_budgets
 
 PAIR = {"inputs": ["a", "b"], "words": [],
         "boxes": [{"path": "u", "module": "m", "inputs": 1, "outputs": ["o"], "is_read": True},
@@ -196,3 +196,6 @@ class Portfolios(Place):
     def test_budgets(self):
         self.assertEqual(list(budgets(20, 100)), [20, 80, 100])
         self.assertEqual(list(budgets(20, 10)), [10])
+        for most, wanted in ((5_000_000, [20_000, 2_000_000, 5_000_000]), (1_000, [1_000]),
+                             (30_000, [20_000, 30_000])):
+            self.assertEqual(clause_budgets(most), wanted)

@@ -10,7 +10,8 @@ from bbeq_tools.runs.folders import read_parts
 from bbeq_tools.runs.joined import joined
 from bbeq_tools.runs.kept import Answer, contents
 
-FIRST_CLAUSES, FIRST_NODES = 20_000, 100_000
+FIRST_CLAUSES, USUAL_CLAUSES = 20_000, 2_000_000
+FIRST_NODES = 100_000
 CLAUSE_BYTES, NODE_BYTES, LEAST_BYTES = 400, 28, 50_000_000  # Of memory, as measured.
 BY_PARTS, BY_ORDER = "parts", "ordered"
 
@@ -53,8 +54,14 @@ def first_run(request):
     return request.attempt("ternary", ("--to=ternary",))
 
 
+def clause_budgets(most):
+    """Few clauses, and then as many as bbeq has by itself: what lies between often took longer than
+    these, and decided nothing."""
+    return [FIRST_CLAUSES, *budgets(USUAL_CLAUSES, most)] if most > FIRST_CLAUSES else [most]
+
+
 def by_clauses(request):
-    for clauses in budgets(FIRST_CLAUSES, request.most_clauses):
+    for clauses in clause_budgets(request.most_clauses):
         answer = yield request.attempt(f"expand with {clauses} clauses",
                                        ("--from=expand", f"--clauses={clauses}"),
                                        clauses * CLAUSE_BYTES)
