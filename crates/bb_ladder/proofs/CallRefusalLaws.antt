@@ -2,34 +2,22 @@
 use Rattle.std.proofs.Common.{◌≡◌, ◌<◌, ◌≤◌, ℕ, List, length, Option, Some, None, arith, refl, sym, ◌∙◌, ap, subst}
 use Rattle.std.specs.Prelude.{codes}
 use Rattle.bb_outside.specs.Counts.{IsRead, Reads}
-use Rattle.bb_rungs.specs.declared.verdict.Verdict.{Verdict}
-use Rattle.bb_rungs.specs.declared.verdict.Verdict.TheVariants as verdicts
-use Rattle.bb_rungs.specs.Reports.{status_of, verdict_of}
 use Rattle.bb_texts.specs.declared.limit.TheConstants.{READ_LIMIT}
 use Rattle.bb_make.specs.Adders.{made_imp, made_spec}
 use Rattle.bb_words.specs.Asked.{MadePair, Refutation, made_asked, rup_asked}
 use Rattle.bb_words.specs.Laws.{WordsAskOnce}
 use Rattle.bb_ladder.specs.Calls.{Call}
-use Rattle.bb_ladder.specs.declared.asked.Asked.{Asked as TextsAsked}
+use Rattle.bb_verdict.specs.declared.asked.Asked.{Asked as TextsAsked}
 use Rattle.bb_ladder.specs.Answers.{Question, AfterSpec, ImpUnread, ImpLong, BothRead, OfFiles, SpecUnread, SpecLong, SpecRead, MayAnswer, Usage, Asked, Making, Refuting, Gives, question_of}
 use Rattle.bb_ladder.specs.MadePairs.{asked_of}
 use Rattle.bb_ladder.specs.CallRefusals.{IsCallRefusal, OfWords, OfComparison, OfMadePair, OfRefutation, IsFilesRefusal, OfSpecLength, OfImpLength, OfTexts, AreTold, AreToldOf, CallRefusalsAreOne, RefusalsAreTold, RefusedCallsAreTold}
 use Rattle.bb_texts.specs.RefusalLines.{refusal_line}
 use Rattle.bb_ladder.specs.Refutations.{CheckLaws, Checks, Faulty, IsCheckRefusal}
 use Rattle.bb_ladder.specs.Sources.{AreBytes, IsFirst, MayHaveFailed, Source}
-use Rattle.bb_ladder.specs.TextAnswers.{Judges, Refused, Judged, JudgedRefusalsAreFirst, RefusedAreAnsweredOnce}
-use Rattle.bb_ladder.specs.TextPairs.{IsPairRefusal, RefusalsAreOne}
+use Rattle.bb_verdict.specs.TextAnswers.{Judges, JudgedRefusalsAreFirst, RefusedAreAnsweredOnce}
+use Rattle.bb_verdict.specs.TextPairs.{IsPairRefusal, RefusalsAreOne}
 use Rattle.bb_ladder.proofs.HeadlineLemmas.{alone_at_two, asks_no_comparison, asks_no_pair, asks_no_refutation, never_both, never_files_and_made, same_pair, same_question, same_refutation}
 use Rattle.bb_ladder.proofs.SourceLemmas.{both_whole, failed_alone, failed_second, first_of_both, first_once, given_alone, given_first, given_long, given_never_long, given_never_short, given_second, given_whole, second_once}
-
-no_second : (v : Verdict) → status_of v ≡ 2 → ⊥
-no_second verdicts.Error e = omega (arith, e)
-no_second verdicts.Repairable e = omega (arith, e)
-no_second verdicts.Open e = omega (arith, e)
-
-pub judged_refusals_are_first : JudgedRefusalsAreFirst
-judged_refusals_are_first asked spec imp status text (Refused refusal is s t) two = (refusal, is, t)
-judged_refusals_are_first asked spec imp status text (Judged p lines d i are for climb s rest follows t) two = absurd (no_second (verdict_of lines) (sym s ∙ two))
 
 apart : (a b : List ℕ) → a ≡ b → READ_LIMIT ≤ length a → length b < READ_LIMIT → ⊥
 apart a b same long short = far (length a) (length b) READ_LIMIT (ap length same) long short
@@ -68,14 +56,14 @@ module _ (judged : List ℕ → List ℕ → ℕ → List ℕ → Type 0) (refus
       let low = spec_refusal between spec bytes (Some other) there g short c d in
       imp_refusal between spec (rest low).0 bytes (rest low).1 low g short c (BothRead other h less d is)
 
-pub refusals_are_told : CheckLaws → RefusalsAreTold
-refusals_are_told laws call from line (Usage none no_pair neither same s t) told = OfWords none no_pair neither t
-refusals_are_told laws call from line (Asked q asks files) told =
-    OfComparison q asks (files_refusal (Judges q.asked) (IsPairRefusal q.asked) (judged_refusals_are_first q.asked) from call.holds q.spec q.imp call.before call.after line (told.comparison q asks) files)
-refusals_are_told laws call from line (Making m makes quiet judges) told =
-    let first = judged_refusals_are_first (asked_of m.fill m.options) (made_spec m.n) (made_imp m.n) 2 judges.0 judges.1 refl in
+pub refusals_are_told : JudgedRefusalsAreFirst → CheckLaws → RefusalsAreTold
+refusals_are_told pairs laws call from line (Usage none no_pair neither same s t) told = OfWords none no_pair neither t
+refusals_are_told pairs laws call from line (Asked q asks files) told =
+    OfComparison q asks (files_refusal (Judges q.asked) (IsPairRefusal q.asked) (pairs q.asked) from call.holds q.spec q.imp call.before call.after line (told.comparison q asks) files)
+refusals_are_told pairs laws call from line (Making m makes quiet judges) told =
+    let first = pairs (asked_of m.fill m.options) (made_spec m.n) (made_imp m.n) 2 judges.0 judges.1 refl in
     OfMadePair m makes (first.0, first.1, alone_at_two m.n 2 judges.0 line refl judges.2 ∙ first.2)
-refusals_are_told laws call from line (Refuting f asks files) told =
+refusals_are_told pairs laws call from line (Refuting f asks files) told =
     OfRefutation f asks (files_refusal Checks IsCheckRefusal laws.refused from call.holds f.cnf f.adds call.before call.after line (told.refutation f asks) files)
 
 -- the same of a status that is 2

@@ -4,7 +4,7 @@ use Rattle.std.proofs.Common.{◌≡◌, ◌<◌, ◌⊎◌, ℕ, List, length, 
 use Rattle.bb_outside.specs.Counts.{IsRead, Reads}
 use Rattle.bb_texts.specs.declared.limit.TheConstants.{READ_LIMIT}
 use Rattle.bb_ladder.specs.Calls.{Call}
-use Rattle.bb_ladder.specs.declared.asked.Asked.{Asked as TextsAsked}
+use Rattle.bb_verdict.specs.declared.asked.Asked.{Asked as TextsAsked}
 use Rattle.bb_cnf.specs.Clauses.{Formula}
 use Rattle.bb_cnf.specs.declared.clauses.Lit.{Lit}
 use Rattle.bb_make.specs.Adders.{made_imp, made_spec}
@@ -14,8 +14,8 @@ use Rattle.bb_ladder.specs.Answers.{Question, AfterSpec, ImpUnread, ImpLong, Bot
 use Rattle.bb_ladder.specs.MadePairs.{JudgesMade, asked_of}
 use Rattle.bb_ladder.specs.Refutations.{AreRead, CheckLaws, Checks, SaysWhether}
 use Rattle.bb_ladder.specs.Sources.{AreBytes, MayHaveFailed, Source}
-use Rattle.bb_ladder.specs.TextAnswers.{Judges, DecidedAreAnswered, StayingOpenAreAnswered}
-use Rattle.bb_ladder.specs.TextPairs.{AreStayingOpen, AreDecided}
+use Rattle.bb_verdict.specs.TextAnswers.{Judges, DecidedAreAnswered, StayingOpenAreAnswered}
+use Rattle.bb_verdict.specs.TextPairs.{AreStayingOpen, AreDecided}
 use Rattle.bb_ladder.proofs.SourceLemmas.{both_whole, failed_alone, failed_second, first_of_both, given_alone, given_never_long, given_second}
 use Rattle.bb_ladder.proofs.HeadlineLemmas.{asks_no_comparison, asks_no_pair, asks_no_refutation, never_both, never_files_and_made, same_pair, same_question, same_refutation}
 

@@ -12,7 +12,7 @@ use Rattle.bb_ladder.specs.GivenTexts.{AnsweredHaveGiven, Checked, Compared, Hav
 use Rattle.bb_ladder.specs.MadePairs.{asked_of}
 use Rattle.bb_ladder.specs.Refutations.{Checks}
 use Rattle.bb_ladder.specs.Sources.{AreBytes, Given, read_of}
-use Rattle.bb_ladder.specs.TextAnswers.{Judges}
+use Rattle.bb_verdict.specs.TextAnswers.{Judges}
 use Rattle.bb_ladder.proofs.HeadlineLemmas.{asks_no_comparison, asks_no_refutation, never_both, never_files_and_made, no_failure, no_refusal, same_question, same_refutation}
 use Rattle.bb_ladder.proofs.SourceLemmas.{told_after_one, told_after_two}
 

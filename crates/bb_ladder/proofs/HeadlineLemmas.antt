@@ -2,8 +2,11 @@
 -- its vectors show mistakes, each check leaves the question open, or a read failed.
 use Rattle.std.proofs.Common.{inl, inr, ◌≡◌, ◌<◌, ℕ, ◌==◌, Bool, true, false, if◌then◌else◌, List, ◌++◌, length, Option, Some, None, arith, codes, option_map, refl, sym, ◌∙◌, ap, subst}
 use Rattle.bb_outside.specs.Counts.{IsRead, Reads, next_count}
+use Rattle.bb_rungs.specs.declared.verdict.Verdict.{Verdict}
+use Rattle.bb_rungs.specs.declared.verdict.Verdict.TheVariants as verdicts
+use Rattle.bb_rungs.specs.Reports.{status_of, verdict_of}
 use Rattle.bb_texts.specs.declared.limit.TheConstants.{READ_LIMIT}
-use Rattle.bb_ladder.specs.declared.asked.Asked.{Asked as TextsAsked}
+use Rattle.bb_verdict.specs.declared.asked.Asked.{Asked as TextsAsked}
 use Rattle.bb_make.specs.Adders.{made_imp, made_spec}
 use Rattle.bb_words.specs.Asked.{MadePair, Refutation, Request, asked, made_asked, rup_asked}
 use Rattle.bb_words.specs.Laws.{WordsAskOnce}
@@ -11,13 +14,12 @@ use Rattle.bb_ladder.specs.Answers.{AnswersSpeakOfTexts, Question, AfterSpec, Im
 use Rattle.bb_ladder.specs.Calls.{Call}
 use Rattle.bb_ladder.specs.MadePairs.{JudgesMade, asked_of, head_by, head_of, made_head, made_text}
 use Rattle.bb_ladder.specs.Refutations.{CheckLaws, Checks, FailsAt, Refutes, no_line}
-use Rattle.bb_ladder.specs.OpenReports.{IsOpenReport, OpenAnswersAreReports}
-use Rattle.bb_ladder.specs.ShownMistakes.{AreShown, ErrorsAreShown}
+use Rattle.bb_verdict.specs.OpenReports.{IsOpenReport, OpenAnswersAreReports}
+use Rattle.bb_verdict.specs.ShownMistakes.{AreShown, ErrorsAreShown}
 use Rattle.bb_ladder.specs.Sources.{AreBytes, Source}
-use Rattle.bb_ladder.specs.TextAnswers.{Judges, Refused, Judged, AnsweredFit, ErrorsRefute, RepairsFinish, OpenAnswersLeaveOpen}
-use Rattle.bb_ladder.specs.TextPairs.{AreRefuted, AreLeftOpen, DoFit, IsFinishedReport}
+use Rattle.bb_verdict.specs.TextAnswers.{Judges, Refused, Judged, AnsweredFit, ErrorsRefute, RepairsFinish, OpenAnswersLeaveOpen}
+use Rattle.bb_verdict.specs.TextPairs.{AreRefuted, AreLeftOpen, DoFit, IsFinishedReport}
 use Rattle.bb_ladder.proofs.SourceLemmas.{both_whole}
-use Rattle.bb_ladder.proofs.AnswerLaws.{report_status}
 
 pub same_question : (a b : Question) → Some a ≡ Some b → a ≡ b
 same_question a b e = cc
@@ -191,9 +193,15 @@ pub no_sound : WordsAskOnce → CheckLaws → (call : Call) (from : Source) (sta
 no_sound once laws = refutation_so once (λ first second text. (n : ℕ) × (text ≡ no_line n) × FailsAt first second n) 1 (λ e. omega (arith, e)) (λ e. omega (arith, e)) laws.no
 
 -- no text that is judged gives the status of a failed read
+
+no_fourth : (v : Verdict) → status_of v ≡ 4 → ⊥
+no_fourth verdicts.Error e = omega (arith, e)
+no_fourth verdicts.Repairable e = omega (arith, e)
+no_fourth verdicts.Open e = omega (arith, e)
+
 never_unread : (asked : TextsAsked) (spec imp : List ℕ) (status : ℕ) (text : List ℕ) → Judges asked spec imp status text → status ≡ 4 → ⊥
 never_unread asked spec imp status text (Refused r is s t) four = omega (arith, s, four)
-never_unread asked spec imp status text (Judged p lines d i are for climb s rest follows t) four = report_status lines (sym s ∙ four)
+never_unread asked spec imp status text (Judged p lines d i are for climb s rest follows t) four = no_fourth (verdict_of lines) (sym s ∙ four)
 
 -- a read that gave bytes counts no failure
 gave_bytes : (before after : Reads) (name : List ℕ) (limit : ℕ) (bytes : List ℕ) → IsRead before after name limit (Some (Some bytes)) → after.faults ≡ before.faults

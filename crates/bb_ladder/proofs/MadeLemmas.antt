@@ -3,10 +3,10 @@ use Rattle.std.proofs.Common.{◌≡◌, ◌∙◌, ℕ, List, ap, subst, sym}
 use Rattle.std.specs.Prelude.{IfOk, Result, Ok, Err}
 use Rattle.bb_make.specs.Adders.{made_imp, made_spec}
 use Rattle.bb_words.specs.Asked.{MadePair}
-use Rattle.bb_ladder.specs.declared.answer.Answer.{Answer}
-use Rattle.bb_ladder.specs.declared.asked.Asked.{Asked as TextsAsked}
+use Rattle.bb_verdict.specs.declared.answer.Answer.{Answer}
+use Rattle.bb_verdict.specs.declared.asked.Asked.{Asked as TextsAsked}
 use Rattle.bb_ladder.specs.MadePairs.{JudgesMade, asked_of, made_text}
-use Rattle.bb_ladder.specs.TextAnswers.{Judges}
+use Rattle.bb_verdict.specs.TextAnswers.{Judges}
 
 module _ {E : Type 0} (m : MadePair) where
   pub judged_made : (asked : TextsAsked) (spec imp : List ℕ) (a : Answer) (r : Result Answer E) → asked ≡ asked_of m.fill m.options → spec ≡ made_spec m.n → imp ≡ made_imp m.n

@@ -9,7 +9,7 @@ use Rattle.bb_rup.specs.Laws.{AdditionsLaws}
 use Rattle.bb_rup.specs.declared.fault.RupFault.{RupFault}
 use Rattle.bb_rup.specs.declared.fault.RupFault.TheVariants.{NoMemory}
 use Rattle.bb_texts.specs.Refusals.{refusal}
-use Rattle.bb_ladder.specs.declared.answer.Answer.{Answer}
+use Rattle.bb_verdict.specs.declared.answer.Answer.{Answer}
 use Rattle.bb_ladder.specs.Refutations.{rup_words, no_line, AreRead, IsCheckRefusal, OfFormula, OfAdditions, Tells, Yes, No, Checks, Faulty, Checked, Refutes, FailsAt, SaysWhether, CheckLaws}
 
 -- a text is read once

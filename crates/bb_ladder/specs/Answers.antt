@@ -3,14 +3,14 @@
 use Rattle.std.specs.Prelude.{◌≡◌, ◌⊎◌, ℕ, ◌<◌, List, ◌++◌, length, take, Option, None, Some, option_map, codes, IfSome}
 use Rattle.bb_outside.specs.Counts.{IsRead, Reads}
 use Rattle.bb_texts.specs.declared.limit.TheConstants.{READ_LIMIT}
-use Rattle.bb_ladder.specs.declared.asked.Asked.{Asked as TextsAsked}
+use Rattle.bb_verdict.specs.declared.asked.Asked.{Asked as TextsAsked}
 use Rattle.bb_ladder.specs.Calls.{Call}
 use Rattle.bb_ladder.specs.Refutations.{Checks}
-use Rattle.bb_ladder.specs.OpenReports.{IsOpenReport}
-use Rattle.bb_ladder.specs.ShownMistakes.{AreShown}
+use Rattle.bb_verdict.specs.OpenReports.{IsOpenReport}
+use Rattle.bb_verdict.specs.ShownMistakes.{AreShown}
 use Rattle.bb_ladder.specs.Sources.{AreBytes, Source}
-use Rattle.bb_ladder.specs.TextAnswers.{Judges}
-use Rattle.bb_ladder.specs.TextPairs.{AreLeftOpen, AreRefuted, DoFit, IsFinishedReport}
+use Rattle.bb_verdict.specs.TextAnswers.{Judges}
+use Rattle.bb_verdict.specs.TextPairs.{AreLeftOpen, AreRefuted, DoFit, IsFinishedReport}
 use Rattle.bb_make.specs.Adders.{made_imp, made_spec}
 use Rattle.bb_ladder.specs.MadePairs.{JudgesMade, asked_of, head_of}
 use Rattle.bb_words.specs.Asked.{MadePair, Refutation, Request, asked, made_asked, rup_asked}

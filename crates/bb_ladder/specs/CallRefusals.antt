@@ -9,7 +9,7 @@ use Rattle.bb_ladder.specs.Answers.{Question, MayAnswer, question_of}
 use Rattle.bb_ladder.specs.Calls.{Call}
 use Rattle.bb_ladder.specs.Refutations.{IsCheckRefusal}
 use Rattle.bb_ladder.specs.Sources.{AreBytes, IsFirst, MayHaveFailed, Source}
-use Rattle.bb_ladder.specs.TextPairs.{IsPairRefusal}
+use Rattle.bb_verdict.specs.TextPairs.{IsPairRefusal}
 use Rattle.bb_make.specs.Adders.{made_imp, made_spec}
 use Rattle.bb_ladder.specs.MadePairs.{asked_of}
 use Rattle.bb_words.specs.Asked.{MadePair, Refutation, made_asked, rup_asked}

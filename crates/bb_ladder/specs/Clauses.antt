@@ -3,7 +3,7 @@ use Rattle.std.specs.Prelude.{ℕ, ◌<◌, List, length, Option}
 use Rattle.std.specs.Io.KnownBytes.{Appends}
 use Rattle.bb_texts.specs.declared.limit.TheConstants.{READ_LIMIT}
 use Rattle.bb_words.specs.Asked.{Refutation}
-use Rattle.bb_ladder.specs.declared.asked.Asked.{Asked}
+use Rattle.bb_verdict.specs.declared.asked.Asked.{Asked}
 use Rattle.bb_ladder.specs.Answers.{AreRefutationTexts, AreTexts, IsReport}
 use Rattle.bb_ladder.specs.Calls.{Call}
 use Rattle.bb_ladder.specs.Sources.{MayHaveFailed, Source}

@@ -2,7 +2,7 @@
 -- talk: the two texts of a verdict are there, and so is as much as a refusal rests on.
 use Rattle.std.specs.Prelude.{◌≡◌, ℕ, List, Some}
 use Rattle.bb_outside.specs.Counts.{FileRead}
-use Rattle.bb_ladder.specs.declared.asked.Asked.{Asked as TextsAsked}
+use Rattle.bb_verdict.specs.declared.asked.Asked.{Asked as TextsAsked}
 use Rattle.bb_ladder.specs.Answers.{AreRefutationTexts, AreTexts, IsVerdict, MayAnswer}
 use Rattle.bb_ladder.specs.Calls.{Call}
 use Rattle.bb_ladder.specs.CallRefusals.{AreTold}

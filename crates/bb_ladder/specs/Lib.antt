@@ -1,9 +1,3 @@
-pub mod OwnTexts
-pub mod TextPairs
-pub mod FilledTexts
-pub mod TextAnswers
-pub mod ShownMistakes
-pub mod OpenReports
 pub mod Refutations
 pub mod Sources
 pub mod MadePairs
@@ -13,4 +7,3 @@ pub mod Clauses
 pub mod CallRefusals
 pub mod GivenTexts
 pub mod Inside
-pub mod Laws

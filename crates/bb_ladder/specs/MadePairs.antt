@@ -6,8 +6,8 @@ use Rattle.std.specs.Prelude.{decimal}
 use Rattle.bb_make.specs.Adders.{inputs, made_imp, made_spec}
 use Rattle.bb_options.specs.declared.options.Options.{Options}
 use Rattle.bb_words.specs.Asked.{MadePair, made_asked}
-use Rattle.bb_ladder.specs.declared.asked.Asked.{Asked as TextsAsked}
-use Rattle.bb_ladder.specs.TextAnswers.{Judges}
+use Rattle.bb_verdict.specs.declared.asked.Asked.{Asked as TextsAsked}
+use Rattle.bb_verdict.specs.TextAnswers.{Judges}
 
 -- what is asked of its two texts: the module add is the top of both, and all outputs have to agree everywhere
 abbrev pub asked_of : Bool → Options → TextsAsked

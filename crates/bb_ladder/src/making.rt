@@ -4,13 +4,11 @@ ghost use Rattle.std.specs.Prelude.{◌≡◌, ◌≤◌, IfOk};
 ghost use Rattle.bb_options.specs.Rungs.{AreBounds};
 ghost use Rattle.bb_ladder.specs.MadePairs.{JudgesMade, asked_of, made_head, made_text};
 
-use crate::answer::Answer;
-use crate::asked::Asked;
-use crate::judging::judge_pair;
 use bb_bits::{Name, NoMemory};
 use bb_make::{input_count, texts};
 use bb_rungs::Options;
 use bb_texts::read_limit_is;
+use bb_verdict::{Answer, Asked, judge_pair};
 use itoa::Buffer;
 use std::alloc::Global;
 

@@ -9,11 +9,11 @@ ghost use Rattle.bb_ladder.specs.CallRefusals.{IsCallRefusal};
 ghost use Rattle.bb_ladder.specs.Calls.{called};
 ghost use Rattle.bb_ladder.specs.Clauses.{OfRefutations, OfTexts, OfWholeRefutations, OfWholeTexts};
 ghost use Rattle.bb_ladder.specs.Refutations.{AreRead, FailsAt, Refutes, SaysWhether};
-ghost use Rattle.bb_ladder.specs.OpenReports.{IsOpenReport};
-ghost use Rattle.bb_ladder.specs.ShownMistakes.{AreShown};
+ghost use Rattle.bb_verdict.specs.OpenReports.{IsOpenReport};
+ghost use Rattle.bb_verdict.specs.ShownMistakes.{AreShown};
 ghost use Rattle.bb_ladder.specs.Sources.{Held, MayHaveFailed, Source};
-ghost use Rattle.bb_ladder.specs.TextPairs.{AreDecided, AreLeftOpen, AreRefuted, AreStayingOpen, DoFit};
-ghost use Rattle.bb_ladder.specs.TextPairs.{IsFinishedReport};
+ghost use Rattle.bb_verdict.specs.TextPairs.{AreDecided, AreLeftOpen, AreRefuted, AreStayingOpen, DoFit};
+ghost use Rattle.bb_verdict.specs.TextPairs.{IsFinishedReport};
 
 use crate::running::run;
 use bb_outside::{QuietFiles, QuietSink};

@@ -9,11 +9,11 @@ ghost use Rattle.bb_texts.specs.Refusals.{refusal};
 ghost use Rattle.bb_ladder.specs.Refutations.{CheckLaws, Checks, FailsAt, IsCheckRefusal, Refutes, Tells, no_line};
 ghost use Rattle.bb_ladder.specs.Refutations.{rup_words};
 
-use crate::answer::{Answer, say};
 use bb_bits::NoMemory;
 use bb_cnf::{Cnf, Lit};
 use bb_rup::{RupAnswer, RupFault, additions, dimacs, rup};
 use bb_texts::push_at_line;
+use bb_verdict::{Answer, say};
 use itoa::Buffer;
 use smallvec::SmallVec;
 use std::alloc::Global;

@@ -14,24 +14,22 @@ ghost use Rattle.bb_ladder.specs.Calls.{called};
 ghost use Rattle.bb_ladder.specs.Clauses.{OfRefutations, OfTexts, OfWholeRefutations, OfWholeTexts, Reports, Writes};
 ghost use Rattle.bb_ladder.specs.GivenTexts.{HaveGiven};
 ghost use Rattle.bb_ladder.specs.Refutations.{AreRead, FailsAt, Refutes, SaysWhether, no_line};
-ghost use Rattle.bb_ladder.specs.OpenReports.{IsOpenReport};
-ghost use Rattle.bb_ladder.specs.ShownMistakes.{AreShown};
+ghost use Rattle.bb_verdict.specs.OpenReports.{IsOpenReport};
+ghost use Rattle.bb_verdict.specs.ShownMistakes.{AreShown};
 ghost use Rattle.bb_ladder.specs.Sources.{MayHaveFailed, Source};
 ghost use Rattle.bb_ladder.specs.Inside.Tasks.{IsBounded, judged_by};
-ghost use Rattle.bb_ladder.specs.TextPairs.{AreDecided, AreLeftOpen, AreRefuted, AreStayingOpen, DoFit};
-ghost use Rattle.bb_ladder.specs.TextPairs.{IsFinishedReport};
+ghost use Rattle.bb_verdict.specs.TextPairs.{AreDecided, AreLeftOpen, AreRefuted, AreStayingOpen, DoFit};
+ghost use Rattle.bb_verdict.specs.TextPairs.{IsFinishedReport};
 
-use crate::answer::{Answer, say};
-use crate::judging::judge_pair;
+use crate::call_laws::{answered_have_given, answers_speak_of_texts, calls_are_refused};
 use crate::making::judge_made;
 use crate::refuting::{judge_refutation, refutations_are_answered};
-use crate::text_laws::{
-    answered_have_given, answers_are_meant, answers_speak_of_texts, calls_are_refused,
-};
 use crate::words::{Job, Question, Task, job_of};
 use bb_bits::NoMemory;
 use bb_outside::{FileFault, Files, Sink, put_all};
 use bb_texts::READ_LIMIT;
+use bb_verdict::text_laws::answers_are_meant;
+use bb_verdict::{Answer, judge_pair, say};
 use bb_words::{WordsFault, words_ask_once};
 use std::alloc::Global;
 

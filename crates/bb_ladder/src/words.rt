@@ -5,9 +5,9 @@ ghost use Rattle.bb_words.specs.Asked.{made_asked, request_of, rup_asked};
 ghost use Rattle.bb_ladder.specs.Answers.{question, question_of};
 ghost use Rattle.bb_ladder.specs.Inside.Tasks.{AskJob, HasBounds};
 
-use crate::asked::Asked;
 use bb_bits::{Name, NoMemory};
 use bb_rungs::Options;
+use bb_verdict::Asked;
 use bb_words::{Asked as WordsAsked, Wanted, WordsFault, read_words};
 use std::alloc::Global;
 

@@ -4,7 +4,7 @@ use Rattle.bb_options.specs.Rungs.{AreBounds}
 use Rattle.bb_words.specs.Asked.{made_asked, rup_asked}
 use Rattle.bb_ladder.specs.Answers.{question_of}
 use Rattle.bb_ladder.specs.Refutations.{Checks}
-use Rattle.bb_ladder.specs.TextAnswers.{Judges}
+use Rattle.bb_verdict.specs.TextAnswers.{Judges}
 use Rattle.bb_ladder.specs.declared.words.Job.{Job}
 use Rattle.bb_ladder.specs.declared.words.Job.TheVariants.{Files, Made}
 use Rattle.bb_ladder.specs.declared.words.Task.{Task}

@@ -1,7 +1,7 @@
 use Rattle.std.proofs.Common.{◌≡◌, ℕ, List, Ok}
 use Rattle.std.proofs.lemmas.Result.{IfOk-weaker}
 use Rattle.bb_rup.specs.Dimacs.{dimacs_of}
-use Rattle.bb_ladder.specs.declared.answer.Answer.{Answer}
+use Rattle.bb_verdict.specs.declared.answer.Answer.{Answer}
 use Rattle.bb_ladder.specs.Refutations.{Checks}
 use Rattle.bb_ladder.proofs.RefutationLaws.{formula_refused}
 use Rattle.bb_ladder.proofs.refuting.answer.Goals as goal

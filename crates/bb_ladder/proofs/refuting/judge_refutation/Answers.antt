@@ -1,6 +1,6 @@
 use Rattle.std.proofs.Common.{◌≡◌, ℕ, codes}
 use Rattle.std.proofs.lemmas.Result.{IfOk-weaker}
-use Rattle.bb_ladder.specs.declared.answer.Answer.{Answer}
+use Rattle.bb_verdict.specs.declared.answer.Answer.{Answer}
 use Rattle.bb_ladder.specs.Refutations.{Checks, FailsAt, IsCheckRefusal, Refutes, no_line}
 use Rattle.bb_ladder.proofs.refuting.judge_refutation.Goals as goal
 

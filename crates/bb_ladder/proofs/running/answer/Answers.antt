@@ -1,7 +1,7 @@
 use Rattle.std.proofs.Common.{map, refl, string_bytes}
 use Rattle.std.proofs.lemmas.Result.{IfOk-weaker}
 use Rattle.bb_ladder.specs.Answers.{Making}
-use Rattle.bb_ladder.specs.declared.answer.Answer.{Answer}
+use Rattle.bb_verdict.specs.declared.answer.Answer.{Answer}
 use Rattle.bb_ladder.proofs.TaskLemmas.{may_answer, task_or_pair}
 use Rattle.bb_ladder.proofs.running.answer.Goals as goal
 

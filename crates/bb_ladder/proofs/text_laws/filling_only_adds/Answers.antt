@@ -1,5 +1,0 @@
-use Rattle.bb_ladder.proofs.FilledAnswers.{filling_only_adds}
-use Rattle.bb_ladder.proofs.text_laws.filling_only_adds.Goals as goal
-
-pub returns : goal.returns
-returns c = filling_only_adds c.answers_exist.ensures

@@ -1,5 +1,0 @@
-use Rattle.bb_ladder.proofs.FollowLaws.{no_tables_follow}
-use Rattle.bb_ladder.proofs.text_laws.no_tables_follow.Goals as goal
-
-pub returns : goal.returns
-returns c = no_tables_follow

@@ -1,8 +1,0 @@
-use Rattle.bb_ladder.proofs.StatusLaw.{reports_are_one, reports_begin_as_one}
-use Rattle.bb_ladder.proofs.text_laws.reports_are_one.Goals as goal
-
-pub returns : goal.returns
-returns c = record {
-  one = reports_are_one c.text_pairs_are_alike.ensures c.alike_reports_are_one.ensures.one;
-  begin = reports_begin_as_one c.text_pairs_are_alike.ensures c.alike_reports_are_one.ensures.begin;
-}

@@ -1,0 +1,17 @@
+pub mod TextPairLaws
+pub mod LineBytes
+pub mod FilledLines
+pub mod FollowLaws
+pub mod KeptNets
+pub mod MadeNets
+pub mod FilledNames
+pub mod FilledFit
+pub mod FilledAgree
+pub mod FilledLaw
+pub mod FilledNets
+pub mod AnswerLaws
+pub mod FilledAnswers
+pub mod StatusLaw
+pub mod ShownLaw
+pub mod OpenLaw
+pub mod SomeAnswers
