@@ -67,7 +67,7 @@ fn resolve_at(
 {
     laws::chains();
     let clause = clauses.at(reason);
-    guide.resolves(resolvent, clause, reason);
+    guide.resolves(resolvent, clause, reason, lit.var);
     resolvent.resolve(clause, lit.var)?;
     pairs.push((reason as u64, lit.var))?;
     Ok(())

@@ -145,10 +145,11 @@ impl Guide {
         &self.found[..count]
     }
 
-    /// Rewards the variables that a clause adds to the resolvent, and counts those of the conflict's level.
-    pub(crate) fn adds(&mut self, resolvent: &PartialResolvent, clause: &[Lit]) {
+    /// Rewards the variables that a clause adds to the resolvent, and counts those of the conflict's level. The variable
+    /// `but` is resolved away, and so not added.
+    pub(crate) fn adds(&mut self, resolvent: &PartialResolvent, clause: &[Lit], but: u32) {
         for lit in clause {
-            if !resolvent.has(*lit) {
+            if lit.var != but && !resolvent.has(*lit) {
                 self.finds(lit.var);
             }
         }
@@ -162,14 +163,22 @@ impl Guide {
         self.scores.age();
         self.retention.begin();
         self.retention.uses(number);
-        self.adds(resolvent, clause);
+        // There is no variable 0.
+        self.adds(resolvent, clause, 0);
     }
 
-    /// The clause of this number is the reason of a literal whose negation is resolved away.
-    pub(crate) fn resolves(&mut self, resolvent: &PartialResolvent, clause: &[Lit], number: usize) {
+    /// The clause of this number is the reason of a literal of this variable, whose negation is resolved away. The
+    /// variable had its reward when its negation came: one a conflict, as in other solvers.
+    pub(crate) fn resolves(
+        &mut self,
+        resolvent: &PartialResolvent,
+        clause: &[Lit],
+        number: usize,
+        var: u32,
+    ) {
         self.retention.uses(number);
-        self.adds(resolvent, clause);
-        self.open = self.open.saturating_sub(2);
+        self.adds(resolvent, clause, var);
+        self.open = self.open.saturating_sub(1);
     }
 
     /// Is at most one literal of the conflict's level left?

@@ -94,7 +94,7 @@ fn resolve_before(
         return Ok(());
     };
     let clause = clauses.at(reason);
-    guide.adds(resolvent, clause);
+    guide.adds(resolvent, clause, entry.lit.var);
     resolvent.resolve(clause, entry.lit.var)?;
     pairs.push((reason as u64, entry.lit.var))?;
     Ok(())
