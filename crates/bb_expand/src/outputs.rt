@@ -11,8 +11,10 @@ use crate::free::by_solver;
 use crate::merging::Sweep;
 use crate::sought::Sought;
 use bb_bits::NoMemory;
+use bb_miter::difference;
 use bb_net::Net;
 use bb_strash::{miter, swept};
+use bb_sym::RungFault;
 use std::alloc::Global;
 
 // A vector at which some output is 1, or that none ever is, one output after another. Where so many are left open, the
@@ -71,14 +73,20 @@ fn by_sweeping(alloc: Global, net: &Net, effort: Effort) -> Result<Sought, NoMem
 }
 
 // What is tried one after another: whether all outputs are the constant 0 as they are; how many clauses the solver may
-// learn for all outputs together, where it finds vectors of many kinds; for each; and for each after cells were merged.
+// learn for all outputs together, where it finds vectors of many kinds; diagrams of so many beads with so many cached
+// results, which are quick where inputs are few or well ordered; how many clauses it may learn for each output; and for
+// each after cells were merged.
 const AS_IT_IS: Effort = Effort {
     gates: 0,
     clauses: 100,
     learned: 1,
 };
 
-const TOGETHER: u32 = 500;
+const TOGETHER: u32 = 200;
+
+const NODES: u32 = 100_000;
+
+const CACHE: u32 = 16_384;
 
 const EACH: u32 = 200;
 
@@ -114,7 +122,44 @@ fn seek_in_miter(alloc: Global, net: &Net, clauses: u32) -> Result<Sought, NoMem
     }
 }
 
-// The same for two netlists with their miter: what all outputs together are, and then each.
+// A vector at which some output of the two differs, or that there is none, by diagrams that stay small.
+fn by_small_diagrams(alloc: Global, spec: &Net, imp: &Net) -> Result<Sought, NoMemory>
+    requires comparable { AreComparable spec.now imp.now }
+    ensures at { IfOk result (IfAt spec.now imp.now) }
+    ensures nowhere { IfOk result (IfNowhere spec.now imp.now) }
+{
+    match difference(alloc, spec, imp, NODES, CACHE) {
+        Ok(Some(x)) => Ok(Sought::At(x)),
+        Ok(None) => Ok(Sought::Nowhere),
+        Err(RungFault::Nodes) => Ok(Sought::GivenUp),
+        Err(RungFault::NoMemory) => Err(NoMemory),
+    }
+}
+
+// The same by small diagrams, and where these grow too large by the miter of the two.
+fn seek_apart(
+    alloc: Global,
+    spec: &Net,
+    imp: &Net,
+    net: &Net,
+    clauses: u32,
+) -> Result<Sought, NoMemory>
+    requires comparable { AreComparable spec.now imp.now }
+    requires miter { IsMiter spec.now imp.now net.now }
+    requires budget { clauses ≤ 8000000 }
+    ensures at { IfOk result (IfAt spec.now imp.now) }
+    ensures nowhere { IfOk result (IfNowhere spec.now imp.now) }
+{
+    match by_small_diagrams(alloc, spec, imp)? {
+        Sought::GivenUp => {
+            let sought = seek_in_miter(alloc, net, clauses)?;
+            Ok(lifted(spec, imp, net, sought))
+        }
+        answer => Ok(answer),
+    }
+}
+
+// The same by all outputs together, whose vectors are of many kinds, and then apart.
 fn seek_both(
     alloc: Global,
     spec: &Net,
@@ -129,10 +174,7 @@ fn seek_both(
     ensures nowhere { IfOk result (IfNowhere spec.now imp.now) }
 {
     match by_solver(alloc, spec, imp, clauses, TOGETHER)? {
-        Sought::GivenUp => {
-            let sought = seek_in_miter(alloc, net, clauses)?;
-            Ok(lifted(spec, imp, net, sought))
-        }
+        Sought::GivenUp => seek_apart(alloc, spec, imp, net, clauses),
         answer => Ok(answer),
     }
 }
