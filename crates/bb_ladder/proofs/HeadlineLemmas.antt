@@ -62,13 +62,16 @@ no_head once words q text asks = by (made_asked words) refl
     by None e = refl
     by (Some m) e = absurd (never_files_and_made once words q m asks e)
 
+is_two : (n : ℕ) → (n == 2) ≡ true → n ≡ 2
+is_two n same = grind (arith, same)
+
 -- what is written of a made pair, unless it is refused, stands behind its head
 pub behind_head : (words : List (List ℕ)) (m : MadePair) (status : ℕ) (told text : List ℕ) → made_asked words ≡ Some m → (status ≡ 2 → ⊥) → text ≡ made_text m.n status told → text ≡ head_of words ++ told
 behind_head words m status told text makes other e = e ∙ by (status == 2) refl ∙ ap (λ o. head_by o ++ told) (sym makes)
   where
     by : (b : Bool) → (status == 2) ≡ b → (if b then told else made_head m.n ++ told) ≡ made_head m.n ++ told
     by false h = refl
-    by true h = absurd (other (grind (arith, h)))
+    by true h = absurd (other (is_two status h))
 
 -- and a refusal alone
 pub alone_at_two : (n status : ℕ) (told text : List ℕ) → status ≡ 2 → text ≡ made_text n status told → text ≡ told

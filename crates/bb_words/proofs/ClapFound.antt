@@ -195,7 +195,7 @@ same_found : (more : List Argument) → list_all is_known more ≡ true → (row
 same_found more known rows are = record {
   spec = ap (first_of (codes "SPEC")) are ∙ keeps_all_flags (codes "SPEC") refl (rows_from 0 more) ∙ in_spec more known;
   imp = ap (first_of (codes "IMPL")) are ∙ keeps_all_flags (codes "IMPL") refl (rows_from 0 more) ∙ in_imp more known;
-  is_given = λ name is. ap (λ rs. is_true (first_of name rs)) are
+  has_flag = λ name is. ap (λ rs. is_true (first_of name rs)) are
       ∙ keeps_all (λ rs. is_true (first_of name rs)) (λ flag. with_flag (λ rs. is_true (first_of name rs)) flag (flag_last name flag)) (rows_from 0 more)
       ∙ in_flag name is 0 more known;
   value = λ name is. ap (first_of name) are ∙ keeps_all_flags name (no_flags name is flags refl) (rows_from 0 more) ∙ in_value name is 0 more known;

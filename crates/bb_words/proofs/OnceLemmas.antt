@@ -44,7 +44,7 @@ found_refutation found f e =
     no_option : is_alone found ≡ true → is_absent found (codes "make") ≡ true
     no_option alone =
         last_of (is_absent found) other_options (codes "make")
-        (both (not (found.is_given (codes "all")) && not (found.is_given (codes "proof")) && not (found.is_given (codes "shared")) && not (found.is_given (codes "fill"))) (list_all (is_absent found) options) alone).1
+        (both (not (found.has_flag (codes "all")) && not (found.has_flag (codes "proof")) && not (found.has_flag (codes "shared")) && not (found.has_flag (codes "fill"))) (list_all (is_absent found) options) alone).1
 
 -- what is found where a made pair is asked for
 pub record FoundPair (found : Found) : Type 0 where

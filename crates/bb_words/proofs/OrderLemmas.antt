@@ -1,5 +1,5 @@
 -- Two neighbours among arguments, of which one is no file, may be exchanged.
-use Rattle.std.proofs.Common.{◌≡◌, ◌∙◌, ℕ, Bool, true, false, List, [], ◌∷◌, ◌++◌, Option, None, Some, ap, ap₂, refl, sym}
+use Rattle.std.proofs.Common.{◌≡◌, ◌∙◌, ◌⊎◌, inl, inr, ℕ, Bool, true, false, List, [], ◌∷◌, ◌++◌, Option, None, Some, ap, ap₂, refl, sym}
 use Rattle.std.specs.Prelude.{◌&&◌, ◌||◌, if◌then◌else◌, length, nat_le, not, slice_get}
 use Rattle.std.specs.List.{list_any}
 use Rattle.std.specs.Str.{bytes_eq}
@@ -92,14 +92,18 @@ neighbours_apart a b behind [] once =
     neither false q e = refl
 neighbours_apart a b behind (x ∷ before) once = neighbours_apart a b behind before (both (not (comes_again x (before ++ a ∷ b ∷ behind))) (are_once (before ++ a ∷ b ∷ behind)) once).1
 
+either_exchanged : (a b : Argument) (behind before : List Argument) → (file_in a ≡ None) ⊎ (file_in b ≡ None) → files_in (before ++ a ∷ b ∷ behind) ≡ files_in (before ++ b ∷ a ∷ behind)
+either_exchanged a b behind before (inl none) = files_exchanged a b behind before none
+either_exchanged a b behind before (inr none) = sym (files_exchanged b a behind before none)
+
 pub order_is_free : OrderIsFree
 order_is_free before behind a b none taken =
-    let files = files_exchanged a b behind before none in
+    let files = either_exchanged a b behind before none in
     let once = (both (nat_le (length (files_in (before ++ a ∷ b ∷ behind))) 2) (are_once (before ++ a ∷ b ∷ behind)) taken).1 in
     record {
       taken = ap₂ (λ l o. nat_le (length l) 2 && o) files (once_exchanged a b behind before);
       spec = ap (λ l. slice_get l 0) files;
       imp = ap (λ l. slice_get l 1) files;
-      is_given = λ name. any_exchanged (is_flag name) a b behind before;
+      has_flag = λ name. any_exchanged (is_flag name) a b behind before;
       value = λ name. value_exchanged name a b behind (neighbours_apart a b behind before once) before;
     }

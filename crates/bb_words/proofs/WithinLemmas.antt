@@ -155,21 +155,21 @@ module _ (f g : Found) (same : AreSame f g) where
     same.value (codes "nodes") refl,
     same.value (codes "cache") refl,
     same.value (codes "clauses") refl,
-    same.is_given (codes "all") refl,
-    same.is_given (codes "proof") refl,
-    same.is_given (codes "shared") refl,
+    same.has_flag (codes "all") refl,
+    same.has_flag (codes "proof") refl,
+    same.has_flag (codes "shared") refl,
   ) refl
 
   same_comparison : asked_comparison f ≡ asked_comparison g
   same_comparison = rw (
-    same.is_given (codes "rup") refl,
+    same.has_flag (codes "rup") refl,
     same.value (codes "make") refl,
     same.spec,
     same.imp,
     same.value (codes "top-spec") refl,
     same.value (codes "top-impl") refl,
     same.value (codes "care") refl,
-    same.is_given (codes "fill") refl,
+    same.has_flag (codes "fill") refl,
     same_options,
   ) refl
 
@@ -177,24 +177,24 @@ module _ (f g : Found) (same : AreSame f g) where
   same_made = rw (
     same.value (codes "make") refl,
     same_options,
-    same.is_given (codes "rup") refl,
+    same.has_flag (codes "rup") refl,
     same.spec,
     same.imp,
     same.value (codes "top-spec") refl,
     same.value (codes "top-impl") refl,
     same.value (codes "care") refl,
-    same.is_given (codes "fill") refl,
+    same.has_flag (codes "fill") refl,
   ) refl
 
   same_refutation : asked_refutation f ≡ asked_refutation g
   same_refutation = rw (
     same.spec,
     same.imp,
-    same.is_given (codes "rup") refl,
-    same.is_given (codes "all") refl,
-    same.is_given (codes "proof") refl,
-    same.is_given (codes "shared") refl,
-    same.is_given (codes "fill") refl,
+    same.has_flag (codes "rup") refl,
+    same.has_flag (codes "all") refl,
+    same.has_flag (codes "proof") refl,
+    same.has_flag (codes "shared") refl,
+    same.has_flag (codes "fill") refl,
     same.value (codes "top-spec") refl,
     same.value (codes "top-impl") refl,
     same.value (codes "from") refl,

@@ -1,8 +1,8 @@
--- What the words of a command line ask for: which files are compared and which module is the top of each, by which output the
--- specification says where agreement is asked, whether the filled implementation is to be printed, which checks are run, and within
--- which bounds; or, with `--make`, how wide a pair is made and compared by these checks, without a file; or, with `--rup`, in which
--- files a formula and its refutation stand. Words that are no command line, or whose values are not in the table below, ask for
--- nothing.
+-- What the words of a command line ask for: which files are compared and which module is the top of each, by which
+-- output the specification says where agreement is asked, whether the filled implementation is to be printed, which
+-- checks are run, and within which bounds; or, with `--make`, how wide a pair is made and compared by these checks,
+-- without a file; or, with `--rup`, in which files a formula and its refutation stand. Words that are no command
+-- line, or whose values are not in the table below, ask for nothing.
 use Rattle.std.specs.Prelude.{◌≡◌, ◌&&◌, ◌||◌, ◌≤◌, ℕ, Bool, not, is_some, nat_le, List, [], ◌∷◌, Option, Some, None}
 use Rattle.std.specs.Prelude.{if◌then◌else◌, option_and_then, option_map, option_copied, find, codes}
 use Rattle.std.specs.Char.{is_ascii_graphic}
@@ -92,14 +92,14 @@ asked_options found =
     if nat_le (rank from) (rank to) then Some (record {
       from = from;
       to = to;
-      all = found.is_given (codes "all");
+      all = found.has_flag (codes "all");
       patterns = patterns;
       seed = seed;
       nodes = nodes;
       cache = cache;
       clauses = clauses;
-      proof = found.is_given (codes "proof");
-      shared = found.is_given (codes "shared");
+      proof = found.has_flag (codes "proof");
+      shared = found.has_flag (codes "shared");
     }) else None)))))))
 
 -- all that is asked, by what was found
@@ -117,13 +117,13 @@ asked_request found =
       top_spec = top_spec;
       top_imp = top_imp;
       care = care;
-      fill = found.is_given (codes "fill");
+      fill = found.has_flag (codes "fill");
       options = options;
     })))))))
 
 -- whether the flag for a refutation is given
 abbrev pub is_refuting : Found → Bool
-is_refuting found = found.is_given (codes "rup")
+is_refuting found = found.has_flag (codes "rup")
 
 -- whether an option is not given, whatever its value would be
 abbrev pub is_absent : Found → List ℕ → Bool
@@ -132,8 +132,8 @@ is_absent found option = not (is_some (found.value option))
 -- no other flag is given, and no option
 abbrev pub is_alone : Found → Bool
 is_alone found =
-    not (found.is_given (codes "all")) && not (found.is_given (codes "proof")) && not (found.is_given (codes "shared"))
-    && not (found.is_given (codes "fill")) && list_all (is_absent found) options
+    not (found.has_flag (codes "all")) && not (found.has_flag (codes "proof")) && not (found.has_flag (codes "shared"))
+    && not (found.has_flag (codes "fill")) && list_all (is_absent found) options
 
 -- whether the width of a made pair is given
 abbrev pub is_making : Found → Bool
@@ -148,14 +148,14 @@ has_no_files found = not (is_some found.spec) && not (is_some found.imp)
 abbrev pub asked_comparison : Found → Option Request
 asked_comparison found = if is_refuting found || is_making found then None else asked_request found
 
--- a made pair, which has one box, is asked for by its width, from 1 to 256, without that flag, the one for shared contents, a
--- file, a top or a care output
+-- a made pair, which has one box, is asked for by its width, from 1 to 256, without that flag, the one for shared
+-- contents, a file, a top or a care output
 abbrev pub asked_made : Found → Option MadePair
 asked_made found =
     given (option_and_then (number_within 1 256) (found.value (codes "make"))) (λ n.
     given (asked_options found) (λ options.
     if not (is_refuting found) && (not options.shared && has_no_files found)
-    then Some (record { n = n; fill = found.is_given (codes "fill"); options = options }) else None))
+    then Some (record { n = n; fill = found.has_flag (codes "fill"); options = options }) else None))
 
 -- a refutation is asked for with it alone, and with both files
 abbrev pub asked_refutation : Found → Option Refutation

@@ -1,9 +1,10 @@
--- What a command line says: its words behind the program's own name, from left to right, as POSIX.1-2017 has it in 12.2 and GNU's
--- getopt_long with long names. `--name` is a flag; `--name value` and `--name=value` give an option its value; behind `--` each word
--- is a file. Before it a word is a file that does not begin with a minus sign or is nothing more, and a value that does stands behind
--- the equals sign. There are no short names, no shortened ones and no help.
-use Rattle.std.specs.Prelude.{◌==◌, ◌&&◌, ℕ, Bool, true, false, not, nat_le, List, [], ◌∷◌, map, length, drop, filter_map}
-use Rattle.std.specs.Prelude.{Option, None, Some, option_map, if◌then◌else◌, codes, slice_get}
+-- What a command line says: its words behind the program's own name, from left to right, in the manner of getopt_long
+-- with long names. `--name` is a flag; `--name value` and `--name=value` give an option its value; after `--` each
+-- word is a file, and before it each that does not begin with a minus sign or is nothing more. But a value that
+-- begins with one and has more stands after the equals sign, so `--` is no value; each flag and option comes once at
+-- most, files may stand among them; there are no short names, no shortened ones and no help.
+use Rattle.std.specs.Prelude.{◌==◌, ◌&&◌, ℕ, Bool, true, false, not, nat_le, List, [], ◌∷◌, map, length, drop}
+use Rattle.std.specs.Prelude.{filter_map, Option, None, Some, option_map, if◌then◌else◌, codes, slice_get}
 use Rattle.std.specs.List.{list_any, before_first, after_first}
 use Rattle.std.specs.Str.{bytes_eq}
 
@@ -14,8 +15,8 @@ abbrev pub flags : List Text
 flags = codes "all" ∷ codes "proof" ∷ codes "rup" ∷ codes "shared" ∷ codes "fill" ∷ []
 
 abbrev pub options : List Text
-options = codes "top-spec" ∷ codes "top-impl" ∷ codes "from" ∷ codes "to" ∷ codes "patterns" ∷ codes "seed" ∷ codes "nodes"
-    ∷ codes "clauses" ∷ codes "cache" ∷ codes "care" ∷ codes "make" ∷ []
+options = codes "top-spec" ∷ codes "top-impl" ∷ codes "from" ∷ codes "to" ∷ codes "patterns" ∷ codes "seed"
+    ∷ codes "nodes" ∷ codes "clauses" ∷ codes "cache" ∷ codes "care" ∷ codes "make" ∷ []
 
 abbrev pub is_among : List Text → Text → Bool
 is_among names name = list_any (λ known. bytes_eq known name) names
@@ -32,7 +33,7 @@ is_dashed [] = false
 is_dashed (b ∷ []) = false
 is_dashed (b ∷ c ∷ rest) = b == 45
 
--- what stands behind two of them
+-- what stands after two of them
 abbrev pub behind_dashes : Text → Option Text
 behind_dashes [] = None
 behind_dashes (b ∷ []) = None
@@ -45,8 +46,12 @@ is_equals b = b == 61
 abbrev pub preceded : Argument → Option (List Argument) → Option (List Argument)
 preceded argument = option_map (λ others. argument ∷ others)
 
--- `--text`, where this is said by the words behind it, the first of which may be the value of an option
-abbrev pub long : Text → (Option Text → Option (List Argument)) → Option (List Argument)
+-- what the words after one say; the first of them may be the value of an option
+abbrev pub Rest : Type 0
+Rest = Option Text → Option (List Argument)
+
+-- `--text`
+abbrev pub long : Text → Rest → Option (List Argument)
 long text others =
     if list_any is_equals text
     then (if is_among options (before_first is_equals text)
@@ -55,14 +60,14 @@ long text others =
     else (if is_among options text then others (Some text) else None))
 
 -- `--` alone, or `--text`
-abbrev pub dashed : Text → List Text → (Option Text → Option (List Argument)) → Option (List Argument)
-dashed [] words others = Some (map File words)
-dashed (b ∷ bs) words others = long (b ∷ bs) others
+abbrev pub two_dashes : Text → List Text → Rest → Option (List Argument)
+two_dashes [] words others = Some (map File words)
+two_dashes (b ∷ bs) words others = long (b ∷ bs) others
 
--- a word that does not begin with two minus signs, or one that does
-abbrev pub said_by : Option Text → Text → List Text → (Option Text → Option (List Argument)) → Option (List Argument)
+-- a word by what stands after its two minus signs; one without them is a file, if it has not one alone and more
+abbrev pub said_by : Option Text → Text → List Text → Rest → Option (List Argument)
 said_by None word words others = if is_dashed word then None else preceded (File word) (others None)
-said_by (Some text) word words others = dashed text words others
+said_by (Some text) word words others = two_dashes text words others
 
 -- what words say, of which the first is the value of an option where one waits for it
 abbrev pub arguments_of : Option Text → List Text → Option (List Argument)
@@ -103,7 +108,7 @@ are_taken arguments = nat_le (length (files_in arguments)) 2 && are_once argumen
 pub record Found : Type 0 where
   pub spec : Option Text
   pub imp : Option Text
-  pub is_given : Text → Bool
+  pub has_flag : Text → Bool
   pub value : Text → Option Text
 
 abbrev pub is_flag : Text → Argument → Bool
@@ -122,7 +127,7 @@ abbrev pub found_among : List Argument → Found
 found_among arguments = record {
   spec = slice_get (files_in arguments) 0;
   imp = slice_get (files_in arguments) 1;
-  is_given = λ name. list_any (is_flag name) arguments;
+  has_flag = λ name. list_any (is_flag name) arguments;
   value = λ name. value_in name arguments;
 }
 

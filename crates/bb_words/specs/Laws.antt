@@ -1,16 +1,18 @@
 -- Laws of what words ask for.
-use Rattle.std.specs.Prelude.{◌≡◌, ◌≢◌, ◌≤◌, ◌==◌, ℕ, Bool, true, false, not, List, [], ◌∷◌, ◌++◌, All, Contains, IfSome, None, Some, if◌then◌else◌, codes}
+use Rattle.std.specs.Prelude.{◌≡◌, ◌≢◌, ◌≤◌, ◌==◌, ℕ, Bool, true, false, not, List, [], ◌∷◌, ◌++◌, ◌⊎◌, All, Contains}
+use Rattle.std.specs.Prelude.{IfSome, None, Some, if◌then◌else◌, codes}
 use Rattle.std.specs.Char.{is_ascii_graphic}
 use Rattle.std.specs.List.{list_all}
 use Rattle.bb_options.specs.declared.rung.Rung.TheVariants.{Ternary, Expand}
 use Rattle.bb_options.specs.Rungs.{AreBounds}
 use Rattle.bb_options.specs.declared.options.Options.{Options}
-use Rattle.bb_words.specs.Asked.{AskNothing, MadePair, Refutation, Request, asked, is_making, is_refuting, made_asked, rup_asked}
+use Rattle.bb_words.specs.Asked.{AskNothing, MadePair, Refutation, Request, asked, is_making, is_refuting, made_asked}
+use Rattle.bb_words.specs.Asked.{rup_asked}
 use Rattle.bb_words.specs.CommandLines.{Argument, Found, are_taken, file_in, flags, found_among, found_in, options}
 use Rattle.bb_words.specs.Numbers.{number_within}
 
--- each name that has to be given is not empty, a care output has a name that can be printed, each number is within its bounds, and so is
--- the order of the checks
+-- each name that has to be given is not empty, a care output has a name that can be printed, each number is within
+-- its bounds, and so is the order of the checks
 pub record IsWithin (r : Request) : Type 0 where
   pub spec : r.spec ≢ []
   pub imp : r.imp ≢ []
@@ -50,7 +52,8 @@ pair_alone n = record { n = n; fill = false; options = options_alone }
 
 -- two plain words behind the program's own name are two files, and ask for nothing else
 abbrev pub PlainWordsAreFiles : Type 0
-PlainWordsAreFiles = (program spec imp : List ℕ) → is_plain spec ≡ true → is_plain imp ≡ true → asked (program ∷ spec ∷ imp ∷ []) ≡ Some (files_alone spec imp)
+PlainWordsAreFiles = (program spec imp : List ℕ) → is_plain spec ≡ true → is_plain imp ≡ true
+    → asked (program ∷ spec ∷ imp ∷ []) ≡ Some (files_alone spec imp)
 
 -- `--make` with a number from 1 to 256 asks for the made pair of this width, and for nothing else
 abbrev pub WidthsAskForPairs : Type 0
@@ -65,7 +68,8 @@ pub record AskTheSame (words others : List (List ℕ)) : Type 0 where
 
 -- behind two files a value stands behind its option as the next word, or joined to it by an equals sign
 abbrev pub ValuesMayBeJoined : Type 0
-ValuesMayBeJoined = (program spec imp value : List ℕ) → is_plain spec ≡ true → is_plain imp ≡ true → is_plain value ≡ true
+ValuesMayBeJoined = (program spec imp value : List ℕ) → is_plain spec ≡ true → is_plain imp ≡ true
+    → is_plain value ≡ true
     → All (λ option. AskTheSame (program ∷ spec ∷ imp ∷ (codes "--" ++ option) ∷ value ∷ []) (program ∷ spec ∷ imp ∷ (codes "--" ++ option ++ codes "=" ++ value) ∷ [])) options
 
 -- behind two files `--care` and a name ask where these have to agree, if the name can be printed, and else for nothing
@@ -75,17 +79,22 @@ CareNamesAreAsked = (program spec imp text : List ℕ) → is_plain spec ≡ tru
 
 -- behind two files `--fill` asks for the filled implementation
 abbrev pub FillIsAsked : Type 0
-FillIsAsked = (program spec imp : List ℕ) → is_plain spec ≡ true → is_plain imp ≡ true → asked (program ∷ spec ∷ imp ∷ codes "--fill" ∷ []) ≡ Some (record (files_alone spec imp) { fill = true })
+FillIsAsked = (program spec imp : List ℕ) → is_plain spec ≡ true → is_plain imp ≡ true
+    → asked (program ∷ spec ∷ imp ∷ codes "--fill" ∷ []) ≡ Some (record (files_alone spec imp) { fill = true })
 
 -- less than two words are no two files
 abbrev pub FewWordsAskForNothing : Type 0
-FewWordsAskForNothing = AskNothing [] × ((program : List ℕ) → AskNothing (program ∷ [])) × ((program spec : List ℕ) → is_plain spec ≡ true → AskNothing (program ∷ spec ∷ []))
+FewWordsAskForNothing = AskNothing [] × ((program : List ℕ) → AskNothing (program ∷ [])) × ((program spec : List ℕ)
+    → is_plain spec ≡ true → AskNothing (program ∷ spec ∷ []))
 
 -- words ask for a comparison of files, for a made pair or for a refutation, or for nothing
 pub record WordsAskOnce : Type 0 where
-  pub not_both : (words : List (List ℕ)) (r : Request) (f : Refutation) → asked words ≡ Some r → rup_asked words ≡ Some f → ⊥
-  pub not_files_and_made : (words : List (List ℕ)) (r : Request) (m : MadePair) → asked words ≡ Some r → made_asked words ≡ Some m → ⊥
-  pub not_made_and_refuted : (words : List (List ℕ)) (m : MadePair) (f : Refutation) → made_asked words ≡ Some m → rup_asked words ≡ Some f → ⊥
+  pub not_both : (words : List (List ℕ)) (r : Request) (f : Refutation) → asked words ≡ Some r
+      → rup_asked words ≡ Some f → ⊥
+  pub not_files_and_made : (words : List (List ℕ)) (r : Request) (m : MadePair) → asked words ≡ Some r
+      → made_asked words ≡ Some m → ⊥
+  pub not_made_and_refuted : (words : List (List ℕ)) (m : MadePair) (f : Refutation) → made_asked words ≡ Some m
+      → rup_asked words ≡ Some f → ⊥
   -- and the flag and the width alone say which
   pub without : (words : List (List ℕ)) (found : Found) → found_in words ≡ Some found → is_refuting found ≡ false
       → rup_asked words ≡ None
@@ -98,33 +107,37 @@ pub record WordsAskOnce : Type 0 where
   -- the names of a refutation's files are not empty
   pub names : (words : List (List ℕ)) (f : Refutation) → rup_asked words ≡ Some f → (f.cnf ≢ []) × (f.adds ≢ [])
 
--- behind two files these ask for nothing: a third file, an option or a flag that is given twice, a value on a flag, and a name that is
--- neither an option's nor a flag's
+-- behind two files these ask for nothing: a third file, an option or a flag that is given twice, a value on a flag,
+-- and a name that is neither an option's nor a flag's
 pub record WordsAreRefused (program spec imp : List ℕ) : Type 0 where
   pub third : (word : List ℕ) → is_plain word ≡ true → AskNothing (program ∷ spec ∷ imp ∷ word ∷ [])
   pub option_twice : (value other : List ℕ) → is_plain value ≡ true → is_plain other ≡ true
       → All (λ option. AskNothing (program ∷ spec ∷ imp ∷ (codes "--" ++ option) ∷ value ∷ (codes "--" ++ option) ∷ other ∷ [])) options
   pub flag_twice : All (λ flag. AskNothing (program ∷ spec ∷ imp ∷ (codes "--" ++ flag) ∷ (codes "--" ++ flag) ∷ [])) flags
-  pub flag_value : (value : List ℕ) → All (λ flag. AskNothing (program ∷ spec ∷ imp ∷ (codes "--" ++ flag ++ codes "=" ++ value) ∷ [])) flags
-  pub unknown : (name : List ℕ) → name ≢ [] → All (λ b. b ≢ 61) name → (Contains (flags ++ options) name → ⊥) → AskNothing (program ∷ spec ∷ imp ∷ (codes "--" ++ name) ∷ [])
+  pub flag_value : (value : List ℕ)
+      → All (λ flag. AskNothing (program ∷ spec ∷ imp ∷ (codes "--" ++ flag ++ codes "=" ++ value) ∷ [])) flags
+  pub unknown : (name : List ℕ) → name ≢ [] → All (λ b. b ≢ 61) name → (Contains (flags ++ options) name → ⊥)
+      → AskNothing (program ∷ spec ∷ imp ∷ (codes "--" ++ name) ∷ [])
 
 abbrev pub SomeWordsAreRefused : Type 0
-SomeWordsAreRefused = (program spec imp : List ℕ) → is_plain spec ≡ true → is_plain imp ≡ true → WordsAreRefused program spec imp
+SomeWordsAreRefused = (program spec imp : List ℕ) → is_plain spec ≡ true → is_plain imp ≡ true
+    → WordsAreRefused program spec imp
 
 -- two words behind `--` are two files, also with a minus sign in front
 abbrev pub AllAreFilesBehind : Type 0
-AllAreFilesBehind = (program spec imp : List ℕ) → spec ≢ [] → imp ≢ [] → asked (program ∷ codes "--" ∷ spec ∷ imp ∷ []) ≡ Some (files_alone spec imp)
+AllAreFilesBehind = (program spec imp : List ℕ) → spec ≢ [] → imp ≢ []
+    → asked (program ∷ codes "--" ∷ spec ∷ imp ∷ []) ≡ Some (files_alone spec imp)
 
 -- the same is found among these arguments
 pub record SayTheSame (arguments others : List Argument) : Type 0 where
   pub taken : are_taken arguments ≡ are_taken others
   pub spec : (found_among arguments).spec ≡ (found_among others).spec
   pub imp : (found_among arguments).imp ≡ (found_among others).imp
-  pub is_given : (name : List ℕ) → (found_among arguments).is_given name ≡ (found_among others).is_given name
+  pub has_flag : (name : List ℕ) → (found_among arguments).has_flag name ≡ (found_among others).has_flag name
   pub value : (name : List ℕ) → (found_among arguments).value name ≡ (found_among others).value name
 
 -- of arguments that are taken two neighbours may be exchanged of which one is no file, so flags and options may stand
--- anywhere
+-- anywhere among the files
 abbrev pub OrderIsFree : Type 0
-OrderIsFree = (before behind : List Argument) (a b : Argument) → file_in a ≡ None
-    → are_taken (before ++ a ∷ b ∷ behind) ≡ true → SayTheSame (before ++ a ∷ b ∷ behind) (before ++ b ∷ a ∷ behind)
+OrderIsFree = (before after : List Argument) (a b : Argument) → (file_in a ≡ None) ⊎ (file_in b ≡ None)
+    → are_taken (before ++ a ∷ b ∷ after) ≡ true → SayTheSame (before ++ a ∷ b ∷ after) (before ++ b ∷ a ∷ after)

@@ -14,8 +14,8 @@ pub struct Asked<'a> {
     pub top_spec: Option<&'a str>,
     /// The implementation's top module, or none for the one that no module instantiates.
     pub top_imp: Option<&'a str>,
-    /// The text of the care output, the bit of an output port of the specification that says where agreement is asked, if one is
-    /// given: one or more bytes from 33 to 126.
+    /// The text of the care output, the bit of an output port of the specification that says where agreement is
+    /// asked, if one is given: one or more bytes from 33 to 126.
     pub care: Option<&'a str>,
     /// Whether the filled implementation is asked for.
     pub fill: bool,
@@ -28,14 +28,15 @@ pub struct Asked<'a> {
 pub enum Wanted<'a> {
     /// The comparison of an implementation with its specification, both in files.
     Comparison(Asked<'a>),
-    /// The comparison of a made pair: how many bits its adders have, from 1 to 256, whether the filled implementation is asked for, and
-    /// which checks are run.
+    /// The comparison of a made pair: how many bits its adders have, from 1 to 256, whether the filled implementation
+    /// is asked for, and which checks are run.
     MadePair {
         n: u32,
         fill: bool,
         options: Options,
     },
-    /// The check of clause additions against a formula: the names of their files, which are parts of the words, and not empty.
+    /// The check of clause additions against a formula: the names of their files, which are parts of the words, and
+    /// not empty.
     Refutation {
         cnf: &'a str,
         adds: &'a str,

@@ -24,12 +24,14 @@ pub fn widths_ask_for_pairs()
     ensures { WidthsAskForPairs }
 {}
 
-/// Behind two files a value is the next word behind its option, or is joined to it by an equals sign: both ask for the same.
+/// Behind two files a value is the next word behind its option, or is joined to it by an equals sign: both ask for
+/// the same.
 pub fn values_may_be_joined()
     ensures { ValuesMayBeJoined }
 {}
 
-/// Behind two files `--care` and a name that can be printed ask where these have to agree; with another name they ask for nothing.
+/// Behind two files `--care` and a name that can be printed ask where these have to agree; with another name they ask
+/// for nothing.
 pub fn care_names_are_asked()
     ensures { CareNamesAreAsked }
 {}
@@ -49,7 +51,8 @@ pub fn words_ask_once()
     ensures { WordsAskOnce }
 {}
 
-/// Behind two files a third one, an option or a flag given twice, a value on a flag, and a name that is neither's ask for nothing.
+/// Behind two files a third one, an option or a flag given twice, a value on a flag, and a name that is neither's ask
+/// for nothing.
 pub fn some_words_are_refused()
     ensures { SomeWordsAreRefused }
 {}

@@ -1,10 +1,13 @@
 //! What the words ask for, by the values that the command finds in them.
 
-ghost use Rattle.std.specs.Prelude.{◌≡◌, ◌⊎◌, ◌∷◌, [], false, true, codes, map, option_map, string_bytes, IfOk, IfErr, IfSome, IfNone, None, Some};
+ghost use Rattle.std.specs.Prelude.{◌≡◌, ◌⊎◌, ◌∷◌, [], false, true, codes, map, option_map, string_bytes, IfOk};
+ghost use Rattle.std.specs.Prelude.{IfErr, IfSome, IfNone, None, Some};
 ghost use Rattle.std.specs.List.{list_all};
 ghost use Rattle.bb_words.specs.CommandLines.{options as option_names};
 ghost use Rattle.bb_words.specs.Inside.Commands.{by_matches};
-ghost use Rattle.bb_words.specs.Asked.{Ask, AskNothing, HasBounds, IsWantedBy, asked_comparison, asked_made, asked_options, asked_refutation, asked_request, has_no_files, is_absent, is_alone, is_refuting, request_of};
+ghost use Rattle.bb_words.specs.Asked.{Ask, AskNothing, HasBounds, IsWantedBy, asked_comparison, asked_made};
+ghost use Rattle.bb_words.specs.Asked.{asked_options, asked_refutation, asked_request, has_no_files, is_absent};
+ghost use Rattle.bb_words.specs.Asked.{is_alone, is_refuting, request_of};
 
 use crate::asked::{Asked, Wanted, WordsFault};
 use crate::command::{parse, value};
@@ -169,8 +172,9 @@ fn wanted<'a>(matches: &ArgMatches<'a>) -> Option<Wanted<'a>>
     }
 }
 
-/// What the words of a command line ask for. The first word is the program's own name, and is not looked at. The others are
-/// two files, the specification's before the implementation's, and in any order among them these, each at most once:
+/// What the words of a command line ask for. The first word is the program's own name, and is not looked at. The
+/// others are two files, the specification's before the implementation's, and in any order among them these, each at
+/// most once:
 ///
 /// | Words | Value | Without it |
 /// |---|---|---|
@@ -184,11 +188,13 @@ fn wanted<'a>(matches: &ArgMatches<'a>) -> Option<Wanted<'a>>
 /// | `--care` | the text of a bit of an output port: one or more bytes from 33 to 126 | none |
 /// | `--all`, `--proof`, `--shared`, `--fill` | none | not set |
 ///
-/// A value stands behind its option as the next word or behind `=`; one that begins with a minus sign, and is more than that,
-/// has to stand behind `=`. No name is empty. A number has at most 20 digits. Behind `--` every word is a file.
+/// A value stands behind its option as the next word or behind `=`; one that begins with a minus sign, and is more
+/// than that, has to stand behind `=`. No name is empty. A number has at most 20 digits. Behind `--` every word is a
+/// file.
 ///
-/// With `--make` and a number from 1 to 256 a pair is made and compared, and no file, no top, no `--shared` and no `--care` may
-/// be given. With `--rup` the two files are a formula and clause additions, and no other flag and no option may be given.
+/// With `--make` and a number from 1 to 256 a pair is made and compared, and no file, no top, no `--shared` and no
+/// `--care` may be given. With `--rup` the two files are a formula and clause additions, and no other flag and no
+/// option may be given.
 ///
 /// # Errors
 /// `Usage` where the words are not of this form, and `NoMemory` where there is no memory to read them.

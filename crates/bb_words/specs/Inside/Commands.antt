@@ -52,7 +52,7 @@ abbrev pub by_rows : List Row → Found
 by_rows rows = record {
   spec = first_of (codes "SPEC") rows;
   imp = first_of (codes "IMPL") rows;
-  is_given = λ name. is_true (first_of name rows);
+  has_flag = λ name. is_true (first_of name rows);
   value = λ name. first_of name rows;
 }
 
@@ -63,7 +63,7 @@ by_matches matches = by_rows (rows_of (found_of matches))
 pub record AreSame (found other : Found) : Type 0 where
   pub spec : found.spec ≡ other.spec
   pub imp : found.imp ≡ other.imp
-  pub is_given : (name : Text) → is_among flags name ≡ true → found.is_given name ≡ other.is_given name
+  pub has_flag : (name : Text) → is_among flags name ≡ true → found.has_flag name ≡ other.has_flag name
   pub value : (name : Text) → is_among options name ≡ true → found.value name ≡ other.value name
 
 -- what clap finds in words is what a command line says by its definition
