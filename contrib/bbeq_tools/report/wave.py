@@ -260,9 +260,10 @@ def bus_rows(rows):
                                             for side in (0, 1)) for at in rows]
 
 
-def show(rows, named, wrong_only):
+def show(rows, named, wrong_only, by_check):
     """A line for each output and each register, with what is wrong marked; x is what a box leaves
-    open. Several vectors are side by side."""
+    open. Several vectors are side by side. Where a check gave them and none is wrong by itself,
+    that is said."""
     table = [["", *["spec", "impl"] * len(rows), ""]]
     if len(rows) > 1:
         table.insert(0, ["", *[word for number in range(1, len(rows) + 1)
@@ -280,7 +281,7 @@ def show(rows, named, wrong_only):
     widths = [max(len(word) for word in column) for column in zip(*table)]
     for line in table:
         print("  ".join(word.ljust(width) for word, width in zip(line, widths)).rstrip())
-    if not any(line[-1] for line in table):
+    if by_check and not any(line[-1] for line in table):
         print("No bit is wrong by itself; `why` shows which cannot be right together.")
 
 
@@ -304,7 +305,8 @@ def command():
     rows = [compared(lines, check, wrong) for lines, (_, (check, wrong, _)) in zip(blocks, found)]
     output.write(waves)
     tell_vectors(words.vcd, found)
-    show(rows, [wrong for _, (_, wrong, _) in found if wrong], words.wrong_only)
+    show(rows, [wrong for _, (_, wrong, _) in found if wrong], words.wrong_only,
+         any(check for _, (check, _, _) in found))
 
 
 def tell_vectors(path, found):

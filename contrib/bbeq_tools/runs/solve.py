@@ -90,7 +90,7 @@ def ask_first(request, guard, until):
 
 def cause(report, files):
     """What a line that refuses a pair leaves unsaid, or None."""
-    words = report.split()
+    words = [*report.split(), "", ""]
     path = files[words[1] == "impl"]
     if words[0] == "unread":
         try:
@@ -126,8 +126,11 @@ def told_way(turn, request):
 
 def may_share(path):
     """Whether boxes may be instances of one module, which --shared is for."""
-    used = Counter(instance.module for module in read_modules(path)[1].values()
-                   for instance in module.instances)
+    try:
+        modules = read_modules(path)[1].values()
+    except Fault:
+        return True
+    used = Counter(instance.module for module in modules for instance in module.instances)
     return max(used.values(), default=0) > 1
 
 
