@@ -124,7 +124,12 @@ class Why(Tries):
         done = run([script("wave"), shows, *words])
         self.note("wave of two vectors", "spec  impl  spec  impl" in done.out
                   and "from time 30 on" in done.out, done.why())
-        self.note("wave names why where no bit is wrong", "; `why` shows which" in done.out)
+        self.note("nor sends its reader back to why", "; `why` shows which" not in done.out)
+        vector = next(line for line in read(shows).splitlines() if line.startswith("input "))
+        check = write(self.folder, "check", f"rung output error\n{vector}\nverdict error\n")
+        done = run([script("wave"), check, *words])
+        self.note("wave names why where no bit is wrong", "; `why` shows which" in done.out,
+                  done.why())
         done = run([script("wave"), shows, *words, "--wrong-only", "--vector", "2"])
         self.note("wave --wrong-only", "output" not in done.out and done.status == 0, done.why())
         done = run([script("wave"), write(self.folder, "none", "rung input error\nverdict error\n"),
